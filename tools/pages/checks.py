@@ -247,9 +247,7 @@ def check_errors(tell):
 
 # Words that the field has others for, and what they are right in.
 TERMS = re.compile(r'\b(faults?|refus\w+|lent|lends?|want of memory|behind)\b', re.I)
-RIGHT = re.compile(r'page faults|REFUSALS|behind a pointer|system lends memory', re.I)
-# Names of rl_program and rl_attributes that have such a word, and stay: much is proved of them.
-KEPT_NAMES = {'Fault', 'Refusal', 'fault_status', 'lent_token'}
+RIGHT = re.compile(r'page faults|behind a pointer|system lends memory', re.I)
 
 
 def prose_of(path):
@@ -278,12 +276,12 @@ def check_terms(tell):
 
 
 def check_public_names(tell):
-    """No public item and no public definition has such a word in its name, but for those of KEPT_NAMES."""
+    """No public item and no public definition has such a word in its name."""
     named = [(path, item.name) for crate in libraries() for path, item in public_items(crate)]
     named += [(path, name) for path in paths('crates/*/specs/**/*.antt') for name in DEFINED.findall(read(path))]
     for path, name in named:
         parts = re.findall(r'[A-Z]?[a-z]+', name)
-        if any(TERMS.fullmatch(it) for it in parts) and not KEPT_NAMES.intersection(parts + [name]):
+        if any(TERMS.fullmatch(it) for it in parts):
             tell(f'{path}: {name}: another word is the field\'s')
 
 

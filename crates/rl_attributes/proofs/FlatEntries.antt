@@ -22,7 +22,7 @@ use Rattle.rl_attributes.specs.Attributes.{Attribute, AreListed, is_named, Names
 use Rattle.rl_attributes.specs.Entries.{attribute_of, attributes_of, IsReadEntry, EntriesDiffer}
 use Rattle.rl_attributes.specs.Names.{has_name}
 use Rattle.rl_attributes.specs.AttributeSteps.{AddsName}
-use Rattle.rl_attributes.specs.NextEntries.{lent_token, value_token, attribute_at, IsEntryOf}
+use Rattle.rl_attributes.specs.NextEntries.{borrowed_token, value_token, attribute_at, IsEntryOf}
 use Rattle.rl_attributes.proofs.AttributeLemmas.{listed_more, differ_more, differ_none, named_more}
 use Rattle.rl_attributes.proofs.FlatSettings.{TakesAttribute, takes_attribute}
 
@@ -87,7 +87,7 @@ entry_is file s entry h =
     let named : SpannedText → SpannedText → Attribute = λ n l. record { name = n; literal = l } in
     ap (λ t. named (spanned t entry.span) (token_of entry.value)) h.name
     ∙ ap (λ p. named (spanned s.name.text.now p) (token_of entry.value)) h.span
-    ∙ ap (named (lent_token file s.name)) h.value.0
+    ∙ ap (named (borrowed_token file s.name)) h.value.0
 
 entry_read : {A : Type 0} (file : ℕ) (s : NextSetting) (entry : Entry A) → IsEntryOf file s entry → IsReadEntry entry
 entry_read file s entry h = subst (λ (t : SpannedText). IsReadAs (kind_of entry.value) (chars t.text)) (sym h.value.0)

@@ -27,7 +27,7 @@ use Rattle.rust_literals.proofs.FlatLemmas.{tree_more}
 use Rattle.rust_literals.proofs.LitLemmas.{found_behind}
 use Rattle.rl_attributes.specs.Attributes.{Attribute, IsAttribute}
 use Rattle.rl_attributes.specs.AttributeSteps.{IsNext}
-use Rattle.rl_attributes.specs.NextEntries.{lent_token, signed_token, value_token, attribute_at}
+use Rattle.rl_attributes.specs.NextEntries.{borrowed_token, signed_token, value_token, attribute_at}
 
 -- ---- the tokens that are cut off, as trees
 
@@ -53,16 +53,16 @@ takes_both file a b c xs ys p q =
     }
 
 takes_name : (file : ℕ) (old new : CursorState) (l : Lent) → TakesName old l new
-    → TakesTrees file old (IdentTree (lent_token file l) ∷ []) new
+    → TakesTrees file old (IdentTree (borrowed_token file l) ∷ []) new
 takes_name file old new l (t, is) = record {
-  cuts = λ done c. tree_more file old new l IdentifierForm (IdentTree (lent_token file l)) done t is refl refl tt c;
+  cuts = λ done c. tree_more file old new l IdentifierForm (IdentTree (borrowed_token file l)) done t is refl refl tt c;
   same = t.same;
 }
 
 takes_literal : (file : ℕ) (old new : CursorState) (l : Lent) → TakesNext old l new → form_view l.form ≡ LiteralForm
-    → TakesTrees file old (LiteralTree (lent_token file l) ∷ []) new
+    → TakesTrees file old (LiteralTree (borrowed_token file l) ∷ []) new
 takes_literal file old new l t is = record {
-  cuts = λ done c. tree_more file old new l LiteralForm (LiteralTree (lent_token file l)) done t is refl refl tt c;
+  cuts = λ done c. tree_more file old new l LiteralForm (LiteralTree (borrowed_token file l)) done t is refl refl tt c;
   same = t.same;
 }
 
@@ -160,12 +160,12 @@ one_token : (file : ℕ) (old new : CursorState) (value : NextLiteral) (f : Lexe
     → form_view value.token.form ≡ f → IsLiteralToken f value.token.text.now value.found → value.minus_at ≡ None
     → TakesFront file old value new
 one_token file old new value LiteralForm t is h none = record {
-  trees = LiteralTree (lent_token file value.token) ∷ [];
+  trees = LiteralTree (borrowed_token file value.token) ∷ [];
   takes = takes_literal file old new value.token t is;
   front = λ following. (ap (λ m. signed_token file m value.token) none, refl);
 }
 one_token file old new value IdentifierForm t is h none = record {
-  trees = IdentTree (lent_token file value.token) ∷ [];
+  trees = IdentTree (borrowed_token file value.token) ∷ [];
   takes = takes_name file old new value.token (t, is);
   front = λ following. (
     truth_of value.token.text.now value.found h,
@@ -184,13 +184,13 @@ signed file old new value n =
     let order = number_behind old n.between new m l n.takes_minus n.takes_number n.is_minus in
     let span : joined_span (record { file = file; lo = m.lo; hi = m.hi }) (record { file = file; lo = l.lo; hi = l.hi })
     ≡ record { file = file; lo = m.lo; hi = l.hi } = joined_is file m.lo m.hi l.lo l.hi order.0 order.1 in
-    let token : value_token file value ≡ joined (mark_at 45 file m) (lent_token file l) =
+    let token : value_token file value ≡ joined (mark_at 45 file m) (borrowed_token file l) =
     ap (λ o. signed_token file o l) n.minus_is
     ∙ ap (λ s. let t : SpannedText = record { text = 45 ∷ l.text.now; span = s } in t) (sym span) in
     record {
-      trees = PunctTree (mark_at 45 file m) ∷ LiteralTree (lent_token file l) ∷ [];
+      trees = PunctTree (mark_at 45 file m) ∷ LiteralTree (borrowed_token file l) ∷ [];
       takes = takes_both file old n.between new (PunctTree (mark_at 45 file m) ∷ [])
-          (LiteralTree (lent_token file l) ∷ [])
+          (LiteralTree (borrowed_token file l) ∷ [])
           (takes_mark 45 file old n.between m n.takes_minus n.is_minus)
           (takes_literal file n.between new l n.takes_number n.is_number);
       front = λ following. (refl, found_behind l.text.now n.found n.is_found, token, refl);
@@ -213,8 +213,8 @@ pub record TakesAttribute (file : ℕ) (old : CursorState) (a : Attribute) (new 
 -- an attribute's trees
 attribute_trees : (file : ℕ) (name eq : Lent) (value : NextLiteral) (trees following : List Tree)
     → IsFront (trees ++ following) (value_token file value) following
-    → IsAttribute ((IdentTree (lent_token file name) ∷ PunctTree (mark_at 61 file eq) ∷ trees) ++ following)
-    (record { name = lent_token file name; literal = value_token file value }) following
+    → IsAttribute ((IdentTree (borrowed_token file name) ∷ PunctTree (mark_at 61 file eq) ∷ trees) ++ following)
+    (record { name = borrowed_token file name; literal = value_token file value }) following
 attribute_trees file name eq value trees following front = record {
   at_equals = PunctTree (mark_at 61 file eq) ∷ (trees ++ following);
   at_literal = trees ++ following;
@@ -255,7 +255,7 @@ pub takes_attribute : (file : ℕ) (old new : CursorState) (s : NextSetting) →
 takes_attribute file old new s t =
     let (eq, takes_eq, eq_is) = t.sets.equals in
     let value = takes_value file t.sets.at_literal t.sets.following s.value t.sets.literal in
-    let name : Tree = IdentTree (lent_token file s.name) in
+    let name : Tree = IdentTree (borrowed_token file s.name) in
     let equals : Tree = PunctTree (mark_at 61 file eq) in
     let front : TakesTrees file old (name ∷ equals ∷ []) t.sets.at_literal =
     takes_both file old t.following t.sets.at_literal (name ∷ []) (equals ∷ [])

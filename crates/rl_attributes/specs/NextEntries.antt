@@ -11,12 +11,12 @@ use Rattle.rl_attributes.specs.declared.attributes.Entry.{Entry}
 use Rattle.rl_attributes.specs.Attributes.{Attribute}
 
 -- the token as trees have it
-abbrev pub lent_token : ℕ → Lexeme → SpannedText
-lent_token file l = record { text = l.text.now; span = record { file = file; lo = l.lo; hi = l.hi } }
+abbrev pub borrowed_token : ℕ → Lexeme → SpannedText
+borrowed_token file l = record { text = l.text.now; span = record { file = file; lo = l.lo; hi = l.hi } }
 
 -- the literal, whose minus stands at this byte, as one token
 abbrev pub signed_token : ℕ → Option ℕ → Lexeme → SpannedText
-signed_token file None l = lent_token file l
+signed_token file None l = borrowed_token file l
 signed_token file (Some lo) l =
     record { text = code "-" ∷ l.text.now; span = record { file = file; lo = lo; hi = l.hi } }
 
@@ -25,10 +25,10 @@ value_token file l = signed_token file l.minus_at l.token
 
 -- the attribute that the setting is
 abbrev pub attribute_at : ℕ → NextSetting → Attribute
-attribute_at file s = record { name = lent_token file s.name; literal = value_token file s.value }
+attribute_at file s = record { name = borrowed_token file s.name; literal = value_token file s.value }
 
 -- The entry holds the setting, and its value is what the literal reads as.
 pub record IsEntryOf {A : Type 0} (file : ℕ) (s : NextSetting) (entry : Entry A) : Type 0 where
   pub name : string_bytes entry.name ≡ s.name.text.now
-  pub span : entry.span ≡ (lent_token file s.name).span
+  pub span : entry.span ≡ (borrowed_token file s.name).span
   pub value : IsReadFrom (value_token file s.value) entry.value

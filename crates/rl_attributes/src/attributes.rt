@@ -75,7 +75,7 @@ impl<A: Allocator> Attrs<A> {
     /// ```
     pub fn get(&self, name: &str) -> Option<&Lit<A>>
         // What is borrowed is the value of each entry with the name, of which there is one at most.
-        ensures lent { All (λ entry. HasName name.now entry
+        ensures borrowed { All (λ entry. HasName name.now entry
             → IsSomeAnd result (λ value. value.now ≡ entry.value)) (entries_of self.now) }
         // Where something is borrowed, an entry has the name.
         ensures named { IfSome result

@@ -105,7 +105,7 @@ same_literal t own cuts more l m r (inr a) (inr b) one other =
 
 -- something is left where an error stands
 some_left : (t : CursorState) (status : ℕ) → ReportsError t status → chars t.rest ≡ [] → ⊥
-some_left t status (why, inl (kind, _, fault), _) e = no_error kind (subst (ErrorAt kind []) e (fault []))
+some_left t status (why, inl (kind, _, error), _) e = no_error kind (subst (ErrorAt kind []) e (error []))
 some_left t status (why, inr (l, new, takes, _), _) e = no_token takes.cut.lexeme takes.after takes.is_lexeme
     (sym e ∙ takes.begins)
 

@@ -11,8 +11,8 @@ use Rattle.rl_lines.proofs.JoinLemmas.{joins_more}
 use Rattle.rl_commands.specs.LitLines.{IsLineOfLit, AreLinesOfLits}
 use Rattle.rl_commands.proofs.TokenLines.{lines_of_text}
 use Rattle.rl_commands.specs.declared.command.Command.TheVariants.{Read}
-use Rattle.rl_program.specs.declared.fault.Fault.{Fault}
-use Rattle.rl_program.specs.declared.fault.Fault.TheVariants.{Memory}
+use Rattle.rl_program.specs.declared.program_error.ProgramError.{ProgramError}
+use Rattle.rl_program.specs.declared.program_error.ProgramError.TheVariants.{Memory}
 use Rattle.rl_commands.specs.Runs.{Shows, IsRejectionOf}
 use Rattle.rl_commands.specs.Lists.{Lengthens, HasLines}
 
@@ -38,12 +38,12 @@ first_more text old new lines longer lit has returned pushed = record
     { list = has.list ++ lit ∷ []; returned = returned; lines_are = lengthened lines longer has.list lit has.lines_are pushed }
 
 -- the answer where the text is a list: its lines, or an allocation failure for them
-pub record Answers {A : Type 0} (text : List ℕ) (r : Result (String A) (Fault A)) : Type 0 where
+pub record Answers {A : Type 0} (text : List ℕ) (r : Result (String A) (ProgramError A)) : Type 0 where
   pub lines : IfOk r (λ lines. Shows Read (chars text) (chars (string_bytes lines)))
   pub rejection : IfErr r (IsRejectionOf Read text)
 
 pub answers : {A : Type 0} (text : List ℕ) (list : List (Lit A)) (lines : Option (String A))
-    (r : Result (String A) (Fault A)) → AreRead (chars text) 0 list
+    (r : Result (String A) (ProgramError A)) → AreRead (chars text) 0 list
     → IfSome lines (λ l. AreLinesOfLits list (chars (string_bytes l))) → r ≡ ok_or lines Memory → Answers text r
 answers text list None r read lines is = subst (Answers text) (sym is) (record { lines = tt; rejection = (list, read) })
 answers text list (Some l) r read lines is = subst (Answers text) (sym is)

@@ -4,8 +4,8 @@ use Rattle.std.specs.Prelude.{IfSome}
 use Rattle.std.specs.Io.KnownBytes.{Appends}
 use Rattle.std.proofs.KnownBytes.{Keeps-refl}
 use Rattle.rl_commands.specs.declared.command.Command.{Command}
-use Rattle.rl_program.specs.declared.fault.Fault.{Fault}
-use Rattle.rl_program.specs.declared.fault.Fault.TheVariants.{Write, NotText, Memory, Literal}
+use Rattle.rl_program.specs.declared.program_error.ProgramError.{ProgramError}
+use Rattle.rl_program.specs.declared.program_error.ProgramError.TheVariants.{Write, NotText, Memory, Literal}
 use Rattle.rl_program.specs.Streams.{AppendsBeginning}
 use Rattle.rl_commands.specs.Runs.{Shows, Prints, PrintsBeginning, IsRejectionOf, IsErrorOf}
 
@@ -16,16 +16,16 @@ known P None bytes e p = tt
 known P (Some all) bytes e p = subst P e p
 
 -- an input that is rejected writes nothing
-pub rejection_fault : {A : Type 0} (command : Command) (input old : Option (List ℕ)) (bytes : List ℕ) (fault : Fault A)
-    → IfSome input (λ all. bytes ≡ all) → IsRejectionOf command bytes fault → IsErrorOf command input old old fault
-rejection_fault command input old bytes NotText e r = (Keeps-refl old, known (λ b. IsUtf8 b → ⊥) input bytes e r)
-rejection_fault command input old bytes Memory e r = Keeps-refl old
-rejection_fault command input old bytes (Literal error) e r = (
+pub rejection_error : {A : Type 0} (command : Command) (input old : Option (List ℕ)) (bytes : List ℕ) (error : ProgramError A)
+    → IfSome input (λ all. bytes ≡ all) → IsRejectionOf command bytes error → IsErrorOf command input old old error
+rejection_error command input old bytes NotText e r = (Keeps-refl old, known (λ b. IsUtf8 b → ⊥) input bytes e r)
+rejection_error command input old bytes Memory e r = Keeps-refl old
+rejection_error command input old bytes (Literal error) e r = (
   Keeps-refl old,
   known
       (λ b. IsRejectionOf command b (Literal error)) input bytes e r,
 )
-rejection_fault command input old bytes kind e r = absurd r
+rejection_error command input old bytes kind e r = absurd r
 
 -- all of the line was written
 pub prints_known : (command : Command) (input old new : Option (List ℕ)) (bytes line : List ℕ)
@@ -42,10 +42,10 @@ prints_known command input old new bytes line e u l w a =
       ),
     )
 
-write_fault : {A : Type 0} (command : Command) (input old new : Option (List ℕ)) (bytes line : List ℕ) (fault : Fault A)
-    → IfSome input (λ all. bytes ≡ all) → IsUtf8 bytes → Shows command (chars bytes) (chars line) → IsUtf8 line → fault
-    ≡ Write → AppendsBeginning old new line → IsErrorOf command input old new fault
-write_fault {A = A} command input old new bytes line fault e u l w f a =
+write_error : {A : Type 0} (command : Command) (input old new : Option (List ℕ)) (bytes line : List ℕ) (error : ProgramError A)
+    → IfSome input (λ all. bytes ≡ all) → IsUtf8 bytes → Shows command (chars bytes) (chars line) → IsUtf8 line → error
+    ≡ Write → AppendsBeginning old new line → IsErrorOf command input old new error
+write_error {A = A} command input old new bytes line error e u l w f a =
     let write : IsErrorOf {A = A} command input old new Write = known (λ b. PrintsBeginning command b old new) input
     bytes e (u, (chars line, l, subst (λ z. AppendsBeginning old new z) (sym (encodes-chars line w)) a)) in
     subst (IsErrorOf command input old new) (sym f) write
@@ -53,6 +53,6 @@ write_fault {A = A} command input old new bytes line fault e u l w f a =
 -- a beginning of the line was written
 pub begins_known : {A : Type 0} (command : Command) (input old new : Option (List ℕ)) (bytes line : List ℕ)
     → IfSome input (λ all. bytes ≡ all) → IsUtf8 bytes → Shows command (chars bytes) (chars line) → IsUtf8 line
-    → (fault : Fault A) → (fault ≡ Write) × AppendsBeginning old new line → IsErrorOf command input old new fault
-begins_known command input old new bytes line e u l w fault h = write_fault command input old new bytes line fault e u l
+    → (error : ProgramError A) → (error ≡ Write) × AppendsBeginning old new line → IsErrorOf command input old new error
+begins_known command input old new bytes line e u l w error h = write_error command input old new bytes line error e u l
     w h.0 h.1

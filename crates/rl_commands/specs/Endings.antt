@@ -3,9 +3,9 @@ use Rattle.std.specs.Prelude.{◌≡◌, ◌⊎◌, ℕ, Bool, true, false, ◌|
 use Rattle.std.specs.Str.{bytes_eq}
 use Rattle.std.specs.Io.KnownBytes.{Appends, Keeps}
 use Rattle.rl_program.specs.Streams.{AppendsBeginning}
-use Rattle.rl_program.specs.declared.fault.Fault.TheVariants.{Write}
+use Rattle.rl_program.specs.declared.program_error.ProgramError.TheVariants.{Write}
 use Rattle.rl_commands.specs.declared.command.Command.{Command}
-use Rattle.rl_program.specs.declared.fault.Fault.{Fault}
+use Rattle.rl_program.specs.declared.program_error.ProgramError.{ProgramError}
 use Rattle.rl_program.specs.declared.ending.Ending.{Ending}
 use Rattle.rl_program.specs.declared.ending.Ending.TheVariants.{Done, FoundBad, Reported, Closed, Usage, Failed}
 use Rattle.rl_commands.specs.Commands.{AskFor}
@@ -29,7 +29,7 @@ asks_for_text (program ∷ word ∷ []) = is_text_word (string_bytes word)
 asks_for_text (program ∷ word ∷ other ∷ others) = false
 
 -- How a call ends that asks so: with the text, of which a beginning was written where a write failed.
-abbrev pub EndsHelp : {B : Type 0} → Option (List ℕ) → Option (List ℕ) → Ending (Fault B) → Type 0
+abbrev pub EndsHelp : {B : Type 0} → Option (List ℕ) → Option (List ℕ) → Ending (ProgramError B) → Type 0
 EndsHelp old new Done = (text : List ℕ) × Appends old new text
 EndsHelp old new (Failed Write) = (text : List ℕ) × AppendsBeginning old new text
 EndsHelp old new _ = ⊥
@@ -37,7 +37,7 @@ EndsHelp old new _ = ⊥
 -- How a call ends that asks for a command: with what that does; or, where the arguments ask for none, with how the
 -- program is used, and nothing is written.
 abbrev pub EndsCommand : {A B : Type 0} → List (String A) → Option (List ℕ) → Option (List ℕ)
-    → Option (List ℕ) → Ending (Fault B) → Type 0
+    → Option (List ℕ) → Ending (ProgramError B) → Type 0
 EndsCommand args input old new Done =
     (command : Command) × AskFor args command × IfSome input (λ bytes. Prints command bytes old new)
 EndsCommand args input old new FoundBad = ⊥
@@ -45,12 +45,12 @@ EndsCommand args input old new Reported = ⊥
 EndsCommand args input old new Closed = ⊥
 EndsCommand args input old new (Usage line) =
     ((command : Command) → AskFor args command → ⊥) × (line.now ≡ usage_line) × Keeps old new
-EndsCommand args input old new (Failed fault) =
-    (command : Command) × AskFor args command × IsErrorOf command input old new fault
+EndsCommand args input old new (Failed error) =
+    (command : Command) × AskFor args command × IsErrorOf command input old new error
 
 -- What a call with these arguments ends as.
 abbrev pub EndsAs : {A B : Type 0} → List (String A) → Option (List ℕ) → Option (List ℕ)
-    → Option (List ℕ) → Ending (Fault B) → Type 0
+    → Option (List ℕ) → Ending (ProgramError B) → Type 0
 EndsAs args input old new ending =
     ((asks_for_text args ≡ true) × EndsHelp old new ending)
     ⊎ ((asks_for_text args ≡ false) × EndsCommand args input old new ending)

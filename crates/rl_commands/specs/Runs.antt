@@ -10,8 +10,8 @@ use Rattle.rust_literals.specs.declared.lit.Lit.{Lit}
 use Rattle.rust_literals.specs.Parsing.{AreRead, RejectsText}
 use Rattle.rl_commands.specs.declared.command.Command.{Command}
 use Rattle.rl_commands.specs.declared.command.Command.TheVariants.{Text, Read as ReadCommand, Attr}
-use Rattle.rl_program.specs.declared.fault.Fault.{Fault}
-use Rattle.rl_program.specs.declared.fault.Fault.TheVariants.{Read, Write, NotText, Memory, Literal}
+use Rattle.rl_program.specs.declared.program_error.ProgramError.{ProgramError}
+use Rattle.rl_program.specs.declared.program_error.ProgramError.TheVariants.{Read, Write, NotText, Memory, Literal}
 use Rattle.rl_lines.specs.Lines.{IsLineOf, AreLinesOfText}
 use Rattle.rl_program.specs.Streams.{AppendsBeginning}
 use Rattle.rl_attributes.specs.Attributes.{Attribute, AreAttributesOf, RejectsAttributeText}
@@ -42,7 +42,7 @@ abbrev pub whole_token : List ℕ → SpannedText
 whole_token bytes = record { text = bytes; span = record { file = 0; lo = 0; hi = length bytes } }
 
 -- the error is a literal's, and this is its error
-abbrev pub IsLiteralError : {A : Type 0} → (Error A → Type 0) → Fault A → Type 0
+abbrev pub IsLiteralError : {A : Type 0} → (Error A → Type 0) → ProgramError A → Type 0
 IsLiteralError rejects (Literal error) = rejects error
 IsLiteralError rejects _ = ⊥
 
@@ -63,7 +63,7 @@ MayWantMemory A Attr bytes = (list : List Attribute) × AreAttributesOf (chars b
 
 -- why the whole input was rejected: it is no text, its literals were rejected, an allocation failed,
 -- elsewhere
-abbrev pub IsRejectionOf : {A : Type 0} → Command → List ℕ → Fault A → Type 0
+abbrev pub IsRejectionOf : {A : Type 0} → Command → List ℕ → ProgramError A → Type 0
 IsRejectionOf command bytes NotText = IsUtf8 bytes → ⊥
 IsRejectionOf command bytes (Literal error) = IsUtf8 bytes × RejectsAsCommand command bytes error
 IsRejectionOf {A} command bytes Memory = MayWantMemory A command bytes
@@ -72,7 +72,7 @@ IsRejectionOf command bytes Write = ⊥
 
 -- why a run failed, and what it wrote: nothing, but where a write failed
 abbrev pub IsErrorOf : {A : Type 0} → Command → Option (List ℕ) → Option (List ℕ) → Option (List ℕ)
-    → Fault A → Type 0
+    → ProgramError A → Type 0
 IsErrorOf command input old new Read = Keeps old new
 IsErrorOf command input old new Write =
     IfSome input (λ bytes. PrintsBeginning command bytes old new)

@@ -9,7 +9,7 @@ ghost use Rattle.rl_commands.specs.Runs.{Shows, IsRejectionOf};
 
 use crate::attr::{Entry, read};
 use crate::lit_line::push_literal;
-use rl_program::Fault;
+use rl_program::ProgramError;
 use std::alloc::{AllocError, Allocator};
 
 /// Writes an attribute's line at the end: its name, a space, and its literal's line.
@@ -45,14 +45,17 @@ pub fn entry_lines<A: Allocator + Copy>(
 }
 
 /// The lines of the text's attributes.
-pub fn attribute_lines<A: Allocator + Copy>(alloc: A, text: &str) -> Result<String<A>, Fault<A>>
+pub fn attribute_lines<A: Allocator + Copy>(
+    alloc: A,
+    text: &str,
+) -> Result<String<A>, ProgramError<A>>
     ensures lines { IfOk result
         (λ lines. Shows Attr (chars text.now) (chars (string_bytes lines))) }
     ensures rejection { IfErr result (IsRejectionOf Attr text.now) }
 {
     let attrs = match read(alloc, text, 0) {
         Ok(attrs) => attrs,
-        Err(error) => return Err(Fault::Literal(error)),
+        Err(error) => return Err(ProgramError::Literal(error)),
     };
     let lines = entry_lines(alloc, attrs.entries())?;
     Ok(lines)

@@ -6,7 +6,7 @@ ghost use Rattle.rl_commands.specs.Endings.{asks_for_text, is_text_word, EndsAs,
 
 use crate::command::Command;
 use crate::run::run;
-use rl_program::{Ending, Fault, write_whole};
+use rl_program::{Ending, ProgramError, write_whole};
 use std::alloc::Allocator;
 use std::io::{Read, Write};
 
@@ -64,12 +64,12 @@ fn text_asked<A: Allocator>(args: &[String<A>]) -> Option<&'static str>
 }
 
 /// How a call ends that writes a text.
-fn show_text<A: Allocator, W: Write>(out: &mut W, text: &str) -> Ending<Fault<A>>
+fn show_text<A: Allocator, W: Write>(out: &mut W, text: &str) -> Ending<ProgramError<A>>
     ensures { EndsHelp (W.contents out.old) (W.contents out.new) result }
 {
     match write_whole(out, text.as_bytes()) {
         Ok(()) => Ending::Done,
-        Err(fault) => Ending::Failed(fault),
+        Err(error) => Ending::Failed(error),
     }
 }
 
@@ -80,7 +80,7 @@ pub fn call<A: Allocator + Copy, R: Read, W: Write>(
     args: &[String<A>],
     input: &mut R,
     out: &mut W,
-) -> Ending<Fault<A>>
+) -> Ending<ProgramError<A>>
     ensures { EndsAs args.now (R.remaining input.old)
         (W.contents out.old) (W.contents out.new) result }
 {
@@ -92,6 +92,6 @@ pub fn call<A: Allocator + Copy, R: Read, W: Write>(
     };
     match run(alloc, command, input, out) {
         Ok(()) => Ending::Done,
-        Err(fault) => Ending::Failed(fault),
+        Err(error) => Ending::Failed(error),
     }
 }

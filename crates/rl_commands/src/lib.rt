@@ -14,4 +14,4 @@ pub use crate::attribute_lines::entry_lines;
 pub use crate::command::Command;
 pub use crate::ending::call;
 pub use crate::lit_line::{line_of, push_literal};
-pub use rl_program::{Ending, Fault};
+pub use rl_program::{Ending, ProgramError};

@@ -7,7 +7,7 @@ ghost use Rattle.rl_commands.specs.Runs.{Shows, IsRejectionOf};
 ghost use Rattle.rl_commands.specs.Lists.{Lengthens};
 
 use crate::lit_line::push_literal;
-use rl_program::Fault;
+use rl_program::ProgramError;
 use rust_literals::{Lit, Literals};
 use std::alloc::Allocator;
 
@@ -30,7 +30,10 @@ fn with_line<A: Allocator + Copy>(
 }
 
 /// The lines of the text's literals.
-pub fn literal_lines<A: Allocator + Copy>(alloc: A, text: &str) -> Result<String<A>, Fault<A>>
+pub fn literal_lines<A: Allocator + Copy>(
+    alloc: A,
+    text: &str,
+) -> Result<String<A>, ProgramError<A>>
     ensures lines { IfOk result
         (λ lines. Shows Read (chars text.now) (chars (string_bytes lines))) }
     ensures rejection { IfErr result (IsRejectionOf Read text.now) }
@@ -40,8 +43,8 @@ pub fn literal_lines<A: Allocator + Copy>(alloc: A, text: &str) -> Result<String
     loop {
         match literals.next() {
             Ok(Some(literal)) => lines = with_line(alloc, lines, literal),
-            Ok(None) => return lines.ok_or(Fault::Memory),
-            Err(error) => return Err(Fault::Literal(error)),
+            Ok(None) => return lines.ok_or(ProgramError::Memory),
+            Err(error) => return Err(ProgramError::Literal(error)),
         }
     }
 }

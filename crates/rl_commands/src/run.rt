@@ -12,14 +12,14 @@ use crate::attribute_lines::attribute_lines;
 use crate::command::Command;
 use crate::list::literal_lines;
 use crate::lit_line::line_of;
-use rl_program::{Fault, read_whole, text_of, write_whole};
+use rl_program::{ProgramError, read_whole, text_of, write_whole};
 use rl_tokens::{Literal, Span};
 use rust_literals::Lit;
 use std::alloc::Allocator;
 use std::io::{Read, Write};
 
 /// The whole input as one token. The input is let go.
-fn token_of<A: Allocator + Copy>(alloc: A, bytes: Vec<u8, A>) -> Result<Literal<A>, Fault<A>>
+fn token_of<A: Allocator + Copy>(alloc: A, bytes: Vec<u8, A>) -> Result<Literal<A>, ProgramError<A>>
     ensures utf8 { OnOk result (IsUtf8 bytes.items) }
     ensures token { IfOk result (λ token. token ≡ whole_token bytes.items) }
     ensures rejection { IfErr result (IsRejectionOf Text bytes.items) }
@@ -28,24 +28,27 @@ fn token_of<A: Allocator + Copy>(alloc: A, bytes: Vec<u8, A>) -> Result<Literal<
     let span = Span::new(0, 0, text.len());
     match Literal::from_text(alloc, text, span) {
         Ok(token) => Ok(token),
-        Err(_) => Err(Fault::Memory),
+        Err(_) => Err(ProgramError::Memory),
     }
 }
 
 /// The literal that a token is. An allocation failure is the literal's.
-fn literal_of<A: Allocator + Copy>(alloc: A, token: Literal<A>) -> Result<Lit<A>, Fault<A>>
+fn literal_of<A: Allocator + Copy>(alloc: A, token: Literal<A>) -> Result<Lit<A>, ProgramError<A>>
     ensures reads { IfOk result (IsReadFrom token) }
     ensures rejection { IfErr result
         (IsLiteralError (λ e. (e ≡ memory_at token.span) × ReadsAsNumber (chars token.text))) }
 {
     match Lit::new(alloc, token) {
         Ok(literal) => Ok(literal),
-        Err(kept) => Err(Fault::Literal(kept.error)),
+        Err(kept) => Err(ProgramError::Literal(kept.error)),
     }
 }
 
 /// The line of the whole input as one literal.
-fn literal_line<A: Allocator + Copy>(alloc: A, bytes: Vec<u8, A>) -> Result<String<A>, Fault<A>>
+fn literal_line<A: Allocator + Copy>(
+    alloc: A,
+    bytes: Vec<u8, A>,
+) -> Result<String<A>, ProgramError<A>>
     ensures utf8 { OnOk result (IsUtf8 bytes.items) }
     ensures line { IfOk result
         (λ line. Shows Text (chars bytes.items) (chars (string_bytes line))) }
@@ -62,7 +65,7 @@ fn lines_of_input<A: Allocator + Copy>(
     alloc: A,
     command: Command,
     bytes: Vec<u8, A>,
-) -> Result<String<A>, Fault<A>>
+) -> Result<String<A>, ProgramError<A>>
     ensures utf8 { OnOk result (IsUtf8 bytes.items) }
     ensures lines { IfOk result
         (λ lines. Shows command (chars bytes.items) (chars (string_bytes lines))) }
@@ -90,16 +93,16 @@ pub fn run<A: Allocator + Copy, R: Read, W: Write>(
     command: Command,
     input: &mut R,
     out: &mut W,
-) -> Result<(), Fault<A>>
+) -> Result<(), ProgramError<A>>
     ensures printed { OnOk result (IfSome (R.remaining input.old)
         (λ bytes. Prints command bytes (W.contents out.old) (W.contents out.new))) }
-    ensures fault { IfErr result
+    ensures error { IfErr result
         (IsErrorOf command (R.remaining input.old) (W.contents out.old) (W.contents out.new)) }
 {
     let bytes = read_whole(alloc, input)?;
     let lines = match lines_of_input(alloc, command, bytes) {
         Ok(lines) => lines,
-        Err(fault) => return Err(fault),
+        Err(error) => return Err(error),
     };
     write_whole(out, lines.as_bytes())
 }

@@ -6,7 +6,7 @@ use rl_attributes::Attrs;
 use rl_commands::line_of;
 use rl_failing::Page;
 use rl_grammar::strict;
-use rl_program::Refusal;
+use rl_program::Rejection;
 use rl_tokens::{Error, Kept, Literal, Span, lex, whitespace};
 use rust_literals::{Lit, read_all};
 use std::alloc::Global;
@@ -204,7 +204,7 @@ fn put_settings(count: usize, front: &str, text: &mut Page) {
 fn tell_attributes(answer: Result<Attrs, Error>, page: &mut Page) {
     match answer {
         Ok(attrs) => put_row(&attrs.entries().len(), page),
-        Err(error) => put_row(&Refusal(&error), page),
+        Err(error) => put_row(&Rejection(&error), page),
     }
 }
 

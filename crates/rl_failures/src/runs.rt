@@ -7,7 +7,7 @@ use rl_attributes::Attrs;
 use rl_commands::Command;
 use rl_commands::run::run;
 use rl_failing::{Failing, Page};
-use rl_program::Refusal;
+use rl_program::Rejection;
 use rl_tokens::{Error, Parse, ParseBuffer, Span, lex};
 use std::alloc::{Allocator, Global};
 use std::fmt::Display;
@@ -88,6 +88,6 @@ fn put_parsed<A: Scarce>(failing: A, first: u64, last: u64, text: &str, page: &m
 fn put_answer<A: Allocator>(answer: Result<Attrs<A>, Error<A>>, page: &mut Page) {
     match answer {
         Ok(attrs) => page.show(&attrs.entries().len(), " taken"),
-        Err(error) => page.put_shown(&Refusal(&error)),
+        Err(error) => page.put_shown(&Rejection(&error)),
     }
 }

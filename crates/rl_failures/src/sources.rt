@@ -3,7 +3,7 @@
 use crate::tell::Tell;
 use crate::trial::{Scarce, Trial};
 use rl_failing::Page;
-use rl_program::Fault;
+use rl_program::ProgramError;
 use rl_sources::{Options, ScanError, scan};
 use std::alloc::Allocator;
 
@@ -16,8 +16,8 @@ impl Tell for bool {
 impl<A: Allocator> Tell for ScanError<A> {
     fn tell(&self, page: &mut Page) {
         match self {
-            ScanError::Fault(Fault::Memory) => page.put("out of memory"),
-            ScanError::Fault(_) => page.put("another error"),
+            ScanError::Program(ProgramError::Memory) => page.put("out of memory"),
+            ScanError::Program(_) => page.put("another error"),
             ScanError::Source(_, _) => page.put("an error of the source"),
         }
     }

@@ -105,16 +105,16 @@ pub cooked_end : (k : Kind) (t closing suffix : List ℕ) (o : Option FlawAt) �
     → option_map flaw_of o ≡ suffix_read_at CookedForm suffix
     → IfSome o (λ f. chars f.piece.now ≡ suffix_piece f.kind closing suffix) → Closes CookedForm k t o
     × Stops CookedForm k t o
-cooked_end k t closing suffix None s row r quote e piece = (
-  cooked_closes k (lf_text t) (lf_text closing) (lf_text suffix) s row (quote_read closing suffix 34 quote refl).0
+cooked_end k t closing suffix None s run r quote e piece = (
+  cooked_closes k (lf_text t) (lf_text closing) (lf_text suffix) s run (quote_read closing suffix 34 quote refl).0
       (judged_none CookedForm suffix e),
   tt,
 )
-cooked_end k t closing suffix (Some f) s row r quote e piece =
+cooked_end k t closing suffix (Some f) s run r quote e piece =
     let q = quote_read closing suffix 34 quote refl in (
       tt,
       after_closer CookedForm k t closing suffix f r q.1 e piece (λ judged is. cooked_suffix k f.kind (lf_text t)
-          (lf_text closing) (lf_text suffix) (lf_text (chars f.piece.now)) (lf_text (chars f.rest.now)) s row q.0 judged
+          (lf_text closing) (lf_text suffix) (lf_text (chars f.piece.now)) (lf_text (chars f.rest.now)) s run q.0 judged
           is),
     )
 
@@ -128,11 +128,11 @@ pub cooked_stuck : (k : Kind) (f : FlawKind) (t closing piece rest : List ℕ) �
     → BeginsStrictUnits k (lf_text t) (lf_text closing) → IsFileRest t closing → unit_rest k (lf_text closing) ≡ None
     → ((x : List ℕ) → closing ≢ 34 ∷ x) → found_flaw f rest ≡ strict_unit_flaw_at k closing → piece ≡ closing
     → StopsInFile CookedForm k f t piece rest
-cooked_stuck k f t closing piece rest s row r stuck none same is =
+cooked_stuck k f t closing piece rest s run r stuck none same is =
     let alone = cooked_open k f closing closing closing rest s (row_none k closing) (stuck_alone k closing s stuck) none
     same refl in
     record {
-      stops = cooked_open k f (lf_text t) (lf_text closing) (lf_text piece) (lf_text rest) s row stuck
+      stops = cooked_open k f (lf_text t) (lf_text closing) (lf_text piece) (lf_text rest) s run stuck
           (unquoted_read 34 closing refl refl none)
           (ap lf_flaw same ∙ sym (unit_flaw_read k closing (λ h. stuck))) (ap lf_text is);
       piece_in = subst (IsFileRest t) (sym is) r;

@@ -1,11 +1,11 @@
 -- Numbers of a file: the code finds the same in what is read.
 use Rattle.rl_text.proofs.Common.{◌≡◌, ℕ, ◌≤◌, Bool, true, false, not, ◌==◌, ◌&&◌, ◌||◌, cond, List, [], ◌∷◌, Option, Some, None, refl, sym, ap, subst, ◌∙◌, arith, both_ways, is_ascii_digit, list_any, or_from}
-use Rattle.rl_reading.proofs.Names.{cond_both, first_passes, is_exponent_letter, is_row_part, le-ltb, place_value, without_underscores}
+use Rattle.rl_reading.proofs.Names.{cond_both, first_passes, is_exponent_letter, is_run_part, le-ltb, place_value, without_underscores}
 use Rattle.std.proofs.Math.Bool.{and-false}
 use Rattle.std.specs.Prelude.{Result, Ok, Err, IfErr}
 use Rattle.std.specs.Str.{chars}
 use Rattle.rl_text.proofs.Basics.{apart}
-use Rattle.rl_reading.specs.Mirrors.NumberAt.{after_digits, after_power_sign, capped, digit_row_at, has_digit_at, has_value, magnitude_at, radix_at, radix_of}
+use Rattle.rl_reading.specs.Mirrors.NumberAt.{after_digits, after_power_sign, capped, digit_run_at, has_digit_at, has_value, magnitude_at, radix_at, radix_of}
 use Rattle.rl_reading.specs.Mirrors.PlainAt.{is_some_text}
 use Rattle.rl_reasons.specs.declared.flaws.FlawKind.{FlawKind}
 use Rattle.rl_reasons.specs.declared.flaws.FlawKind.TheVariants.{BadSuffix, BasedFloat, DigitOfBase, NoDigits, NoExponentDigit, NoFractionDigit}
@@ -29,20 +29,20 @@ lf_ending e = (e.0, lf_text e.1)
 abbrev pub lf_number : NumberRead → NumberRead
 lf_number n = (n.0, n.1, lf_text n.2)
 
--- ---- rows of digits
+-- ---- runs of digits
 
 -- neither CR nor LF is a digit of a base
-cr_part : (radix : ℕ) → radix ≤ 36 → is_row_part (has_value radix) 13 ≡ false
+cr_part : (radix : ℕ) → radix ≤ 36 → is_run_part (has_value radix) 13 ≡ false
 cr_part radix h = or_from (has_value radix 13) (13 == 95) (le-ltb 36 radix h) refl
 
-lf_part : (radix : ℕ) → radix ≤ 36 → is_row_part (has_value radix) 10 ≡ false
+lf_part : (radix : ℕ) → radix ≤ 36 → is_run_part (has_value radix) 10 ≡ false
 lf_part radix h = or_from (has_value radix 10) (10 == 95) (le-ltb 36 radix h) refl
 
 after_read : (radix : ℕ) → radix ≤ 36 → (t : List ℕ) → after_digits radix (lf_text t) ≡ lf_text (after_digits radix t)
-after_read radix h t = run_read (is_row_part (has_value radix)) (cr_part radix h) (lf_part radix h) t
+after_read radix h t = run_read (is_run_part (has_value radix)) (cr_part radix h) (lf_part radix h) t
 
-row_read : (radix : ℕ) → radix ≤ 36 → (t : List ℕ) → digit_row_at radix (lf_text t) ≡ digit_row_at radix t
-row_read radix h t = front_read (is_row_part (has_value radix)) (cr_part radix h) (lf_part radix h) t
+row_read : (radix : ℕ) → radix ≤ 36 → (t : List ℕ) → digit_run_at radix (lf_text t) ≡ digit_run_at radix t
+row_read radix h t = front_read (is_run_part (has_value radix)) (cr_part radix h) (lf_part radix h) t
 
 has_read : (radix : ℕ) → radix ≤ 36 → (t : List ℕ) → has_digit_at radix (lf_text t) ≡ has_digit_at radix t
 has_read radix h t = ap (list_any (has_value radix)) (row_read radix h t)

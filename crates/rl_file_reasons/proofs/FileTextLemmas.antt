@@ -160,7 +160,7 @@ pub row_rest : (k : Kind) (t rest : List ℕ) → is_string k ≡ true → Begin
 unfolding is_strict_suffix
 row_rest k t rest s r =
     let front : List ℕ = flat_map strict_text r.units in
-    let row : BeginsStrictUnits k (front ++ (34 ∷ [])) (34 ∷ []) = record {
+    let run : BeginsStrictUnits k (front ++ (34 ∷ [])) (34 ∷ []) = record {
       units = r.units;
       each = r.each;
       ends = breaks_to r.units rest (34 ∷ []) (λ h. refl) r.ends;
@@ -169,5 +169,5 @@ row_rest k t rest s r =
       front,
       r.text_is,
       front_free front (34 ∷ []) (closes_free CookedForm k (front ++ (34 ∷ [])) s
-          (cooked_closes k (front ++ (34 ∷ [])) (34 ∷ []) [] s row refl refl)),
+          (cooked_closes k (front ++ (34 ∷ [])) (34 ∷ []) [] s run refl refl)),
     )

@@ -204,7 +204,7 @@ bad_read k t cs c h e n m = sym (ap (unit_rest k) (kept_read t cs c e (other_kep
     ∙ ap (λ b. cond b (escape_rest k (lf_text cs)) (cond (is_bare k c) (Some (lf_text cs)) None)) n
     ∙ ap (λ b. cond b (Some (lf_text cs)) None) (sym (ap (first_passes (is_bare k)) e) ∙ h))
 
--- ---- rows of units
+-- ---- runs of units
 
 no_cr_plain : (k : Kind) → is_string k ≡ true → is_plain k 13 ≡ false
 no_cr_plain Str s = refl

@@ -14,7 +14,7 @@ ghost use Rattle.rl_reasons.specs.StrictNumbersRead.{IsNumberRead, suffix_of};
 
 use crate::file_units::split_read;
 use crate::file_walk::{file_number, walk};
-use rl_reading::digit_rows::begins_digit;
+use rl_reading::digit_runs::begins_digit;
 use rl_reasons::flaws::{Flaw, FlawAt, FlawKind, end_flaw};
 use rl_reasons::limits::{limit_at, limit_of};
 use rl_reasons::read_numbers::{Number, Stop};

@@ -107,7 +107,7 @@ fn skip_escaped(kind: Kind, text: &str) -> Option<&str>
 #[inline(always)]
 fn skip_bare(kind: Kind, text: &str) -> &str
     requires { IsTrue (is_string kind) }
-    ensures row { BeginsStrictUnits kind (lf_text (chars text.now)) (lf_text (chars result.now)) }
+    ensures run { BeginsStrictUnits kind (lf_text (chars text.now)) (lf_text (chars result.now)) }
     ensures rest { IsFileRest (chars text.now) (chars result.now) }
     ensures stops { IsFalse (first_passes (λ c. is_strict_unit kind (Itself c)) (chars result.now)) }
     ensures shorter { length result.now ≤ length text.now }
@@ -120,7 +120,7 @@ fn skip_bare(kind: Kind, text: &str) -> &str
 #[inline(always)]
 fn skip_units_of(kind: Kind, text: &str) -> &str
     requires { IsTrue (is_string kind) }
-    ensures row { BeginsStrictUnits kind (lf_text (chars text.now)) (lf_text (chars result.now)) }
+    ensures run { BeginsStrictUnits kind (lf_text (chars text.now)) (lf_text (chars result.now)) }
     ensures rest { IsFileRest (chars text.now) (chars result.now) }
     ensures stuck { unit_rest kind (lf_text (chars result.now)) ≡ None }
 {
@@ -135,7 +135,7 @@ fn skip_units_of(kind: Kind, text: &str) -> &str
 #[inline(never)]
 pub(crate) fn skip_units(kind: Kind, text: &str) -> &str
     requires { IsTrue (is_string kind) }
-    ensures row { BeginsStrictUnits kind (lf_text (chars text.now)) (lf_text (chars result.now)) }
+    ensures run { BeginsStrictUnits kind (lf_text (chars text.now)) (lf_text (chars result.now)) }
     ensures rest { IsFileRest (chars text.now) (chars result.now) }
     ensures stuck { unit_rest kind (lf_text (chars result.now)) ≡ None }
 {

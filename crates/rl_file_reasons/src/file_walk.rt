@@ -15,7 +15,7 @@ ghost use Rattle.rl_reasons.specs.StrictNumbersRead.{IsNumberRead, suffix_of};
 
 use crate::file_units::{skip_raw, skip_units, split_read};
 use rl_forms::Kind;
-use rl_reading::digit_rows::begins_digit;
+use rl_reading::digit_runs::begins_digit;
 use rl_reading::quoted_forms::{QuotedForm, after_quote, split_opener};
 use rl_reading::truth_of;
 use rl_reasons::flaws::{FlawAt, FlawKind, end_flaw, first_flaw, make_flaw};

@@ -1,6 +1,6 @@
 -- The laws of what a text begins as.
 use Rattle.rl_text.proofs.Common.{◌≡◌, ◌⊎◌, ◌==◌, ◌||◌, ℕ, Bool, true, false, not, List, [], ◌∷◌, ◌++◌, Option, Some, None, IfNone, IfSome, refl, sym, ap, subst, ◌∙◌, inl, inr, append_assoc, and_parts, or_from, or_right, both_ways, not-true, cond, is_ascii_digit, list_all, replicate, flat_map}
-use Rattle.rl_text.specs.Texts.{first_passes, is_row_part}
+use Rattle.rl_text.specs.Texts.{first_passes, is_run_part}
 use Rattle.rl_reading.proofs.Names.{Kind, Str, ByteStr, CStr, Byte, Char, Int, Float, BoolKind, Contents, is_single, is_string, opener, raw_opener, strict_text, truth_text}
 use Rattle.rl_forms.specs.Numbers.{Base, Binary, Octal, Decimal, Hexadecimal, IsAfterPrefix, begins_base, exponent_text, fraction_text, is_digit, is_exponent_letter, prefix}
 use Rattle.rl_forms.specs.Strict.{IsDigits, IsDotAlone, IsPointed, IsScientific, IsStrictExponent, Strict, StrictCooked, StrictFloat, StrictInt, StrictRaw, strict_closer, strict_opener, strict_raw_opener}
@@ -144,8 +144,8 @@ int_kind t v x s =
     elim (integer_base r.base t (r.digits ++ x) x r.front r.text_is) [
       | inl h ↦ sym (ap (λ b. by_row b (first_passes is_float_mark (after_digits 10 t))) h)
       | inr p ↦
-          let part : (c : ℕ) → Bool = is_row_part (is_digit Decimal) in
-          let each : list_all part r.digits ≡ true = subst (λ b. list_all (is_row_part (is_digit b)) r.digits ≡ true) p.0
+          let part : (c : ℕ) → Bool = is_run_part (is_digit Decimal) in
+          let each : list_all part r.digits ≡ true = subst (λ b. list_all (is_run_part (is_digit b)) r.digits ≡ true) p.0
           r.each in
           let text : t ≡ r.digits ++ x = r.text_is ∙ ap (λ b. prefix b ++ (r.digits ++ x)) p.0 in
           let after : after_digits 10 t ≡ x = ap (after_digits 10) text
@@ -158,17 +158,17 @@ int_looks : (t : List ℕ) (v : Contents) (x : List ℕ) → StrictInt t v x →
 int_looks t v x s = (t, inl refl, int_digit t v x s, int_kind t v x s)
 
 float_kind : (t d r : List ℕ) (c : ℕ) → IsDigits d → t ≡ d ++ (c ∷ r) → is_float_mark c ≡ true
-    → is_row_part (is_digit Decimal) c ≡ false → begins_base t ≡ false → Float ≡ number_kind t
+    → is_run_part (is_digit Decimal) c ≡ false → begins_base t ≡ false → Float ≡ number_kind t
 float_kind t d r c is e mark stop n =
-    let each : list_all (is_row_part (is_digit Decimal)) d ≡ true = sym (all_same (is_row_part is_ascii_digit)
-    (is_row_part (is_digit Decimal)) (λ c. ap (λ b. b || (c == 95)) (digit_is_ten c)) d) ∙ is.1 in
+    let each : list_all (is_run_part (is_digit Decimal)) d ≡ true = sym (all_same (is_run_part is_ascii_digit)
+    (is_run_part (is_digit Decimal)) (λ c. ap (λ b. b || (c == 95)) (digit_is_ten c)) d) ∙ is.1 in
     let after : after_digits 10 t ≡ c ∷ r = ap (after_digits 10) e
-    ∙ (run_past (is_row_part (is_digit Decimal)) d (c ∷ r) each stop).1 in
+    ∙ (run_past (is_run_part (is_digit Decimal)) d (c ∷ r) each stop).1 in
     sym (plain_kind t true n (ap (first_passes is_float_mark) after ∙ mark))
 
 letter_kind : (t d e r : List ℕ) → IsDigits d → IsStrictExponent e → t ≡ d ++ (e ++ r) → begins_base t ≡ false
     → Float ≡ number_kind t
-letter_kind t d e r is p text n = float_kind t d ((p.sign ++ p.row) ++ r) p.letter is
+letter_kind t d e r is p text n = float_kind t d ((p.sign ++ p.run) ++ r) p.letter is
     (text ∙ ap (λ z. d ++ (z ++ r)) p.text) (or_right (p.letter == 46) (is_exponent_letter p.letter) p.is_letter)
     (letter_no_part p.letter p.is_letter) n
 

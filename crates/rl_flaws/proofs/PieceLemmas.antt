@@ -44,9 +44,9 @@ strict_units : (kind : Kind) (us : List StrictUnit) (t rest good : List ℕ)
     → Rattle.std.specs.List.list_all (is_strict_unit kind) us ≡ true → BreaksEnd us rest
     → t ≡ flat_map strict_text us ++ rest → t ≡ good ++ rest → HasUnitsIn kind false good
 strict_units kind us t rest good each ends text cut =
-    let row = stand_row kind us each (blanks_end us rest ends) in
+    let run = stand_row kind us each (blanks_end us rest ends) in
     let same : flat_map strict_text us ≡ good = append_cancel_right (flat_map strict_text us) good rest (sym text ∙ cut) in
-    (row.units, record { each = row.each; ends = row.ends; text_is = sym same ∙ sym row.text_is })
+    (run.units, record { each = run.each; ends = run.ends; text_is = sym same ∙ sym run.text_is })
 
 pub no_units : (kind : Kind) (plain : Bool) → HasUnitsIn kind plain []
 no_units kind true = ([], refl)

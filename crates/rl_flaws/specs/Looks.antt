@@ -3,7 +3,7 @@ use Rattle.std.specs.Prelude.{◌≡◌, ◌⊎◌, ◌<◌, ℕ, Bool, List, �
 use Rattle.std.specs.Char.{is_ascii_digit}
 use Prim.Native.Char.{code}
 use Rattle.rl_text.specs.Classes.{after_run}
-use Rattle.rl_text.specs.Texts.{first_passes, is_row_part}
+use Rattle.rl_text.specs.Texts.{first_passes, is_run_part}
 use Rattle.rl_forms.specs.declared.kind.Kind.{Kind}
 use Rattle.rl_forms.specs.declared.kind.Kind.TheVariants.{Int, Float, Bool as BoolKind}
 use Rattle.rl_forms.specs.Numbers.{Decimal, begins_base, is_digit}
@@ -30,7 +30,7 @@ OpensSingle kind text = IsTrue (is_single kind) × ((inside : List ℕ) × (text
 abbrev pub number_kind : List ℕ → Kind
 number_kind digits =
     if begins_base digits then Int
-    else (if first_passes is_float_mark (after_run (is_row_part (is_digit Decimal)) digits) then Float else Int)
+    else (if first_passes is_float_mark (after_run (is_run_part (is_digit Decimal)) digits) then Float else Int)
 
 -- the text begins with a digit, or with a minus and a digit
 abbrev pub OpensNumber : Kind → List ℕ → Type 0

@@ -11,7 +11,7 @@ ghost use Rattle.rl_flaws.specs.Looks.{LooksLike, OpensNumber, number_kind};
 
 use crate::walks::open;
 use rl_forms::Kind;
-use rl_reading::digit_rows::{after_minus, begins_digit, skip_row};
+use rl_reading::digit_runs::{after_minus, begins_digit, skip_digits};
 use rl_reading::number_forms::split_radix;
 use rl_reading::truth_of;
 use rl_text::text::split_char;
@@ -27,11 +27,11 @@ fn begins_float(text: &str) -> bool
 fn number_kind(digits: &str) -> Kind
     ensures { result ≡ number_kind (chars digits.now) }
 {
-    let (radix, row) = split_radix(digits);
+    let (radix, run) = split_radix(digits);
     if radix != 10 {
         return Kind::Int;
     }
-    if begins_float(skip_row(row).rest) {
+    if begins_float(skip_digits(run).rest) {
         Kind::Float
     } else {
         Kind::Int

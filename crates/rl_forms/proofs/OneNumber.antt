@@ -1,6 +1,6 @@
 -- A text has one reading as a number at most.
 use Rattle.rl_text.proofs.Common.{◌≡◌, ℕ, ◌||◌, Bool, true, false, not, cond, eqb, List, [], ◌∷◌, ◌++◌, refl, sym, ap, subst, ◌∙◌, ◌⊎◌, inl, inr, append_assoc, is_ascii_digit, list_all, list_any, list_all-append, eqb-true, both_ways, and_parts, and_from, or_parts, or_cases, or_left, or_right, cases_Bool, not-true}
-use Rattle.rl_text.specs.Texts.{first_passes, begins, is_underscore, is_row_part}
+use Rattle.rl_text.specs.Texts.{first_passes, begins, is_underscore, is_run_part}
 use Rattle.rl_forms.specs.Spelling.{place_value, without_underscores}
 use Rattle.rl_forms.specs.Numbers.{Base, Binary, Octal, Decimal, Hexadecimal, radix, prefix, is_digit, Sign, NoSign, Minus, sign_text, IsAfterPrefix, IsSuffix, is_exponent_letter, AllowsSuffix, IntReads, Fraction, NoFraction, Dot, fraction_text, IsFraction, Exponent, NoExponent, Power, exponent_text, is_power_sign, BeginsExponent, IsExponent, FloatReads, float_digits}
 use Rattle.rl_forms.specs.Reading.{Contents, Digits, ReadsInt, ReadsFloat}
@@ -39,11 +39,11 @@ base_is Decimal r f =
     let e = p.1 in
     rw (a, d, e) refl
 
-at_base : (b : Base) (ds es x y : List ℕ) → list_all (is_row_part (is_digit b)) ds ≡ true
-    → list_all (is_row_part (is_digit b)) es ≡ true → IsSuffix x → AllowsSuffix b x → IsSuffix y → AllowsSuffix b y
+at_base : (b : Base) (ds es x y : List ℕ) → list_all (is_run_part (is_digit b)) ds ≡ true
+    → list_all (is_run_part (is_digit b)) es ≡ true → IsSuffix x → AllowsSuffix b x → IsSuffix y → AllowsSuffix b y
     → prefix b ++ (ds ++ x) ≡ prefix b ++ (es ++ y) → (ds ≡ es) × (x ≡ y)
 at_base b ds es x y hd he sx ox sy oy e =
-    same_run (is_row_part (is_digit b)) ds es x y hd he (no_part b x sx ox) (no_part b y sy oy) (following b e)
+    same_run (is_run_part (is_digit b)) ds es x y hd he (no_part b x sx ox) (no_part b y sy oy) (following b e)
   where
     following : (b : Base) → prefix b ++ (ds ++ x) ≡ prefix b ++ (es ++ y) → ds ++ x ≡ es ++ y
     following Binary e = cc
@@ -60,7 +60,7 @@ int_once t x y s z m n a b =
     (sym a.text_is ∙ b.text_is) in
     let bases : b.base ≡ a.base = sym (base_is b.base (b.digits ++ y) b.front) ∙ ap base_at (sym signs.1)
     ∙ base_is a.base (a.digits ++ x) a.front in
-    let Each : Base → Type 0 = λ k. list_all (is_row_part (is_digit k)) b.digits ≡ true in
+    let Each : Base → Type 0 = λ k. list_all (is_run_part (is_digit k)) b.digits ≡ true in
     let Of : Base → Type 0 = λ k. AllowsSuffix k y in
     let text : ta ≡ prefix a.base ++ (b.digits ++ y) = signs.1 ∙ ap (λ k. prefix k ++ (b.digits ++ y)) bases in
     let p = at_base a.base a.digits b.digits x y a.each (subst Each bases b.each) a.is_suffix a.is_suffix_of b.is_suffix
@@ -74,31 +74,31 @@ int_once t x y s z m n a b =
 -- ---- floats
 
 -- digits with a digit among them: underscores, a digit, and what follows
-pub record DigitIn (row : List ℕ) : Type 0 where
+pub record DigitIn (run : List ℕ) : Type 0 where
   pub underscores : List ℕ
   pub digit : ℕ
   pub rest : List ℕ
   pub all_underscores : list_all is_underscore underscores ≡ true
   pub is_digit : is_ascii_digit digit ≡ true
-  pub row_is : row ≡ underscores ++ (digit ∷ rest)
+  pub row_is : run ≡ underscores ++ (digit ∷ rest)
 
-digit_in : (row : List ℕ) → list_all (is_row_part (is_digit Decimal)) row ≡ true → list_any is_ascii_digit row ≡ true
-    → DigitIn row
+digit_in : (run : List ℕ) → list_all (is_run_part (is_digit Decimal)) run ≡ true → list_any is_ascii_digit run ≡ true
+    → DigitIn run
 digit_in [] each some = absurd (cc)
-digit_in (c ∷ row) each some =
-    let p = and_parts (is_row_part (is_digit Decimal) c) (list_all (is_row_part (is_digit Decimal)) row) each in
+digit_in (c ∷ run) each some =
+    let p = and_parts (is_run_part (is_digit Decimal) c) (list_all (is_run_part (is_digit Decimal)) run) each in
     elim (cases_Bool (is_ascii_digit c)) [
-      | inl d ↦ record { underscores = []; digit = c; rest = row; all_underscores = refl; is_digit = d; row_is = refl }
+      | inl d ↦ record { underscores = []; digit = c; rest = run; all_underscores = refl; is_digit = d; row_is = refl }
       | inr d ↦
           let under : is_underscore c ≡ true = elim (or_cases (is_digit Decimal c) (is_underscore c) p.0)
           [ inl h ↦ absurd (both_ways (is_ascii_digit c) d (digit_is_ten c ∙ h)) | inr h ↦ h ] in
-          let r = digit_in row p.1 (ap (λ b. b || list_any is_ascii_digit row) (sym d) ∙ some) in
+          let r = digit_in run p.1 (ap (λ b. b || list_any is_ascii_digit run) (sym d) ∙ some) in
           record { underscores = c ∷ r.underscores; digit = r.digit; rest = r.rest; all_underscores = and_from (is_underscore c) _ under r.all_underscores; is_digit = r.is_digit; row_is = ap (λ z. c ∷ z) r.row_is }
     ]
 
-underscores_are_parts : (us : List ℕ) → list_all is_underscore us ≡ true → list_all (is_row_part (is_digit Decimal)) us
+underscores_are_parts : (us : List ℕ) → list_all is_underscore us ≡ true → list_all (is_run_part (is_digit Decimal)) us
     ≡ true
-underscores_are_parts us h = all_weaker is_underscore (is_row_part (is_digit Decimal))
+underscores_are_parts us h = all_weaker is_underscore (is_run_part (is_digit Decimal))
     (λ c p. or_right (is_digit Decimal c) (is_underscore c) p) us h
 
 all_join : (test : ℕ → Bool) (a b : List ℕ) → list_all test a ≡ true → list_all test b ≡ true → list_all test (a ++ b)
@@ -116,12 +116,12 @@ sign_cases (c ∷ []) h =
 sign_cases (c ∷ d ∷ s) h = absurd (cc)
 
 -- what is left after the letter of an exponent, and its suffix
-same_power : (us s row vs z sow x y : List ℕ) → list_all is_underscore us ≡ true → is_power_sign s ≡ true
-    → list_all (is_row_part (is_digit Decimal)) row ≡ true → list_all is_underscore vs ≡ true → is_power_sign z ≡ true
-    → list_all (is_row_part (is_digit Decimal)) sow ≡ true → IsSuffix x → IsSuffix y → (us ++ (s ++ row)) ++ x
-    ≡ (vs ++ (z ++ sow)) ++ y → (us ++ (s ++ row) ≡ vs ++ (z ++ sow)) × (x ≡ y)
-same_power us s row vs z sow x y hu hs hr hv hz hw sx sy e =
-    let part = is_row_part (is_digit Decimal) in
+same_power : (us s run vs z sow x y : List ℕ) → list_all is_underscore us ≡ true → is_power_sign s ≡ true
+    → list_all (is_run_part (is_digit Decimal)) run ≡ true → list_all is_underscore vs ≡ true → is_power_sign z ≡ true
+    → list_all (is_run_part (is_digit Decimal)) sow ≡ true → IsSuffix x → IsSuffix y → (us ++ (s ++ run)) ++ x
+    ≡ (vs ++ (z ++ sow)) ++ y → (us ++ (s ++ run) ≡ vs ++ (z ++ sow)) × (x ≡ y)
+same_power us s run vs z sow x y hu hs hr hv hz hw sx sy e =
+    let part = is_run_part (is_digit Decimal) in
     let pu = underscores_are_parts us hu in
     let pv = underscores_are_parts vs hv in
     let nx = suffix_no_part x sx in
@@ -129,37 +129,37 @@ same_power us s row vs z sow x y hu hs hr hv hz hw sx sy e =
     elim (sign_cases s hs) [
       | inl a ↦ elim (sign_cases z hz) [
         | inl b ↦
-            let f : (us ++ row) ++ x ≡ (vs ++ sow) ++ y = ap (λ q. (us ++ (q ++ row)) ++ x) (sym a) ∙ e
+            let f : (us ++ run) ++ x ≡ (vs ++ sow) ++ y = ap (λ q. (us ++ (q ++ run)) ++ x) (sym a) ∙ e
             ∙ ap (λ q. (vs ++ (q ++ sow)) ++ y) b in
-            let p = same_run part (us ++ row) (vs ++ sow) x y (all_join part us row pu hr) (all_join part vs sow pv hw)
+            let p = same_run part (us ++ run) (vs ++ sow) x y (all_join part us run pu hr) (all_join part vs sow pv hw)
             nx ny f in
-            (ap (λ q. us ++ (q ++ row)) a ∙ p.0 ∙ ap (λ q. vs ++ (q ++ sow)) (sym b), p.1)
+            (ap (λ q. us ++ (q ++ run)) a ∙ p.0 ∙ ap (λ q. vs ++ (q ++ sow)) (sym b), p.1)
         | inr b ↦
-            let f : (us ++ row) ++ x ≡ vs ++ (b.0 ∷ (sow ++ y)) = ap (λ q. (us ++ (q ++ row)) ++ x) (sym a) ∙ e
+            let f : (us ++ run) ++ x ≡ vs ++ (b.0 ∷ (sow ++ y)) = ap (λ q. (us ++ (q ++ run)) ++ x) (sym a) ∙ e
             ∙ ap (λ q. (vs ++ (q ++ sow)) ++ y) b.3 ∙ append_assoc vs (b.0 ∷ sow) y in
-            let p = same_run part (us ++ row) vs x (b.0 ∷ (sow ++ y)) (all_join part us row pu hr) pv nx
+            let p = same_run part (us ++ run) vs x (b.0 ∷ (sow ++ y)) (all_join part us run pu hr) pv nx
             (b.1.no_digit Decimal) f in
             absurd (foreign_inside b.0 x [] (sow ++ y) b.2 p.1 (suffix_without b.0 x b.1 sx))
       ]
       | inr a ↦ elim (sign_cases z hz) [
         | inl b ↦
-            let f : us ++ (a.0 ∷ (row ++ x)) ≡ (vs ++ sow) ++ y = sym
-            (ap (λ q. (us ++ (q ++ row)) ++ x) a.3 ∙ append_assoc us (a.0 ∷ row) x) ∙ e
+            let f : us ++ (a.0 ∷ (run ++ x)) ≡ (vs ++ sow) ++ y = sym
+            (ap (λ q. (us ++ (q ++ run)) ++ x) a.3 ∙ append_assoc us (a.0 ∷ run) x) ∙ e
             ∙ ap (λ q. (vs ++ (q ++ sow)) ++ y) b in
-            let p = same_run part us (vs ++ sow) (a.0 ∷ (row ++ x)) y pu (all_join part vs sow pv hw)
+            let p = same_run part us (vs ++ sow) (a.0 ∷ (run ++ x)) y pu (all_join part vs sow pv hw)
             (a.1.no_digit Decimal) ny f in
-            absurd (foreign_inside a.0 y [] (row ++ x) a.2 (sym p.1) (suffix_without a.0 y a.1 sy))
+            absurd (foreign_inside a.0 y [] (run ++ x) a.2 (sym p.1) (suffix_without a.0 y a.1 sy))
         | inr b ↦
-            let f : us ++ (a.0 ∷ (row ++ x)) ≡ vs ++ (b.0 ∷ (sow ++ y)) = sym
-            (ap (λ q. (us ++ (q ++ row)) ++ x) a.3 ∙ append_assoc us (a.0 ∷ row) x) ∙ e
+            let f : us ++ (a.0 ∷ (run ++ x)) ≡ vs ++ (b.0 ∷ (sow ++ y)) = sym
+            (ap (λ q. (us ++ (q ++ run)) ++ x) a.3 ∙ append_assoc us (a.0 ∷ run) x) ∙ e
             ∙ ap (λ q. (vs ++ (q ++ sow)) ++ y) b.3 ∙ append_assoc vs (b.0 ∷ sow) y in
-            let p = same_run part us vs (a.0 ∷ (row ++ x)) (b.0 ∷ (sow ++ y)) pu pv (a.1.no_digit Decimal)
+            let p = same_run part us vs (a.0 ∷ (run ++ x)) (b.0 ∷ (sow ++ y)) pu pv (a.1.no_digit Decimal)
             (b.1.no_digit Decimal) f in
-            let g : a.0 ∷ (row ++ x) ≡ b.0 ∷ (sow ++ y) = p.1 in
+            let g : a.0 ∷ (run ++ x) ≡ b.0 ∷ (sow ++ y) = p.1 in
             let head : a.0 ≡ b.0 = cc in
-            let tail : row ++ x ≡ sow ++ y = cc in
-            let q = same_run part row sow x y hr hw nx ny tail in (
-              ap (λ w. us ++ (w ++ row)) a.3 ∙ ap (λ w. w ++ (a.0 ∷ row)) p.0 ∙ ap (λ w. vs ++ (w ∷ row)) head
+            let tail : run ++ x ≡ sow ++ y = cc in
+            let q = same_run part run sow x y hr hw nx ny tail in (
+              ap (λ w. us ++ (w ++ run)) a.3 ∙ ap (λ w. w ++ (a.0 ∷ run)) p.0 ∙ ap (λ w. vs ++ (w ∷ run)) head
                   ∙ ap (λ w. vs ++ (b.0 ∷ w)) q.0 ∙ ap (λ w. vs ++ (w ++ sow)) (sym b.3),
               q.1,
             )
@@ -167,12 +167,12 @@ same_power us s row vs z sow x y hu hs hr hv hz hw sx sy e =
     ]
 
 -- an exponent's text is no suffix's beginning where that may not begin an exponent
-no_power : (letter : ℕ) (us s row x y : List ℕ) → IsExponent (Power letter us s row) x → IsSuffix y
-    → (BeginsExponent y → ⊥) → y ≡ (letter ∷ (us ++ (s ++ row))) ++ x → ⊥
-no_power letter us s row x y p sy none e =
+no_power : (letter : ℕ) (us s run x y : List ℕ) → IsExponent (Power letter us s run) x → IsSuffix y
+    → (BeginsExponent y → ⊥) → y ≡ (letter ∷ (us ++ (s ++ run))) ++ x → ⊥
+no_power letter us s run x y p sy none e =
     elim (sign_cases s p.2) [
       | inl a ↦
-          let d = digit_in row p.3 p.4 in
+          let d = digit_in run p.3 p.4 in
           none (record {
             letter = letter;
             underscores = us ++ d.underscores;
@@ -181,31 +181,31 @@ no_power letter us s row x y p sy none e =
             is_letter = p.0;
             all_underscores = all_join is_underscore us d.underscores p.1 d.all_underscores;
             is_digit = d.is_digit;
-            text_is = e ∙ ap (λ q. letter ∷ ((us ++ (q ++ row)) ++ x)) a ∙ ap (λ q. letter ∷ ((us ++ q) ++ x)) d.row_is
+            text_is = e ∙ ap (λ q. letter ∷ ((us ++ (q ++ run)) ++ x)) a ∙ ap (λ q. letter ∷ ((us ++ q) ++ x)) d.row_is
                 ∙ ap (λ q. letter ∷ (q ++ x)) (sym (append_assoc us d.underscores (d.digit ∷ d.rest)))
                 ∙ ap (λ q. letter ∷ q) (append_assoc (us ++ d.underscores) (d.digit ∷ d.rest) x);
           })
       | inr a ↦
-          foreign_inside a.0 y (letter ∷ us) (row ++ x) a.2
-          (e ∙ ap (λ q. letter ∷ ((us ++ (q ++ row)) ++ x)) a.3 ∙ ap (λ q. letter ∷ q) (append_assoc us (a.0 ∷ row) x))
+          foreign_inside a.0 y (letter ∷ us) (run ++ x) a.2
+          (e ∙ ap (λ q. letter ∷ ((us ++ (q ++ run)) ++ x)) a.3 ∙ ap (λ q. letter ∷ q) (append_assoc us (a.0 ∷ run) x))
           (suffix_without a.0 y a.1 sy)
     ]
 
 same_exponent : (a b : Exponent) (x y : List ℕ) → IsExponent a x → IsExponent b y → IsSuffix x → IsSuffix y
     → exponent_text a ++ x ≡ exponent_text b ++ y → (exponent_text a ≡ exponent_text b) × (x ≡ y)
 same_exponent NoExponent NoExponent x y pa pb sx sy e = (refl, e)
-same_exponent NoExponent (Power l us s row) x y pa pb sx sy e = absurd (no_power l us s row y x pb sx pa e)
-same_exponent (Power l us s row) NoExponent x y pa pb sx sy e = absurd (no_power l us s row x y pa sy pb (sym e))
-same_exponent (Power l us s row) (Power m vs z sow) x y pa pb sx sy e =
+same_exponent NoExponent (Power l us s run) x y pa pb sx sy e = absurd (no_power l us s run y x pb sx pa e)
+same_exponent (Power l us s run) NoExponent x y pa pb sx sy e = absurd (no_power l us s run x y pa sy pb (sym e))
+same_exponent (Power l us s run) (Power m vs z sow) x y pa pb sx sy e =
     let head : l ≡ m = cc in
-    let tail : (us ++ (s ++ row)) ++ x ≡ (vs ++ (z ++ sow)) ++ y = cc in
-    let p = same_power us s row vs z sow x y pa.1 pa.2 pa.3 pb.1 pb.2 pb.3 sx sy tail in
-    (ap (λ w. w ∷ (us ++ (s ++ row))) head ∙ ap (λ w. m ∷ w) p.0, p.1)
+    let tail : (us ++ (s ++ run)) ++ x ≡ (vs ++ (z ++ sow)) ++ y = cc in
+    let p = same_power us s run vs z sow x y pa.1 pa.2 pa.3 pb.1 pb.2 pb.3 sx sy tail in
+    (ap (λ w. w ∷ (us ++ (s ++ run))) head ∙ ap (λ w. m ∷ w) p.0, p.1)
 
 exponent_no_part : (a : Exponent) (x : List ℕ) → IsExponent a x → IsSuffix x
-    → first_passes (is_row_part (is_digit Decimal)) (exponent_text a ++ x) ≡ false
+    → first_passes (is_run_part (is_digit Decimal)) (exponent_text a ++ x) ≡ false
 exponent_no_part NoExponent x p s = suffix_no_part x s
-exponent_no_part (Power l us s row) x p sx = letter_no_part l p.0
+exponent_no_part (Power l us s run) x p sx = letter_no_part l p.0
 
 abbrev is_dot : ℕ → Bool
 is_dot c = eqb c 46
@@ -222,26 +222,26 @@ suffix_no_dot (c ∷ x) s =
 exponent_no_dot : (a : Exponent) (x : List ℕ) → IsExponent a x → IsSuffix x → first_passes is_dot (exponent_text a ++ x)
     ≡ false
 exponent_no_dot NoExponent x p s = suffix_no_dot x s
-exponent_no_dot (Power l us s row) x p sx = letter_no_dot l p.0
+exponent_no_dot (Power l us s run) x p sx = letter_no_dot l p.0
 
 same_fraction : (f g : Fraction) (r s : List ℕ) → IsFraction f → IsFraction g
-    → first_passes (is_row_part (is_digit Decimal)) r ≡ false → first_passes (is_row_part (is_digit Decimal)) s ≡ false
+    → first_passes (is_run_part (is_digit Decimal)) r ≡ false → first_passes (is_run_part (is_digit Decimal)) s ≡ false
     → first_passes is_dot r ≡ false → first_passes is_dot s ≡ false → fraction_text f ++ r ≡ fraction_text g ++ s
     → (fraction_text f ≡ fraction_text g) × (r ≡ s)
 same_fraction NoFraction NoFraction r s pf pg nr ns dr ds e = (refl, e)
-same_fraction (Dot row) (Dot sow) r s pf pg nr ns dr ds e =
-    let tail : row ++ r ≡ sow ++ s = cc in
-    let p = same_run (is_row_part (is_digit Decimal)) row sow r s pf pg nr ns tail in
+same_fraction (Dot run) (Dot sow) r s pf pg nr ns dr ds e =
+    let tail : run ++ r ≡ sow ++ s = cc in
+    let p = same_run (is_run_part (is_digit Decimal)) run sow r s pf pg nr ns tail in
     (ap (λ w. 46 ∷ w) p.0, p.1)
 same_fraction NoFraction (Dot sow) r s pf pg nr ns dr ds e = let h : false ≡ true = sym dr
     ∙ ap (first_passes is_dot) e in absurd (cc)
-same_fraction (Dot row) NoFraction r s pf pg nr ns dr ds e = let h : false ≡ true = sym ds
+same_fraction (Dot run) NoFraction r s pf pg nr ns dr ds e = let h : false ≡ true = sym ds
     ∙ ap (first_passes is_dot) (sym e) in absurd (cc)
 
-fraction_no_part : (f : Fraction) (r : List ℕ) → first_passes (is_row_part (is_digit Decimal)) r ≡ false
-    → first_passes (is_row_part (is_digit Decimal)) (fraction_text f ++ r) ≡ false
+fraction_no_part : (f : Fraction) (r : List ℕ) → first_passes (is_run_part (is_digit Decimal)) r ≡ false
+    → first_passes (is_run_part (is_digit Decimal)) (fraction_text f ++ r) ≡ false
 fraction_no_part NoFraction r h = h
-fraction_no_part (Dot row) r h = refl
+fraction_no_part (Dot run) r h = refl
 
 float_text : (s w f e x t numeral : List ℕ) → numeral ≡ s ++ (w ++ (f ++ e)) → t ≡ numeral ++ x → t ≡ s
     ++ (w ++ (f ++ (e ++ x)))
@@ -261,7 +261,7 @@ float_once t n m x y a b =
     let pb = exponent_no_part b.exponent y b.is_exponent b.is_suffix in
     let s = same_sign a.sign b.sign (a.whole ++ (fa ++ (ea ++ x))) (b.whole ++ (fb ++ (eb ++ y)))
     (passes_on is_ascii_digit a.whole _ a.first) (passes_on is_ascii_digit b.whole _ b.first) (sym ta ∙ tb) in
-    let w = same_run (is_row_part (is_digit Decimal)) a.whole b.whole (fa ++ (ea ++ x)) (fb ++ (eb ++ y)) a.each b.each
+    let w = same_run (is_run_part (is_digit Decimal)) a.whole b.whole (fa ++ (ea ++ x)) (fb ++ (eb ++ y)) a.each b.each
     (fraction_no_part a.fraction (ea ++ x) pa) (fraction_no_part b.fraction (eb ++ y) pb) s.1 in
     let f = same_fraction a.fraction b.fraction (ea ++ x) (eb ++ y) a.is_fraction b.is_fraction pa pb
     (exponent_no_dot a.exponent x a.is_exponent a.is_suffix)

@@ -142,7 +142,7 @@ unit_complete k (Continuation c run) r h e = continuation_at k c run r h.1 h.2 e
 some_pair : {A B : Type 0} (p q : A × B) → Some p ≡ Some q → (p.0 ≡ q.0) × (p.1 ≡ q.1)
 some_pair p q h = let e : p ≡ q = cc in (ap (λ x. x.0) e, ap (λ x. x.1) e)
 
--- ---- rows
+-- ---- runs
 
 blank_on : (t x : List ℕ) → first_passes is_blank t ≡ false → first_passes is_blank (t ++ (34 ∷ x)) ≡ false
 blank_on [] x h = refl

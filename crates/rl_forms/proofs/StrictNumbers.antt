@@ -1,7 +1,7 @@
 -- A strict number reads as the lenient reading says, with a minus before it too.
 use Rattle.rl_text.proofs.Common.{◌≡◌, ℕ, ◌<◌, ◌≤◌, ◌||◌, ◌&&◌, Bool, true, false, not, eqb, ltb, List, [], ◌∷◌, ◌++◌, refl, sym, ap, subst, ◌∙◌, ◌⊎◌, inl, inr, arith, append_assoc, append-nil, nat_lt, digit_value, is_ascii_digit, is_ascii_hexdigit, is_ascii_alphabetic, is_ascii_alphanumeric, list_all, list_any, list_all-append, eqb-true, eq-eqb, both_ways, and_parts, and_from, or_parts, or_cases, or_from, cases_lt, ltb-true, lt-ltb, not-true, agree_below_at, not_from_false, is_xid_start, is_xid_continue, is_xid_start-ascii}
 use Rattle.std.proofs.lemmas.Bool.{false_from_ne_true}
-use Rattle.rl_text.specs.Texts.{first_passes, begins, is_underscore, is_row_part}
+use Rattle.rl_text.specs.Texts.{first_passes, begins, is_underscore, is_run_part}
 use Rattle.rl_forms.specs.Spelling.{place_value, without_underscores}
 use Rattle.rl_forms.specs.Numbers.{Base, Binary, Octal, Decimal, Hexadecimal, radix, prefix, is_digit, Sign, NoSign, Minus, sign_text, begins_base, IsAfterPrefix, IsSuffix, is_exponent_letter, IsExponentSuffix, AllowsSuffix, IntReads, limit, Fraction, NoFraction, Dot, fraction_text, IsFraction, Exponent, NoExponent, Power, exponent_text, is_power_sign, BeginsExponent, IsExponent, float_digits}
 use Rattle.rl_forms.specs.Reading.{Contents, Digits, ReadsInt, HasNoInteger, ReadsFloat}
@@ -26,7 +26,7 @@ low_digit n c small h = false_from_ne_true (ltb (digit_value c) n) (λ d.
     let less : digit_value c < n = ltb-true (digit_value c) n d in
     both_ways (is_ascii_digit c) h (digit_is_ten c ∙ lt-ltb (digit_value c) 10 (omega arith)))
 
-pub no_part : (b : Base) (x : List ℕ) → IsSuffix x → AllowsSuffix b x → first_passes (is_row_part (is_digit b)) x
+pub no_part : (b : Base) (x : List ℕ) → IsSuffix x → AllowsSuffix b x → first_passes (is_run_part (is_digit b)) x
     ≡ false
 no_part b [] s f = refl
 no_part b (c ∷ cs) (inl e, u) f = absurd (cc)
@@ -53,7 +53,7 @@ begins_no_exponent : (x : List ℕ) → first_passes is_exponent_letter x ≡ fa
 begins_no_exponent x h e = both_ways (is_exponent_letter e.letter)
     (ap (first_passes is_exponent_letter) (sym e.text_is) ∙ h) e.is_letter
 
-pub suffix_no_part : (x : List ℕ) → IsSuffix x → first_passes (is_row_part (is_digit Decimal)) x ≡ false
+pub suffix_no_part : (x : List ℕ) → IsSuffix x → first_passes (is_run_part (is_digit Decimal)) x ≡ false
 suffix_no_part [] s = refl
 suffix_no_part (c ∷ cs) (inl e, u) = absurd (cc)
 suffix_no_part (c ∷ cs) (inr w, u) =
@@ -73,33 +73,33 @@ pub record IsInt (t : List ℕ) (v : Contents) (x : List ℕ) : Type 0 where
   pub contents_is : v ≡ Digits (dec magnitude)
 
 int_at : (b : Base) (t x : List ℕ) (v : Contents) (s : StrictInt t v x) → s.base ≡ radix b → s.prefix ≡ prefix b
-    → IsAfterPrefix b (s.row ++ x) → AllowsSuffix b x → IsInt t v x
+    → IsAfterPrefix b (s.run ++ x) → AllowsSuffix b x → IsInt t v x
 int_at b t x v s base front is_front is_suffix_of =
-    let All : ℕ → Type 0 = λ n. list_all (is_row_part (λ c. nat_lt (digit_value c) n)) s.row ≡ true in
-    let Any : ℕ → Type 0 = λ n. list_any (λ c. nat_lt (digit_value c) n) s.row ≡ true in
-    let m = place_value (radix b) (without_underscores s.row) in
+    let All : ℕ → Type 0 = λ n. list_all (is_run_part (λ c. nat_lt (digit_value c) n)) s.run ≡ true in
+    let Any : ℕ → Type 0 = λ n. list_any (λ c. nat_lt (digit_value c) n) s.run ≡ true in
+    let m = place_value (radix b) (without_underscores s.run) in
     record {
       magnitude = m;
       reads = record {
         base = b;
-        digits = s.row;
+        digits = s.run;
         front = is_front;
         each = subst All base s.each;
         some = subst Any base s.some;
         is_suffix = suffix_of_strict x s.suffix;
         is_suffix_of = is_suffix_of;
-        text_is = s.text ∙ append_assoc s.prefix s.row x ∙ ap (λ z. z ++ (s.row ++ x)) front;
+        text_is = s.text ∙ append_assoc s.prefix s.run x ∙ ap (λ z. z ++ (s.run ++ x)) front;
         magnitude_is = refl;
       };
-      contents_is = s.contents ∙ ap (λ n. Digits (dec (place_value n (without_underscores s.row)))) base;
+      contents_is = s.contents ∙ ap (λ n. Digits (dec (place_value n (without_underscores s.run)))) base;
     }
 
 pub strict_int : (t x : List ℕ) (v : Contents) → StrictInt t v x → IsInt t v x
 strict_int t x v s =
     elim s.is_front [
       | inl f ↦
-          let text : t ≡ s.row ++ x = s.text ∙ append_assoc s.prefix s.row x ∙ ap (λ z. z ++ (s.row ++ x)) f.0 in
-          int_at Decimal t x v s f.1 f.0 (passes_on is_ascii_digit s.row x f.2.0, ap begins_base (sym text) ∙ f.3)
+          let text : t ≡ s.run ++ x = s.text ∙ append_assoc s.prefix s.run x ∙ ap (λ z. z ++ (s.run ++ x)) f.0 in
+          int_at Decimal t x v s f.1 f.0 (passes_on is_ascii_digit s.run x f.2.0, ap begins_base (sym text) ∙ f.3)
           (no_exponent_suffix x s.no_exponent)
       | inr f ↦ elim f [
         | inl g ↦ int_at Binary t x v s g.1 g.0 tt tt
@@ -161,13 +161,13 @@ without_minus t x Minus m r = (
 pub record IsForeign (k : ℕ) : Type 0 where
   pub small : k < 128
   pub no_word : (is_ascii_alphanumeric k || eqb k 95) ≡ false
-  pub no_digit : (b : Base) → is_row_part (is_digit b) k ≡ false
+  pub no_digit : (b : Base) → is_run_part (is_digit b) k ≡ false
   pub no_prefix : (b : Base) → list_all (λ c. not (eqb c k)) (prefix b) ≡ true
 
 pub foreign_dot : IsForeign 46
 foreign_dot = record { small = omega arith; no_word = refl; no_digit = digit; no_prefix = front }
   where
-    digit : (b : Base) → is_row_part (is_digit b) 46 ≡ false
+    digit : (b : Base) → is_run_part (is_digit b) 46 ≡ false
     digit Binary = refl
     digit Octal = refl
     digit Decimal = refl
@@ -182,7 +182,7 @@ foreign_dot = record { small = omega arith; no_word = refl; no_digit = digit; no
 pub foreign_plus : IsForeign 43
 foreign_plus = record { small = omega arith; no_word = refl; no_digit = digit; no_prefix = front }
   where
-    digit : (b : Base) → is_row_part (is_digit b) 43 ≡ false
+    digit : (b : Base) → is_run_part (is_digit b) 43 ≡ false
     digit Binary = refl
     digit Octal = refl
     digit Decimal = refl
@@ -197,7 +197,7 @@ foreign_plus = record { small = omega arith; no_word = refl; no_digit = digit; n
 pub foreign_minus : IsForeign 45
 foreign_minus = record { small = omega arith; no_word = refl; no_digit = digit; no_prefix = front }
   where
-    digit : (b : Base) → is_row_part (is_digit b) 45 ≡ false
+    digit : (b : Base) → is_run_part (is_digit b) 45 ≡ false
     digit Binary = refl
     digit Octal = refl
     digit Decimal = refl
@@ -221,8 +221,8 @@ int_without k t x m f r =
     ∙ list_all-append test (prefix r.base) (r.digits ++ x)
     ∙ and_from _ _ (f.no_prefix r.base)
     (list_all-append test r.digits x
-    ∙ and_from _ _ (all_weaker (is_row_part (is_digit r.base)) test
-    (λ c h. not_from_false (eqb c k) (apart (is_row_part (is_digit r.base)) c k h (f.no_digit r.base))) r.digits
+    ∙ and_from _ _ (all_weaker (is_run_part (is_digit r.base)) test
+    (λ c h. not_from_false (eqb c k) (apart (is_run_part (is_digit r.base)) c k h (f.no_digit r.base))) r.digits
     r.each)
     (suffix_without k x f r.is_suffix))
 
@@ -256,9 +256,9 @@ pub begins_front : (p t : List ℕ) → begins p (p ++ t) ≡ true
 begins_front [] t = refl
 begins_front (c ∷ p) t = and_from _ _ (eq-eqb c c refl) (begins_front p t)
 
-pub letter_no_part : (c : ℕ) → is_exponent_letter c ≡ true → is_row_part (is_digit Decimal) c ≡ false
+pub letter_no_part : (c : ℕ) → is_exponent_letter c ≡ true → is_run_part (is_digit Decimal) c ≡ false
 letter_no_part c h =
-    let At : ℕ → Type 0 = λ x. is_row_part (is_digit Decimal) x ≡ false in
+    let At : ℕ → Type 0 = λ x. is_run_part (is_digit Decimal) x ≡ false in
     elim (or_cases (eqb c 101) (eqb c 69) h) [
       | inl a ↦ subst At (sym (eqb-true c 101 a)) refl
       | inr a ↦ subst At (sym (eqb-true c 69 a)) refl
@@ -279,21 +279,21 @@ other_base Hexadecimal t r h e =
 
 -- where the whole part ends in a letter of an exponent that is whole
 none_at_base : (b : Base) (t d row x digits y : List ℕ) (letter : ℕ) → b ≡ Decimal
-    → list_all (is_row_part (is_digit Decimal)) d ≡ true → is_exponent_letter letter ≡ true
-    → list_all (is_row_part (is_digit Decimal)) row ≡ true → list_any is_ascii_digit row ≡ true → IsSuffix x
-    → first_passes (is_row_part (is_digit Decimal)) x ≡ false → t ≡ d ++ (letter ∷ (row ++ x))
-    → list_all (is_row_part (is_digit b)) digits ≡ true → IsSuffix y → AllowsSuffix b y → t ≡ prefix b ++ (digits ++ y)
+    → list_all (is_run_part (is_digit Decimal)) d ≡ true → is_exponent_letter letter ≡ true
+    → list_all (is_run_part (is_digit Decimal)) row ≡ true → list_any is_ascii_digit row ≡ true → IsSuffix x
+    → first_passes (is_run_part (is_digit Decimal)) x ≡ false → t ≡ d ++ (letter ∷ (row ++ x))
+    → list_all (is_run_part (is_digit b)) digits ≡ true → IsSuffix y → AllowsSuffix b y → t ≡ prefix b ++ (digits ++ y)
     → ⊥
 none_at_base Decimal t d row x digits y letter decimal each is_letter run some sx whole e each_digit sy of text =
-    let p = same_run (is_row_part (is_digit Decimal)) d digits (letter ∷ (row ++ x)) y each each_digit
+    let p = same_run (is_run_part (is_digit Decimal)) d digits (letter ∷ (row ++ x)) y each each_digit
     (letter_no_part letter is_letter) (no_part Decimal y sy of) (sym e ∙ text) in
     of (record { letter = letter; run = row; rest = x; is_letter = is_letter; each = run; some = some; whole = whole; is_rest = sx.0; text_is = sym p.1 })
 none_at_base kind t d row x digits y letter decimal each is_letter run some sx whole e each_digit sy of text = absurd
     (cc)
 
-none_at_exponent : (t d row x : List ℕ) (letter : ℕ) → IsDecimalText t → list_all (is_row_part (is_digit Decimal)) d
-    ≡ true → is_exponent_letter letter ≡ true → list_all (is_row_part (is_digit Decimal)) row ≡ true
-    → list_any is_ascii_digit row ≡ true → IsSuffix x → first_passes (is_row_part (is_digit Decimal)) x ≡ false → t ≡ d
+none_at_exponent : (t d row x : List ℕ) (letter : ℕ) → IsDecimalText t → list_all (is_run_part (is_digit Decimal)) d
+    ≡ true → is_exponent_letter letter ≡ true → list_all (is_run_part (is_digit Decimal)) row ≡ true
+    → list_any is_ascii_digit row ≡ true → IsSuffix x → first_passes (is_run_part (is_digit Decimal)) x ≡ false → t ≡ d
     ++ (letter ∷ (row ++ x)) → first_passes is_ascii_digit t ≡ true → HasNoInteger t
 none_at_exponent t d row x letter decimal each is_letter run some sx whole e front s m y r0 =
     let r = (no_sign t y s m front r0).0 in
@@ -307,7 +307,7 @@ pub record IsFloat (t : List ℕ) (v : Contents) (x : List ℕ) : Type 0 where
   pub fraction : Fraction
   pub exponent : Exponent
   pub first : first_passes is_ascii_digit whole ≡ true
-  pub each : list_all (is_row_part (is_digit Decimal)) whole ≡ true
+  pub each : list_all (is_run_part (is_digit Decimal)) whole ≡ true
   pub is_fraction : IsFraction fraction
   pub is_exponent : IsExponent exponent x
   pub is_suffix : IsSuffix x
@@ -315,17 +315,17 @@ pub record IsFloat (t : List ℕ) (v : Contents) (x : List ℕ) : Type 0 where
   pub no_integer : HasNoInteger t
   pub contents_is : v ≡ Digits (float_digits (whole ++ (fraction_text fraction ++ exponent_text exponent)))
 
-digits_part : (d : List ℕ) → list_all (is_row_part is_ascii_digit) d ≡ true
-    → list_all (is_row_part (is_digit Decimal)) d
+digits_part : (d : List ℕ) → list_all (is_run_part is_ascii_digit) d ≡ true
+    → list_all (is_run_part (is_digit Decimal)) d
     ≡ true
-digits_part d h = sym (all_same (is_row_part is_ascii_digit) (is_row_part (is_digit Decimal))
+digits_part d h = sym (all_same (is_run_part is_ascii_digit) (is_run_part (is_digit Decimal))
     (λ c. ap (λ b. b || eqb c 95) (digit_is_ten c)) d) ∙ h
 
 front_of : (t d r : List ℕ) → t ≡ d ++ r → first_passes is_ascii_digit d ≡ true → first_passes is_ascii_digit t ≡ true
 front_of t d r e h = ap (first_passes is_ascii_digit) e ∙ passes_on is_ascii_digit d r h
 
 dot_float : (t x d f : List ℕ) (v : Contents) (s : StrictFloat t v x) → IsDigits d
-    → list_all (is_row_part (is_digit Decimal)) f ≡ true → s.numeral ≡ d ++ (46 ∷ f) → (BeginsExponent x → ⊥)
+    → list_all (is_run_part (is_digit Decimal)) f ≡ true → s.numeral ≡ d ++ (46 ∷ f) → (BeginsExponent x → ⊥)
     → IsFloat t v x
 dot_float t x d f v s is_d each_f e no_exponent =
     let numeral : s.numeral ≡ d ++ ((46 ∷ f) ++ []) = e ∙ ap (λ z. d ++ (46 ∷ z)) (sym (append-nil f)) in
@@ -351,36 +351,36 @@ pub record IsPower (e : List ℕ) : Type 0 where
   pub row : List ℕ
   pub is_letter : is_exponent_letter letter ≡ true
   pub is_sign : (sign ≡ []) ⊎ ((sign ≡ 43 ∷ []) ⊎ (sign ≡ 45 ∷ []))
-  pub each : list_all (is_row_part (is_digit Decimal)) row ≡ true
+  pub each : list_all (is_run_part (is_digit Decimal)) row ≡ true
   pub some : list_any is_ascii_digit row ≡ true
   pub text_is : e ≡ letter ∷ (sign ++ row)
 
 power_of : (e : List ℕ) → IsStrictExponent e → IsPower e
-power_of e s = record { letter = s.letter; sign = s.sign; row = s.row; is_letter = s.is_letter; is_sign = s.is_sign; each = digits_part s.row s.each; some = s.some; text_is = s.text }
+power_of e s = record { letter = s.letter; sign = s.sign; run = s.run; is_letter = s.is_letter; is_sign = s.is_sign; each = digits_part s.run s.each; some = s.some; text_is = s.text }
 
 power_sign : (sign : List ℕ) → ((sign ≡ []) ⊎ ((sign ≡ 43 ∷ []) ⊎ (sign ≡ 45 ∷ []))) → is_power_sign sign ≡ true
 power_sign sign (inl e) = ap is_power_sign e
 power_sign sign (inr (inl e)) = ap is_power_sign e
 power_sign sign (inr (inr e)) = ap is_power_sign e
 
-is_power : (e x : List ℕ) (p : IsPower e) → IsExponent (Power p.letter [] p.sign p.row) x
+is_power : (e x : List ℕ) (p : IsPower e) → IsExponent (Power p.letter [] p.sign p.run) x
 is_power e x p = (p.is_letter, refl, power_sign p.sign p.is_sign, p.each, p.some)
 
 whole_float : (t x d e : List ℕ) (v : Contents) (s : StrictFloat t v x) → IsDigits d → IsPower e → s.numeral ≡ d ++ e
     → IsFloat t v x
 whole_float t x d e v s is_d p h =
-    let numeral : s.numeral ≡ d ++ (p.letter ∷ (p.sign ++ p.row)) = h ∙ ap (λ z. d ++ z) p.text_is in
-    let text : t ≡ (d ++ (p.letter ∷ (p.sign ++ p.row))) ++ x = s.text ∙ ap (λ z. z ++ x) numeral in
-    let inside : t ≡ d ++ (p.letter ∷ ((p.sign ++ p.row) ++ x)) = text
-    ∙ append_assoc d (p.letter ∷ (p.sign ++ p.row)) x in
+    let numeral : s.numeral ≡ d ++ (p.letter ∷ (p.sign ++ p.run)) = h ∙ ap (λ z. d ++ z) p.text_is in
+    let text : t ≡ (d ++ (p.letter ∷ (p.sign ++ p.run))) ++ x = s.text ∙ ap (λ z. z ++ x) numeral in
+    let inside : t ≡ d ++ (p.letter ∷ ((p.sign ++ p.run) ++ x)) = text
+    ∙ append_assoc d (p.letter ∷ (p.sign ++ p.run)) x in
     let front = front_of t d _ inside is_d.0 in
     let suffix = suffix_of_strict x s.suffix in
-    let signed : (k : ℕ) → p.sign ≡ k ∷ [] → t ≡ (d ++ (p.letter ∷ [])) ++ (k ∷ (p.row ++ x)) = λ k q. inside
-    ∙ ap (λ z. d ++ (p.letter ∷ ((z ++ p.row) ++ x))) q ∙ sym (append_assoc d (p.letter ∷ []) (k ∷ (p.row ++ x))) in
+    let signed : (k : ℕ) → p.sign ≡ k ∷ [] → t ≡ (d ++ (p.letter ∷ [])) ++ (k ∷ (p.run ++ x)) = λ k q. inside
+    ∙ ap (λ z. d ++ (p.letter ∷ ((z ++ p.run) ++ x))) q ∙ sym (append_assoc d (p.letter ∷ []) (k ∷ (p.run ++ x))) in
     record {
       whole = d;
       fraction = NoFraction;
-      exponent = Power p.letter [] p.sign p.row;
+      exponent = Power p.letter [] p.sign p.run;
       first = is_d.0;
       each = digits_part d is_d.1;
       is_fraction = tt;
@@ -388,11 +388,11 @@ whole_float t x d e v s is_d p h =
       is_suffix = suffix;
       text_is = text;
       no_integer = elim p.is_sign [
-        | inl q ↦ none_at_exponent t d p.row x p.letter s.no_prefix (digits_part d is_d.1) p.is_letter p.each p.some
-            suffix (suffix_no_part x suffix) (inside ∙ ap (λ z. d ++ (p.letter ∷ ((z ++ p.row) ++ x))) q) front
+        | inl q ↦ none_at_exponent t d p.run x p.letter s.no_prefix (digits_part d is_d.1) p.is_letter p.each p.some
+            suffix (suffix_no_part x suffix) (inside ∙ ap (λ z. d ++ (p.letter ∷ ((z ++ p.run) ++ x))) q) front
         | inr q ↦ elim q [
-          | inl plus ↦ none_around 43 t (d ++ (p.letter ∷ [])) (p.row ++ x) foreign_plus refl (signed 43 plus) front
-          | inr minus ↦ none_around 45 t (d ++ (p.letter ∷ [])) (p.row ++ x) foreign_minus refl (signed 45 minus) front
+          | inl plus ↦ none_around 43 t (d ++ (p.letter ∷ [])) (p.run ++ x) foreign_plus refl (signed 43 plus) front
+          | inr minus ↦ none_around 45 t (d ++ (p.letter ∷ [])) (p.run ++ x) foreign_minus refl (signed 45 minus) front
         ]
       ];
       contents_is = s.contents ∙ ap (λ z. Digits (float_digits z)) numeral;
@@ -401,15 +401,15 @@ whole_float t x d e v s is_d p h =
 fraction_float : (t x d f e : List ℕ) (v : Contents) (s : StrictFloat t v x) → IsDigits d → IsDigits f → IsPower e
     → s.numeral ≡ (d ++ (46 ∷ f)) ++ e → IsFloat t v x
 fraction_float t x d f e v s is_d is_f p h =
-    let numeral : s.numeral ≡ d ++ ((46 ∷ f) ++ (p.letter ∷ (p.sign ++ p.row))) = h ∙ append_assoc d (46 ∷ f) e
+    let numeral : s.numeral ≡ d ++ ((46 ∷ f) ++ (p.letter ∷ (p.sign ++ p.run))) = h ∙ append_assoc d (46 ∷ f) e
     ∙ ap (λ z. d ++ ((46 ∷ f) ++ z)) p.text_is in
-    let text : t ≡ (d ++ ((46 ∷ f) ++ (p.letter ∷ (p.sign ++ p.row)))) ++ x = s.text ∙ ap (λ z. z ++ x) numeral in
-    let inside : t ≡ d ++ (46 ∷ ((f ++ (p.letter ∷ (p.sign ++ p.row))) ++ x)) = text
-    ∙ append_assoc d ((46 ∷ f) ++ (p.letter ∷ (p.sign ++ p.row))) x in
+    let text : t ≡ (d ++ ((46 ∷ f) ++ (p.letter ∷ (p.sign ++ p.run)))) ++ x = s.text ∙ ap (λ z. z ++ x) numeral in
+    let inside : t ≡ d ++ (46 ∷ ((f ++ (p.letter ∷ (p.sign ++ p.run))) ++ x)) = text
+    ∙ append_assoc d ((46 ∷ f) ++ (p.letter ∷ (p.sign ++ p.run))) x in
     record {
       whole = d;
       fraction = Dot f;
-      exponent = Power p.letter [] p.sign p.row;
+      exponent = Power p.letter [] p.sign p.run;
       first = is_d.0;
       each = digits_part d is_d.1;
       is_fraction = digits_part f is_f.1;

@@ -191,8 +191,8 @@ unicode_facts d ds h =
     let r = and_parts (nat_le 1 (length (d ∷ ds))) (nat_le (length (d ∷ ds)) 6) q.0 in
     let s = and_parts (hex_first d) (list_all hex_first ds) q.1 in
     let m = and_parts (scalar v) true p.1 in
-    let row = bare_digits (d ∷ ds) q.1 in
-    let same : unicode_value d.0 (replicate d.1 95 ++ flat_map spaced_digit ds) ≡ v = ap (place_value 16) row in
+    let run = bare_digits (d ∷ ds) q.1 in
+    let same : unicode_value d.0 (replicate d.1 95 ++ flat_map spaced_digit ds) ≡ v = ap (place_value 16) run in
     let few : length (d ∷ ds) ≤ 6 = leb-true (length (d ∷ ds)) 6 r.1 in
     let Few : ℕ → Type 0 = λ n. n ≤ 6 in
     let test : ℕ → Bool = λ c. is_underscore c || is_hex_digit c in
@@ -200,7 +200,7 @@ unicode_facts d ds h =
       first = hex_digit d.0 s.0;
       more = list_all-append test (replicate d.1 95) (flat_map spaced_digit ds)
           ∙ and_from _ _ (underscores_between d.1) (digits_between ds s.1);
-      few = subst Few (sym (ap length row ∙ digits_count (d ∷ ds))) few;
+      few = subst Few (sym (ap length run ∙ digits_count (d ∷ ds))) few;
       is_scalar = subst IsScalar (sym same) m.0;
       same = same;
     }
@@ -241,7 +241,7 @@ stands k (ByteEscape high low) h = byte_escape k high low h
 stands k (UnicodeEscape digits) h = unicode_escape k digits h
 stands k (LineBreak blanks) h = line_break k blanks h
 
--- ---- rows of units
+-- ---- runs of units
 
 pub record StandRow (k : Kind) (us : List StrictUnit) : Type 0 where
   pub units : List QuotedUnit

@@ -4,7 +4,7 @@ use Rattle.rl_forms.specs.declared.kind.Kind.{Kind}
 use Rattle.rl_forms.specs.declared.kind.Kind.TheVariants.{Str, ByteStr, CStr, Byte, Char, Int, Float, Bool as BoolKind}
 use Rattle.rl_forms.specs.Reading.{Contents}
 use Rattle.rl_forms.specs.Strict.{Strict, IsStrictSuffix, StrictUnit, Itself, QuoteEscape, PlainEscape, AsciiEscape, ByteEscape, UnicodeEscape, LineBreak, spaced_digit, strict_text, is_plain_letter, is_octal, is_unicode_escape, spaced_value, is_strict_unit, strict_opener, strict_closer, StrictCooked, StrictRaw, strict_raw_opener, IsDigits, StrictInt, IsStrictExponent, StrictFloat}
-use Rattle.rl_text.specs.Texts.{is_dropped_blank, is_row_part}
+use Rattle.rl_text.specs.Texts.{is_dropped_blank, is_run_part}
 use Rattle.rl_text.proofs.Basics.{apart, all_weaker, word_without}
 use Rattle.rl_forms.proofs.StrictQuoted.{not_return}
 use Rattle.rl_forms.specs.Spelling.{place_value}
@@ -166,32 +166,32 @@ in_quoted : (t : List ℕ) (k : Kind) (v : Contents) (x : List ℕ) → (StrictC
 in_quoted t k v x (inl s) = in_cooked t k v x s
 in_quoted t k v x (inr s) = in_raw t k v x s
 
-int_at : (p r x : List ℕ) (base : ℕ) → no_return_in p ≡ true → is_row_part (λ c. nat_lt (digit_value c) base) 13 ≡ false
-    → list_all (is_row_part (λ c. nat_lt (digit_value c) base)) r ≡ true → no_return_in x ≡ true
+int_at : (p r x : List ℕ) (base : ℕ) → no_return_in p ≡ true → is_run_part (λ c. nat_lt (digit_value c) base) 13 ≡ false
+    → list_all (is_run_part (λ c. nat_lt (digit_value c) base)) r ≡ true → no_return_in x ≡ true
     → no_return_in (p ++ r ++ x)
     ≡ true
 int_at p r x base front none each end = join (p ++ r) x (join p r front
-    (row_of (is_row_part (λ c. nat_lt (digit_value c) base)) r none each)) end
+    (row_of (is_run_part (λ c. nat_lt (digit_value c) base)) r none each)) end
 
 in_int : (t x : List ℕ) (v : Contents) → StrictInt t v x → no_return_in t ≡ true
 in_int t x v s =
-    let from : no_return_in s.prefix ≡ true → is_row_part (λ c. nat_lt (digit_value c) s.base) 13 ≡ false
+    let from : no_return_in s.prefix ≡ true → is_run_part (λ c. nat_lt (digit_value c) s.base) 13 ≡ false
     → no_return_in t
     ≡ true =
-    λ f n. ap no_return_in s.text ∙ int_at s.prefix s.row x s.base f n s.each (in_suffix x s.suffix.0) in
+    λ f n. ap no_return_in s.text ∙ int_at s.prefix s.run x s.base f n s.each (in_suffix x s.suffix.0) in
     elim s.is_front [
-      | inl f ↦ from (ap no_return_in f.0) (ap (λ n. is_row_part (λ c. nat_lt (digit_value c) n) 13) f.1)
+      | inl f ↦ from (ap no_return_in f.0) (ap (λ n. is_run_part (λ c. nat_lt (digit_value c) n) 13) f.1)
       | inr f ↦ elim f [
-        | inl g ↦ from (ap no_return_in g.0) (ap (λ n. is_row_part (λ c. nat_lt (digit_value c) n) 13) g.1)
+        | inl g ↦ from (ap no_return_in g.0) (ap (λ n. is_run_part (λ c. nat_lt (digit_value c) n) 13) g.1)
         | inr g ↦ elim g [
-          | inl h ↦ from (ap no_return_in h.0) (ap (λ n. is_row_part (λ c. nat_lt (digit_value c) n) 13) h.1)
-          | inr h ↦ from (ap no_return_in h.0) (ap (λ n. is_row_part (λ c. nat_lt (digit_value c) n) 13) h.1)
+          | inl h ↦ from (ap no_return_in h.0) (ap (λ n. is_run_part (λ c. nat_lt (digit_value c) n) 13) h.1)
+          | inr h ↦ from (ap no_return_in h.0) (ap (λ n. is_run_part (λ c. nat_lt (digit_value c) n) 13) h.1)
         ]
       ]
     ]
 
 in_digits : (d : List ℕ) → IsDigits d → no_return_in d ≡ true
-in_digits d h = row_of (is_row_part is_ascii_digit) d refl h.1
+in_digits d h = row_of (is_run_part is_ascii_digit) d refl h.1
 
 in_sign : (sign : List ℕ) → ((sign ≡ []) ⊎ ((sign ≡ 43 ∷ []) ⊎ (sign ≡ 45 ∷ []))) → no_return_in sign ≡ true
 in_sign sign (inl e) = ap no_return_in e
@@ -201,9 +201,9 @@ in_sign sign (inr (inr e)) = ap no_return_in e
 in_exponent : (e : List ℕ) → IsStrictExponent e → no_return_in e ≡ true
 in_exponent e s =
     ap no_return_in s.text
-    ∙ join (s.letter ∷ s.sign) s.row (before s.letter s.sign (apart (λ c. eqb c 101 || eqb c 69) s.letter 13 s.is_letter
+    ∙ join (s.letter ∷ s.sign) s.run (before s.letter s.sign (apart (λ c. eqb c 101 || eqb c 69) s.letter 13 s.is_letter
     refl) (in_sign s.sign s.is_sign))
-    (row_of (is_row_part is_ascii_digit) s.row refl s.each)
+    (row_of (is_run_part is_ascii_digit) s.run refl s.each)
 
 pointed : (d f : List ℕ) → IsDigits d → IsDigits f → no_return_in (d ++ 46 ∷ f) ≡ true
 pointed d f p q = join d (46 ∷ f) (in_digits d p) (in_digits f q)

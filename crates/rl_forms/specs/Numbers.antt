@@ -5,7 +5,7 @@ use Rattle.std.specs.Prelude.{◌≡◌, ◌⊎◌, ℕ, ◌^◌, ◌-◌, Bool,
 use Rattle.std.specs.Char.{digit_value, is_ascii_digit}
 use Rattle.std.specs.List.{list_all, list_any}
 use Prim.Native.Char.{code}
-use Rattle.rl_text.specs.Texts.{first_passes, begins, is_underscore, xid_ok, is_row_part}
+use Rattle.rl_text.specs.Texts.{first_passes, begins, is_underscore, xid_ok, is_run_part}
 use Rattle.rl_forms.specs.Spelling.{place_value, without_underscores}
 
 pub data Base : Type 0 where
@@ -60,9 +60,9 @@ pub record IsExponentSuffix (x : List ℕ) : Type 0 where
   pub run : List ℕ
   pub rest : List ℕ
   pub is_letter : IsTrue (is_exponent_letter letter)
-  pub each : IsTrue (list_all (is_row_part (is_digit Decimal)) run)
+  pub each : IsTrue (list_all (is_run_part (is_digit Decimal)) run)
   pub some : IsTrue (list_any is_ascii_digit run)
-  pub whole : IsFalse (first_passes (is_row_part (is_digit Decimal)) rest)
+  pub whole : IsFalse (first_passes (is_run_part (is_digit Decimal)) rest)
   pub is_rest : (rest ≡ []) ⊎ IsTrue (xid_ok rest)
   pub text_is : x ≡ letter ∷ (run ++ rest)
 
@@ -77,7 +77,7 @@ pub record IntReads (text : List ℕ) (sign : Sign) (magnitude : ℕ) (suffix : 
   pub base : Base
   pub digits : List ℕ
   pub front : IsAfterPrefix base (digits ++ suffix)
-  pub each : IsTrue (list_all (is_row_part (is_digit base)) digits)
+  pub each : IsTrue (list_all (is_run_part (is_digit base)) digits)
   pub some : IsTrue (list_any (is_digit base) digits)
   pub is_suffix : IsSuffix suffix
   pub is_suffix_of : AllowsSuffix base suffix
@@ -91,25 +91,25 @@ limit = 2 ^ 128 - 1
 -- after the whole part: nothing, or a dot and digits and underscores, perhaps none
 pub data Fraction : Type 0 where
   NoFraction : Fraction
-  Dot : (row : List ℕ) → Fraction
+  Dot : (run : List ℕ) → Fraction
 
 abbrev pub fraction_text : Fraction → List ℕ
 fraction_text NoFraction = []
-fraction_text (Dot row) = code "." ∷ row
+fraction_text (Dot run) = code "." ∷ run
 
 abbrev pub IsFraction : Fraction → Type 0
 IsFraction NoFraction = ⊤
-IsFraction (Dot row) = IsTrue (list_all (is_row_part (is_digit Decimal)) row)
+IsFraction (Dot run) = IsTrue (list_all (is_run_part (is_digit Decimal)) run)
 
 -- `e`, underscores, at most one sign, and digits and underscores with a digit among them; or
 -- nothing
 pub data Exponent : Type 0 where
   NoExponent : Exponent
-  Power : (letter : ℕ) (underscores sign row : List ℕ) → Exponent
+  Power : (letter : ℕ) (underscores sign run : List ℕ) → Exponent
 
 abbrev pub exponent_text : Exponent → List ℕ
 exponent_text NoExponent = []
-exponent_text (Power letter underscores sign row) = letter ∷ (underscores ++ (sign ++ row))
+exponent_text (Power letter underscores sign run) = letter ∷ (underscores ++ (sign ++ run))
 
 abbrev pub is_power_sign : List ℕ → Bool
 is_power_sign [] = true
@@ -131,10 +131,10 @@ pub record BeginsExponent (x : List ℕ) : Type 0 where
 -- the exponent is well made, or there is none and the suffix doesn't begin like one
 abbrev pub IsExponent : Exponent → List ℕ → Type 0
 IsExponent NoExponent suffix = BeginsExponent suffix → ⊥
-IsExponent (Power letter underscores sign row) suffix =
+IsExponent (Power letter underscores sign run) suffix =
     IsTrue (is_exponent_letter letter) × IsTrue (list_all is_underscore underscores)
     × IsTrue (is_power_sign sign)
-    × IsTrue (list_all (is_row_part (is_digit Decimal)) row) × IsTrue (list_any is_ascii_digit row)
+    × IsTrue (list_all (is_run_part (is_digit Decimal)) run) × IsTrue (list_any is_ascii_digit run)
 
 -- A float with this numeral and suffix: `parse_lit_float`.
 pub record FloatReads (text numeral suffix : List ℕ) : Type 0 where
@@ -143,7 +143,7 @@ pub record FloatReads (text numeral suffix : List ℕ) : Type 0 where
   pub fraction : Fraction
   pub exponent : Exponent
   pub first : IsTrue (first_passes is_ascii_digit whole)
-  pub each : IsTrue (list_all (is_row_part (is_digit Decimal)) whole)
+  pub each : IsTrue (list_all (is_run_part (is_digit Decimal)) whole)
   pub is_fraction : IsFraction fraction
   pub is_exponent : IsExponent exponent suffix
   pub is_suffix : IsSuffix suffix

@@ -39,7 +39,7 @@ letter_value Apostrophe = code "'"
 letter_value Quote = code "\""
 letter_value Zero = 0
 
--- What stands between quotes is a row of units.
+-- What stands between quotes is a run of units.
 pub data QuotedUnit : Type 0 where
   -- the character itself
   Plain : (c : ℕ) → QuotedUnit

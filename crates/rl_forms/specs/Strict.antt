@@ -10,7 +10,7 @@ use Rattle.std.specs.List.{list_all, list_any, flat_map}
 use Prim.Native.Char.{code}
 use Rattle.rl_forms.specs.declared.kind.Kind.{Kind}
 use Rattle.rl_forms.specs.declared.kind.Kind.TheVariants.{Str, ByteStr, CStr, Byte, Char, Int, Float, Bool as BoolKind}
-use Rattle.rl_text.specs.Texts.{IsWord, first_passes, begins_char, begins, is_row_part}
+use Rattle.rl_text.specs.Texts.{IsWord, first_passes, begins_char, begins, is_run_part}
 use Rattle.rl_forms.specs.Reading.{Contents, Digits, Truth, quoted_contents}
 use Rattle.rl_forms.specs.Spelling.{place_value, without_underscores}
 
@@ -195,7 +195,7 @@ pub record StrictRaw (t : List ℕ) (k : Kind) (v : Contents) (x : List ℕ) : T
 
 -- D: a digit, and digits and underscores
 abbrev pub IsDigits : List ℕ → Type 0
-IsDigits d = IsTrue (first_passes is_ascii_digit d) × IsTrue (list_all (is_row_part is_ascii_digit) d)
+IsDigits d = IsTrue (first_passes is_ascii_digit d) × IsTrue (list_all (is_run_part is_ascii_digit) d)
 
 -- a decimal form doesn't begin as another base does
 abbrev pub IsDecimalText : List ℕ → Type 0
@@ -218,26 +218,26 @@ dec n = digits_onto (suc n) 10 false n []
 pub record StrictInt (t : List ℕ) (v : Contents) (x : List ℕ) : Type 0 where
   pub prefix : List ℕ
   pub base : ℕ
-  pub row : List ℕ
-  pub is_front : ((prefix ≡ []) × (base ≡ 10) × IsDigits row × IsDecimalText t)
+  pub run : List ℕ
+  pub is_front : ((prefix ≡ []) × (base ≡ 10) × IsDigits run × IsDecimalText t)
       ⊎ BasedPrefix prefix base
-  pub each : IsTrue (list_all (is_row_part (λ c. nat_lt (digit_value c) base)) row)
-  pub some : IsTrue (list_any (λ c. nat_lt (digit_value c) base) row)
+  pub each : IsTrue (list_all (is_run_part (λ c. nat_lt (digit_value c) base)) run)
+  pub some : IsTrue (list_any (λ c. nat_lt (digit_value c) base) run)
   pub suffix : IsNumberSuffix x
   pub no_exponent : IsFalse (first_passes (λ c. c == code "e" || c == code "E") x)
   pub no_digit : base ≡ 16 → IsFalse (first_passes is_ascii_hexdigit x)
-  pub text : t ≡ prefix ++ row ++ x
-  pub contents : v ≡ Digits (dec (place_value base (without_underscores row)))
+  pub text : t ≡ prefix ++ run ++ x
+  pub contents : v ≡ Digits (dec (place_value base (without_underscores run)))
 
 pub record IsStrictExponent (e : List ℕ) : Type 0 where
   pub letter : ℕ
   pub sign : List ℕ
-  pub row : List ℕ
+  pub run : List ℕ
   pub is_letter : IsTrue (letter == code "e" || letter == code "E")
   pub is_sign : (sign ≡ []) ⊎ ((sign ≡ code "+" ∷ []) ⊎ (sign ≡ code "-" ∷ []))
-  pub each : IsTrue (list_all (is_row_part is_ascii_digit) row)
-  pub some : IsTrue (list_any is_ascii_digit row)
-  pub text : e ≡ letter ∷ sign ++ row
+  pub each : IsTrue (list_all (is_run_part is_ascii_digit) run)
+  pub some : IsTrue (list_any is_ascii_digit run)
+  pub text : e ≡ letter ∷ sign ++ run
 
 -- `D.` alone
 abbrev pub IsDotAlone : List ℕ → List ℕ → Type 0

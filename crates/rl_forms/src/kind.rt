@@ -5,7 +5,7 @@ ghost use Rattle.rl_forms.specs.Quoted.{holds_characters, is_string, opener};
 ghost use Rattle.rl_forms.specs.Words.{kind_name, kind_shown, kind_word};
 
 // What stands before the characters of quoted literals: the one table of openers, which `Kind::opener` tells by the kind.
-// The lexer names its rows, since the compiler folds a constant, and not what a call returns, into a test of a text's
+// The lexer names its runs, since the compiler folds a constant, and not what a call returns, into a test of a text's
 // front.
 pub const STR_OPENER: &str = "\"";
 

@@ -10,7 +10,7 @@ ghost use Rattle.rl_reading.specs.Mirrors.NumberAt.{sign_at};
 ghost use Rattle.rl_reading.specs.Founds.{IsFoundNumber};
 ghost use Rattle.rl_reading.specs.NumberShapes.{AreDigits, IsNumber};
 
-use rl_reading::digit_rows::is_negative;
+use rl_reading::digit_runs::is_negative;
 use rl_reading::found::found_in;
 use rl_reading::{Found, find_float, numeral_into};
 use rl_tokens::{Error, Kind};

@@ -8,7 +8,7 @@ pub use Rattle.rl_reasons.specs.Flaws
 pub use Rattle.rl_reasons.specs.OneFlaw
 pub use Rattle.rl_reading.specs.NumberShapes
 pub use Rattle.rl_reading.specs.NumbersRead
-pub use Rattle.rl_reading.specs.Rows
+pub use Rattle.rl_reading.specs.UnitRuns
 pub use Rattle.rl_reading.specs.Forms
 pub use Rattle.rl_reading.specs.Shapes
 pub use Rattle.rl_reading.specs.Decoded

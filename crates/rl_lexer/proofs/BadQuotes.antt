@@ -3,7 +3,7 @@ use Rattle.rl_text.proofs.Common.{◌≡◌, ◌≢◌, ℕ, inl, inr, lit<, Boo
 use Rattle.rl_text.proofs.Basics.{false_unless}
 use Rattle.rl_text.specs.Texts.{first_passes, is_white, is_start, is_continue, begins_char}
 use Rattle.rl_text.specs.Classes.{after_run}
-use Rattle.rl_lexer.specs.Lexemes.{BodyPart, PlainPart, EscapedPart, body_text, IsRow, IsLexedSuffix, begins_raw_identifier}
+use Rattle.rl_lexer.specs.Lexemes.{BodyPart, PlainPart, EscapedPart, body_text, IsRun, IsLexedSuffix, begins_raw_identifier}
 use Rattle.rl_lexer.specs.Mirrors.LexemeAt.{after_suffix, begins_quote}
 use Rattle.rl_lexer.specs.Mirrors.SourceAt.{after_name, after_any_name, opens, stops_quote, after_any, after_part, after_next_quote, after_other, after_closing, past_closing, after_bare, after_bad_quote}
 use Rattle.rl_lexer.specs.BadQuotes.{BadQuote, WordQuote, RawWordQuote, DigitQuote, OtherQuote, ByteQuote, bad_quote_text, IsQuoteBody, begins_escape, begins_word_or_escape, IsBadQuote}
@@ -219,20 +219,20 @@ FoundQuote t r = (q : BadQuote) × IsBadQuote q r × (t ≡ bad_quote_text q ++ 
 
 digit_found : (d : ℕ) (s : List ℕ) → is_ascii_digit d ≡ true
     → FoundQuote (39 ∷ d ∷ s) (past_closing (after_run is_continue s))
-digit_found d s digit = let (row, is, same) = run_found is_continue s in go row (after_run is_continue s) is same
+digit_found d s digit = let (run, is, same) = run_found is_continue s in go run (after_run is_continue s) is same
   where
-    step : (row m : List ℕ) (k : ℕ) → IsRow is_continue row (k ∷ m) → s ≡ row ++ k ∷ m → (b : Bool) → (k == 39) ≡ b
+    step : (run m : List ℕ) (k : ℕ) → IsRun is_continue run (k ∷ m) → s ≡ run ++ k ∷ m → (b : Bool) → (k == 39) ≡ b
         → FoundQuote (39 ∷ d ∷ s) (cond b m (k ∷ m))
-    step row m k is same true h = (
-      WordQuote d row,
+    step run m k is same true h = (
+      WordQuote d run,
       (ap (λ b. b || is_start d) digit, is.each),
-      ap (λ x. 39 ∷ d ∷ x) (same ∙ ap (λ x. row ++ x ∷ m) (is_equal k 39 h) ∙ sym (append_assoc row (39 ∷ []) m)),
+      ap (λ x. 39 ∷ d ∷ x) (same ∙ ap (λ x. run ++ x ∷ m) (is_equal k 39 h) ∙ sym (append_assoc run (39 ∷ []) m)),
     )
-    step row m k is same false h = (DigitQuote d row, (digit, is, h), ap (λ x. 39 ∷ d ∷ x) same)
+    step run m k is same false h = (DigitQuote d run, (digit, is, h), ap (λ x. 39 ∷ d ∷ x) same)
 
-    go : (row m : List ℕ) → IsRow is_continue row m → s ≡ row ++ m → FoundQuote (39 ∷ d ∷ s) (past_closing m)
-    go row [] is same = (DigitQuote d row, (digit, is, refl), ap (λ x. 39 ∷ d ∷ x) same)
-    go row (k ∷ m) is same = step row m k is same (k == 39) refl
+    go : (run m : List ℕ) → IsRun is_continue run m → s ≡ run ++ m → FoundQuote (39 ∷ d ∷ s) (past_closing m)
+    go run [] is same = (DigitQuote d run, (digit, is, refl), ap (λ x. 39 ∷ d ∷ x) same)
+    go run (k ∷ m) is same = step run m k is same (k == 39) refl
 
 closing_found : (t r : List ℕ) → after_closing t ≡ Some r → t ≡ 39 ∷ r
 closing_found [] r h = absurd (none-some r h)
@@ -245,21 +245,21 @@ closing_found (c ∷ t) r h =
 word_found : (t r : List ℕ) → option_and_then after_closing (after_any_name t) ≡ Some r → FoundQuote (39 ∷ t) r
 word_found t r h = go (after_any_name t) refl h
   where
-    closed : (row m : List ℕ) → m ≡ 39 ∷ r → row ++ m ≡ (row ++ 39 ∷ []) ++ r
-    closed row m e = ap (λ z. row ++ z) e ∙ sym (append_assoc row (39 ∷ []) r)
+    closed : (run m : List ℕ) → m ≡ 39 ∷ r → run ++ m ≡ (run ++ 39 ∷ []) ++ r
+    closed run m e = ap (λ z. run ++ z) e ∙ sym (append_assoc run (39 ∷ []) r)
 
     raw : (m : List ℕ) → m ≡ 39 ∷ r → begins_raw_identifier t ≡ true → NameBefore (drop 2 t) m
         → FoundQuote (39 ∷ t) r
-    raw m e a (c, more, (start, row), same) = (
+    raw m e a (c, more, (start, run), same) = (
       RawWordQuote c more,
-      (start, row.each),
+      (start, run.each),
       ap (λ x. 39 ∷ x) (raw_rest t a) ∙ ap (λ x. 39 ∷ 114 ∷ 35 ∷ x) (same ∙ ap (λ x. c ∷ x) (closed more m e)),
     )
 
     plain : (m : List ℕ) → m ≡ 39 ∷ r → NameBefore t m → FoundQuote (39 ∷ t) r
-    plain m e (c, more, (start, row), same) = (
+    plain m e (c, more, (start, run), same) = (
       WordQuote c more,
-      (or_right (is_ascii_digit c) (is_start c) start, row.each),
+      (or_right (is_ascii_digit c) (is_start c) start, run.each),
       ap (λ x. 39 ∷ x) (same ∙ ap (λ x. c ∷ x) (closed more m e)),
     )
 
@@ -333,7 +333,7 @@ bad_quote_found (c ∷ t) r h =
 
 -- ---- each bad quote is taken off
 
-closed_row : (more t : List ℕ) → list_all is_continue more ≡ true → IsRow is_continue more (39 ∷ t)
+closed_row : (more t : List ℕ) → list_all is_continue more ≡ true → IsRun is_continue more (39 ∷ t)
 closed_row more t each = record { each = each; ends = continue_39 }
 
 no_raw : (c : ℕ) (more t : List ℕ) → list_all is_continue more ≡ true
@@ -398,11 +398,11 @@ bad_quote_past (WordQuote c more) t (kind, each) =
     ap (λ s. after_bare (c ∷ s)) (append_assoc more (39 ∷ []) t) ∙ word_past c more t kind each
 bad_quote_past (RawWordQuote c more) t (start, each) =
     ap (λ s. after_bare (114 ∷ 35 ∷ c ∷ s)) (append_assoc more (39 ∷ []) t) ∙ raw_word_past c more t start each
-bad_quote_past (DigitQuote c more) t (digit, row, free) =
+bad_quote_past (DigitQuote c more) t (digit, run, free) =
     ap (λ b. cond b (Some (past_closing (after_run is_continue (more ++ t))))
     (cond (is_start c) (option_and_then after_closing (after_any_name (c ∷ more ++ t))) (after_other (c ∷ more ++ t))))
     digit
-    ∙ ap (λ z. Some (past_closing z)) (run_past is_continue more t row)
+    ∙ ap (λ z. Some (past_closing z)) (run_past is_continue more t run)
     ∙ ap Some (stays t free)
 bad_quote_past (OtherQuote parts x) t (first, is, suffix) =
     let whole = body_text parts ++ 39 ∷ (x ++ t) in

@@ -1,7 +1,7 @@
 -- What `lexeme_at` takes off is a lexeme.
 use Rattle.rl_text.proofs.Common.{◌≡◌, ℕ, suc, zero, inl, inr, Bool, true, false, not, ◌&&◌, ◌||◌, ◌==◌, cond, List, [], ◌∷◌, ◌++◌, Option, Some, None, drop, replicate, refl, sym, ◌∙◌, ap, subst, append_assoc, and_parts, or_from, list_all, if◌then◌else◌, option_map, is_ascii_digit, none-some}
-use Rattle.rl_text.specs.Texts.{is_underscore, is_among, first_passes, is_row_part, is_start, is_continue, begins_char}
-use Rattle.rl_lexer.specs.Lexemes.{is_base_letter, delimiters, marks, begins_hashes, begins_dot, BodyPart, PlainPart, EscapedPart, body_text, IsBody, CharacterBody, OneCharacter, EscapedCharacter, character_body_text, IsCharacterBody, LexedFraction, NoLexedFraction, LexedDot, lexed_fraction_text, lexed_sign_text, LexedExponent, NoLexedExponent, LexedPower, lexed_exponent_text, IsRow, IsLexedSuffix, IsRawBody, IsLexedFraction, IsLexedExponent, LiteralPrefix, NoPrefix, BytePrefix, CPrefix, prefix_text, Lexeme, QuotedLexeme, RawLexeme, CharacterLexeme, BasedLexeme, DecimalLexeme, IdentifierLexeme, DelimiterLexeme, MarkLexeme, lexeme_text, IsLexeme, LexemeForm, LiteralForm, IdentifierForm, DelimiterForm, MarkForm, form_of, is_punct}
+use Rattle.rl_text.specs.Texts.{is_underscore, is_among, first_passes, is_run_part, is_start, is_continue, begins_char}
+use Rattle.rl_lexer.specs.Lexemes.{is_base_letter, delimiters, marks, begins_hashes, begins_dot, BodyPart, PlainPart, EscapedPart, body_text, IsBody, CharacterBody, OneCharacter, EscapedCharacter, character_body_text, IsCharacterBody, LexedFraction, NoLexedFraction, LexedDot, lexed_fraction_text, lexed_sign_text, LexedExponent, NoLexedExponent, LexedPower, lexed_exponent_text, IsRun, IsLexedSuffix, IsRawBody, IsLexedFraction, IsLexedExponent, LiteralPrefix, NoPrefix, BytePrefix, CPrefix, prefix_text, Lexeme, QuotedLexeme, RawLexeme, CharacterLexeme, BasedLexeme, DecimalLexeme, IdentifierLexeme, DelimiterLexeme, MarkLexeme, lexeme_text, IsLexeme, LexemeForm, LiteralForm, IdentifierForm, DelimiterForm, MarkForm, form_of, is_punct}
 use Rattle.rl_lexer.proofs.Comments.{chosen, chosen3, same_Some}
 use Rattle.rl_lexer.proofs.Pieces.{is_equal}
 use Rattle.rl_lexer.specs.Mirrors.LexemeAt.{after_suffix, after_quote, hashes, after_raw, after_apostrophe, after_single, after_lexed_fraction, after_lexed_exponent, after_decimal, HeadClass, LetterBHead, LetterCHead, LetterRHead, OtherLetterHead, QuoteHead, ApostropheHead, DigitHead, SlashHead, StrayHead, start_class, other_class, head_class, quoted_at, raw_at, single_at, word_at, by_class, lexeme_at, literal_at, DelimiterHead, MarkHead, after_digit, begins_hashed_quote, begins_exponent, after_sign, begins_otherwise}
@@ -13,11 +13,11 @@ use Rattle.rl_lexer.proofs.LexemeFronts.{decimal_text, raw_text}
 
 -- Rows and suffixes.
 abbrev Row : (ℕ → Bool) → List ℕ → List ℕ → Type 0
-Row test t r = (row : List ℕ) × IsRow test row r × (t ≡ row ++ r)
+Row test t r = (run : List ℕ) × IsRun test run r × (t ≡ run ++ r)
 
 run_step : (test : ℕ → Bool) (c : ℕ) (t : List ℕ) (b : Bool) → test c ≡ b → Row test t (after_run test t)
     → Row test (c ∷ t) (cond b (after_run test t) (c ∷ t))
-run_step test c t true h (row, is, same) = (c ∷ row, record { each = ap (λ b. b && list_all test row) h ∙ is.each; ends = is.ends }, ap (λ s. c ∷ s) same)
+run_step test c t true h (run, is, same) = (c ∷ run, record { each = ap (λ b. b && list_all test run) h ∙ is.each; ends = is.ends }, ap (λ s. c ∷ s) same)
 run_step test c t false h more = ([], record { each = refl; ends = h }, refl)
 
 pub run_found : (test : ℕ → Bool) (t : List ℕ) → Row test t (after_run test t)
@@ -29,7 +29,7 @@ Suffixed t r = (x : List ℕ) × IsLexedSuffix x r × (t ≡ x ++ r)
 
 suffix_step : (c : ℕ) (t : List ℕ) (b : Bool) → is_start c ≡ b
     → Suffixed (c ∷ t) (cond b (after_run is_continue t) (c ∷ t))
-suffix_step c t true h = let (row, is, same) = run_found is_continue t in (c ∷ row, (h, is), ap (λ s. c ∷ s) same)
+suffix_step c t true h = let (run, is, same) = run_found is_continue t in (c ∷ run, (h, is), ap (λ s. c ∷ s) same)
 suffix_step c t false h = ([], h, refl)
 
 pub suffix_found : (t : List ℕ) → Suffixed t (after_suffix t)
@@ -157,20 +157,20 @@ dot_split (c ∷ t) h = ap (λ x. x ∷ t) (is_equal c 46 (and_parts (c == 46)
     (not (first_passes (λ d. d == 46 || is_start d) t)) h).0)
 
 fraction_step : (t : List ℕ) (b : Bool) → begins_dot t ≡ b → Fractioned t
-    (cond b (after_run (is_row_part is_ascii_digit) (drop 1 t)) t)
+    (cond b (after_run (is_run_part is_ascii_digit) (drop 1 t)) t)
 fraction_step t false h = (NoLexedFraction, h, refl)
 fraction_step t true h =
-    let (digits, row, same) = run_found (is_row_part is_ascii_digit) (drop 1 t) in
-    let e : t ≡ 46 ∷ (digits ++ after_run (is_row_part is_ascii_digit) (drop 1 t)) = dot_split t h
+    let (digits, run, same) = run_found (is_run_part is_ascii_digit) (drop 1 t) in
+    let e : t ≡ 46 ∷ (digits ++ after_run (is_run_part is_ascii_digit) (drop 1 t)) = dot_split t h
     ∙ ap (λ s. 46 ∷ s) same in
-    (LexedDot digits, (ap begins_dot (sym e) ∙ h, row), e)
+    (LexedDot digits, (ap begins_dot (sym e) ∙ h, run), e)
 
 pub fraction_found : (t : List ℕ) → Fractioned t (after_lexed_fraction t)
 fraction_found t = fraction_step t (begins_dot t) refl
 
-part_run : (n d : ℕ) (u : List ℕ) → is_ascii_digit d ≡ true → after_run (is_row_part is_ascii_digit)
-    (replicate n 95 ++ d ∷ u) ≡ after_run (is_row_part is_ascii_digit) u
-part_run zero d u is = ap (λ b. cond (b || d == 95) (after_run (is_row_part is_ascii_digit) u) (d ∷ u)) is
+part_run : (n d : ℕ) (u : List ℕ) → is_ascii_digit d ≡ true → after_run (is_run_part is_ascii_digit)
+    (replicate n 95 ++ d ∷ u) ≡ after_run (is_run_part is_ascii_digit) u
+part_run zero d u is = ap (λ b. cond (b || d == 95) (after_run (is_run_part is_ascii_digit) u) (d ∷ u)) is
 part_run (suc n) d u is = part_run n d u is
 
 abbrev Powered : List ℕ → List ℕ → Type 0
@@ -178,25 +178,25 @@ Powered t r = (e : LexedExponent) × IsLexedExponent e r × (t ≡ lexed_exponen
 
 power_found : (c : ℕ) (t : List ℕ) → (c == 101 || c == 69) ≡ true
     → first_passes is_ascii_digit (after_run is_underscore (after_sign t)) ≡ true
-    → Powered (c ∷ t) (after_run (is_row_part is_ascii_digit) (after_sign t))
+    → Powered (c ∷ t) (after_run (is_run_part is_ascii_digit) (after_sign t))
 power_found c t letter digit =
     let (s, t_is) = sign_found t in
     let (n, v_is) = underscores_found (after_sign t) in
     let (d, u, w_is, is) = passes_split is_ascii_digit (after_run is_underscore (after_sign t)) digit in
-    let (more, row, u_is) = run_found (is_row_part is_ascii_digit) u in
+    let (more, run, u_is) = run_found (is_run_part is_ascii_digit) u in
     let v : after_sign t ≡ replicate n 95 ++ d ∷ u = v_is ∙ ap (λ x. replicate n 95 ++ x) w_is in
-    let r : after_run (is_row_part is_ascii_digit) (after_sign t)
-    ≡ after_run (is_row_part is_ascii_digit) u = ap (after_run (is_row_part is_ascii_digit)) v
+    let r : after_run (is_run_part is_ascii_digit) (after_sign t)
+    ≡ after_run (is_run_part is_ascii_digit) u = ap (after_run (is_run_part is_ascii_digit)) v
     ∙ part_run n d u is in
     subst (λ (x : List ℕ). Powered (c ∷ t) x) (sym r) (
       LexedPower c s n d more,
-      (letter, is, row),
+      (letter, is, run),
       ap (λ x. c ∷ x) (t_is ∙ ap (λ x. lexed_sign_text s ++ x) (v ∙ ap (λ x. replicate n 95 ++ d ∷ x) u_is))
-          ∙ sym (power_text c s n d more (after_run (is_row_part is_ascii_digit) u)),
+          ∙ sym (power_text c s n d more (after_run (is_run_part is_ascii_digit) u)),
     )
 
 exponent_step : (t : List ℕ) (b : Bool) → begins_exponent t ≡ b
-    → Powered t (cond b (after_run (is_row_part is_ascii_digit) (after_sign (drop 1 t))) t)
+    → Powered t (cond b (after_run (is_run_part is_ascii_digit) (after_sign (drop 1 t))) t)
 exponent_step t false h = (NoLexedExponent, no_exponent_begins t h, refl)
 exponent_step [] true h = absurd (cc)
 exponent_step (c ∷ t) true h =
@@ -225,14 +225,14 @@ literal_from t o p h found =
 decimal_found : (d : ℕ) (t : List ℕ) → is_ascii_digit d ≡ true → (d == 48 && first_passes is_base_letter t) ≡ false
     → FoundLiteral (d ∷ t) (after_decimal t)
 decimal_found d t is other =
-    let (more, row, t_is) = run_found (is_row_part is_ascii_digit) t in
-    let (f, fraction, a_is) = fraction_found (after_run (is_row_part is_ascii_digit) t) in
-    let (e, exponent, b_is) = exponent_found (after_lexed_fraction (after_run (is_row_part is_ascii_digit) t)) in
+    let (more, run, t_is) = run_found (is_run_part is_ascii_digit) t in
+    let (f, fraction, a_is) = fraction_found (after_run (is_run_part is_ascii_digit) t) in
+    let (e, exponent, b_is) = exponent_found (after_lexed_fraction (after_run (is_run_part is_ascii_digit) t)) in
     let (x, suffix, c_is) = suffix_found (after_lexed_exponent
-    (after_lexed_fraction (after_run (is_row_part is_ascii_digit) t))) in
-    let b : after_lexed_fraction (after_run (is_row_part is_ascii_digit) t) ≡ lexed_exponent_text e
+    (after_lexed_fraction (after_run (is_run_part is_ascii_digit) t))) in
+    let b : after_lexed_fraction (after_run (is_run_part is_ascii_digit) t) ≡ lexed_exponent_text e
     ++ (x ++ after_decimal t) = b_is ∙ ap (λ s. lexed_exponent_text e ++ s) c_is in
-    let a : after_run (is_row_part is_ascii_digit) t ≡ lexed_fraction_text f
+    let a : after_run (is_run_part is_ascii_digit) t ≡ lexed_fraction_text f
     ++ (lexed_exponent_text e ++ (x ++ after_decimal t)) = a_is ∙ ap (λ s. lexed_fraction_text f ++ s) b in
     let whole : t ≡ more ++ (lexed_fraction_text f ++ (lexed_exponent_text e ++ (x ++ after_decimal t))) = t_is
     ∙ ap (λ s. more ++ s) a in (
@@ -240,7 +240,7 @@ decimal_found d t is other =
       (
         is,
         ap (λ s. d == 48 && first_passes is_base_letter s) (sym whole) ∙ other,
-        subst (λ (s : List ℕ). IsRow (is_row_part is_ascii_digit) more s) a row,
+        subst (λ (s : List ℕ). IsRun (is_run_part is_ascii_digit) more s) a run,
         subst (λ (s : List ℕ). IsLexedFraction f s) b fraction,
         subst (λ (s : List ℕ). IsLexedExponent e s) c_is exponent,
         suffix,
@@ -362,12 +362,12 @@ character_found b t r h =
 word_found : (c : ℕ) (t : List ℕ) (p : LexemeForm × List ℕ) → is_start c ≡ true → begins_otherwise (c ∷ t) ≡ false
     → word_at t ≡ Some p → Found (c ∷ t) p
 word_found c t p is other h =
-    let (more, row, t_is) = run_found is_continue t in
+    let (more, run, t_is) = run_found is_continue t in
     let here : Found (c ∷ t) (IdentifierForm, after_run is_continue t) = (
       IdentifierLexeme c more,
       (
         is,
-        row,
+        run,
         none_otherwise (c ∷ more ++ after_run is_continue t)
             (ap (λ s. begins_otherwise (c ∷ s)) (sym t_is) ∙ other),
       ),
@@ -460,8 +460,8 @@ digit_found c t true is h = based_found t (and_parts (c == 48) (first_passes is_
         → FoundLiteral (c ∷ t) (after_run is_continue (drop 1 t))
     based_found [] a zero_is = absurd (cc)
     based_found (letter ∷ t) a zero_is =
-        let (digits, row, t_is) = run_found is_continue t in
-        (BasedLexeme letter digits, (a, row), ap (λ x. x ∷ letter ∷ t) zero_is ∙ ap (λ s. 48 ∷ letter ∷ s) t_is, refl)
+        let (digits, run, t_is) = run_found is_continue t in
+        (BasedLexeme letter digits, (a, run), ap (λ x. x ∷ letter ∷ t) zero_is ∙ ap (λ s. 48 ∷ letter ∷ s) t_is, refl)
 
 slash_found : (t : List ℕ) (b : Bool) (p : LexemeForm × List ℕ) → first_passes (λ d. d == 47 || d == 42) t ≡ b
     → cond b None (Some (MarkForm 47, t)) ≡ Some p → Found (47 ∷ t) p

@@ -1,7 +1,7 @@
 -- A lexeme is what `lexeme_at` takes off, so at most one front of a text is a lexeme with the rest.
 use Rattle.rl_text.proofs.Common.{◌≡◌, ℕ, ◌<◌, inl, inr, Bool, true, false, not, ◌&&◌, ◌||◌, ◌==◌, cond, List, [], ◌∷◌, ◌++◌, Option, Some, None, drop, replicate, refl, sym, ◌∙◌, ap, subst, arith, append_assoc, lit<, and_parts, or_parts, nat_tests, list_all, IsTrue, nat_lt, is_ascii_alphabetic, is_ascii_digit, option_map, is_xid_start-ascii, append_cancel_right}
-use Rattle.rl_text.specs.Texts.{is_white, is_among, first_passes, is_row_part, is_start, is_continue, begins_char}
-use Rattle.rl_lexer.specs.Lexemes.{BeginsOtherwise, is_base_letter, delimiters, marks, BodyPart, body_text, IsBody, CharacterBody, character_body_text, IsCharacterBody, LexedFraction, lexed_fraction_text, LexedExponent, lexed_exponent_text, IsRow, IsLexedSuffix, IsRawBody, LiteralPrefix, NoPrefix, BytePrefix, CPrefix, Lexeme, QuotedLexeme, RawLexeme, CharacterLexeme, BasedLexeme, DecimalLexeme, IdentifierLexeme, DelimiterLexeme, MarkLexeme, lexeme_text, IsLexeme, LexemeForm, LiteralForm, IdentifierForm, DelimiterForm, MarkForm, form_of, is_punct}
+use Rattle.rl_text.specs.Texts.{is_white, is_among, first_passes, is_run_part, is_start, is_continue, begins_char}
+use Rattle.rl_lexer.specs.Lexemes.{BeginsOtherwise, is_base_letter, delimiters, marks, BodyPart, body_text, IsBody, CharacterBody, character_body_text, IsCharacterBody, LexedFraction, lexed_fraction_text, LexedExponent, lexed_exponent_text, IsRun, IsLexedSuffix, IsRawBody, LiteralPrefix, NoPrefix, BytePrefix, CPrefix, Lexeme, QuotedLexeme, RawLexeme, CharacterLexeme, BasedLexeme, DecimalLexeme, IdentifierLexeme, DelimiterLexeme, MarkLexeme, lexeme_text, IsLexeme, LexemeForm, LiteralForm, IdentifierForm, DelimiterForm, MarkForm, form_of, is_punct}
 use Rattle.rl_lexer.proofs.Gaps.{OneLexeme}
 use Rattle.rl_text.proofs.Basics.{false_unless}
 use Rattle.rl_lexer.proofs.Comments.{same_Some}
@@ -183,13 +183,13 @@ front_raw CPrefix n body x t is suffix =
     (raw_front n body x t is suffix)
 
 -- Numbers.
-front_based : (letter : ℕ) (digits t : List ℕ) → IsTrue (is_base_letter letter) → IsRow is_continue digits t
+front_based : (letter : ℕ) (digits t : List ℕ) → IsTrue (is_base_letter letter) → IsRun is_continue digits t
     → lexeme_at (48 ∷ letter ∷ digits ++ t) ≡ Some (LiteralForm, t)
-front_based letter digits t is row =
+front_based letter digits t is run =
     at_class 48 (letter ∷ digits ++ t) DigitHead (class_other 48 (start_ascii 48 (lit< tt)))
     ∙ ap (λ b. Some (LiteralForm, cond b (after_run is_continue (digits ++ t)) (after_decimal (letter ∷ digits ++ t))))
     is
-    ∙ ap (λ s. Some (LiteralForm, s)) (run_past is_continue digits t row)
+    ∙ ap (λ s. Some (LiteralForm, s)) (run_past is_continue digits t run)
 
 digit_low : (d : ℕ) → is_ascii_digit d ≡ true → d < 128
 digit_low d is = grind (arith, nat_tests)
@@ -224,13 +224,13 @@ decimal_text more f e x t = simp append_assoc
 front_decimal : (d : ℕ) (more : List ℕ) (f : LexedFraction) (e : LexedExponent) (x t : List ℕ)
     → IsLexeme (DecimalLexeme d more f e x) t → lexeme_at (lexeme_text (DecimalLexeme d more f e x) ++ t)
     ≡ Some (LiteralForm, t)
-front_decimal d more f e x t (is, not_based, row, fraction, exponent, suffix) =
+front_decimal d more f e x t (is, not_based, run, fraction, exponent, suffix) =
     let u = more ++ (lexed_fraction_text f ++ (lexed_exponent_text e ++ (x ++ t))) in
     ap (λ s. lexeme_at (d ∷ s)) (decimal_text more (lexed_fraction_text f) (lexed_exponent_text e) x t)
     ∙ at_class d u DigitHead (class_digit d is)
     ∙ ap (λ b. Some (LiteralForm, cond b (after_run is_continue (drop 1 u)) (after_decimal u))) not_based
     ∙ ap (λ s. Some (LiteralForm, after_suffix (after_lexed_exponent (after_lexed_fraction s))))
-    (run_past (is_row_part is_ascii_digit) more (lexed_fraction_text f ++ (lexed_exponent_text e ++ (x ++ t))) row)
+    (run_past (is_run_part is_ascii_digit) more (lexed_fraction_text f ++ (lexed_exponent_text e ++ (x ++ t))) run)
     ∙ ap (λ s. Some (LiteralForm, after_suffix (after_lexed_exponent s)))
     (fraction_past f (lexed_exponent_text e ++ (x ++ t)) fraction)
     ∙ ap (λ s. Some (LiteralForm, after_suffix s)) (exponent_past e (x ++ t) exponent)
@@ -266,20 +266,20 @@ word_class c u h = go (c == 98) (c == 99) (c == 114) h
         (literal_at (raw_at u)) None (word_at u) h
     go false false false h = refl
 
-front_identifier : (c : ℕ) (more t : List ℕ) → IsTrue (is_start c) → IsRow is_continue more t
+front_identifier : (c : ℕ) (more t : List ℕ) → IsTrue (is_start c) → IsRun is_continue more t
     → (BeginsOtherwise (c ∷ more ++ t) → ⊥) → lexeme_at (c ∷ more ++ t) ≡ Some (IdentifierForm, t)
-front_identifier c more t is row other =
+front_identifier c more t is run other =
     at_class c (more ++ t) (start_class c) (class_start c is) ∙ word_class c (more ++ t)
-    (no_otherwise (c ∷ more ++ t) other) ∙ ap (λ s. Some (IdentifierForm, s)) (run_past is_continue more t row)
+    (no_otherwise (c ∷ more ++ t) other) ∙ ap (λ s. Some (IdentifierForm, s)) (run_past is_continue more t run)
 
 -- All eight.
 pub lexeme_at-past : (l : Lexeme) (t : List ℕ) → IsLexeme l t → lexeme_at (lexeme_text l ++ t) ≡ Some (form_of l, t)
 lexeme_at-past (QuotedLexeme p parts x) t (is, suffix) = front_quoted p parts x t is suffix
 lexeme_at-past (RawLexeme p n body x) t (is, suffix) = front_raw p n body x t is suffix
 lexeme_at-past (CharacterLexeme b inside x) t (is, suffix) = front_character b inside x t is suffix
-lexeme_at-past (BasedLexeme letter digits) t (is, row) = front_based letter digits t is row
+lexeme_at-past (BasedLexeme letter digits) t (is, run) = front_based letter digits t is run
 lexeme_at-past (DecimalLexeme d more f e x) t is = front_decimal d more f e x t is
-lexeme_at-past (IdentifierLexeme c more) t (is, row, other) = front_identifier c more t is row other
+lexeme_at-past (IdentifierLexeme c more) t (is, run, other) = front_identifier c more t is run other
 lexeme_at-past (DelimiterLexeme c) t is = front_delimiter c t is
 lexeme_at-past (MarkLexeme c) t is = front_mark c t is
 

@@ -1,6 +1,6 @@
 -- What the tests say of how a text begins, in the words of the lexemes.
 use Rattle.rl_text.proofs.Common.{◌≡◌, ℕ, suc, zero, ◌⊎◌, inl, inr, Bool, true, false, not, ◌&&◌, ◌||◌, ◌==◌, cond, List, [], ◌∷◌, ◌++◌, drop, replicate, refl, sym, ◌∙◌, ap, and_parts, codes, is_ascii_digit, and_from, or_left, or_right}
-use Rattle.rl_text.specs.Texts.{is_underscore, first_passes, begins, is_row_part, is_start, begins_char}
+use Rattle.rl_text.specs.Texts.{is_underscore, first_passes, begins, is_run_part, is_start, begins_char}
 use Rattle.rl_lexer.specs.Lexemes.{BeginsHashedQuote, LiteralPrefix, NoPrefix, BytePrefix, CPrefix, prefix_text, BeginsRaw, begins_prefixed_quote, begins_raw_identifier, BeginsOtherwise, LexedSign, NoLexedSign, LexedPlus, LexedMinus, lexed_sign_text, LexedExponent, NoLexedExponent, LexedPower, lexed_exponent_text, IsLexedExponent, BeginsLexedExponent}
 use Rattle.rl_lexer.specs.Cuts.{begins_lifetime, BeginsQuote}
 use Rattle.rl_lexer.specs.Mirrors.LexemeAt.{hashes, begins_hashed_quote, begins_raw_after, begins_raw, begins_quote, begins_otherwise, after_sign, begins_exponent, after_lexed_exponent}
@@ -151,23 +151,23 @@ no_exponent_begins t h b = let q : true ≡ false = sym (exponent_here t b) ∙ 
 pub exponent_past : (e : LexedExponent) (t : List ℕ) → IsLexedExponent e t
     → after_lexed_exponent (lexed_exponent_text e ++ t) ≡ t
 exponent_past NoLexedExponent t none =
-    ap (λ b. cond b (after_run (is_row_part is_ascii_digit) (after_sign (drop 1 t))) t) (no_exponent_here t none)
-exponent_past (LexedPower letter s n d more) t (is_letter, is, row) =
+    ap (λ b. cond b (after_run (is_run_part is_ascii_digit) (after_sign (drop 1 t))) t) (no_exponent_here t none)
+exponent_past (LexedPower letter s n d more) t (is_letter, is, run) =
     let g : after_sign (lexed_sign_text s ++ (replicate n 95 ++ d ∷ (more ++ t))) ≡ replicate n 95
     ++ d ∷ (more ++ t) = sign_past s n d (more ++ t) is in
     ap after_lexed_exponent (power_text letter s n d more t)
     ∙ ap (λ b. cond (b && first_passes is_ascii_digit (after_run is_underscore
     (after_sign (lexed_sign_text s ++ (replicate n 95 ++ d ∷ (more ++ t))))))
-    (after_run (is_row_part is_ascii_digit) (after_sign (lexed_sign_text s ++ (replicate n 95 ++ d ∷ (more ++ t)))))
+    (after_run (is_run_part is_ascii_digit) (after_sign (lexed_sign_text s ++ (replicate n 95 ++ d ∷ (more ++ t)))))
     (letter ∷ (lexed_sign_text s ++ (replicate n 95 ++ d ∷ (more ++ t))))) is_letter
-    ∙ ap (λ x. cond (first_passes is_ascii_digit (after_run is_underscore x)) (after_run (is_row_part is_ascii_digit) x)
+    ∙ ap (λ x. cond (first_passes is_ascii_digit (after_run is_underscore x)) (after_run (is_run_part is_ascii_digit) x)
     (letter ∷ (lexed_sign_text s ++ (replicate n 95 ++ d ∷ (more ++ t))))) g
-    ∙ ap (λ x. cond (first_passes is_ascii_digit x) (after_run (is_row_part is_ascii_digit)
+    ∙ ap (λ x. cond (first_passes is_ascii_digit x) (after_run (is_run_part is_ascii_digit)
     (replicate n 95 ++ d ∷ (more ++ t))) (letter ∷ (lexed_sign_text s ++ (replicate n 95 ++ d ∷ (more ++ t)))))
     (underscores_past n d (more ++ t) is)
-    ∙ ap (λ b. cond b (after_run (is_row_part is_ascii_digit) (replicate n 95 ++ d ∷ (more ++ t)))
+    ∙ ap (λ b. cond b (after_run (is_run_part is_ascii_digit) (replicate n 95 ++ d ∷ (more ++ t)))
     (letter ∷ (lexed_sign_text s ++ (replicate n 95 ++ d ∷ (more ++ t))))) is
-    ∙ digits_past n d more t is row
+    ∙ digits_past n d more t is run
 
 -- ---- what is no identifier
 

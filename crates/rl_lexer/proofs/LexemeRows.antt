@@ -1,7 +1,7 @@
 -- Each stage of a lexeme, past what it is made of.
 use Rattle.rl_text.proofs.Common.{◌≡◌, ℕ, suc, zero, Bool, true, false, not, ◌&&◌, ◌||◌, ◌==◌, cond, List, [], ◌∷◌, ◌++◌, Some, None, drop, replicate, refl, sym, ◌∙◌, ap, subst, append_assoc, and_parts, list_all, is_ascii_digit}
-use Rattle.rl_text.specs.Texts.{is_underscore, first_passes, is_row_part, is_continue}
-use Rattle.rl_lexer.specs.Lexemes.{BodyPart, PlainPart, EscapedPart, body_text, IsBody, CharacterBody, OneCharacter, EscapedCharacter, character_body_text, IsCharacterBody, LexedFraction, NoLexedFraction, LexedDot, lexed_fraction_text, LexedSign, NoLexedSign, LexedPlus, LexedMinus, lexed_sign_text, LexedPower, lexed_exponent_text, IsRow, IsLexedSuffix, IsRawBody, IsLexedFraction}
+use Rattle.rl_text.specs.Texts.{is_underscore, first_passes, is_run_part, is_continue}
+use Rattle.rl_lexer.specs.Lexemes.{BodyPart, PlainPart, EscapedPart, body_text, IsBody, CharacterBody, OneCharacter, EscapedCharacter, character_body_text, IsCharacterBody, LexedFraction, NoLexedFraction, LexedDot, lexed_fraction_text, LexedSign, NoLexedSign, LexedPlus, LexedMinus, lexed_sign_text, LexedPower, lexed_exponent_text, IsRun, IsLexedSuffix, IsRawBody, IsLexedFraction}
 use Rattle.rl_text.proofs.Basics.{false_unless}
 use Rattle.rl_lexer.proofs.HashLemmas.{hashes_here, drop_hashes, hashes_inside}
 use Rattle.rl_lexer.proofs.Pieces.{is_equal}
@@ -21,18 +21,18 @@ run_stops : (test : ℕ → Bool) (t : List ℕ) → first_passes test t ≡ fal
 run_stops test [] h = refl
 run_stops test (c ∷ t) h = ap (λ b. cond b (after_run test t) (c ∷ t)) h
 
-pub run_past : (test : ℕ → Bool) (row t : List ℕ) → IsRow test row t → after_run test (row ++ t) ≡ t
+pub run_past : (test : ℕ → Bool) (run t : List ℕ) → IsRun test run t → after_run test (run ++ t) ≡ t
 run_past test [] t is = run_stops test t is.ends
-run_past test (c ∷ row) t is =
-    let k : (test c ≡ true) × (list_all test row ≡ true) = and_parts (test c) (list_all test row) is.each in
-    ap (λ b. cond b (after_run test (row ++ t)) (c ∷ row ++ t)) k.0
-    ∙ run_past test row t (record { each = k.1; ends = is.ends })
+run_past test (c ∷ run) t is =
+    let k : (test c ≡ true) × (list_all test run ≡ true) = and_parts (test c) (list_all test run) is.each in
+    ap (λ b. cond b (after_run test (run ++ t)) (c ∷ run ++ t)) k.0
+    ∙ run_past test run t (record { each = k.1; ends = is.ends })
 
 pub suffix_past : (x t : List ℕ) → IsLexedSuffix x t → after_suffix (x ++ t) ≡ t
 suffix_past [] [] is = refl
 suffix_past [] (c ∷ t) is = ap (λ b. cond b (after_run is_continue t) (c ∷ t)) is
-suffix_past (c ∷ x) t (is, row) = ap (λ b. cond b (after_run is_continue (x ++ t)) (c ∷ x ++ t)) is
-    ∙ run_past is_continue x t row
+suffix_past (c ∷ x) t (is, run) = ap (λ b. cond b (after_run is_continue (x ++ t)) (c ∷ x ++ t)) is
+    ∙ run_past is_continue x t run
 
 -- Quoted bodies.
 pub quote_now : (t : List ℕ) → after_quote (34 ∷ t) ≡ Some t
@@ -90,10 +90,10 @@ single_past (EscapedCharacter c more) t is = apostrophe_past more t is
 -- Parts of a decimal.
 pub fraction_past : (f : LexedFraction) (t : List ℕ) → IsLexedFraction f t
     → after_lexed_fraction (lexed_fraction_text f ++ t) ≡ t
-fraction_past NoLexedFraction t is = ap (λ b. cond b (after_run (is_row_part is_ascii_digit) (drop 1 t)) t) is
-fraction_past (LexedDot digits) t (begins, row) =
-    ap (λ b. cond b (after_run (is_row_part is_ascii_digit) (digits ++ t)) (46 ∷ digits ++ t)) begins
-    ∙ run_past (is_row_part is_ascii_digit) digits t row
+fraction_past NoLexedFraction t is = ap (λ b. cond b (after_run (is_run_part is_ascii_digit) (drop 1 t)) t) is
+fraction_past (LexedDot digits) t (begins, run) =
+    ap (λ b. cond b (after_run (is_run_part is_ascii_digit) (digits ++ t)) (46 ∷ digits ++ t)) begins
+    ∙ run_past (is_run_part is_ascii_digit) digits t run
 
 pub not_among : (c k : ℕ) (test : ℕ → Bool) → test c ≡ true → test k ≡ false → (c == k) ≡ false
 not_among c k test passed other = false_unless (c == k) (λ h. let q : c ≡ k = is_equal c k h in let r : test k
@@ -105,11 +105,11 @@ underscores_past zero d t is = ap (λ b. cond b (after_run is_underscore t) (d �
     (not_among d 95 is_ascii_digit is refl)
 underscores_past (suc n) d t is = underscores_past n d t is
 
-pub digits_past : (n d : ℕ) (more t : List ℕ) → is_ascii_digit d ≡ true → IsRow (is_row_part is_ascii_digit) more t
-    → after_run (is_row_part is_ascii_digit) (replicate n 95 ++ d ∷ (more ++ t)) ≡ t
-digits_past zero d more t is row = ap (λ b. cond (b || d == 95) (after_run (is_row_part is_ascii_digit) (more ++ t))
-    (d ∷ more ++ t)) is ∙ run_past (is_row_part is_ascii_digit) more t row
-digits_past (suc n) d more t is row = digits_past n d more t is row
+pub digits_past : (n d : ℕ) (more t : List ℕ) → is_ascii_digit d ≡ true → IsRun (is_run_part is_ascii_digit) more t
+    → after_run (is_run_part is_ascii_digit) (replicate n 95 ++ d ∷ (more ++ t)) ≡ t
+digits_past zero d more t is run = ap (λ b. cond (b || d == 95) (after_run (is_run_part is_ascii_digit) (more ++ t))
+    (d ∷ more ++ t)) is ∙ run_past (is_run_part is_ascii_digit) more t run
+digits_past (suc n) d more t is run = digits_past n d more t is run
 
 pub sign_past : (s : LexedSign) (n d : ℕ) (t : List ℕ) → is_ascii_digit d ≡ true
     → after_sign (lexed_sign_text s ++ (replicate n 95 ++ d ∷ t)) ≡ replicate n 95 ++ d ∷ t

@@ -1,7 +1,7 @@
 -- A number by its first digit, and where it ends at once.
 use Rattle.rl_text.proofs.Common.{◌≡◌, ℕ, ◌⊎◌, inl, inr, Bool, true, false, not, ◌&&◌, ◌||◌, ◌==◌, cond, List, [], ◌∷◌, Some, refl, sym, ◌∙◌, ap, lit<, arith, drop, nat_tests, is_ascii, is_ascii_digit}
 use Rattle.rl_text.proofs.Basics.{false_unless}
-use Rattle.rl_text.specs.Texts.{is_underscore, first_passes, is_row_part, is_start, is_continue}
+use Rattle.rl_text.specs.Texts.{is_underscore, first_passes, is_run_part, is_start, is_continue}
 use Rattle.rl_lexer.specs.Lexemes.{LiteralForm, is_base_letter}
 use Rattle.rl_lexer.specs.Mirrors.LexemeAt.{DigitHead, QuoteHead, ApostropheHead, SlashHead, by_class, literal_at, quoted_at, single_at, after_digit, after_suffix, after_lexed_exponent, after_lexed_fraction, after_decimal, lexeme_at, after_sign}
 use Rattle.rl_text.specs.Classes.{after_run}
@@ -35,17 +35,17 @@ number_ends (c ∷ u) h =
     in
     let large : (c == 69) ≡ false = not_among c 69 (λ d. not (is_start d)) plain (ap not (start_ascii 69 (lit< tt))) in
     let fraction : after_lexed_fraction (c ∷ u) ≡ c ∷ u = ap (λ b. cond
-    (b && not (first_passes (λ d. d == 46 || is_start d) u)) (after_run (is_row_part is_ascii_digit) u) (c ∷ u))
+    (b && not (first_passes (λ d. d == 46 || is_start d) u)) (after_run (is_run_part is_ascii_digit) u) (c ∷ u))
     parts.0 in
     let exponent : after_lexed_exponent (c ∷ u) ≡ c ∷ u =
     ap (λ b. cond ((b || c == 69) && first_passes is_ascii_digit (after_run is_underscore (after_sign u)))
-    (after_run (is_row_part is_ascii_digit) (after_sign u)) (c ∷ u)) small
+    (after_run (is_run_part is_ascii_digit) (after_sign u)) (c ∷ u)) small
     ∙ ap (λ b. cond (b && first_passes is_ascii_digit (after_run is_underscore (after_sign u)))
-    (after_run (is_row_part is_ascii_digit) (after_sign u)) (c ∷ u)) large in
+    (after_run (is_run_part is_ascii_digit) (after_sign u)) (c ∷ u)) large in
     ap (λ x. after_suffix (after_lexed_exponent x)) fraction ∙ ap after_suffix exponent
     ∙ ap (λ b. cond b (after_run is_continue u) (c ∷ u)) parts.1
 
--- a row of digits, and what ends it
+-- a run of digits, and what ends it
 pub no_digit : (t : List ℕ) → first_passes is_ascii t ≡ false → after_run is_ascii_digit t ≡ t
 no_digit [] h = refl
 no_digit (c ∷ u) h = ap (λ b. cond b (after_run is_ascii_digit u) (c ∷ u))
@@ -59,33 +59,33 @@ starts k h = ap not h
 
 -- what ends at once has no underscore after its digits
 same_row : (t : List ℕ) → first_passes goes_on_none (after_run is_ascii_digit t) ≡ true
-    → after_run (is_row_part is_ascii_digit) t ≡ after_run is_ascii_digit t
+    → after_run (is_run_part is_ascii_digit) t ≡ after_run is_ascii_digit t
 same_row [] h = refl
 same_row (d ∷ u) h = go (is_ascii_digit d) refl h (same_row u)
   where
     go : (b : Bool) → is_ascii_digit d ≡ b → first_passes goes_on_none (cond b (after_run is_ascii_digit u) (d ∷ u))
         ≡ true → (first_passes goes_on_none (after_run is_ascii_digit u) ≡ true
-        → after_run (is_row_part is_ascii_digit) u ≡ after_run is_ascii_digit u)
-        → cond (is_ascii_digit d || d == 95) (after_run (is_row_part is_ascii_digit) u) (d ∷ u)
+        → after_run (is_run_part is_ascii_digit) u ≡ after_run is_ascii_digit u)
+        → cond (is_ascii_digit d || d == 95) (after_run (is_run_part is_ascii_digit) u) (d ∷ u)
         ≡ cond b (after_run is_ascii_digit u) (d ∷ u)
-    go true is h more = ap (λ a. cond (a || d == 95) (after_run (is_row_part is_ascii_digit) u) (d ∷ u)) is ∙ more h
+    go true is h more = ap (λ a. cond (a || d == 95) (after_run (is_run_part is_ascii_digit) u) (d ∷ u)) is ∙ more h
     go false is h more =
-        ap (λ a. cond (a || d == 95) (after_run (is_row_part is_ascii_digit) u) (d ∷ u)) is
-        ∙ ap (λ a. cond a (after_run (is_row_part is_ascii_digit) u) (d ∷ u))
+        ap (λ a. cond (a || d == 95) (after_run (is_run_part is_ascii_digit) u) (d ∷ u)) is
+        ∙ ap (λ a. cond a (after_run (is_run_part is_ascii_digit) u) (d ∷ u))
         (not_among d 95 no_start (ap not (neither_true (d == 46) (is_start d) h).1)
         (starts 95 (start_ascii 95 (lit< tt))))
 
--- a row of digits is part of the row that holds underscores too
-row_on : (t : List ℕ) → after_run (is_row_part is_ascii_digit) (after_run is_ascii_digit t)
-    ≡ after_run (is_row_part is_ascii_digit) t
+-- a run of digits is part of the run that holds underscores too
+row_on : (t : List ℕ) → after_run (is_run_part is_ascii_digit) (after_run is_ascii_digit t)
+    ≡ after_run (is_run_part is_ascii_digit) t
 row_on [] = refl
 row_on (d ∷ u) = go (is_ascii_digit d) refl (row_on u)
   where
-    go : (b : Bool) → is_ascii_digit d ≡ b → after_run (is_row_part is_ascii_digit) (after_run is_ascii_digit u)
-        ≡ after_run (is_row_part is_ascii_digit) u → after_run (is_row_part is_ascii_digit)
+    go : (b : Bool) → is_ascii_digit d ≡ b → after_run (is_run_part is_ascii_digit) (after_run is_ascii_digit u)
+        ≡ after_run (is_run_part is_ascii_digit) u → after_run (is_run_part is_ascii_digit)
         (cond b (after_run is_ascii_digit u) (d ∷ u)) ≡ cond (is_ascii_digit d || d == 95)
-        (after_run (is_row_part is_ascii_digit) u) (d ∷ u)
-    go true is more = more ∙ sym (ap (λ a. cond (a || d == 95) (after_run (is_row_part is_ascii_digit) u) (d ∷ u)) is)
+        (after_run (is_run_part is_ascii_digit) u) (d ∷ u)
+    go true is more = more ∙ sym (ap (λ a. cond (a || d == 95) (after_run (is_run_part is_ascii_digit) u) (d ∷ u)) is)
     go false is more = refl
 
 -- The letter of a base stands where a suffix would begin, so each number is read as a decimal.
@@ -128,6 +128,6 @@ number_short c t r e h =
 pub number_long : (c : ℕ) (t r s : List ℕ) → r ≡ after_run is_ascii_digit t → s ≡ after_decimal r → s ≡ after_digit c t
 number_long c t r s e h =
     h
-    ∙ ap (λ x. after_suffix (after_lexed_exponent (after_lexed_fraction (after_run (is_row_part is_ascii_digit) x)))) e
+    ∙ ap (λ x. after_suffix (after_lexed_exponent (after_lexed_fraction (after_run (is_run_part is_ascii_digit) x)))) e
     ∙ ap (λ x. after_suffix (after_lexed_exponent (after_lexed_fraction x))) (row_on t)
     ∙ sym (as_decimal c t)

@@ -6,7 +6,7 @@ use Rattle.rl_text.specs.Texts.{first_passes, begins, begins_char}
 use Rattle.rl_forms.specs.Trivia.{Inside, inside_text, IsInside, is_comment_line, is_comment_block}
 use Rattle.rl_lexer.specs.Skipping.{Skipped}
 use Rattle.rl_text.specs.Scanning.{is_one_of, is_other, IsNextMark}
-use Rattle.rl_lexer.specs.Lexemes.{lexeme_text, IsRow, LexemeBefore, LexemeForm, LiteralForm, begins_raw_identifier}
+use Rattle.rl_lexer.specs.Lexemes.{lexeme_text, IsRun, LexemeBefore, LexemeForm, LiteralForm, begins_raw_identifier}
 use Rattle.rl_lexer.specs.BadQuotes.{bad_quote_text}
 use Rattle.rl_lexer.specs.Mirrors.LexemeAt.{begins_quote, FormBefore}
 use Rattle.rl_text.specs.Classes.{after_run}
@@ -36,8 +36,8 @@ line_stops m (c ∷ r) is h = ap (λ x. not (x == 10)) (only m 10 c is (not_fals
 pub line_ends : (m : Marks) (t a r : List ℕ) → m ≡ record { first = 10; second = 10; third = 10; fourth = 10 } → t ≡ a
     ++ r → list_all (is_other m) a ≡ true → first_passes (is_other m) r ≡ false → r ≡ after_run is_in_line t
 line_ends m t a r is cut others stops =
-    let row : IsRow is_in_line a r = record { each = one_line m a (ap (λ z. z.first) is) others; ends = line_stops m r is stops } in
-    sym (ap (after_run is_in_line) cut ∙ run_past is_in_line a r row)
+    let run : IsRun is_in_line a r = record { each = one_line m a (ap (λ z. z.first) is) others; ends = line_stops m r is stops } in
+    sym (ap (after_run is_in_line) cut ∙ run_past is_in_line a r run)
 
 pub first_line : (m : Marks) (s t : List ℕ) (k : ℕ) → m ≡ record { first = 10; second = 10; third = 10; fourth = 10 }
     → IsNextMark m s k t → IsAfterLine s t
@@ -63,12 +63,12 @@ line_plain body (c ∷ t) h = ap (λ x. is_comment_line (body ++ x ∷ t)) (is_e
 pub script_line : (t second following s r : List ℕ) → t ≡ 35 ∷ second → second ≡ 33 ∷ following → Skipped following s
     → begins_char 91 s ≡ false → r ≡ after_run is_in_line following → IsScriptLine t r
 script_line t second following s r a b skipped other rest =
-    let (row, is, same) = run_found is_in_line following in
-    let e : following ≡ row ++ r = same ∙ ap (λ x. row ++ x) (sym rest) in
+    let (run, is, same) = run_found is_in_line following in
+    let e : following ≡ run ++ r = same ∙ ap (λ x. run ++ x) (sym rest) in
     record {
-      line = row;
+      line = run;
       text_is = a ∙ ap (λ x. 35 ∷ x) b ∙ ap (λ x. 35 ∷ 33 ∷ x) e;
-      is_line = subst (λ (x : List ℕ). IsRow is_in_line row x) (sym rest) is;
+      is_line = subst (λ (x : List ℕ). IsRun is_in_line run x) (sym rest) is;
       no_attribute = λ u v. let q : u ≡ s = one_rest following u s (subst (λ (x : List ℕ). Skipped x u) (sym e) v)
           skipped in ap (first_passes (λ c. c == 91)) q ∙ other;
     }
@@ -94,11 +94,11 @@ raw_lifetime_past c more t is free =
     ∙ ap (option_and_then unless_quoted) (name_past c more t is)
     ∙ quoted_past t free
 
-doc_line_past : (body t : List ℕ) → IsRow is_in_line body t → is_comment_line body ≡ false → after_doc (47 ∷ body ++ t)
+doc_line_past : (body t : List ℕ) → IsRun is_in_line body t → is_comment_line body ≡ false → after_doc (47 ∷ body ++ t)
     ≡ Some t
-doc_line_past body t row doc =
-    ap (λ b. cond b None (Some (after_run is_in_line (body ++ t)))) (line_plain body t row.ends ∙ doc)
-    ∙ ap Some (run_past is_in_line body t row)
+doc_line_past body t run doc =
+    ap (λ b. cond b None (Some (after_run is_in_line (body ++ t)))) (line_plain body t run.ends ∙ doc)
+    ∙ ap Some (run_past is_in_line body t run)
 
 doc_block_past : (i : Inside) (t : List ℕ) → IsInside i → is_comment_block (inside_text i) ≡ false
     → after_doc (42 ∷ inside_text i ++ t) ≡ Some t
@@ -120,7 +120,7 @@ other_at-past (LifetimeToken c more) t other (is, free, plain) = ap (of_kind Lif
     (lifetime_past c more t is free plain)
 other_at-past (RawLifetimeToken c more) t other (is, free) = ap (of_kind LifetimeKind)
     (raw_lifetime_past c more t is free)
-other_at-past (DocLineToken body) t other (row, doc) = ap (of_kind DocCommentKind) (doc_line_past body t row doc)
+other_at-past (DocLineToken body) t other (run, doc) = ap (of_kind DocCommentKind) (doc_line_past body t run doc)
 other_at-past (DocBlockToken i) t other (is, doc) = ap (of_kind DocCommentKind) (doc_block_past i t is doc)
 other_at-past (BadQuoteToken q) t other is = absurd other
 other_at-past (StrayToken c) t other is = absurd other
@@ -171,10 +171,10 @@ lifetime_found t r h = go (after_any_name t) refl h
 pub doc_line_found : (t r : List ℕ) → is_comment_line t ≡ false → after_run is_in_line t ≡ r
     → SourceBefore (47 ∷ 47 ∷ t) DocCommentKind r
 doc_line_found t r doc e =
-    let (row, is, same) = run_found is_in_line t in
-    let is_row : IsRow is_in_line row r = subst (λ (x : List ℕ). IsRow is_in_line row x) e is in
-    let whole : t ≡ row ++ r = same ∙ ap (λ x. row ++ x) e in
-    record { token = DocLineToken row; is_source = (is_row, sym (line_plain row r is_row.ends) ∙ ap is_comment_line (sym whole) ∙ doc); text_is = ap (λ x. 47 ∷ 47 ∷ x) whole; kind_is = refl }
+    let (run, is, same) = run_found is_in_line t in
+    let is_run : IsRun is_in_line run r = subst (λ (x : List ℕ). IsRun is_in_line run x) e is in
+    let whole : t ≡ run ++ r = same ∙ ap (λ x. run ++ x) e in
+    record { token = DocLineToken run; is_source = (is_run, sym (line_plain run r is_run.ends) ∙ ap is_comment_line (sym whole) ∙ doc); text_is = ap (λ x. 47 ∷ 47 ∷ x) whole; kind_is = refl }
 
 pub doc_block_found : (t r : List ℕ) → is_comment_block t ≡ false → Closes 1 t r
     → SourceBefore (47 ∷ 42 ∷ t) DocCommentKind r

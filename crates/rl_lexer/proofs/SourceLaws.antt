@@ -2,7 +2,7 @@
 use Rattle.rl_text.proofs.Common.{◌≡◌, ℕ, inl, inr, true, false, ◌==◌, cond, List, [], ◌∷◌, ◌++◌, map, Option, Some, None, drop, refl, sym, ◌∙◌, ap, subst, arith, lit<, and_parts, append_cancel_right, none-some, list_all, option_map}
 use Rattle.rl_text.specs.Texts.{first_passes, byte_len, is_start, is_continue, begins_char}
 use Rattle.rl_forms.specs.Trivia.{inside_text}
-use Rattle.rl_lexer.specs.Lexemes.{Lexeme, lexeme_text, IsLexeme, IsRow, LexemeForm, form_of}
+use Rattle.rl_lexer.specs.Lexemes.{Lexeme, lexeme_text, IsLexeme, IsRun, LexemeForm, form_of}
 use Rattle.rl_lexer.specs.Cuts.{LexedToken, end_of, LexesUpTo}
 use Rattle.rl_lexer.specs.Mirrors.LexemeAt.{after_apostrophe, after_suffix, after_single, literal_at, raw_at, word_at, LetterRHead, ApostropheHead, SlashHead, lexeme_at}
 use Rattle.rl_text.specs.Classes.{after_run, is_hash}
@@ -34,11 +34,11 @@ no_single c [] plain free = refl
 no_single c (e ∷ u) plain free = ap (λ b. cond b (after_apostrophe u) (cond (e == 39) (Some u) None)) plain
     ∙ ap (λ b. cond b (Some u) None) free
 
-row_free : (more t : List ℕ) → IsRow is_continue more t → first_passes is_apostrophe t ≡ false
+row_free : (more t : List ℕ) → IsRun is_continue more t → first_passes is_apostrophe t ≡ false
     → first_passes is_apostrophe (more ++ t) ≡ false
-row_free [] t row free = free
-row_free (d ∷ more) t row free = not_among d 39 is_continue (and_parts (is_continue d) (list_all is_continue more)
-    row.each).0 continue_39
+row_free [] t run free = free
+row_free (d ∷ more) t run free = not_among d 39 is_continue (and_parts (is_continue d) (list_all is_continue more)
+    run.each).0 continue_39
 
 lifetime_no_lexeme : (c : ℕ) (s : List ℕ) → is_start c ≡ true → first_passes is_apostrophe s ≡ false
     → lexeme_at (39 ∷ c ∷ s) ≡ None

@@ -1,7 +1,7 @@
 -- Identifiers at the front of a text.
 use Rattle.rl_text.proofs.Common.{◌≡◌, ℕ, inl, inr, true, cond, List, [], ◌∷◌, ◌++◌, Some, None, drop, sym, ◌∙◌, ap, subst, none-some}
 use Rattle.rl_text.specs.Texts.{is_start, is_continue}
-use Rattle.rl_lexer.specs.Lexemes.{IsRow, begins_raw_identifier}
+use Rattle.rl_lexer.specs.Lexemes.{IsRun, begins_raw_identifier}
 use Rattle.rl_text.specs.Classes.{after_run}
 use Rattle.rl_lexer.specs.Mirrors.SourceAt.{after_name}
 use Rattle.rl_lexer.specs.Sources.{IsName}
@@ -11,8 +11,8 @@ use Rattle.rl_lexer.proofs.LexemeOpeners.{raw_split}
 use Rattle.rl_lexer.proofs.LexemeRows.{run_past}
 
 pub name_past : (c : ℕ) (more t : List ℕ) → IsName c more t → after_name (c ∷ more ++ t) ≡ Some t
-name_past c more t (is, row) = ap (λ b. cond b (Some (after_run is_continue (more ++ t))) None) is
-    ∙ ap Some (run_past is_continue more t row)
+name_past c more t (is, run) = ap (λ b. cond b (Some (after_run is_continue (more ++ t))) None) is
+    ∙ ap Some (run_past is_continue more t run)
 
 abbrev pub NameBefore : List ℕ → List ℕ → Type 0
 NameBefore t r = (c : ℕ) × (more : List ℕ) × IsName c more r × (t ≡ c ∷ more ++ r)
@@ -27,12 +27,12 @@ name_found (c ∷ t) r h =
   where
     go : is_start c ≡ true → after_run is_continue t ≡ r → NameBefore (c ∷ t) r
     go a e =
-        let (row, is, same) = run_found is_continue t in (
+        let (run, is, same) = run_found is_continue t in (
           c,
-          row,
-          (a, subst (λ (x : List ℕ). IsRow is_continue row x) e is),
+          run,
+          (a, subst (λ (x : List ℕ). IsRun is_continue run x) e is),
           ap (λ x. c ∷ x)
-              (same ∙ ap (λ x. row ++ x) e),
+              (same ∙ ap (λ x. run ++ x) e),
         )
 
 pub raw_rest : (t : List ℕ) → begins_raw_identifier t ≡ true → t ≡ 114 ∷ 35 ∷ drop 2 t

@@ -5,7 +5,7 @@ use Rattle.std.specs.Char.{is_ascii_digit}
 use Rattle.std.specs.List.{list_all}
 use Prim.Native.Char.{code}
 use Rattle.rl_text.specs.Texts.{first_passes, begins_char, is_start, is_continue}
-use Rattle.rl_lexer.specs.Lexemes.{BodyPart, PlainPart, EscapedPart, body_text, IsRow, IsLexedSuffix}
+use Rattle.rl_lexer.specs.Lexemes.{BodyPart, PlainPart, EscapedPart, body_text, IsRun, IsLexedSuffix}
 
 pub data BadQuote : Type 0 where
   -- an identifier in quotes, or what begins with a digit: `'ab'`, `'12'`
@@ -48,7 +48,7 @@ IsBadQuote (WordQuote c more) after =
 IsBadQuote (RawWordQuote c more) after =
     IsTrue (is_start c) × IsTrue (list_all is_continue more)
 IsBadQuote (DigitQuote c more) after =
-    IsTrue (is_ascii_digit c) × IsRow is_continue more after
+    IsTrue (is_ascii_digit c) × IsRun is_continue more after
     × (begins_char (code "'") after ≡ false)
 IsBadQuote (OtherQuote parts suffix) after =
     (first_passes begins_word_or_escape (body_text parts) ≡ false) × IsQuoteBody parts

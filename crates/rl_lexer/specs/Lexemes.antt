@@ -8,7 +8,7 @@ use Rattle.std.proofs.Common.{suc, zero}
 use Rattle.std.specs.Char.{is_ascii_digit}
 use Rattle.std.specs.List.{list_all}
 use Prim.Native.Char.{code}
-use Rattle.rl_text.specs.Texts.{is_among, first_passes, begins, is_row_part}
+use Rattle.rl_text.specs.Texts.{is_among, first_passes, begins, is_run_part}
 use Rattle.rl_forms.specs.Numbers.{is_exponent_letter}
 
 -- after a zero: x, o or b
@@ -175,15 +175,15 @@ lexeme_text (IdentifierLexeme c more) = c ∷ more
 lexeme_text (DelimiterLexeme c) = c ∷ []
 lexeme_text (MarkLexeme c) = c ∷ []
 
--- A row of such characters, as long as what follows allows.
-pub record IsRow (test : ℕ → Bool) (row after : List ℕ) : Type 0 where
-  pub each : IsTrue (list_all test row)
+-- A run of such characters, as long as what follows allows.
+pub record IsRun (test : ℕ → Bool) (run after : List ℕ) : Type 0 where
+  pub each : IsTrue (list_all test run)
   pub ends : first_passes test after ≡ false
 
 -- An identifier run, or nothing where none follows.
 abbrev pub IsLexedSuffix : List ℕ → List ℕ → Type 0
 IsLexedSuffix [] after = first_passes is_start after ≡ false
-IsLexedSuffix (c ∷ more) after = IsTrue (is_start c) × IsRow is_continue more after
+IsLexedSuffix (c ∷ more) after = IsTrue (is_start c) × IsRun is_continue more after
 
 -- No quote in the body has n hashes after it.
 abbrev pub IsRawBody : ℕ → List ℕ → Type 0
@@ -194,13 +194,13 @@ abbrev pub IsLexedFraction : LexedFraction → List ℕ → Type 0
 IsLexedFraction NoLexedFraction after = begins_dot after ≡ false
 IsLexedFraction (LexedDot digits) after =
     IsTrue (begins_dot (code "." ∷ digits ++ after))
-    × IsRow (is_row_part is_ascii_digit) digits after
+    × IsRun (is_run_part is_ascii_digit) digits after
 
 abbrev pub IsLexedExponent : LexedExponent → List ℕ → Type 0
 IsLexedExponent NoLexedExponent after = BeginsLexedExponent after → ⊥
 IsLexedExponent (LexedPower letter sign n d more) after =
     IsTrue (is_exponent_letter letter) × IsTrue (is_ascii_digit d)
-    × IsRow (is_row_part is_ascii_digit) more after
+    × IsRun (is_run_part is_ascii_digit) more after
 
 -- The lexeme is well made, and as long as the text after it allows.
 abbrev pub IsLexeme : Lexeme → List ℕ → Type 0
@@ -209,18 +209,18 @@ IsLexeme (RawLexeme p n body suffix) after = IsRawBody n body × IsLexedSuffix s
 IsLexeme (CharacterLexeme is_byte inside suffix) after =
     IsCharacterBody inside × IsLexedSuffix suffix after
 IsLexeme (BasedLexeme letter digits) after =
-    IsTrue (is_base_letter letter) × IsRow is_continue digits after
+    IsTrue (is_base_letter letter) × IsRun is_continue digits after
 IsLexeme (DecimalLexeme d more fraction exponent suffix) after =
     let after_fraction = lexed_exponent_text exponent ++ (suffix ++ after) in
     let after_digits = lexed_fraction_text fraction ++ after_fraction in
     IsTrue (is_ascii_digit d)
     × ((d == code "0" && first_passes is_base_letter (more ++ after_digits)) ≡ false)
-    × IsRow (is_row_part is_ascii_digit) more after_digits
+    × IsRun (is_run_part is_ascii_digit) more after_digits
     × IsLexedFraction fraction after_fraction
     × IsLexedExponent exponent (suffix ++ after)
     × IsLexedSuffix suffix after
 IsLexeme (IdentifierLexeme c more) after =
-    IsTrue (is_start c) × IsRow is_continue more after × (BeginsOtherwise (c ∷ more ++ after) → ⊥)
+    IsTrue (is_start c) × IsRun is_continue more after × (BeginsOtherwise (c ∷ more ++ after) → ⊥)
 IsLexeme (DelimiterLexeme c) after = IsTrue (is_among delimiters c)
 IsLexeme (MarkLexeme c) after =
     IsTrue (is_among marks c)

@@ -8,7 +8,7 @@ use Rattle.std.specs.Str.{chars}
 use Rattle.rl_text.specs.Texts.{first_passes, begins_char, begins, byte_len, IsTail, is_start, is_continue}
 use Rattle.rl_forms.specs.Trivia.{Inside, inside_text, IsInside, is_comment_line, is_comment_block}
 use Rattle.rl_lexer.specs.Skipping.{Skipped}
-use Rattle.rl_lexer.specs.Lexemes.{Lexeme, lexeme_text, IsLexeme, IsRow, LexemeForm, LiteralForm, IdentifierForm, form_of, begins_raw_identifier}
+use Rattle.rl_lexer.specs.Lexemes.{Lexeme, lexeme_text, IsLexeme, IsRun, LexemeForm, LiteralForm, IdentifierForm, form_of, begins_raw_identifier}
 use Rattle.rl_lexer.specs.BadQuotes.{BadQuote, bad_quote_text, IsBadQuote}
 use Rattle.rl_lexer.specs.Cuts.{BeginsQuote, LexedToken, LexesUpTo}
 use Rattle.rl_lexer.specs.Cursors.{CursorState, form_view}
@@ -53,7 +53,7 @@ source_text (StrayToken c) = c ∷ []
 
 -- An identifier, as long as what follows allows.
 abbrev pub IsName : ℕ → List ℕ → List ℕ → Type 0
-IsName c more after = IsTrue (is_start c) × IsRow is_continue more after
+IsName c more after = IsTrue (is_start c) × IsRun is_continue more after
 
 -- The token is well made, and as long as the text after it allows. No apostrophe follows a
 -- lifetime, and what begins `'r#` is none where an identifier follows. Bad quotes and strays aside.
@@ -65,7 +65,7 @@ IsProper (LifetimeToken c more) after =
     × (begins_raw_identifier (c ∷ more ++ after) ≡ false)
 IsProper (RawLifetimeToken c more) after =
     IsName c more after × (first_passes is_apostrophe after ≡ false)
-IsProper (DocLineToken body) after = IsRow is_in_line body after × IsFalse (is_comment_line body)
+IsProper (DocLineToken body) after = IsRun is_in_line body after × IsFalse (is_comment_line body)
 IsProper (DocBlockToken inside) after =
     IsInside inside × IsFalse (is_comment_block (inside_text inside))
 IsProper (BadQuoteToken q) after = ⊥
@@ -143,7 +143,7 @@ without_mark (c ∷ t) = if c == 0xfeff then t else c ∷ t
 pub record IsScriptLine (t rest : List ℕ) : Type 0 where
   pub line : List ℕ
   pub text_is : t ≡ code "#" ∷ code "!" ∷ line ++ rest
-  pub is_line : IsRow is_in_line line rest
+  pub is_line : IsRun is_in_line line rest
   pub no_attribute : (s : List ℕ) → Skipped (line ++ rest) s
       → begins_char (code "[") s ≡ false
 

@@ -17,7 +17,7 @@ pub struct LexError {
     pub at: usize,
 }
 
-/// What the lexer rejects, each reported at the byte that its line names. docs/REFUSALS.md has a
+/// What the lexer rejects, each reported at the byte that its line names. docs/ERRORS.md has a
 /// text for each, and what to do.
 ///
 /// See the example of [`Tokens::error`].

@@ -1,17 +1,17 @@
 -- The parts of numbers, as the code finds them.
 use Rattle.rl_text.proofs.Common.{◌≡◌, ℕ, Bool, true, false, ◌==◌, cond, List, [], ◌∷◌, ◌++◌, Option, Some, None, refl, sym, ap, subst, ◌∙◌, append_assoc, append_cancel_right, is_ascii_digit, chars}
-use Rattle.rl_reading.proofs.Names.{first_passes, is_row_part, prefix, radix, Sign, sign_text, Fraction, NoFraction, Dot, fraction_text, IsFraction, IntReads, FloatReads, Kind, Int, Float, Contents, Reads, ReadsAs, HasNoReading, HasSuffix}
+use Rattle.rl_reading.proofs.Names.{first_passes, is_run_part, prefix, radix, Sign, sign_text, Fraction, NoFraction, Dot, fraction_text, IsFraction, IntReads, FloatReads, Kind, Int, Float, Contents, Reads, ReadsAs, HasNoReading, HasSuffix}
 use Rattle.rl_forms.specs.Numbers.{Exponent, NoExponent, Power, exponent_text, IsExponent}
 use Rattle.rl_forms.proofs.OneNumber.{float_once}
 use Rattle.rl_forms.proofs.OneReading.{one_reading}
 use Rattle.rl_forms.proofs.StrictNumbers.{letter_no_part, no_part}
-use Rattle.rl_reading.specs.Mirrors.NumberAt.{run, has_value, digit_row_at, after_digits, after_minus, radix_at}
+use Rattle.rl_reading.specs.Mirrors.NumberAt.{run, has_value, digit_run_at, after_digits, after_minus, radix_at}
 use Rattle.rl_reading.proofs.FloatLemmas.{fraction_stops, letter_no_dot}
 use Rattle.rl_reading.proofs.IntegerLemmas.{minus_past, radix_past}
 use Rattle.rl_reading.proofs.RunLemmas.{run_join, run_past}
 use Rattle.rl_reading.proofs.TestLemmas.{passes_more}
 use Rattle.rl_parts.specs.Mirrors.PartsAt.{fraction_at, after_letter}
-use Rattle.rl_parts.specs.NumberParts.{IsFloatOf, IsIntegerOf, HasOneFloatOf, HasOneIntegerOf, fraction_row, power_row}
+use Rattle.rl_parts.specs.NumberParts.{IsFloatOf, IsIntegerOf, HasOneFloatOf, HasOneIntegerOf, fraction_run, power_run}
 
 -- ---- readings
 
@@ -27,13 +27,13 @@ reads_as_other t x found kind (v, r) other (w, y, s) = other (one_reading t foun
 pub found_float : (t x : List ℕ) (kind : Kind) → kind ≡ Float → HasSuffix kind t x → (n : List ℕ) × FloatReads t n x
 found_float t x kind e h = let r = subst (λ (k : Kind). HasSuffix k t x) e h in (r.1.numeral, r.1.reads)
 
--- ---- rows of digits
+-- ---- runs of digits
 
 -- a row of digits, by what is left after it
-pub row_front : (t front rest : List ℕ) → t ≡ front ++ rest → rest ≡ after_digits 10 t → front ≡ digit_row_at 10 t
+pub row_front : (t front rest : List ℕ) → t ≡ front ++ rest → rest ≡ after_digits 10 t → front ≡ digit_run_at 10 t
 row_front t front rest is stops =
-    append_cancel_right front (digit_row_at 10 t) rest (sym is ∙ run_join (is_row_part (has_value 10)) t
-    ∙ ap (λ z. digit_row_at 10 t ++ z) (sym stops))
+    append_cancel_right front (digit_run_at 10 t) rest (sym is ∙ run_join (is_run_part (has_value 10)) t
+    ∙ ap (λ z. digit_run_at 10 t ++ z) (sym stops))
 
 -- ---- integers
 
@@ -52,7 +52,7 @@ integer_of t s m x r base row digits rest from is stops =
     let both : ◌≡◌ {A = ℕ × List ℕ} (base, row) (radix r.base, r.digits ++ x) = from ∙ integer_row t s m x r in
     let base_is : base ≡ radix r.base = ap (λ (p : ℕ × List ℕ). p.0) both in
     let row_is : row ≡ r.digits ++ x = ap (λ (p : ℕ × List ℕ). p.1) both in
-    let past = run_past (is_row_part (has_value (radix r.base))) r.digits x r.each
+    let past = run_past (is_run_part (has_value (radix r.base))) r.digits x r.each
     (no_part r.base x r.is_suffix r.is_suffix_of) in
     let left : rest ≡ x = stops ∙ ap (λ b. after_digits b row) base_is ∙ ap (after_digits (radix r.base)) row_is
     ∙ past.1 in
@@ -69,50 +69,50 @@ integer_is t m x base row digits rest (s, r) from is stops =
 
 -- no row of digits goes on into an exponent
 exponent_stops : (e : Exponent) (x : List ℕ) → IsExponent e x
-    → first_passes (is_row_part (has_value 10)) (exponent_text e) ≡ false
+    → first_passes (is_run_part (has_value 10)) (exponent_text e) ≡ false
 exponent_stops NoExponent x h = refl
 exponent_stops (Power letter us sg row) x h = letter_no_part letter h.0
 
 -- what stands after the letter
-letter_past : (e : Exponent) → after_letter (exponent_text e) ≡ power_row e
+letter_past : (e : Exponent) → after_letter (exponent_text e) ≡ power_run e
 letter_past NoExponent = refl
 letter_past (Power letter us sg row) = refl
 
 -- the fraction is taken, and what is left is the exponent
 fraction_past : (f : Fraction) (e : Exponent) (x : List ℕ) → IsFraction f → IsExponent e x
-    → fraction_at (fraction_text f ++ exponent_text e) ≡ (fraction_row f, exponent_text e)
+    → fraction_at (fraction_text f ++ exponent_text e) ≡ (fraction_run f, exponent_text e)
 fraction_past NoFraction NoExponent x h k = refl
 fraction_past NoFraction (Power letter us sg row) x h k =
-    ap (λ b. cond b (Some (digit_row_at 10 (us ++ (sg ++ row))), after_digits 10 (us ++ (sg ++ row)))
+    ap (λ b. cond b (Some (digit_run_at 10 (us ++ (sg ++ row))), after_digits 10 (us ++ (sg ++ row)))
     (None, letter ∷ (us ++ (sg ++ row)))) (letter_no_dot letter k.0)
 fraction_past (Dot row) e x h k =
-    let past = run_past (is_row_part (has_value 10)) row (exponent_text e) h (exponent_stops e x k) in
+    let past = run_past (is_run_part (has_value 10)) row (exponent_text e) h (exponent_stops e x k) in
     ap (λ z. (Some z, after_digits 10 (row ++ exponent_text e))) past.0 ∙ ap (λ z. (Some row, z)) past.1
 
 -- The parts of a numeral, as the code finds them.
 pub record Split (numeral whole : List ℕ) (fraction exponent : Option (List ℕ)) : Type 0 where
   pub unsigned : List ℕ
   pub unsigned_is : unsigned ≡ after_minus numeral
-  pub whole_is : whole ≡ digit_row_at 10 unsigned
+  pub whole_is : whole ≡ digit_run_at 10 unsigned
   pub power : List ℕ
   pub fraction_is : (fraction, power) ≡ fraction_at (after_digits 10 unsigned)
   pub exponent_is : exponent ≡ after_letter power
 
 pub float_of : (t n x : List ℕ) (r : FloatReads t n x) (whole : List ℕ) (fraction exponent : Option (List ℕ))
     → Split n whole fraction exponent
-    → (whole ≡ r.whole) × (fraction ≡ fraction_row r.fraction) × (exponent ≡ power_row r.exponent)
+    → (whole ≡ r.whole) × (fraction ≡ fraction_run r.fraction) × (exponent ≡ power_run r.exponent)
 float_of t n x r whole fraction exponent s =
     let e : List ℕ = exponent_text r.exponent in
     let y : List ℕ = fraction_text r.fraction ++ e in
     let u : List ℕ = r.whole ++ y in
     let first : first_passes is_ascii_digit u ≡ true = passes_more is_ascii_digit r.whole y r.first in
     let unsigned : s.unsigned ≡ u = s.unsigned_is ∙ ap after_minus r.numeral_is ∙ (minus_past r.sign u first).0 in
-    let past = run_past (is_row_part (has_value 10)) r.whole y r.each
+    let past = run_past (is_run_part (has_value 10)) r.whole y r.each
     (fraction_stops r.fraction e (exponent_stops r.exponent x r.is_exponent)) in
     let left : after_digits 10 s.unsigned ≡ y = ap (after_digits 10) unsigned ∙ past.1 in
-    let both : ◌≡◌ {A = Option (List ℕ) × List ℕ} (fraction, s.power) (fraction_row r.fraction, e) =
+    let both : ◌≡◌ {A = Option (List ℕ) × List ℕ} (fraction, s.power) (fraction_run r.fraction, e) =
     s.fraction_is ∙ ap fraction_at left ∙ fraction_past r.fraction r.exponent x r.is_fraction r.is_exponent in (
-      s.whole_is ∙ ap (digit_row_at 10) unsigned ∙ past.0,
+      s.whole_is ∙ ap (digit_run_at 10) unsigned ∙ past.0,
       ap (λ (p : Option (List ℕ) × List ℕ). p.0) both,
       s.exponent_is ∙ ap after_letter (ap (λ (p : Option (List ℕ) × List ℕ). p.1) both) ∙ letter_past r.exponent,
     )
@@ -131,13 +131,13 @@ float_is t numeral suffix whole fraction exponent (n, r) is s =
 -- the parts that any reading has are these
 integer_row_is : (t : List ℕ) (base : ℕ) (digits : List ℕ) → IsIntegerOf t base digits
     → (base ≡ (radix_at (after_minus t)).0)
-    × (digits ≡ run (is_row_part (has_value (radix_at (after_minus t)).0)) (radix_at (after_minus t)).1)
+    × (digits ≡ run (is_run_part (has_value (radix_at (after_minus t)).0)) (radix_at (after_minus t)).1)
 integer_row_is t base digits (s, m, x, r, base_is, digits_are) =
     let at = integer_row t s m x r in
-    let past = run_past (is_row_part (has_value (radix r.base))) r.digits x r.each
+    let past = run_past (is_run_part (has_value (radix r.base))) r.digits x r.each
     (no_part r.base x r.is_suffix r.is_suffix_of) in (
       base_is ∙ sym (ap (λ (p : ℕ × List ℕ). p.0) at),
-      digits_are ∙ sym past.0 ∙ sym (ap (λ (p : ℕ × List ℕ). run (is_row_part (has_value p.0)) p.1) at),
+      digits_are ∙ sym past.0 ∙ sym (ap (λ (p : ℕ × List ℕ). run (is_run_part (has_value p.0)) p.1) at),
     )
 
 pub one_integer_of : (t : List ℕ) → HasOneIntegerOf t
@@ -147,7 +147,7 @@ one_integer_of t base other digits others a b =
     (first.0 ∙ sym second.0, first.1 ∙ sym second.1)
 
 -- the parts of a numeral, by what the code finds
-split_of : (n : List ℕ) → Split n (digit_row_at 10 (after_minus n)) (fraction_at (after_digits 10 (after_minus n))).0
+split_of : (n : List ℕ) → Split n (digit_run_at 10 (after_minus n)) (fraction_at (after_digits 10 (after_minus n))).0
     (after_letter (fraction_at (after_digits 10 (after_minus n))).1)
 split_of n = record {
   unsigned = after_minus n;
@@ -163,9 +163,9 @@ one_float_of t whole other_whole fraction other_fraction exponent other_exponent
     let same = float_once t n m x y r s in
     let first = float_of t n x r _ _ _ (split_of n) in
     let second = float_of t m y s _ _ _ (split_of m) in
-    let whole_is : r.whole ≡ s.whole = sym first.0 ∙ ap (λ z. digit_row_at 10 (after_minus z)) same.0 ∙ second.0 in
-    let fraction_is : fraction_row r.fraction ≡ fraction_row s.fraction = sym first.1
+    let whole_is : r.whole ≡ s.whole = sym first.0 ∙ ap (λ z. digit_run_at 10 (after_minus z)) same.0 ∙ second.0 in
+    let fraction_is : fraction_run r.fraction ≡ fraction_run s.fraction = sym first.1
     ∙ ap (λ z. (fraction_at (after_digits 10 (after_minus z))).0) same.0 ∙ second.1 in
-    let exponent_is : power_row r.exponent ≡ power_row s.exponent = sym first.2
+    let exponent_is : power_run r.exponent ≡ power_run s.exponent = sym first.2
     ∙ ap (λ z. after_letter (fraction_at (after_digits 10 (after_minus z))).1) same.0 ∙ second.2 in
     (w ∙ whole_is ∙ sym v, f ∙ fraction_is ∙ sym g, e ∙ exponent_is ∙ sym h)

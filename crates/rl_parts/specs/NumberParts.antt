@@ -9,23 +9,23 @@ IsIntegerOf text base digits =
     × (base ≡ radix r.base) × (digits ≡ r.digits)
 
 -- what stands after the dot, where there is one
-abbrev pub fraction_row : Fraction → Option (List ℕ)
-fraction_row NoFraction = None
-fraction_row (Dot row) = Some row
+abbrev pub fraction_run : Fraction → Option (List ℕ)
+fraction_run NoFraction = None
+fraction_run (Dot run) = Some run
 
 -- what stands after the letter, where there is an exponent
-abbrev pub power_row : Exponent → Option (List ℕ)
-power_row NoExponent = None
-power_row (Power letter underscores sign row) = Some (underscores ++ (sign ++ row))
+abbrev pub power_run : Exponent → Option (List ℕ)
+power_run NoExponent = None
+power_run (Power letter underscores sign run) = Some (underscores ++ (sign ++ run))
 
 -- The text is a float, and these are its whole part, what stands after its dot, and what stands after
 -- the letter of its exponent.
 abbrev pub IsFloatOf : List ℕ → List ℕ → Option (List ℕ) → Option (List ℕ) → Type 0
 IsFloatOf text whole fraction exponent =
     (numeral : List ℕ) × (suffix : List ℕ) × (r : FloatReads text numeral suffix)
-    × (whole ≡ r.whole) × (fraction ≡ fraction_row r.fraction) × (exponent ≡ power_row r.exponent)
+    × (whole ≡ r.whole) × (fraction ≡ fraction_run r.fraction) × (exponent ≡ power_run r.exponent)
 
--- one base and one row of digits at most
+-- one base and one run of digits at most
 abbrev pub HasOneIntegerOf : List ℕ → Type 0
 HasOneIntegerOf text =
     (base other : ℕ) (digits others : List ℕ) → IsIntegerOf text base digits → IsIntegerOf text other others

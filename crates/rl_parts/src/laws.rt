@@ -3,7 +3,7 @@
 ghost use Rattle.std.specs.Prelude.{List, ℕ};
 ghost use Rattle.rl_parts.specs.NumberParts.{HasOneFloatOf, HasOneIntegerOf};
 
-/// A text has one base and one row of digits at most, however it reads as an integer.
+/// A text has one base and one run of digits at most, however it reads as an integer.
 pub fn an_integer_has_one_base()
     ensures { (text : List ℕ) → HasOneIntegerOf text }
 {}

@@ -4,12 +4,12 @@ ghost use Rattle.std.specs.Prelude.{◌≡◌, IfNone, IfSome, option_map};
 ghost use Rattle.std.specs.Str.{chars};
 ghost use Rattle.rl_forms.specs.declared.kind.Kind.TheVariants.{Int, Float};
 ghost use Rattle.rl_forms.specs.Reading.{ReadsAs};
-ghost use Rattle.rl_reading.specs.Mirrors.NumberAt.{after_digits, digit_row_at};
+ghost use Rattle.rl_reading.specs.Mirrors.NumberAt.{after_digits, digit_run_at};
 ghost use Rattle.rl_parts.specs.Mirrors.PartsAt.{fraction_at, after_letter};
 ghost use Rattle.rl_parts.specs.NumberParts.{IsFloatOf, IsIntegerOf};
 
 use rl_forms::Kind;
-use rl_reading::digit_rows::{after_minus, read_row, skip_row};
+use rl_reading::digit_runs::{after_minus, read_digit_run, skip_digits};
 use rl_reading::find;
 use rl_reading::number_forms::split_radix;
 use rl_text::text::{before, split_char, strip_byte};
@@ -57,28 +57,28 @@ pub fn integer_parts(text: &str) -> Option<IntegerParts<'_>>
     if !matches!(found.kind, Kind::Int) {
         return None;
     }
-    let (radix, row) = split_radix(after_minus(text));
-    let digits = before(row, read_row(row, radix).rest);
+    let (radix, run) = split_radix(after_minus(text));
+    let digits = before(run, read_digit_run(run, radix).rest);
     Some(IntegerParts { radix, digits })
 }
 
 /// The digits and underscores at the front, and the text after them.
-fn split_row(text: &str) -> (&str, &str)
-    ensures row { chars result.0.now ≡ digit_row_at 10 (chars text.now) }
+fn split_digits(text: &str) -> (&str, &str)
+    ensures run { chars result.0.now ≡ digit_run_at 10 (chars text.now) }
     ensures rest { chars result.1.now ≡ after_digits 10 (chars text.now) }
 {
-    let rest = skip_row(text).rest;
+    let rest = skip_digits(text).rest;
     (before(text, rest), rest)
 }
 
 /// The digits after the dot that the text begins with, if it does, and the text after them.
 fn split_fraction(text: &str) -> (Option<&str>, &str)
-    ensures { (option_map (λ row. chars row.now) result.0, chars result.1.now) ≡ fraction_at (chars text.now) }
+    ensures { (option_map (λ run. chars run.now) result.0, chars result.1.now) ≡ fraction_at (chars text.now) }
 {
     match strip_byte(text, b'.') {
         Some(digits) => {
-            let (row, rest) = split_row(digits);
-            (Some(row), rest)
+            let (run, rest) = split_digits(digits);
+            (Some(run), rest)
         }
         None => (None, text),
     }
@@ -110,7 +110,7 @@ fn after_letter(text: &str) -> Option<&str>
 /// ```
 pub fn float_parts(text: &str) -> Option<FloatParts<'_>>
     ensures parts { IfSome result (λ p. IsFloatOf (chars text.now) (chars p.integer.now)
-        (option_map (λ row. chars row.now) p.fraction) (option_map (λ row. chars row.now) p.exponent)) }
+        (option_map (λ run. chars run.now) p.fraction) (option_map (λ run. chars run.now) p.exponent)) }
     ensures reads { IfSome result (λ p. ReadsAs Float (chars text.now)) }
     ensures none { IfNone result (ReadsAs Float (chars text.now) → ⊥) }
 {
@@ -119,7 +119,7 @@ pub fn float_parts(text: &str) -> Option<FloatParts<'_>>
         return None;
     }
     let numeral = before(text, found.suffix_in(text));
-    let (integer, rest) = split_row(after_minus(numeral));
+    let (integer, rest) = split_digits(after_minus(numeral));
     let (fraction, power) = split_fraction(rest);
     Some(FloatParts {
         integer,

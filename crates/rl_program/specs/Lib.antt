@@ -1,4 +1,4 @@
 pub mod Streams
-pub mod Refusals
-pub mod Faults
+pub mod Rejections
+pub mod ProgramErrors
 pub mod Endings

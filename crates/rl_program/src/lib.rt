@@ -3,11 +3,11 @@
 #![tactic(auto)]
 
 mod ending;
-mod fault;
+mod program_error;
 mod rejection;
 mod streams;
 
 pub use crate::ending::{Ending, RunError, arguments, finish};
-pub use crate::fault::Fault;
-pub use crate::rejection::Refusal;
+pub use crate::program_error::ProgramError;
+pub use crate::rejection::Rejection;
 pub use crate::streams::{WriteError, read_whole, text_of, write_bytes, write_whole};

@@ -6,11 +6,11 @@ use std::fmt;
 
 /// A borrowed error, displayed as the programs report it: its place in bytes, and its message.
 #[derive(Drop)]
-pub struct Refusal<'a, A: Allocator = Global>(pub &'a Error<A>);
+pub struct Rejection<'a, A: Allocator = Global>(pub &'a Error<A>);
 
-impl<A: Allocator> fmt::Display for Refusal<'_, A> {
+impl<A: Allocator> fmt::Display for Rejection<'_, A> {
     ghost use Rattle.std.specs.Prelude.{Some};
-    ghost use Rattle.rl_program.specs.Refusals.{rejection_line};
+    ghost use Rattle.rl_program.specs.Rejections.{rejection_line};
 
     ghost output = { λ rejection. Some (rejection_line rejection.0.now) };
 

@@ -4,9 +4,9 @@ ghost use Rattle.std.specs.Prelude.{◌≡◌, ◌⊎◌, OnOk, OnErr, IfOk, IfE
 ghost use Rattle.std.specs.Str.{IsUtf8};
 ghost use Rattle.std.specs.Io.KnownBytes.{Appends};
 ghost use Rattle.rl_program.specs.Streams.{AppendsBeginning};
-ghost use Rattle.rl_program.specs.declared.fault.Fault.TheVariants.{Read, Write, NotText, Memory};
+ghost use Rattle.rl_program.specs.declared.program_error.ProgramError.TheVariants.{Read, Write, NotText, Memory};
 
-use crate::fault::Fault;
+use crate::program_error::ProgramError;
 use std::alloc::Allocator;
 use std::io::{ErrorKind, Read, Write};
 
@@ -25,10 +25,13 @@ const _: () = prove!(TURNS == 4_294_967_295);
 ///
 /// `Read` where a call of the reader failed or the turns brought no end, `Memory` where an
 /// allocation failed.
-pub fn read_whole<A: Allocator, R: Read>(alloc: A, input: &mut R) -> Result<Vec<u8, A>, Fault<A>>
+pub fn read_whole<A: Allocator, R: Read>(
+    alloc: A,
+    input: &mut R,
+) -> Result<Vec<u8, A>, ProgramError<A>>
     ensures bytes { IfOk result
         (λ bytes. IfSome (R.remaining input.old) (λ all. bytes.items ≡ all)) }
-    ensures faults { IfErr result (λ fault. (fault ≡ Read) ⊎ (fault ≡ Memory)) }
+    ensures errors { IfErr result (λ error. (error ≡ Read) ⊎ (error ≡ Memory)) }
 {
     let mut bytes = Vec::new(alloc);
     let mut turn = [0_u8; TURN];
@@ -37,13 +40,13 @@ pub fn read_whole<A: Allocator, R: Read>(alloc: A, input: &mut R) -> Result<Vec<
             Ok(0) => return Ok(bytes),
             Ok(count) => {
                 if bytes.extend_from_slice(&turn[..count]).is_err() {
-                    return Err(Fault::Memory);
+                    return Err(ProgramError::Memory);
                 }
             }
-            Err(_) => return Err(Fault::Read),
+            Err(_) => return Err(ProgramError::Read),
         }
     }
-    Err(Fault::Read)
+    Err(ProgramError::Read)
 }
 
 /// The text of the bytes.
@@ -51,14 +54,14 @@ pub fn read_whole<A: Allocator, R: Read>(alloc: A, input: &mut R) -> Result<Vec<
 /// # Errors
 ///
 /// `NotText` where they aren't UTF-8.
-pub fn text_of<A: Allocator>(bytes: &[u8]) -> Result<&str, Fault<A>>
+pub fn text_of<A: Allocator>(bytes: &[u8]) -> Result<&str, ProgramError<A>>
     ensures text { IfOk result (λ text. text.now ≡ bytes.now) }
     ensures utf8 { OnOk result (IsUtf8 bytes.now) }
-    ensures rejection { IfErr result (λ fault. (fault ≡ NotText) × (IsUtf8 bytes.now → ⊥)) }
+    ensures rejection { IfErr result (λ error. (error ≡ NotText) × (IsUtf8 bytes.now → ⊥)) }
 {
     match std::str::from_utf8(bytes) {
         Ok(text) => Ok(text),
-        Err(_) => Err(Fault::NotText),
+        Err(_) => Err(ProgramError::NotText),
     }
 }
 
@@ -105,13 +108,13 @@ pub fn write_bytes<W: Write>(out: &mut W, bytes: &[u8]) -> Result<(), WriteError
 /// # Errors
 ///
 /// `Write` where a call of the writer failed. A beginning of the bytes may have been written then.
-pub fn write_whole<A: Allocator, W: Write>(out: &mut W, bytes: &[u8]) -> Result<(), Fault<A>>
+pub fn write_whole<A: Allocator, W: Write>(out: &mut W, bytes: &[u8]) -> Result<(), ProgramError<A>>
     ensures all { OnOk result (Appends (W.contents out.old) (W.contents out.new) bytes.now) }
-    ensures beginning { IfErr result (λ fault. (fault ≡ Write)
+    ensures beginning { IfErr result (λ error. (error ≡ Write)
         × AppendsBeginning (W.contents out.old) (W.contents out.new) bytes.now) }
 {
     match write_bytes(out, bytes) {
         Ok(()) => Ok(()),
-        Err(_) => Err(Fault::Write),
+        Err(_) => Err(ProgramError::Write),
     }
 }

@@ -131,7 +131,7 @@ impl<A: Allocator> LitStr<A> {
     }
 
     /// Rejects a suffix.
-    fn refuse_suffix<B: Allocator>(&self, alloc: B) -> Result<(), Error<B>>
+    fn reject_suffix<B: Allocator>(&self, alloc: B) -> Result<(), Error<B>>
         ensures ok { OnOk result (HasSuffix Str (chars self.now.text) []) }
         ensures rejected { IfErr result
             (λ e. IsSuffixed self.now e ⊎ (e ≡ memory_at self.now.span)) }
@@ -189,7 +189,7 @@ impl<A: Allocator> LitStr<A> {
         ensures rejected { IfErr result (RejectsInsideAt placing (P.runs parser) self.now) }
     {
         let parsed = self.parse_whole(placing, alloc, parser)?;
-        self.refuse_suffix(alloc)?;
+        self.reject_suffix(alloc)?;
         Ok(parsed)
     }
 

@@ -12,7 +12,7 @@ use Rattle.rl_reading.specs.declared.quoted_forms.QuotedForm.TheVariants.{Cooked
 use Rattle.rl_reading.specs.declared.units.Piece.{Piece}
 use Rattle.rl_reading.specs.declared.units.Piece.TheVariants.{Character, Byte, Nothing}
 use Rattle.rl_reading.specs.Mirrors.UnitAt.{piece_value, IsHeldBy, unit_at}
-use Rattle.rl_reading.specs.Rows.{BeginsRow}
+use Rattle.rl_reading.specs.UnitRuns.{BeginsRun}
 use Rattle.rl_reading.specs.Forms.{PartsAre, is_plain_body}
 use Rattle.rl_reading.specs.Decoded.{piece_bytes, in_bytes, HoldsBytes}
 use Rattle.rl_reading.specs.Mirrors.Decodes.{Decodes}
@@ -64,9 +64,9 @@ piece_in_bytes kind Nothing h = nothing_in_bytes kind
 
 -- ---- the decoder's loop
 
-pub decode_step : (kind : Kind) (a v b after bytes more : List ℕ) (piece : Piece) → BeginsRow kind a v b → bytes
+pub decode_step : (kind : Kind) (a v b after bytes more : List ℕ) (piece : Piece) → BeginsRun kind a v b → bytes
     ≡ in_bytes kind v → Some (piece_value kind piece, after) ≡ unit_at kind b → IsHeldBy kind piece → more ≡ bytes
-    ++ piece_bytes piece → (w : List ℕ) × BeginsRow kind a w after × (more ≡ in_bytes kind w)
+    ++ piece_bytes piece → (w : List ℕ) × BeginsRun kind a w after × (more ≡ in_bytes kind w)
 decode_step kind a v b after bytes more piece row so_far unit fits grown = (
   v ++ piece_value kind piece,
   row_step kind a v b (piece_value kind piece, after) row (sym unit),
@@ -75,12 +75,12 @@ decode_step kind a v b after bytes more piece row so_far unit fits grown = (
 )
 
 -- a run of plain characters is as many bytes of the text
-pub decode_run : (kind : Kind) (a v b after bytes more run : List ℕ) → BeginsRow kind a v b → bytes ≡ in_bytes kind v
+pub decode_run : (kind : Kind) (a v b after bytes more run : List ℕ) → BeginsRun kind a v b → bytes ≡ in_bytes kind v
     → b ≡ chars run ++ after → list_all (is_plain kind) (chars run) ≡ true → IsUtf8 run → more ≡ bytes ++ run
-    → (w : List ℕ) × BeginsRow kind a w after × (more ≡ in_bytes kind w)
+    → (w : List ℕ) × BeginsRun kind a w after × (more ≡ in_bytes kind w)
 decode_run kind a v b after bytes more run row so_far cut plain text grown = (
   v ++ content_of kind (chars run),
-  row_run kind a v (chars run) after plain (subst (BeginsRow kind a v) cut row),
+  row_run kind a v (chars run) after plain (subst (BeginsRun kind a v) cut row),
   grown ∙ ap (λ z. z ++ run) so_far ∙ ap (λ z. in_bytes kind v ++ z)
       (sym (held_in_bytes kind (chars run) ∙ encodes-chars run text))
       ∙ sym (in_bytes_append kind v (content_of kind (chars run))),
@@ -112,7 +112,7 @@ plain_bytes t RawForm kind w body y h u p = raw_bytes t RawForm kind w body y re
 plain_bytes t SingleForm kind w body y h u p = absurd (cc)
 plain_bytes t CookedForm kind w body y h u p =
     let cs = chars body in
-    let start = subst (BeginsRow kind cs []) (sym (append-nil cs)) (row_start kind cs) in
+    let start = subst (BeginsRun kind cs []) (sym (append-nil cs)) (row_start kind cs) in
     let value : w ≡ content_of kind cs = (row_once kind cs w [] (content_of kind cs) []
     (cooked_row_of_body kind t w cs y p) (row_run kind cs [] cs [] h start) (unit_nil kind) (unit_nil kind)).0 in
     let bytes : body ≡ in_bytes kind w = sym (encodes-chars body u) ∙ sym (held_in_bytes kind cs)
@@ -133,7 +133,7 @@ cooked_bytes t form kind w body y bytes not_raw p d k v x s r =
     let same = formed_once t kind k w r.value y x formed_p (formed t k v x r) in
     let string : is_string kind ≡ true = ap is_string same.0 ∙ s in
     let row = cooked_row_of_body kind t w body y (string_parts form kind t w body y string not_raw p) in
-    let value = row_once kind body d.value d.rest w [] d.row row d.stuck (unit_nil kind) in
+    let value = row_once kind body d.value d.rest w [] d.run row d.stuck (unit_nil kind) in
     same_bytes t kind w y bytes formed_p (d.bytes_are ∙ ap (in_bytes kind) value.0) k v x s r
 
 -- ---- the characters of a string

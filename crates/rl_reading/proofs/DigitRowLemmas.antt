@@ -1,9 +1,9 @@
 -- Rows of digits and underscores.
 use Rattle.rl_text.proofs.Common.{◌≡◌, ◌≢◌, ℕ, suc, ◌+◌, ◌*◌, ◌^◌, ◌<◌, ◌≤◌, Bool, true, false, not, ◌||◌, ◌==◌, cond, List, [], ◌∷◌, Option, Some, None, length, refl, sym, ap, ◌∙◌, arith, ◌⊎◌, inl, inr, nat_lt, eqb-true, nat_tests, digit_value, list_any}
-use Rattle.rl_reading.proofs.Names.{pow-suc, place_value, without_underscores, limit, after_run, is_row_part}
+use Rattle.rl_reading.proofs.Names.{pow-suc, place_value, without_underscores, limit, after_run, is_run_part}
 use Rattle.std.proofs.Math.Nat.{mul-le-mul_left}
 use native.Mathlib.Numerals.{unary_clauses}
-use Rattle.rl_reading.specs.Mirrors.NumberAt.{run, has_value, capped, append_digit, row_from, digit_row_at, has_digit_at, magnitude_at, after_digits}
+use Rattle.rl_reading.specs.Mirrors.NumberAt.{run, has_value, capped, append_digit, run_from, digit_run_at, has_digit_at, magnitude_at, after_digits}
 
 -- within the limit nothing is cut
 pub capped_within : (n : ℕ) → n ≤ limit → capped n ≡ Some n
@@ -104,12 +104,12 @@ unfolding run
 run_no test c cs h = (ap (λ b. cond b (c ∷ run test cs) []) h, ap (λ b. cond b (after_run test cs) (c ∷ cs)) h)
 
 -- the same, by the parts of the text
-at_parts : (r : ℕ) (some : Bool) (v : ℕ) (t ds x : List ℕ) → digit_row_at r t ≡ ds → after_digits r t ≡ x
-    → At r some v ds x ≡ At r some v (digit_row_at r t) (after_digits r t)
-at_parts r some v t ds x d a = ap (λ u. At r some v u x) (sym d) ∙ ap (λ y. At r some v (digit_row_at r t) y) (sym a)
+at_parts : (r : ℕ) (some : Bool) (v : ℕ) (t ds x : List ℕ) → digit_run_at r t ≡ ds → after_digits r t ≡ x
+    → At r some v ds x ≡ At r some v (digit_run_at r t) (after_digits r t)
+at_parts r some v t ds x d a = ap (λ u. At r some v u x) (sym d) ∙ ap (λ y. At r some v (digit_run_at r t) y) (sym a)
 
 -- an underscore belongs to each row
-part_mark : (r c : ℕ) → (c == 95) ≡ true → is_row_part (has_value r) c ≡ true
+part_mark : (r c : ℕ) → (c == 95) ≡ true → is_run_part (has_value r) c ≡ true
 part_mark r c h = go (has_value r c)
   where
     go : (b : Bool) → (b || (c == 95)) ≡ true
@@ -117,38 +117,38 @@ part_mark r c h = go (has_value r c)
     go false = h
 
 -- a digit of the base belongs to the row
-part_digit : (r c : ℕ) → nat_lt (digit_value c) r ≡ true → is_row_part (has_value r) c ≡ true
+part_digit : (r c : ℕ) → nat_lt (digit_value c) r ≡ true → is_run_part (has_value r) c ≡ true
 part_digit r c h = ap (λ b. b || (c == 95)) h
 
 -- nothing else does
-part_none : (r c : ℕ) → (c == 95) ≡ false → nat_lt (digit_value c) r ≡ false → is_row_part (has_value r) c ≡ false
+part_none : (r c : ℕ) → (c == 95) ≡ false → nat_lt (digit_value c) r ≡ false → is_run_part (has_value r) c ≡ false
 part_none r c n h = ap (λ b. b || (c == 95)) h ∙ n
 
 -- the row read one character after another is the row that stands there
-pub row_is : (r : ℕ) (some : Bool) (v : ℕ) (t : List ℕ) → 1 ≤ r → r ≤ 36 → row_from r some (capped v) t
-    ≡ At r some v (digit_row_at r t) (after_digits r t)
-unfolding row_from run
+pub row_is : (r : ℕ) (some : Bool) (v : ℕ) (t : List ℕ) → 1 ≤ r → r ≤ 36 → run_from r some (capped v) t
+    ≡ At r some v (digit_run_at r t) (after_digits r t)
+unfolding run_from run
 row_is r some v [] h k = at_end r some v []
 row_is r some v (c ∷ cs) h k = go (λ s w. row_is r s w cs h k) (c == 95) (nat_lt (digit_value c) r) refl refl
   where
-    go : ((s : Bool) (w : ℕ) → row_from r s (capped w) cs ≡ At r s w (digit_row_at r cs) (after_digits r cs))
+    go : ((s : Bool) (w : ℕ) → run_from r s (capped w) cs ≡ At r s w (digit_run_at r cs) (after_digits r cs))
         → (u g : Bool) → (c == 95) ≡ u → nat_lt (digit_value c) r ≡ g
-        → cond u (row_from r some (capped v) cs) (cond g (row_from r true (append_digit r (capped v) (digit_value c))
-        cs) (some, capped v, c ∷ cs)) ≡ At r some v (digit_row_at r (c ∷ cs)) (after_digits r (c ∷ cs))
+        → cond u (run_from r some (capped v) cs) (cond g (run_from r true (append_digit r (capped v) (digit_value c))
+        cs) (some, capped v, c ∷ cs)) ≡ At r some v (digit_run_at r (c ∷ cs)) (after_digits r (c ∷ cs))
     go rec true g hu hg =
-        let y = run_yes (is_row_part (has_value r)) c cs (part_mark r c hu) in
+        let y = run_yes (is_run_part (has_value r)) c cs (part_mark r c hu) in
         rec some v
-        ∙ sym (at_mark r some v (digit_row_at r cs) (after_digits r cs) k)
-        ∙ ap (λ z. At r some v (z ∷ digit_row_at r cs) (after_digits r cs)) (sym (eqb-true c 95 hu))
-        ∙ at_parts r some v (c ∷ cs) (c ∷ digit_row_at r cs) (after_digits r cs) y.0 y.1
+        ∙ sym (at_mark r some v (digit_run_at r cs) (after_digits r cs) k)
+        ∙ ap (λ z. At r some v (z ∷ digit_run_at r cs) (after_digits r cs)) (sym (eqb-true c 95 hu))
+        ∙ at_parts r some v (c ∷ cs) (c ∷ digit_run_at r cs) (after_digits r cs) y.0 y.1
     go rec false true hu hg =
-        let y = run_yes (is_row_part (has_value r)) c cs (part_digit r c hg) in
-        ap (λ m. row_from r true m cs) (append_capped r v (digit_value c) h)
+        let y = run_yes (is_run_part (has_value r)) c cs (part_digit r c hg) in
+        ap (λ m. run_from r true m cs) (append_capped r v (digit_value c) h)
         ∙ rec true (v * r + digit_value c)
-        ∙ at_digit r some v c (digit_row_at r cs) (after_digits r cs) hu hg
-        ∙ at_parts r some v (c ∷ cs) (c ∷ digit_row_at r cs) (after_digits r cs) y.0 y.1
+        ∙ at_digit r some v c (digit_run_at r cs) (after_digits r cs) hu hg
+        ∙ at_parts r some v (c ∷ cs) (c ∷ digit_run_at r cs) (after_digits r cs) y.0 y.1
     go rec false false hu hg =
-        let y = run_no (is_row_part (has_value r)) c cs (part_none r c hu hg) in
+        let y = run_no (is_run_part (has_value r)) c cs (part_none r c hu hg) in
         at_end r some v (c ∷ cs) ∙ at_parts r some v (c ∷ cs) [] (c ∷ cs) y.0 y.1
 
 -- zero in front adds nothing
@@ -156,50 +156,50 @@ zero_times : (q p : ℕ) → 0 * q + p ≡ p
 zero_times q p = omega arith
 
 -- the row from its start
-pub row_start : (r : ℕ) (t : List ℕ) → 1 ≤ r → r ≤ 36 → row_from r false (Some 0) t
+pub row_start : (r : ℕ) (t : List ℕ) → 1 ≤ r → r ≤ 36 → run_from r false (Some 0) t
     ≡ (has_digit_at r t, capped (magnitude_at r t), after_digits r t)
 row_start r t h k = row_is r false 0 t h k ∙ ap (λ n. (has_digit_at r t, capped n, after_digits r t))
-    (zero_times (r ^ length (without_underscores (digit_row_at r t))) (magnitude_at r t))
+    (zero_times (r ^ length (without_underscores (digit_run_at r t))) (magnitude_at r t))
 
 -- how far a row goes doesn't hang on a magnitude
-row_without : (r : ℕ) (some : Bool) (m : Option ℕ) (t : List ℕ) → row_from r some None t
-    ≡ ((row_from r some m t).0, None, (row_from r some m t).2)
-unfolding row_from
+row_without : (r : ℕ) (some : Bool) (m : Option ℕ) (t : List ℕ) → run_from r some None t
+    ≡ ((run_from r some m t).0, None, (run_from r some m t).2)
+unfolding run_from
 row_without r some m [] = refl
 row_without r some m (c ∷ cs) = go (c == 95) (nat_lt (digit_value c) r) (row_without r some m cs)
     (row_without r true (append_digit r m (digit_value c)) cs)
   where
-    go : (u g : Bool) → row_from r some None cs ≡ ((row_from r some m cs).0, None, (row_from r some m cs).2)
-        → row_from r true None cs ≡ (
-          (row_from r true (append_digit r m (digit_value c)) cs).0,
+    go : (u g : Bool) → run_from r some None cs ≡ ((run_from r some m cs).0, None, (run_from r some m cs).2)
+        → run_from r true None cs ≡ (
+          (run_from r true (append_digit r m (digit_value c)) cs).0,
           None,
-          (row_from r true (append_digit r m (digit_value c)) cs).2,
+          (run_from r true (append_digit r m (digit_value c)) cs).2,
         )
-        → cond u (row_from r some None cs) (cond g (row_from r true None cs) (some, None, c ∷ cs))
+        → cond u (run_from r some None cs) (cond g (run_from r true None cs) (some, None, c ∷ cs))
         ≡ (
-          (cond u (row_from r some m cs) (cond g (row_from r true (append_digit r m (digit_value c)) cs)
+          (cond u (run_from r some m cs) (cond g (run_from r true (append_digit r m (digit_value c)) cs)
               (some, m, c ∷ cs))).0,
           None,
-          (cond u (row_from r some m cs)
-              (cond g (row_from r true (append_digit r m (digit_value c)) cs) (some, m, c ∷ cs))).2,
+          (cond u (run_from r some m cs)
+              (cond g (run_from r true (append_digit r m (digit_value c)) cs) (some, m, c ∷ cs))).2,
         )
     go true g marked digit = marked
     go false true marked digit = digit
     go false false marked digit = refl
 
 -- the row from its start, without its magnitude
-pub row_skipped : (r : ℕ) (t : List ℕ) → 1 ≤ r → r ≤ 36 → row_from r false None t
+pub row_skipped : (r : ℕ) (t : List ℕ) → 1 ≤ r → r ≤ 36 → run_from r false None t
     ≡ (has_digit_at r t, None, after_digits r t)
 row_skipped r t h k = row_without r false (Some 0) t ∙ ap (λ p. (p.0, None, p.2)) (row_start r t h k)
 
 -- one turn of the loop, at a digit
 pub row_digit : (r : ℕ) (some : Bool) (m n : Option ℕ) (t : List ℕ) (c : ℕ) (cs : List ℕ) (d : ℕ) → t ≡ c ∷ cs → c ≢ 95
-    → digit_value c < r → d ≡ digit_value c → n ≡ append_digit r m d → row_from r true n cs ≡ row_from r some m t
-unfolding row_from
+    → digit_value c < r → d ≡ digit_value c → n ≡ append_digit r m d → run_from r true n cs ≡ run_from r some m t
+unfolding run_from
 row_digit r some m n t c cs d e ne l q w =
     let a : (c == 95) ≡ false = grind (arith, nat_tests) in
     let b : nat_lt (digit_value c) r ≡ true = grind (arith, nat_tests) in
-    ap (λ o. row_from r true o cs) (w ∙ ap (λ k. append_digit r m k) q)
-    ∙ sym (ap (row_from r some m) e ∙ ap (λ x. cond x (row_from r some m cs)
-    (cond (nat_lt (digit_value c) r) (row_from r true (append_digit r m (digit_value c)) cs) (some, m, c ∷ cs))) a
-    ∙ ap (λ x. cond x (row_from r true (append_digit r m (digit_value c)) cs) (some, m, c ∷ cs)) b)
+    ap (λ o. run_from r true o cs) (w ∙ ap (λ k. append_digit r m k) q)
+    ∙ sym (ap (run_from r some m) e ∙ ap (λ x. cond x (run_from r some m cs)
+    (cond (nat_lt (digit_value c) r) (run_from r true (append_digit r m (digit_value c)) cs) (some, m, c ∷ cs))) a
+    ∙ ap (λ x. cond x (run_from r true (append_digit r m (digit_value c)) cs) (some, m, c ∷ cs)) b)

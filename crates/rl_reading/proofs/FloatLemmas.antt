@@ -1,10 +1,10 @@
 -- A float is what `float_at` reads.
 use Rattle.rl_text.proofs.Common.{◌≡◌, ℕ, Bool, true, false, not, ◌&&◌, ◌||◌, ◌==◌, cond, List, [], ◌∷◌, ◌++◌, Some, None, refl, sym, ap, subst, ◌∙◌, arith, append_assoc, and_parts, and_from, both_ways, eqb-true, not-true, nat_tests, is_ascii_digit, list_all, list_any, is_xid_continue}
-use Rattle.rl_reading.proofs.Names.{false_from_ne_true, first_passes, is_underscore, xid_ok, is_row_part, sign_text, is_exponent_letter, Fraction, NoFraction, Dot, fraction_text, IsFraction, FloatReads, after_run}
+use Rattle.rl_reading.proofs.Names.{false_from_ne_true, first_passes, is_underscore, xid_ok, is_run_part, sign_text, is_exponent_letter, Fraction, NoFraction, Dot, fraction_text, IsFraction, FloatReads, after_run}
 use Rattle.rl_forms.specs.Numbers.{Exponent, NoExponent, Power, exponent_text, IsExponent, is_power_sign, BeginsExponent}
 use Rattle.rl_text.proofs.Basics.{any_same, continue_not, digit_is_ten, word_continues, word_without}
 use Rattle.rl_forms.proofs.StrictNumbers.{letter_no_part, suffix_no_part}
-use Rattle.rl_reading.specs.Mirrors.NumberAt.{run, has_value, is_suffix, digit_row_at, has_digit_at, after_digits, after_minus, sign_at, after_fraction, after_power_sign, power_at, after_exponent, float_at}
+use Rattle.rl_reading.specs.Mirrors.NumberAt.{run, has_value, is_suffix, digit_run_at, has_digit_at, after_digits, after_minus, sign_at, after_fraction, after_power_sign, power_at, after_exponent, float_at}
 use Rattle.rl_reading.proofs.DigitRowLemmas.{run_yes, run_no}
 use Rattle.rl_reading.proofs.RunLemmas.{run_all, run_ends, run_join, run_past, suffix_complete, suffix_sound}
 use Rattle.rl_reading.proofs.IntegerLemmas.{minus_past, chosen_some, sign_join}
@@ -28,13 +28,13 @@ run_off test (c ∷ row) t h =
 
 -- no digit row goes on into an exponent and suffix
 exponent_stops : (e : Exponent) (x : List ℕ) → is_suffix x ≡ true → IsExponent e x
-    → first_passes (is_row_part (has_value 10)) (exponent_text e ++ x) ≡ false
+    → first_passes (is_run_part (has_value 10)) (exponent_text e ++ x) ≡ false
 exponent_stops NoExponent x h k = suffix_no_part x (suffix_sound x h)
 exponent_stops (Power letter us sg row) x h k = letter_no_part letter k.0
 
 -- nor into a fraction
-pub fraction_stops : (f : Fraction) (z : List ℕ) → first_passes (is_row_part (has_value 10)) z ≡ false
-    → first_passes (is_row_part (has_value 10)) (fraction_text f ++ z) ≡ false
+pub fraction_stops : (f : Fraction) (z : List ℕ) → first_passes (is_run_part (has_value 10)) z ≡ false
+    → first_passes (is_run_part (has_value 10)) (fraction_text f ++ z) ≡ false
 fraction_stops NoFraction z h = h
 fraction_stops (Dot row) z h = refl
 
@@ -53,10 +53,10 @@ no_fraction [] h = refl
 no_fraction (c ∷ cs) h = ap (λ b. cond b (after_digits 10 cs) (c ∷ cs)) h
 
 -- a fraction is taken whole
-fraction_past : (f : Fraction) (z : List ℕ) → IsFraction f → first_passes (is_row_part (has_value 10)) z ≡ false
+fraction_past : (f : Fraction) (z : List ℕ) → IsFraction f → first_passes (is_run_part (has_value 10)) z ≡ false
     → first_passes (λ c. c == 46) z ≡ false → after_fraction (fraction_text f ++ z) ≡ z
 fraction_past NoFraction z k h d = no_fraction z d
-fraction_past (Dot row) z k h d = (run_past (is_row_part (has_value 10)) row z k h).1
+fraction_past (Dot row) z k h d = (run_past (is_run_part (has_value 10)) row z k h).1
 
 -- what belongs to a row and is no underscore is a digit
 digit_part : (a b : Bool) → (a || b) ≡ true → b ≡ false → a ≡ true
@@ -67,16 +67,16 @@ digit_part false b p q = absurd (cc)
 record Trimmed (row x : List ℕ) : Type 0 where
   more : List ℕ
   is : after_run is_underscore (row ++ x) ≡ more ++ x
-  each : list_all (is_row_part (has_value 10)) more ≡ true
+  each : list_all (is_run_part (has_value 10)) more ≡ true
   some : list_any (has_value 10) more ≡ true
   first : first_passes is_ascii_digit more ≡ true
 
 -- after its underscores a row with a digit begins with one
-trimmed : (row x : List ℕ) → list_all (is_row_part (has_value 10)) row ≡ true → list_any (has_value 10) row ≡ true
+trimmed : (row x : List ℕ) → list_all (is_run_part (has_value 10)) row ≡ true → list_any (has_value 10) row ≡ true
     → Trimmed row x
 trimmed [] x h k = absurd (cc)
-trimmed (c ∷ cs) x h k = go (λ m. trimmed cs x (and_parts (is_row_part (has_value 10) c)
-    (list_all (is_row_part (has_value 10)) cs) h).1 m) (c == 95) refl
+trimmed (c ∷ cs) x h k = go (λ m. trimmed cs x (and_parts (is_run_part (has_value 10) c)
+    (list_all (is_run_part (has_value 10)) cs) h).1 m) (c == 95) refl
   where
     go : (list_any (has_value 10) cs ≡ true → Trimmed cs x) → (b : Bool) → (c == 95) ≡ b → Trimmed (c ∷ cs) x
     go rec true e =
@@ -86,7 +86,7 @@ trimmed (c ∷ cs) x h k = go (λ m. trimmed cs x (and_parts (is_row_part (has_v
         let r = rec m in
         record { more = r.more; is = (run_yes is_underscore c (cs ++ x) e).1 ∙ r.is; each = r.each; some = r.some; first = r.first }
     go rec false e =
-        let a = and_parts (is_row_part (has_value 10) c) (list_all (is_row_part (has_value 10)) cs) h in
+        let a = and_parts (is_run_part (has_value 10) c) (list_all (is_run_part (has_value 10)) cs) h in
         let d : has_value 10 c ≡ true = digit_part (has_value 10 c) (c == 95) a.0 e in
         record { more = c ∷ cs; is = (run_no is_underscore c (cs ++ x) e).1; each = h; some = k; first = digit_is_ten c ∙ d }
 
@@ -105,7 +105,7 @@ digit_no_sign (c ∷ cs) h =
 record Powered (t x : List ℕ) : Type 0 where
   more : List ℕ
   is : power_at t ≡ more ++ x
-  each : list_all (is_row_part (has_value 10)) more ≡ true
+  each : list_all (is_run_part (has_value 10)) more ≡ true
   some : list_any (has_value 10) more ≡ true
 
 -- a sign after underscores is taken off
@@ -119,7 +119,7 @@ signed_past c us w h k =
 
 -- what is taken off before the digits of a power
 powered : (us sg row x : List ℕ) → list_all is_underscore us ≡ true → is_power_sign sg ≡ true
-    → list_all (is_row_part (has_value 10)) row ≡ true → list_any (has_value 10) row ≡ true
+    → list_all (is_run_part (has_value 10)) row ≡ true → list_any (has_value 10) row ≡ true
     → Powered (us ++ (sg ++ (row ++ x))) x
 unfolding power_at
 powered us [] row x a b each some =
@@ -136,10 +136,10 @@ powered us (c ∷ d ∷ sg) row x a b each some = absurd (cc)
 
 -- an exponent, or the suffix that begins none
 power_past : (letter : ℕ) (cs x : List ℕ) → is_exponent_letter letter ≡ true
-    → first_passes (is_row_part (has_value 10)) x ≡ false → Powered cs x → after_exponent (letter ∷ cs) ≡ x
+    → first_passes (is_run_part (has_value 10)) x ≡ false → Powered cs x → after_exponent (letter ∷ cs) ≡ x
 unfolding after_exponent
 power_past letter cs x l stops p =
-    let y = run_past (is_row_part (has_value 10)) p.more x p.each stops in
+    let y = run_past (is_run_part (has_value 10)) p.more x p.each stops in
     let some : has_digit_at 10 (power_at cs) ≡ true = ap (has_digit_at 10) p.is ∙ ap (list_any (has_value 10)) y.0
     ∙ p.some in
     ap (λ b. cond b (after_digits 10 (power_at cs)) (letter ∷ cs)) (and_from (is_exponent_letter letter) _ l some)
@@ -175,8 +175,8 @@ first_digit (c ∷ cs) h k = go (has_value 10 c) refl
     go : (b : Bool) → has_value 10 c ≡ b → (d : ℕ) × (rest : List ℕ) × (is_ascii_digit d ≡ true) × (c ∷ cs ≡ d ∷ rest)
     go true e = (c, cs, digit_is_ten c ∙ e, refl)
     go false e =
-        let n : is_row_part (has_value 10) c ≡ false = ap (λ z. z || (c == 95)) e ∙ h in
-        let m = sym (ap (list_any (has_value 10)) (run_no (is_row_part (has_value 10)) c cs n).0) ∙ k in
+        let n : is_run_part (has_value 10) c ≡ false = ap (λ z. z || (c == 95)) e ∙ h in
+        let m = sym (ap (list_any (has_value 10)) (run_no (is_run_part (has_value 10)) c cs n).0) ∙ k in
         absurd (cc)
 
 -- a suffix that reads as an exponent begins like one
@@ -235,13 +235,13 @@ float_past t n x h =
     let z : List ℕ = exponent_text h.exponent ++ x in
     let y : List ℕ = fraction_text h.fraction ++ z in
     let u : List ℕ = h.whole ++ y in
-    let stops : first_passes (is_row_part (has_value 10)) z ≡ false = exponent_stops h.exponent x ok h.is_exponent in
+    let stops : first_passes (is_run_part (has_value 10)) z ≡ false = exponent_stops h.exponent x ok h.is_exponent in
     let is : t ≡ sign_text h.sign ++ u = h.text_is ∙ ap (λ k. k ++ x) h.numeral_is
     ∙ float_text (sign_text h.sign) h.whole (fraction_text h.fraction) (exponent_text h.exponent) x in
     let first : first_passes is_ascii_digit u ≡ true = passes_more is_ascii_digit h.whole y h.first in
     let unsigned : after_minus t ≡ u = ap after_minus is ∙ (minus_past h.sign u first).0 in
     let rest : after_exponent (after_fraction (after_digits 10 u)) ≡ x =
-    ap (λ k. after_exponent (after_fraction k)) (run_past (is_row_part (has_value 10)) h.whole y h.each
+    ap (λ k. after_exponent (after_fraction k)) (run_past (is_run_part (has_value 10)) h.whole y h.each
     (fraction_stops h.fraction z stops)).1
     ∙ ap after_exponent (fraction_past h.fraction z h.is_fraction stops (no_dot h.exponent x ok h.is_exponent))
     ∙ exponent_past h.exponent x ok h.is_exponent in
@@ -263,10 +263,10 @@ fraction_sound (c ∷ cs) = go (c == 46) refl
   where
     go : (b : Bool) → (c == 46) ≡ b → Fractioned (c ∷ cs)
     go true e = record {
-      fraction = Dot (digit_row_at 10 cs);
-      is = run_all (is_row_part (has_value 10)) cs;
-      text_is = ap (λ k. k ∷ cs) (eqb-true c 46 e) ∙ ap (λ z. 46 ∷ z) (run_join (is_row_part (has_value 10)) cs)
-          ∙ ap (λ z. 46 ∷ (digit_row_at 10 cs ++ z)) (sym (ap (λ b. cond b (after_digits 10 cs) (c ∷ cs)) e));
+      fraction = Dot (digit_run_at 10 cs);
+      is = run_all (is_run_part (has_value 10)) cs;
+      text_is = ap (λ k. k ∷ cs) (eqb-true c 46 e) ∙ ap (λ z. 46 ∷ z) (run_join (is_run_part (has_value 10)) cs)
+          ∙ ap (λ z. 46 ∷ (digit_run_at 10 cs ++ z)) (sym (ap (λ b. cond b (after_digits 10 cs) (c ∷ cs)) e));
     }
     go false e = record { fraction = NoFraction; is = tt; text_is = sym (ap (λ b. cond b (after_digits 10 cs) (c ∷ cs)) e) }
 
@@ -298,10 +298,10 @@ begins_true c cs b =
     let p : power_at cs ≡ b.digit ∷ b.rest =
     ap power_at w ∙ ap after_power_sign (run_off is_underscore b.underscores (b.digit ∷ b.rest) b.all_underscores
     ∙ (run_no is_underscore b.digit b.rest n).1) ∙ digit_no_sign (b.digit ∷ b.rest) b.is_digit in
-    let y = run_yes (is_row_part (has_value 10)) b.digit b.rest (ap (λ z. z || (b.digit == 95)) d) in
+    let y = run_yes (is_run_part (has_value 10)) b.digit b.rest (ap (λ z. z || (b.digit == 95)) d) in
     and_from (is_exponent_letter c) _ (ap is_exponent_letter q ∙ b.is_letter)
     (ap (has_digit_at 10) p ∙ ap (list_any (has_value 10)) y.0
-    ∙ ap (λ z. z || list_any (has_value 10) (run (is_row_part (has_value 10)) b.rest)) d)
+    ∙ ap (λ z. z || list_any (has_value 10) (run (is_run_part (has_value 10)) b.rest)) d)
 
 -- what is taken as an exponent, or none
 record Powers (z : List ℕ) : Type 0 where
@@ -326,7 +326,7 @@ exponent_sound (c ∷ cs) = go (is_exponent_letter c && has_digit_at 10 (power_a
         let us : List ℕ = run is_underscore cs in
         let v : List ℕ = after_run is_underscore cs in
         let sg = sign_splits v in
-        let row : List ℕ = digit_row_at 10 (power_at cs) in
+        let row : List ℕ = digit_run_at 10 (power_at cs) in
         let x : List ℕ = after_digits 10 (power_at cs) in
         record {
           exponent = Power c us (power_sign v) row;
@@ -334,32 +334,32 @@ exponent_sound (c ∷ cs) = go (is_exponent_letter c && has_digit_at 10 (power_a
             a.0,
             run_all is_underscore cs,
             sg.1,
-            run_all (is_row_part (has_value 10)) (power_at cs),
+            run_all (is_run_part (has_value 10)) (power_at cs),
             any_same
                 is_ascii_digit (has_value 10) digit_is_ten row ∙ a.1,
           );
           text_is =
               ap (λ z. c ∷ z) (run_join is_underscore cs ∙ ap (λ z. us ++ z)
-              (sg.0 ∙ ap (λ z. power_sign v ++ z) (run_join (is_row_part (has_value 10)) (power_at cs))))
+              (sg.0 ∙ ap (λ z. power_sign v ++ z) (run_join (is_run_part (has_value 10)) (power_at cs))))
               ∙ sym (power_text c us (power_sign v) row x)
               ∙ ap (λ z. exponent_text (Power c us (power_sign v) row) ++ z) (sym k);
         }
 
 -- a row that begins with a digit keeps it
-pub run_first : (t : List ℕ) → first_passes is_ascii_digit t ≡ true → first_passes is_ascii_digit (digit_row_at 10 t)
+pub run_first : (t : List ℕ) → first_passes is_ascii_digit t ≡ true → first_passes is_ascii_digit (digit_run_at 10 t)
     ≡ true
 unfolding run
 run_first [] h = absurd (cc)
 run_first (c ∷ cs) h =
     let d : has_value 10 c ≡ true = sym (digit_is_ten c) ∙ h in
-    ap (first_passes is_ascii_digit) (run_yes (is_row_part (has_value 10)) c cs (ap (λ z. z || (c == 95)) d)).0 ∙ h
+    ap (first_passes is_ascii_digit) (run_yes (is_run_part (has_value 10)) c cs (ap (λ z. z || (c == 95)) d)).0 ∙ h
 
 -- the parts taken are a float
 float_built : (t : List ℕ) (x : List ℕ) → first_passes is_ascii_digit (after_minus t) ≡ true → is_suffix x ≡ true
     → after_exponent (after_fraction (after_digits 10 (after_minus t))) ≡ x → (n : List ℕ) × FloatReads t n x
 float_built t x first ok is =
     let u : List ℕ = after_minus t in
-    let w : List ℕ = digit_row_at 10 u in
+    let w : List ℕ = digit_run_at 10 u in
     let y : List ℕ = after_digits 10 u in
     let f = fraction_sound y in
     let z : List ℕ = after_fraction y in
@@ -373,14 +373,14 @@ float_built t x first ok is =
         fraction = f.fraction;
         exponent = e.exponent;
         first = run_first u first;
-        each = run_all (is_row_part (has_value 10)) u;
+        each = run_all (is_run_part (has_value 10)) u;
         is_fraction = f.is;
         is_exponent = subst (λ (k : List ℕ). IsExponent e.exponent k) is e.is;
         is_suffix = suffix_sound x ok;
         numeral_is = refl;
         text_is =
             sign_join t
-            ∙ ap (λ k. sign_text (sign_at t) ++ k) (run_join (is_row_part (has_value 10)) u
+            ∙ ap (λ k. sign_text (sign_at t) ++ k) (run_join (is_run_part (has_value 10)) u
             ∙ ap (λ k. w ++ k) (f.text_is ∙ ap (λ k. ft ++ k) (e.text_is ∙ ap (λ k. et ++ k) is)))
             ∙ sym (float_text (sign_text (sign_at t)) w ft et x);
       },

@@ -4,7 +4,7 @@ use Rattle.rl_reading.proofs.Names.{append_cancel_left, Kind, Str, ByteStr, CStr
 use Rattle.rl_reading.specs.declared.quoted_forms.QuotedForm.{QuotedForm}
 use Rattle.rl_reading.specs.declared.quoted_forms.QuotedForm.TheVariants.{Cooked as CookedForm, Raw as RawForm, Single as SingleForm}
 use Rattle.rl_reading.specs.Mirrors.UnitAt.{found, unit_at}
-use Rattle.rl_reading.specs.Rows.{BeginsRow, RowEnds}
+use Rattle.rl_reading.specs.UnitRuns.{BeginsRun, RunEnds}
 use Rattle.rl_reading.specs.Forms.{has_form, form_opener, front_len, PartsAre, HasNoParts, is_plain_body}
 use Rattle.rl_reading.specs.Mirrors.OpenerAt.{found_opener, string_opener_at, byte_opener_at, opener_at}
 use Rattle.rl_reading.specs.Shapes.{HasNoQuoted}
@@ -90,14 +90,14 @@ front_complete SingleForm kind r h = absurd (cc)
 
 -- the units of a cooked string are a row that goes as far as units go
 pub cooked_row : (kind : Kind) (t v x : List ℕ) (c : Cooked kind t v x)
-    → BeginsRow kind (texts c.units ++ (34 ∷ x)) v (34 ∷ x)
+    → BeginsRun kind (texts c.units ++ (34 ∷ x)) v (34 ∷ x)
 cooked_row kind t v x c = record { units = c.units; each = c.each; ends = row_ends_on c.units (34 ∷ x) refl c.ends; text_is = refl; value_is = c.value_is }
 
-cooked_row_of : (kind : Kind) (a v x : List ℕ) → Cooked kind (opener kind ++ a) v x → BeginsRow kind a v (34 ∷ x)
+cooked_row_of : (kind : Kind) (a v x : List ℕ) → Cooked kind (opener kind ++ a) v x → BeginsRun kind a v (34 ∷ x)
 cooked_row_of kind a v x c =
     let same : a ≡ texts c.units ++ (34 ∷ x) = append_cancel_left (opener kind) a (texts c.units ++ (34 ∷ x)) c.text_is
     in
-    subst (λ z. BeginsRow kind z v (34 ∷ x)) (sym same) (cooked_row kind (opener kind ++ a) v x c)
+    subst (λ z. BeginsRun kind z v (34 ∷ x)) (sym same) (cooked_row kind (opener kind ++ a) v x c)
 
 cooked_once : (kind : Kind) (a v x w y : List ℕ) → Cooked kind (opener kind ++ a) v x
     → Cooked kind (opener kind ++ a) w y → (v ≡ w) × (x ≡ y)
@@ -108,13 +108,13 @@ cooked_once kind a v x w y c d =
 
 -- the units of a text that a run of plain characters begins
 pub cooked_units : (kind : Kind) (a run following v rest : List ℕ) → a ≡ run ++ following → list_all (is_plain kind) run
-    ≡ true → BeginsRow kind following v rest → (w : List ℕ) × BeginsRow kind a w rest
+    ≡ true → BeginsRun kind following v rest → (w : List ℕ) × BeginsRun kind a w rest
 cooked_units kind a run following v rest cut plain row =
     let (w, whole) = row_after kind run following v rest plain row in
-    (w, subst (λ t. BeginsRow kind t w rest) (sym cut) whole)
+    (w, subst (λ t. BeginsRun kind t w rest) (sym cut) whole)
 
 -- the body and the suffix round the quote where units end
-pub cooked_found : (kind : Kind) (a v rest b x : List ℕ) → is_string kind ≡ true → BeginsRow kind a v rest → a ≡ b
+pub cooked_found : (kind : Kind) (a v rest b x : List ℕ) → is_string kind ≡ true → BeginsRun kind a v rest → a ≡ b
     ++ rest → rest ≡ 34 ∷ x → PartsAre CookedForm kind (opener kind ++ a) v b x
 cooked_found kind a v rest b x s row cut quote =
     let us = row.units in (
@@ -122,14 +122,14 @@ cooked_found kind a v rest b x s row cut quote =
         units = us;
         string = s;
         each = row.each;
-        ends = row_ends_off us (34 ∷ x) refl (subst (RowEnds us) quote row.ends);
+        ends = row_ends_off us (34 ∷ x) refl (subst (RunEnds us) quote row.ends);
         text_is = ap (λ z. opener kind ++ z) (row.text_is ∙ ap (λ z. texts us ++ z) quote);
         value_is = row.value_is;
       },
       append_cancel_right b (texts us) rest (sym cut ∙ row.text_is),
     )
 
-pub cooked_none : (kind : Kind) (a v rest : List ℕ) → BeginsRow kind a v rest → unit_at kind rest ≡ None
+pub cooked_none : (kind : Kind) (a v rest : List ℕ) → BeginsRun kind a v rest → unit_at kind rest ≡ None
     → ((x : List ℕ) → rest ≢ 34 ∷ x) → HasNoParts CookedForm kind (opener kind ++ a)
 cooked_none kind a v rest row stuck h w b x p = h x (row_once kind a v rest w (34 ∷ x) row
     (cooked_row_of kind a w x p.0) stuck (unit_quote kind x p.0.string)).1
@@ -300,7 +300,7 @@ string_parts CookedForm kind t v b x h not p = p
 string_parts RawForm kind t v b x h not p = absurd (not refl)
 string_parts SingleForm kind t v b x h not p = absurd (not_both kind h p.0.single)
 
-pub cooked_row_of_body : (kind : Kind) (t v b x : List ℕ) → PartsAre CookedForm kind t v b x → BeginsRow kind b v []
+pub cooked_row_of_body : (kind : Kind) (t v b x : List ℕ) → PartsAre CookedForm kind t v b x → BeginsRun kind b v []
 cooked_row_of_body kind t v b x p =
     let c = p.0 in
     record {

@@ -1,18 +1,18 @@
 -- An integer is what `int_at` reads.
 use Rattle.rl_text.proofs.Common.{◌≡◌, ℕ, ◌<◌, ◌≤◌, ◌⊎◌, Bool, true, false, not, ◌&&◌, ◌||◌, ◌==◌, cond, List, [], ◌∷◌, ◌++◌, Option, Some, None, refl, sym, ap, subst, ◌∙◌, arith, inl, inr, and_parts, and_from, both_ways, eqb-true, not-true, not_from_false, nat_tests, is_ascii_digit, list_all, list_any, IsTrue}
-use Rattle.rl_reading.proofs.Names.{false_from_ne_true, first_passes, xid_ok, is_row_part, place_value, without_underscores, Base, Binary, Octal, Decimal, Hexadecimal, radix, prefix, Sign, NoSign, Minus, sign_text, IsAfterPrefix, IsSuffix, is_exponent_letter, IntReads, limit, decimal, Contents, Digits, HasNoInteger, IsPast, after_run}
+use Rattle.rl_reading.proofs.Names.{false_from_ne_true, first_passes, xid_ok, is_run_part, place_value, without_underscores, Base, Binary, Octal, Decimal, Hexadecimal, radix, prefix, Sign, NoSign, Minus, sign_text, IsAfterPrefix, IsSuffix, is_exponent_letter, IntReads, limit, decimal, Contents, Digits, HasNoInteger, IsPast, after_run}
 use Rattle.rl_text.specs.Texts.{begins}
 use Rattle.rl_forms.specs.Numbers.{begins_base, IsExponentSuffix, AllowsSuffix}
 use Rattle.rl_forms.specs.Reading.{ReadsInt}
 use Rattle.rl_text.proofs.Basics.{any_same, digit_is_ten}
 use Rattle.rl_forms.proofs.StrictNumbers.{no_part}
 use Rattle.rl_reading.specs.NumberShapes.{HasMagnitude}
-use Rattle.rl_reading.specs.Mirrors.NumberAt.{run, has_value, is_suffix, digit_row_at, has_digit_at, magnitude_at, after_digits, is_exponent_suffix, after_minus, sign_at, radix_at, may_begin_number, may_end, based_at, with_sign, int_at, capped, capped_int}
+use Rattle.rl_reading.specs.Mirrors.NumberAt.{run, has_value, is_suffix, digit_run_at, has_digit_at, magnitude_at, after_digits, is_exponent_suffix, after_minus, sign_at, radix_at, may_begin_number, may_end, based_at, with_sign, int_at, capped, capped_int}
 use Rattle.rl_reading.proofs.DigitRowLemmas.{within_or_past, capped_within, capped_past}
 use Rattle.rl_reading.proofs.RunLemmas.{run_all, run_ends, run_join, run_past, suffix_complete, suffix_sound}
 
 -- Exponents in a suffix.
-rest_suffix : (x : List ℕ) → (x ≡ []) ⊎ IsTrue (xid_ok x) → first_passes (is_row_part (has_value 10)) x ≡ false
+rest_suffix : (x : List ℕ) → (x ≡ []) ⊎ IsTrue (xid_ok x) → first_passes (is_run_part (has_value 10)) x ≡ false
     → is_suffix x ≡ true
 rest_suffix [] h k = refl
 rest_suffix (c ∷ cs) h k = suffix_complete (c ∷ cs) (h, go (has_value 10 c) k)
@@ -25,7 +25,7 @@ rest_suffix (c ∷ cs) h k = suffix_complete (c ∷ cs) (h, go (has_value 10 c) 
 pub exponent_suffix_complete : (x : List ℕ) → IsExponentSuffix x → is_exponent_suffix x ≡ true
 unfolding is_exponent_suffix
 exponent_suffix_complete x e =
-    let p = run_past (is_row_part (has_value 10)) e.run e.rest e.each e.whole in
+    let p = run_past (is_run_part (has_value 10)) e.run e.rest e.each e.whole in
     let some : has_digit_at 10 (e.run ++ e.rest) ≡ true = ap (list_any (has_value 10)) p.0
     ∙ sym (any_same is_ascii_digit (has_value 10) digit_is_ten e.run) ∙ e.some in
     let ends : is_suffix (after_digits 10 (e.run ++ e.rest)) ≡ true = ap is_suffix p.1
@@ -42,14 +42,14 @@ exponent_suffix_sound (c ∷ cs) h =
     let b = and_parts (has_digit_at 10 cs) (is_suffix (after_digits 10 cs)) a.1 in
     record {
       letter = c;
-      run = digit_row_at 10 cs;
+      run = digit_run_at 10 cs;
       rest = after_digits 10 cs;
       is_letter = a.0;
-      each = run_all (is_row_part (has_value 10)) cs;
-      some = any_same is_ascii_digit (has_value 10) digit_is_ten (digit_row_at 10 cs) ∙ b.0;
-      whole = run_ends (is_row_part (has_value 10)) cs;
+      each = run_all (is_run_part (has_value 10)) cs;
+      some = any_same is_ascii_digit (has_value 10) digit_is_ten (digit_run_at 10 cs) ∙ b.0;
+      whole = run_ends (is_run_part (has_value 10)) cs;
       is_rest = (suffix_sound (after_digits 10 cs) b.1).0;
-      text_is = ap (λ z. c ∷ z) (run_join (is_row_part (has_value 10)) cs);
+      text_is = ap (λ z. c ∷ z) (run_join (is_run_part (has_value 10)) cs);
     }
 
 -- Completeness.
@@ -103,12 +103,12 @@ base_ends Decimal x h k = and_from (is_suffix x) (not (is_exponent_suffix x)) (s
     (λ e. k (exponent_suffix_sound x e))))
 
 -- digits and suffix are read
-based_past : (r : ℕ) (ds x : List ℕ) → may_begin_number r (ds ++ x) ≡ true → list_all (is_row_part (has_value r)) ds
-    ≡ true → list_any (has_value r) ds ≡ true → first_passes (is_row_part (has_value r)) x ≡ false → may_end r x ≡ true
+based_past : (r : ℕ) (ds x : List ℕ) → may_begin_number r (ds ++ x) ≡ true → list_all (is_run_part (has_value r)) ds
+    ≡ true → list_any (has_value r) ds ≡ true → first_passes (is_run_part (has_value r)) x ≡ false → may_end r x ≡ true
     → based_at r (ds ++ x) ≡ Some (place_value r (without_underscores ds), x)
 unfolding based_at
 based_past r ds x front each some stops ends =
-    let p = run_past (is_row_part (has_value r)) ds x each stops in
+    let p = run_past (is_run_part (has_value r)) ds x each stops in
     let Found : List ℕ → List ℕ → Option (ℕ × List ℕ) = λ row rest. cond
     (may_begin_number r (ds ++ x) && (list_any (has_value r) row && may_end r rest))
     (Some (place_value r (without_underscores row), rest)) None in
@@ -199,7 +199,7 @@ sign_join (c ∷ cs) = go (c == 45) refl
     go false h = refl
 
 -- after a row of base 16 no digit of it follows
-pub hex_stops : (x : List ℕ) → first_passes (is_row_part (has_value 16)) x ≡ false → first_passes (has_value 16) x
+pub hex_stops : (x : List ℕ) → first_passes (is_run_part (has_value 16)) x ≡ false → first_passes (has_value 16) x
     ≡ false
 hex_stops [] h = refl
 hex_stops (c ∷ cs) h = go (has_value 16 c) h
@@ -209,7 +209,7 @@ hex_stops (c ∷ cs) h = go (has_value 16 c) h
     go false e = refl
 
 -- what the base asks of the suffix, from the test
-suffix_of : (base : Base) (x : List ℕ) → first_passes (is_row_part (has_value (radix base))) x ≡ false
+suffix_of : (base : Base) (x : List ℕ) → first_passes (is_run_part (has_value (radix base))) x ≡ false
     → may_end (radix base) x ≡ true → AllowsSuffix base x
 suffix_of Binary x h k = tt
 suffix_of Octal x h k = tt
@@ -227,7 +227,7 @@ int_built : (t : List ℕ) (b : Based (after_minus t)) → may_begin_number (rad
     → has_digit_at (radix b.base) b.rest ≡ true → may_end (radix b.base) (after_digits (radix b.base) b.rest) ≡ true
     → IntReads t (sign_at t) (magnitude_at (radix b.base) b.rest) (after_digits (radix b.base) b.rest)
 int_built t b front some ends =
-    let part = is_row_part (has_value (radix b.base)) in
+    let part = is_run_part (has_value (radix b.base)) in
     record {
       base = b.base;
       digits = run part b.rest;

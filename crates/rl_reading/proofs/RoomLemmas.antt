@@ -8,13 +8,13 @@ use Rattle.std.proofs.lemmas.Str.{chars-encodes, scalars-chars}
 use Rattle.std.proofs.Math.Utf8.{scalars}
 use Rattle.rl_reading.specs.declared.units.Piece.{Piece}
 use Rattle.rl_reading.specs.Decoded.{piece_bytes, in_bytes}
-use Rattle.rl_reading.specs.Rows.{BeginsRow}
+use Rattle.rl_reading.specs.UnitRuns.{BeginsRun}
 use Rattle.rl_reading.specs.Mirrors.UnitAt.{piece_value, IsHeldBy, unit_at}
 use Rattle.rl_reading.proofs.BodyLemmas.{row_shrinks}
 use Rattle.rl_reading.proofs.ContentLemmas.{decode_run, decode_step}
 
 -- the bytes of the units that were passed, and the rest, are no more than the text
-row_room : (kind : Kind) (text rest v bytes : List ℕ) → BeginsRow kind (chars text) v (chars rest) → bytes
+row_room : (kind : Kind) (text rest v bytes : List ℕ) → BeginsRun kind (chars text) v (chars rest) → bytes
     ≡ in_bytes kind v → IsUtf8 text → IsUtf8 rest → length bytes + length rest ≤ length text
 row_room kind text rest v bytes row are ut ur =
     let passed = texts row.units in
@@ -30,22 +30,22 @@ row_room kind text rest v bytes row are ut ur =
 -- so many bytes stand in the buffer, those of the units that were passed, and the rest has room after them
 pub record IsFilled (kind : Kind) (text rest out : List ℕ) (at : ℕ) : Type 0 where
   pub value : List ℕ
-  pub row : BeginsRow kind (chars text) value (chars rest)
+  pub row : BeginsRun kind (chars text) value (chars rest)
   pub bytes : take at out ≡ in_bytes kind value
   pub room : at + length rest ≤ length text
 
-filled : (kind : Kind) (text rest new bytes v : List ℕ) (end : ℕ) → BeginsRow kind (chars text) v (chars rest) → bytes
+filled : (kind : Kind) (text rest new bytes v : List ℕ) (end : ℕ) → BeginsRun kind (chars text) v (chars rest) → bytes
     ≡ in_bytes kind v → IsUtf8 text → IsUtf8 rest → end ≡ length bytes → take end new ≡ bytes
     → IsFilled kind text rest new end
 filled kind text rest new bytes v end row are ut ur long is =
-    record { value = v; row = row; bytes = is ∙ are; room = omega (arith, long, row_room kind text rest v bytes row are ut ur) }
+    record { value = v; run = row; bytes = is ∙ are; room = omega (arith, long, row_room kind text rest v bytes row are ut ur) }
 
 pub run_room : (kind : Kind) (text rest out run following : List ℕ) (at : ℕ) → IsFilled kind text rest out at
     → chars rest ≡ chars run ++ chars following → list_all (is_plain kind) (chars run) ≡ true → IsUtf8 text → IsUtf8 run
     → IsUtf8 following → length text ≤ length out → at + length run + length following ≤ length text
 run_room kind text rest out run following at f cut plain ut ur ub room =
     let (w, row, are) = decode_run kind (chars text) f.value (chars rest) (chars following) (take at out)
-    (take at out ++ run) run f.row f.bytes cut plain ur refl in
+    (take at out ++ run) run f.run f.bytes cut plain ur refl in
     let long = length-take-le at out (omega (arith, f.room)) in
     omega (
       arith,
@@ -60,7 +60,7 @@ pub run_filled : (kind : Kind) (text rest out new run following : List ℕ) (at 
     → IsFilled kind text following new end
 run_filled kind text rest out new run following at end f cut plain ut ur ub room moved is =
     let (w, row, are) = decode_run kind (chars text) f.value (chars rest) (chars following) (take at out)
-    (take at out ++ run) run f.row f.bytes cut plain ur refl in
+    (take at out ++ run) run f.run f.bytes cut plain ur refl in
     let long = length-take-le at out (omega (arith, f.room)) in
     filled kind text following new (take at out ++ run) w end row are ut ub
     (omega (arith, moved, length-append (take at out) run, long)) is
@@ -70,7 +70,7 @@ pub piece_room : (kind : Kind) (text rest out after : List ℕ) (at : ℕ) (piec
     → IsUtf8 after → length text ≤ length out → at + length (piece_bytes piece) + length after ≤ length text
 piece_room kind text rest out after at piece f unit fits ut ua room =
     let (w, row, are) = decode_step kind (chars text) f.value (chars rest) (chars after) (take at out)
-    (take at out ++ piece_bytes piece) piece f.row f.bytes unit fits refl in
+    (take at out ++ piece_bytes piece) piece f.run f.bytes unit fits refl in
     let long = length-take-le at out (omega (arith, f.room)) in
     omega (
       arith,
@@ -87,7 +87,7 @@ pub piece_filled : (kind : Kind) (text rest out new after : List ℕ) (at end : 
     → IsFilled kind text after new end
 piece_filled kind text rest out new after at end piece f unit fits ut ua room moved is =
     let (w, row, are) = decode_step kind (chars text) f.value (chars rest) (chars after) (take at out)
-    (take at out ++ piece_bytes piece) piece f.row f.bytes unit fits refl in
+    (take at out ++ piece_bytes piece) piece f.run f.bytes unit fits refl in
     let long = length-take-le at out (omega (arith, f.room)) in
     filled kind text after new (take at out ++ piece_bytes piece) w end row are ut ua
     (omega (arith, moved, length-append (take at out) (piece_bytes piece), long)) is

@@ -3,7 +3,7 @@ use Rattle.rl_text.proofs.Common.{◌≡◌, ℕ, Bool, true, false, cond, List,
 use Rattle.rl_reading.proofs.Names.{flat_map-append, Kind, first_passes, QuotedUnit, Plain, CrLf, Named, Hex, Unicode, Continuation, unit_text, unit_value, is_blank, content_of, holds_characters, is_plain, IsUnit, EndsBefore, texts, values}
 use Rattle.rl_forms.specs.Quoted.{ContinuationsEnd}
 use Rattle.rl_reading.specs.Mirrors.UnitAt.{found, unit_at}
-use Rattle.rl_reading.specs.Rows.{RowEnds, BeginsRow}
+use Rattle.rl_reading.specs.UnitRuns.{RunEnds, BeginsRun}
 use Rattle.rl_reading.proofs.UnitLemmas.{some_pair, unit_sound, unit_complete}
 
 -- ---- where continuations end
@@ -39,11 +39,11 @@ ends_before (Hex high low) r h = tt
 ends_before (Unicode first more) r h = tt
 
 pub row_ends_on : (us : List QuotedUnit) (r : List ℕ) → first_passes is_blank r ≡ false → ContinuationsEnd us
-    → RowEnds us r
+    → RunEnds us r
 row_ends_on [] r h e = tt
 row_ends_on (u ∷ us) r h e = (ends_on u (texts us) r h e.0, row_ends_on us r h e.1)
 
-pub row_ends_off : (us : List QuotedUnit) (r : List ℕ) → first_passes is_blank r ≡ false → RowEnds us r
+pub row_ends_off : (us : List QuotedUnit) (r : List ℕ) → first_passes is_blank r ≡ false → RunEnds us r
     → ContinuationsEnd us
 row_ends_off [] r h e = tt
 row_ends_off (u ∷ us) r h e = (ends_off u (texts us) r h e.0, row_ends_off us r h e.1)
@@ -67,16 +67,16 @@ each_more : (kind : Kind) (us : List QuotedUnit) (u : QuotedUnit) → AllByRecur
 each_more kind [] u each h = (h, tt)
 each_more kind (w ∷ us) u each h = (each.0, each_more kind us u each.1 h)
 
-ends_more : (us : List QuotedUnit) (u : QuotedUnit) (r : List ℕ) → RowEnds us (unit_text u ++ r) → EndsBefore u r
-    → RowEnds (us ++ (u ∷ [])) r
+ends_more : (us : List QuotedUnit) (u : QuotedUnit) (r : List ℕ) → RunEnds us (unit_text u ++ r) → EndsBefore u r
+    → RunEnds (us ++ (u ∷ [])) r
 ends_more [] u r ends h = (h, tt)
 ends_more (w ∷ us) u r ends h = (subst (EndsBefore w) (sym (texts_more us u r)) ends.0, ends_more us u r ends.1 h)
 
-pub row_start : (kind : Kind) (a : List ℕ) → BeginsRow kind a [] a
+pub row_start : (kind : Kind) (a : List ℕ) → BeginsRun kind a [] a
 row_start kind a = record { units = []; each = tt; ends = tt; text_is = refl; value_is = refl }
 
-pub row_step : (kind : Kind) (a v b : List ℕ) (p : List ℕ × List ℕ) → BeginsRow kind a v b → unit_at kind b ≡ Some p
-    → BeginsRow kind a (v ++ p.0) p.1
+pub row_step : (kind : Kind) (a v b : List ℕ) (p : List ℕ × List ℕ) → BeginsRun kind a v b → unit_at kind b ≡ Some p
+    → BeginsRun kind a (v ++ p.0) p.1
 row_step kind a v b p row h =
     let begun = unit_sound kind b p h in
     let us = row.units in
@@ -84,7 +84,7 @@ row_step kind a v b p row h =
     record {
       units = us ++ (u ∷ []);
       each = each_more kind us u row.each begun.allowed;
-      ends = ends_more us u p.1 (subst (RowEnds us) begun.text_is row.ends) begun.ends;
+      ends = ends_more us u p.1 (subst (RunEnds us) begun.text_is row.ends) begun.ends;
       text_is = row.text_is ∙ ap (λ z. texts us ++ z) begun.text_is ∙ sym (texts_more us u p.1);
       value_is = ap (λ z. z ++ p.0) row.value_is ∙ ap (λ z. values kind us ++ z) begun.value_is
           ∙ sym (values_more kind us u);
@@ -109,9 +109,9 @@ held_more kind c cs = go (holds_characters kind)
     go false = ap (λ z. z ++ encode_utf8_all cs) (append-nil (encode_utf8 c))
 
 -- each of its characters is a unit
-pub row_run : (kind : Kind) (a v run b : List ℕ) → list_all (is_plain kind) run ≡ true → BeginsRow kind a v (run ++ b)
-    → BeginsRow kind a (v ++ content_of kind run) b
-row_run kind a v [] b plain row = subst (λ w. BeginsRow kind a w b)
+pub row_run : (kind : Kind) (a v run b : List ℕ) → list_all (is_plain kind) run ≡ true → BeginsRun kind a v (run ++ b)
+    → BeginsRun kind a (v ++ content_of kind run) b
+row_run kind a v [] b plain row = subst (λ w. BeginsRun kind a w b)
     (sym (ap (λ z. v ++ z) (held_nil kind) ∙ append-nil v)) row
 row_run kind a v (c ∷ run) b plain row =
     let parts = and_parts (is_plain kind c) (list_all (is_plain kind) run) plain in
@@ -119,11 +119,11 @@ row_run kind a v (c ∷ run) b plain row =
     (unit_complete kind (Plain c) (run ++ b) parts.0 tt) in
     let value = append_assoc v (content_of kind (c ∷ [])) (content_of kind run)
     ∙ ap (λ z. v ++ z) (held_more kind c run) in
-    subst (λ w. BeginsRow kind a w b) value (row_run kind a (v ++ content_of kind (c ∷ [])) run b parts.1 one)
+    subst (λ w. BeginsRun kind a w b) value (row_run kind a (v ++ content_of kind (c ∷ [])) run b parts.1 one)
 
 -- a run before a row
-pub row_after : (kind : Kind) (run b v r : List ℕ) → list_all (is_plain kind) run ≡ true → BeginsRow kind b v r
-    → (w : List ℕ) × BeginsRow kind (run ++ b) w r
+pub row_after : (kind : Kind) (run b v r : List ℕ) → list_all (is_plain kind) run ≡ true → BeginsRun kind b v r
+    → (w : List ℕ) × BeginsRun kind (run ++ b) w r
 row_after kind [] b v r plain row = (v, row)
 row_after kind (c ∷ run) b v r plain row =
     let parts = and_parts (is_plain kind c) (list_all (is_plain kind) run) plain in
@@ -142,12 +142,12 @@ row_after kind (c ∷ run) b v r plain row =
 
 -- the first of these units is what `unit_at` gives
 first_unit : (kind : Kind) (u : QuotedUnit) (us : List QuotedUnit) (r : List ℕ) → AllByRecursion (IsUnit kind) (u ∷ us)
-    → RowEnds (u ∷ us) r → unit_at kind (texts (u ∷ us) ++ r) ≡ found (unit_value kind u) (texts us ++ r)
+    → RunEnds (u ∷ us) r → unit_at kind (texts (u ∷ us) ++ r) ≡ found (unit_value kind u) (texts us ++ r)
 first_unit kind u us r each ends =
     ap (unit_at kind) (append_assoc (unit_text u) (texts us) r) ∙ unit_complete kind u (texts us ++ r) each.0 ends.0
 
-rows_same : (kind : Kind) (us ws : List QuotedUnit) (r s : List ℕ) → AllByRecursion (IsUnit kind) us → RowEnds us r
-    → AllByRecursion (IsUnit kind) ws → RowEnds ws s → unit_at kind r ≡ None → unit_at kind s ≡ None → texts us ++ r
+rows_same : (kind : Kind) (us ws : List QuotedUnit) (r s : List ℕ) → AllByRecursion (IsUnit kind) us → RunEnds us r
+    → AllByRecursion (IsUnit kind) ws → RunEnds ws s → unit_at kind r ≡ None → unit_at kind s ≡ None → texts us ++ r
     ≡ texts ws ++ s → (values kind us ≡ values kind ws) × (r ≡ s)
 rows_same kind [] [] r s eu cu ew cw hr hs e = (refl, e)
 rows_same kind [] (w ∷ ws) r s eu cu ew cw hr hs e =
@@ -162,7 +162,7 @@ rows_same kind (u ∷ us) (w ∷ ws) r s eu cu ew cw hr hs e =
     let more = rows_same kind us ws r s eu.1 cu.1 ew.1 cw.1 hr hs f.1 in
     (ap (λ z. z ++ values kind us) f.0 ∙ ap (λ z. unit_value kind w ++ z) more.0, more.1)
 
-pub row_once : (kind : Kind) (a v b w d : List ℕ) → BeginsRow kind a v b → BeginsRow kind a w d → unit_at kind b ≡ None
+pub row_once : (kind : Kind) (a v b w d : List ℕ) → BeginsRun kind a v b → BeginsRun kind a w d → unit_at kind b ≡ None
     → unit_at kind d ≡ None → (v ≡ w) × (b ≡ d)
 row_once kind a v b w d p q hb hd =
     let same = rows_same kind p.units q.units b d p.each p.ends q.each q.ends hb hd (sym p.text_is ∙ q.text_is) in

@@ -9,8 +9,8 @@ use Rattle.rl_reading.specs.declared.found.Body.{Body}
 use Rattle.rl_reading.specs.declared.segments.Segment.{Segment}
 use Rattle.rl_reading.specs.Founds.{IsQuotedAt, body_in}
 use Rattle.rl_reading.specs.Mirrors.UnitAt.{unit_at}
-use Rattle.rl_reading.specs.Rows.{BeginsRow}
-use Rattle.rl_reading.specs.Segments.{AreLeft, AreUnitsIn, AreUnitsOf, IsByteEnd, IsGivenAt, IsBytePlace, IsUnitRow, IsSegmentsOf, SegmentsState, begins_in, ends_in, is_itself, unit_place, unit_bytes, units_bytes}
+use Rattle.rl_reading.specs.UnitRuns.{BeginsRun}
+use Rattle.rl_reading.specs.Segments.{AreLeft, AreUnitsIn, AreUnitsOf, IsByteEnd, IsGivenAt, IsBytePlace, IsUnitRun, IsSegmentsOf, SegmentsState, begins_in, ends_in, is_itself, unit_place, unit_bytes, units_bytes}
 use Rattle.rl_reading.specs.SegmentLaws.{MakeLiteral, Passes, PlacesKeepTheOrder, PlacesStandIn, Tile, segments_bytes}
 use Rattle.rl_reading.proofs.BodyLemmas.{openers_differ, row_shrinks}
 use Rattle.rl_reading.proofs.ContentLemmas.{held_in_bytes, in_bytes_append, nothing_in_bytes}
@@ -222,7 +222,7 @@ some_text (Unicode first more) t e = absurd (cc)
 some_text (Continuation c run) t e = absurd (cc)
 
 rows_place : (inside : QuotedUnit → ℕ → ℕ) → IsPlacing inside → (kind : Kind) (us ws : List QuotedUnit) (t : List ℕ)
-    → IsUnitRow kind t us → IsUnitRow kind t ws → (at : ℕ) → unit_place inside kind us at ≡ unit_place inside kind ws at
+    → IsUnitRun kind t us → IsUnitRun kind t ws → (at : ℕ) → unit_place inside kind us at ≡ unit_place inside kind ws at
 rows_place inside p kind [] [] t a b at = refl
 rows_place inside p kind [] (w ∷ ws) t a b at = absurd (some_text w (texts ws) (sym a.text_is ∙ b.text_is))
 rows_place inside p kind (u ∷ us) [] t a b at = absurd (some_text u (texts us) (sym b.text_is ∙ a.text_is))
@@ -251,7 +251,7 @@ cooked_same : (inside : QuotedUnit → ℕ → ℕ) → IsPlacing inside
 cooked_same inside p kind t v x w y c d =
     let text : texts d.units ++ (34 ∷ y) ≡ texts c.units ++ (34 ∷ x) = append_cancel_left (opener kind) _ _
     (sym d.text_is ∙ c.text_is) in
-    let other = subst (λ z. BeginsRow kind z w (34 ∷ y)) text (cooked_row kind t w y d) in
+    let other = subst (λ z. BeginsRun kind z w (34 ∷ y)) text (cooked_row kind t w y d) in
     let same = (row_once kind (texts c.units ++ (34 ∷ x)) v (34 ∷ x) w (34 ∷ y) (cooked_row kind t v x c) other
     (unit_quote kind x c.string) (unit_quote kind y d.string)).1 in
     let units_same : texts c.units ≡ texts d.units = append_cancel_right (texts c.units) (texts d.units) (34 ∷ y)

@@ -15,13 +15,13 @@ use Rattle.rl_reading.specs.declared.units.Piece.{Piece}
 use Rattle.rl_reading.specs.Decoded.{in_bytes}
 use Rattle.rl_reading.specs.Mirrors.SegmentAt.{piece_segment}
 use Rattle.rl_reading.specs.Mirrors.UnitAt.{found, is_character, is_character_at, piece_value, IsHeldBy, unit_at}
-use Rattle.rl_reading.specs.Segments.{unit_bytes, units_bytes, is_itself, begins_in, ends_in, unit_place, unit_segment, span_from, segment_end, segment_place, value_end, GivesByte, IsUnitRow, AreUnitsIn, AreUnitsFor, AreLeft, IsLeftAt, IsLongest, IsNoText, IsOtherUnit, IsPastLeft, IsSegmentOf, IsFirstSegment, IsSpanTable, IsSegmentsState, SegmentsState, TakesSegment, value_bytes, value_place}
+use Rattle.rl_reading.specs.Segments.{unit_bytes, units_bytes, is_itself, begins_in, ends_in, unit_place, unit_segment, span_from, segment_end, segment_place, value_end, GivesByte, IsUnitRun, AreUnitsIn, AreUnitsFor, AreLeft, IsLeftAt, IsLongest, IsNoText, IsOtherUnit, IsPastLeft, IsSegmentOf, IsFirstSegment, IsSpanTable, IsSegmentsState, SegmentsState, TakesSegment, value_bytes, value_place}
 use Rattle.rl_reading.proofs.ContentLemmas.{held_in_bytes, piece_in_bytes}
 use Rattle.rl_reading.proofs.SegmentValues.{piece_in_front, segment_bytes}
 use Rattle.rl_reading.proofs.UnitLemmas.{some_pair, plain_complete, unit_complete, unit_nil}
 use Rattle.rl_reading.proofs.FrontLenLemmas.{byte_len_append}
 
--- ---- rows of units
+-- ---- runs of units
 
 -- a unit in front of a row
 pub record UnitInFront (kind : Kind) (t v r : List ℕ) : Type 0 where
@@ -31,9 +31,9 @@ pub record UnitInFront (kind : Kind) (t v r : List ℕ) : Type 0 where
   pub text_is : t ≡ unit_text unit ++ r
   pub value_is : v ≡ unit_value kind unit
   pub others : List QuotedUnit
-  pub row : IsUnitRow kind r others
+  pub row : IsUnitRun kind r others
 
-pub row_front : (kind : Kind) (t : List ℕ) (us : List QuotedUnit) (p : List ℕ × List ℕ) → IsUnitRow kind t us
+pub row_front : (kind : Kind) (t : List ℕ) (us : List QuotedUnit) (p : List ℕ × List ℕ) → IsUnitRun kind t us
     → unit_at kind t ≡ Some p → UnitInFront kind t p.0 p.1
 row_front kind t [] p row h = let e : None ≡ Some p = sym (ap (unit_at kind) row.text_is ∙ unit_nil kind)
     ∙ h in absurd (cc)
@@ -47,11 +47,11 @@ row_front kind t (u ∷ us) p row h =
       text_is = row.text_is ∙ ap (λ z. unit_text u ++ z) same.1;
       value_is = sym same.0;
       others = us;
-      row = record { each = row.each.1; ends = row.ends.1; text_is = sym same.1 };
+      run = record { each = row.each.1; ends = row.ends.1; text_is = sym same.1 };
     }
 
 -- where a row has some text, a unit stands there
-pub row_stands : (kind : Kind) (t : List ℕ) (us : List QuotedUnit) → IsUnitRow kind t us → (t ≡ [] → ⊥) → unit_at kind t
+pub row_stands : (kind : Kind) (t : List ℕ) (us : List QuotedUnit) → IsUnitRun kind t us → (t ≡ [] → ⊥) → unit_at kind t
     ≡ None → ⊥
 row_stands kind t [] row some h = some row.text_is
 row_stands kind t (u ∷ us) row some h =
@@ -60,16 +60,16 @@ row_stands kind t (u ∷ us) row some h =
 
 -- what follows a run of plain characters
 pub row_after_run : (kind : Kind) (run b : List ℕ) (us : List QuotedUnit) → list_all (is_plain kind) run ≡ true
-    → IsUnitRow kind (run ++ b) us → (ws : List QuotedUnit) × IsUnitRow kind b ws
+    → IsUnitRun kind (run ++ b) us → (ws : List QuotedUnit) × IsUnitRun kind b ws
 row_after_run kind [] b us plain row = (us, row)
 row_after_run kind (c ∷ run) b us plain row =
     let parts = and_parts (is_plain kind c) (list_all (is_plain kind) run) plain in
     let front = row_front kind (c ∷ (run ++ b)) us (content_of kind (c ∷ []), run ++ b) row
     (plain_complete kind c (run ++ b) parts.0) in
-    row_after_run kind run b front.others parts.1 front.row
+    row_after_run kind run b front.others parts.1 front.run
 
 pub run_joined : (kind : Kind) (run b : List ℕ) (ws : List QuotedUnit) → list_all (is_plain kind) run ≡ true
-    → IsUnitRow kind b ws → IsUnitRow kind (run ++ b) (map Plain run ++ ws)
+    → IsUnitRun kind b ws → IsUnitRun kind (run ++ b) (map Plain run ++ ws)
 run_joined kind [] b ws plain row = row
 run_joined kind (c ∷ run) b ws plain row =
     let parts = and_parts (is_plain kind c) (list_all (is_plain kind) run) plain in
@@ -77,7 +77,7 @@ run_joined kind (c ∷ run) b ws plain row =
     record { each = (parts.0, more.each); ends = (tt, more.ends); text_is = ap (λ z. c ∷ z) more.text_is }
 
 pub unit_joined : (kind : Kind) (t b : List ℕ) (u : QuotedUnit) (ws : List QuotedUnit) → IsUnit kind u → EndsBefore u b
-    → t ≡ unit_text u ++ b → IsUnitRow kind b ws → IsUnitRow kind t (u ∷ ws)
+    → t ≡ unit_text u ++ b → IsUnitRun kind b ws → IsUnitRun kind t (u ∷ ws)
 unit_joined kind t b u ws allowed ends text_is row =
     record { each = (allowed, row.each); ends = (subst (EndsBefore u) row.text_is ends, row.ends); text_is = text_is ∙ ap (λ z. unit_text u ++ z) row.text_is }
 
@@ -121,8 +121,8 @@ run_front kind false t b run is u cut plain has =
       units = map Plain cs;
       is_segment = run_segment kind run u;
       text_is = cut ∙ ap (λ z. z ++ b) (sym (run_texts cs));
-      left = row_after_run kind cs b has.0 plain (subst (λ z. IsUnitRow kind z has.0) cut has.1);
-      goes_on = λ others h. subst (λ z. IsUnitRow kind z (map Plain cs ++ others)) (sym cut)
+      left = row_after_run kind cs b has.0 plain (subst (λ z. IsUnitRun kind z has.0) cut has.1);
+      goes_on = λ others h. subst (λ z. IsUnitRun kind z (map Plain cs ++ others)) (sym cut)
           (run_joined kind cs b others plain h);
     }
 run_front kind true t b run is u cut plain has = absurd (cc)
@@ -162,7 +162,7 @@ unit_front kind false t b piece v is stops unit fits named value none has =
             ∙ ap (in_bytes kind) f.value_is ∙ sym (append-nil (unit_bytes kind u));
       };
       text_is = f.text_is ∙ ap (λ z. z ++ b) (sym (append-nil (unit_text u)));
-      left = (f.others, f.row);
+      left = (f.others, f.run);
       goes_on = λ others h. unit_joined kind t b u others f.allowed f.ends f.text_is h;
     }
 unit_front kind true t b piece v is stops unit fits named value none has = absurd (cc)
@@ -174,7 +174,7 @@ cut_bytes t a b ut ua ub e = sym (encodes-chars t ut) ∙ ap encode_utf8_all e �
 
 -- what is left to show that a unit stands there
 pub row_of : (kind : Kind) (plain : Bool) (t : List ℕ) → plain ≡ false → (us : List QuotedUnit)
-    × AreUnitsIn kind plain t us → (us : List QuotedUnit) × IsUnitRow kind t us
+    × AreUnitsIn kind plain t us → (us : List QuotedUnit) × IsUnitRun kind t us
 row_of kind false t is has = has
 row_of kind true t is has = absurd (cc)
 

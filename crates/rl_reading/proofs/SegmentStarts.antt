@@ -11,7 +11,7 @@ use Rattle.rl_reading.specs.declared.quoted_forms.QuotedForm.TheVariants.{Cooked
 use Rattle.rl_reading.specs.Forms.{PartsAre, front_len, is_plain_body}
 use Rattle.rl_reading.specs.Founds.{IsQuotedAt, StandsIn, body_in, suffix_in, is_quoted}
 use Rattle.rl_reading.specs.Mirrors.UnitAt.{found, unit_at}
-use Rattle.rl_reading.specs.Segments.{AreUnitsIn, AreUnitsOf, IsGivenAt, IsLeftAt, IsUnitRow, IsSegmentsOf, IsSegmentsState, SegmentsState, unit_place}
+use Rattle.rl_reading.specs.Segments.{AreUnitsIn, AreUnitsOf, IsGivenAt, IsLeftAt, IsUnitRun, IsSegmentsOf, IsSegmentsState, SegmentsState, unit_place}
 use Rattle.rl_reading.specs.Shapes.{HasNoQuoted}
 use Rattle.rl_reading.proofs.FoundLemmas.{body_text}
 use Rattle.rl_reading.proofs.RowLemmas.{ends_before}
@@ -20,18 +20,18 @@ use Rattle.rl_reading.proofs.UnitLemmas.{some_pair, unit_complete}
 
 -- ---- the units of each form
 
-nothing_row : (kind : Kind) → IsUnitRow kind [] []
+nothing_row : (kind : Kind) → IsUnitRun kind [] []
 nothing_row kind = record { each = tt; ends = tt; text_is = refl }
 
 -- plain characters are a row
-pub plain_row : (kind : Kind) (cs : List ℕ) → list_all (is_plain kind) cs ≡ true → IsUnitRow kind cs (map Plain cs)
-plain_row kind cs plain = subst (IsUnitRow kind cs) (append-nil (map Plain cs))
-    (subst (λ z. IsUnitRow kind z (map Plain cs ++ [])) (append-nil cs)
+pub plain_row : (kind : Kind) (cs : List ℕ) → list_all (is_plain kind) cs ≡ true → IsUnitRun kind cs (map Plain cs)
+plain_row kind cs plain = subst (IsUnitRun kind cs) (append-nil (map Plain cs))
+    (subst (λ z. IsUnitRun kind z (map Plain cs ++ [])) (append-nil cs)
     (run_joined kind cs [] [] plain (nothing_row kind)))
 
 -- any row of the body is the cooked string's units
 cooked_units : (kind : Kind) (t v body x : List ℕ) (units : List QuotedUnit) (lo : ℕ)
-    → PartsAre CookedForm kind t v body x → IsUnitRow kind body units → lo ≡ length (opener kind)
+    → PartsAre CookedForm kind t v body x → IsUnitRun kind body units → lo ≡ length (opener kind)
     → AreUnitsOf kind t units lo
 cooked_units kind t v body x units lo p row at =
     inl (
@@ -63,7 +63,7 @@ append_nothing (c ∷ a) b e = absurd (cc)
 
 -- a row of one unit's text is that of one unit
 single_units : (kind : Kind) (t v body x : List ℕ) (units : List QuotedUnit) (lo : ℕ)
-    → PartsAre SingleForm kind t v body x → IsUnitRow kind body units → lo ≡ length (opener kind)
+    → PartsAre SingleForm kind t v body x → IsUnitRun kind body units → lo ≡ length (opener kind)
     → AreUnitsOf kind t units lo
 single_units kind t v body x units lo p row at =
     let s = p.0 in
@@ -72,7 +72,7 @@ single_units kind t v body x units lo p row at =
     (ends_before s.unit [] refl) in
     go units row one
   where
-    go : (units : List QuotedUnit) → IsUnitRow kind body units → unit_at kind body ≡ found (unit_value kind p.0.unit) []
+    go : (units : List QuotedUnit) → IsUnitRun kind body units → unit_at kind body ≡ found (unit_value kind p.0.unit) []
         → AreUnitsOf kind t units lo
     go [] row one = absurd (no_text p.0.unit (sym p.1 ∙ row.text_is))
     go (u ∷ []) row one = inr (inr (
@@ -116,7 +116,7 @@ are_units : (form : QuotedForm) (kind : Kind) (t v body x : List ℕ) (plain : B
     (p : PartsAre form kind t v body x) → plain ≡ is_plain_body form kind body → lo ≡ front_len form kind t v body x p
     → (units : List QuotedUnit) → AreUnitsIn kind plain body units → AreUnitsOf kind t units lo
 are_units CookedForm kind t v body x true lo p is at units are =
-    cooked_units kind t v body x units lo p (subst (IsUnitRow kind body) (sym are) (plain_row kind body (sym is))) at
+    cooked_units kind t v body x units lo p (subst (IsUnitRun kind body) (sym are) (plain_row kind body (sym is))) at
 are_units CookedForm kind t v body x false lo p is at units are = cooked_units kind t v body x units lo p are at
 are_units RawForm kind t v body x true lo p is at units are = inr (inl (v, x, p.0, are ∙ ap (map Plain) p.1, at))
 are_units RawForm kind t v body x false lo p is at units are = absurd (cc)

@@ -1,7 +1,7 @@
 pub mod StrictUnits
 pub mod NumberShapes
 pub mod NumbersRead
-pub mod Rows
+pub mod UnitRuns
 pub mod Forms
 pub mod Shapes
 pub mod Decoded

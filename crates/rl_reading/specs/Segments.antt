@@ -78,14 +78,14 @@ pub record SegmentsState : Type 0 where
   pub rest : List ℕ
 
 -- The text is these units.
-pub record IsUnitRow (kind : Kind) (text : List ℕ) (units : List QuotedUnit) : Type 0 where
+pub record IsUnitRun (kind : Kind) (text : List ℕ) (units : List QuotedUnit) : Type 0 where
   pub each : AllByRecursion (IsUnit kind) units
   pub ends : ContinuationsEnd units
   pub text_is : text ≡ texts units
 
 abbrev pub AreUnitsIn : Kind → Bool → List ℕ → List QuotedUnit → Type 0
 AreUnitsIn kind true text units = units ≡ map Plain text
-AreUnitsIn kind false text units = IsUnitRow kind text units
+AreUnitsIn kind false text units = IsUnitRun kind text units
 
 -- the units that are left
 abbrev pub AreLeft : SegmentsState → List QuotedUnit → Type 0

@@ -7,7 +7,7 @@ ghost use Rattle.std.specs.Str.{chars, IsUtf8};
 ghost use Rattle.rl_forms.specs.Numbers.{float_digits};
 ghost use Rattle.rl_reading.specs.Mirrors.PlainAt.{is_plain_digits, is_plain_float, is_plain_integer};
 
-use crate::digit_rows::after_minus;
+use crate::digit_runs::after_minus;
 use rl_text::room::{put_byte, put_char};
 use rl_text::scan::{Marks, next_mark};
 use rl_text::text::split_char;

@@ -15,7 +15,7 @@ ghost use Rattle.rl_reading.specs.NumberShapes.{ReadsNoNumber, HasOneFloat, HasO
 ghost use Rattle.rl_reading.specs.StrictBytes.{KeepsBytesStrict};
 ghost use Rattle.rl_reading.specs.WholeShapes.{IsSplit, is_number_front, IsPlain};
 
-use crate::digit_rows::is_negative;
+use crate::digit_runs::is_negative;
 use crate::digits::{is_plain_float, is_plain_integer};
 use crate::number_forms::{Number, float_suffix, read_integer, read_number};
 use crate::quoted_forms::{

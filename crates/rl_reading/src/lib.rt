@@ -2,7 +2,7 @@
 #![tactic(auto)]
 
 pub mod contents;
-pub mod digit_rows;
+pub mod digit_runs;
 mod digits;
 pub mod found;
 pub mod laws;

@@ -11,8 +11,8 @@ ghost use Rattle.rl_reading.specs.NumberShapes.{HasOneInteger, HasOneFloat, Read
 ghost use Rattle.rl_forms.specs.Numbers.{FloatReads};
 ghost use Rattle.rl_reading.specs.NumbersRead.{IsNumberOf};
 
-use crate::digit_rows::{
-    DigitRow, after_minus, begins_digit, is_exponent_suffix, is_suffix, read_row, skip_row,
+use crate::digit_runs::{
+    DigitRun, after_minus, begins_digit, is_exponent_suffix, is_suffix, read_digit_run, skip_digits,
 };
 use crate::found::{Parts, find_float, find_int, find_unsigned};
 use rl_text::classes::{CharClass, skip_class};
@@ -37,11 +37,11 @@ pub fn split_radix(text: &str) -> (u32, &str)
     (10, text)
 }
 
-/// What a number begins with: its base, and the row of digits after sign and prefix.
+/// What a number begins with: its base, and the run of digits after sign and prefix.
 #[derive(Clone, Copy)]
 pub struct Head<'t> {
     pub radix: u32,
-    pub row: DigitRow<'t>,
+    pub run: DigitRun<'t>,
 }
 
 /// What a number begins with, from the text after its sign.
@@ -50,12 +50,12 @@ pub struct Head<'t> {
 fn head_of(unsigned: &str) -> Head<'_>
     requires { IsTrue (first_passes is_ascii_digit (chars unsigned.now)) }
     ensures head { IsHead (chars unsigned.now) result.radix
-        result.row.has_digit result.row.magnitude (chars result.row.rest.now) }
-    ensures following { IsTail unsigned.now result.row.rest.now }
+        result.run.has_digit result.run.magnitude (chars result.run.rest.now) }
+    ensures following { IsTail unsigned.now result.run.rest.now }
 {
     let (radix, digits) = split_radix(unsigned);
-    let row = read_row(digits, radix);
-    Head { radix, row }
+    let run = read_digit_run(digits, radix);
+    Head { radix, run }
 }
 
 /// What a number begins with; `None` where no digit stands after the sign. That test is written into the callers.
@@ -65,8 +65,8 @@ pub(crate) fn read_head(text: &str) -> Option<Head<'_>>
     ensures none { IfNone result
         (first_passes is_ascii_digit (after_minus (chars text.now)) ≡ false) }
     ensures head { IfSome result (λ h. IsHead (after_minus (chars text.now)) h.radix
-        h.row.has_digit h.row.magnitude (chars h.row.rest.now)) }
-    ensures following { IfSome result (λ h. IsTail text.now h.row.rest.now) }
+        h.run.has_digit h.run.magnitude (chars h.run.rest.now)) }
+    ensures following { IfSome result (λ h. IsTail text.now h.run.rest.now) }
 {
     let unsigned = after_minus(text);
     if begins_digit(unsigned) {
@@ -84,22 +84,22 @@ pub struct Integer<'t> {
     pub suffix: &'t str,
 }
 
-/// The integer that begins so, if what follows its row may be its suffix.
+/// The integer that begins so, if what follows its run may be its suffix.
 #[inline(always)]
 pub(crate) fn integer_of(head: Head<'_>) -> Option<Integer<'_>>
     ensures value { option_map {U = Option ℕ × List ℕ}
         (λ i. (i.magnitude, chars i.suffix.now)) result
-        ≡ ended_at head.entry.radix head.entry.row.has_digit head.entry.row.magnitude
-        (chars head.entry.row.rest.now) }
-    ensures suffix { IfSome result (λ i. i.suffix.now ≡ head.entry.row.rest.now) }
+        ≡ ended_at head.entry.radix head.entry.run.has_digit head.entry.run.magnitude
+        (chars head.entry.run.rest.now) }
+    ensures suffix { IfSome result (λ i. i.suffix.now ≡ head.entry.run.rest.now) }
 {
-    let suffix = head.row.rest;
-    let is_integer = head.row.has_digit
+    let suffix = head.run.rest;
+    let is_integer = head.run.has_digit
         && is_suffix(suffix)
         && (head.radix != 10 || !is_exponent_suffix(suffix));
     if is_integer {
         Some(Integer {
-            magnitude: head.row.magnitude,
+            magnitude: head.run.magnitude,
             suffix,
         })
     } else {
@@ -148,7 +148,7 @@ fn after_fraction(text: &str) -> &str
     ensures following { IsTail text.now result.now }
 {
     match split_char(text) {
-        Some(('.', digits)) => skip_row(digits).rest,
+        Some(('.', digits)) => skip_digits(digits).rest,
         _ => text,
     }
 }
@@ -175,9 +175,9 @@ fn after_exponent(text: &str) -> &str
     ensures following { IsTail text.now result.now }
 {
     if let Some(('e' | 'E', power)) = split_char(text) {
-        let row = skip_row(power_digits(power));
-        if row.has_digit {
-            return row.rest;
+        let run = skip_digits(power_digits(power));
+        if run.has_digit {
+            return run.rest;
         }
     }
     text
@@ -208,20 +208,20 @@ pub(crate) fn float_suffix(text: &str) -> Option<&str>
     if !begins_digit(whole) {
         return None;
     }
-    tail_suffix(skip_row(whole).rest)
+    tail_suffix(skip_digits(whole).rest)
 }
 
 /// The suffix of the float that begins so: after another base's prefix the whole part is its zero.
 #[inline(always)]
 pub(crate) fn head_suffix<'t>(text: &'t str, head: Head<'t>) -> Option<&'t str>
     requires head { IsHead (after_minus (chars text.now)) head.radix
-        head.row.has_digit head.row.magnitude (chars head.row.rest.now) }
-    requires following { IsTail text.now head.row.rest.now }
+        head.run.has_digit head.run.magnitude (chars head.run.rest.now) }
+    requires following { IsTail text.now head.run.rest.now }
     ensures value { option_map (λ x. chars x.now) result ≡ float_at (chars text.now) }
     ensures following { IfSome result (λ x. IsTail text.now x.now) }
 {
     if head.radix == 10 {
-        tail_suffix(head.row.rest)
+        tail_suffix(head.run.rest)
     } else {
         float_suffix(text)
     }

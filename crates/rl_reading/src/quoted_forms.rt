@@ -8,7 +8,7 @@ ghost use Rattle.rl_forms.specs.Quoted.{is_string, is_raw, opener};
 ghost use Rattle.rl_forms.specs.Written.{closer};
 ghost use Rattle.rl_reading.specs.Mirrors.UnitAt.{unit_at};
 ghost use Rattle.rl_reading.specs.Founds.{IsFound, IsQuotedAt, StandsIn, body_in, suffix_in, is_quoted};
-ghost use Rattle.rl_reading.specs.Rows.{BeginsRow};
+ghost use Rattle.rl_reading.specs.UnitRuns.{BeginsRun};
 ghost use Rattle.rl_reading.specs.Mirrors.OpenerAt.{found_opener, string_opener_at, byte_opener_at, opener_at};
 ghost use Rattle.rl_forms.specs.Reading.{HasNoReading};
 ghost use Rattle.rl_text.specs.Classes.{after_run, is_hash};
@@ -98,7 +98,7 @@ pub fn split_opener(text: &str) -> Option<(QuotedForm, Kind, &str)>
 #[inline(never)]
 pub fn skip_units(kind: Kind, text: &str) -> &str
     requires { IsTrue (is_string kind) }
-    ensures row { (v : List ℕ) × BeginsRow kind (chars text.now) v (chars result.now) }
+    ensures run { (v : List ℕ) × BeginsRun kind (chars text.now) v (chars result.now) }
     ensures stuck { unit_at kind (chars result.now) ≡ None }
 {
     match kind {
@@ -111,7 +111,7 @@ pub fn skip_units(kind: Kind, text: &str) -> &str
 #[inline(always)]
 fn skip_units_of(kind: Kind, text: &str) -> &str
     requires { IsTrue (is_string kind) }
-    ensures row { (v : List ℕ) × BeginsRow kind (chars text.now) v (chars result.now) }
+    ensures run { (v : List ℕ) × BeginsRun kind (chars text.now) v (chars result.now) }
     ensures stuck { unit_at kind (chars result.now) ≡ None }
 {
     let mut rest = text;

@@ -77,8 +77,8 @@ by_suffix t digit is_float =
       text_is = signed.1 ∙ ap (λ z. sign_text signed.0 ++ z) found.2;
     }
   where
-    first : (row : List ℕ) → after_minus t ≡ row ++ after_digits 10 (after_minus t)
-        → first_passes is_ascii_digit row ≡ true
+    first : (run : List ℕ) → after_minus t ≡ run ++ after_digits 10 (after_minus t)
+        → first_passes is_ascii_digit run ≡ true
     first [] e = absurd (both_ways (first_passes is_ascii_digit (after_minus t))
         (ap (first_passes is_ascii_digit) e ∙ no_digit (after_digits 10 (after_minus t)) is_float) digit)
     first (c ∷ cs) e = sym (ap (first_passes is_ascii_digit) e) ∙ digit
@@ -103,8 +103,8 @@ parts_of t f =
 
 pub float_decides : (t number rest : List ℕ) (b : Bool) → number ≡ after_minus t → rest ≡ after_digits 10 number
     → first_passes is_ascii_digit number ≡ true → IsTrue b ↔ IsFloatSuffix rest → IsTrue b ↔ IsFloatBySuffix t
-float_decides t number rest b after row digit is =
-    let suffix : rest ≡ after_digits 10 (after_minus t) = row ∙ ap (after_digits 10) after in (
+float_decides t number rest b after run digit is =
+    let suffix : rest ≡ after_digits 10 (after_minus t) = run ∙ ap (after_digits 10) after in (
       λ h. by_suffix t (sym (ap (first_passes is_ascii_digit) after) ∙ digit) (subst IsFloatSuffix suffix (is.0 h)),
       λ f. is.1 (subst IsFloatSuffix (sym suffix) (parts_of t f).is_float),
     )

@@ -1,12 +1,12 @@
 -- How the walk over a strict number ends, by the parts of the text: after each part it goes on as after the next.
 use Rattle.rl_text.proofs.Common.{◌≡◌, ◌≢◌, ℕ, ◌⊎◌, ◌||◌, ◌&&◌, Bool, true, false, not, ◌==◌, cond, List, [], ◌∷◌, ◌++◌, Option, Some, None, refl, sym, ap, ◌∙◌, inl, inr, append_assoc, and_parts, both_ways, eqb-true, or_from, or_parts, is_ascii_digit, list_all, list_any}
-use Rattle.rl_reading.proofs.Names.{after_run, first_passes, is_row_part, is_underscore, Base, Binary, Octal, Decimal, Hexadecimal, radix, prefix, is_exponent_letter}
+use Rattle.rl_reading.proofs.Names.{after_run, first_passes, is_run_part, is_underscore, Base, Binary, Octal, Decimal, Hexadecimal, radix, prefix, is_exponent_letter}
 use Rattle.std.specs.Option.{is_some}
 use Rattle.rl_text.specs.Texts.{is_continue, is_start}
 use Rattle.rl_forms.specs.Numbers.{is_power_sign}
 use Rattle.rl_forms.specs.Strict.{IsDigits, IsNumberSuffix}
 use Rattle.rl_text.proofs.Basics.{all_same, any_same, apart, digit_is_ten}
-use Rattle.rl_reading.specs.Mirrors.NumberAt.{after_digits, after_power_sign, capped, digit_row_at, has_digit_at, has_value, magnitude_at, radix_at, radix_of}
+use Rattle.rl_reading.specs.Mirrors.NumberAt.{after_digits, after_power_sign, capped, digit_run_at, has_digit_at, has_value, magnitude_at, radix_at, radix_of}
 use Rattle.rl_reading.specs.Mirrors.PlainAt.{is_some_text}
 use Rattle.rl_reading.proofs.FloatLemmas.{run_first}
 use Rattle.rl_reading.proofs.RunLemmas.{run_all, run_past}
@@ -59,28 +59,28 @@ pub each_fails : (f g : ℕ → Bool) (z : List ℕ) → first_passes (λ c. f c
 each_fails f g [] h = (refl, refl)
 each_fails f g (c ∷ cs) h = or_parts (f c) (g c) h
 
--- ---- rows of digits
+-- ---- runs of digits
 
 abbrev pub in_row : ℕ → Bool
-in_row = is_row_part (has_value 10)
+in_row = is_run_part (has_value 10)
 
-same_row : (d : List ℕ) → list_all (is_row_part is_ascii_digit) d ≡ list_all in_row d
-same_row = all_same (is_row_part is_ascii_digit) in_row (λ c. ap (λ b. b || (c == 95)) (digit_is_ten c))
+same_row : (d : List ℕ) → list_all (is_run_part is_ascii_digit) d ≡ list_all in_row d
+same_row = all_same (is_run_part is_ascii_digit) in_row (λ c. ap (λ b. b || (c == 95)) (digit_is_ten c))
 
--- a row of the grammar is one of the code
-pub row_part : (d : List ℕ) → list_all (is_row_part is_ascii_digit) d ≡ true → list_all in_row d ≡ true
+-- a run of the grammar is one of the code
+pub row_part : (d : List ℕ) → list_all (is_run_part is_ascii_digit) d ≡ true → list_all in_row d ≡ true
 row_part d h = sym (same_row d) ∙ h
 
 -- and the other way about
-pub part_row : (d : List ℕ) → list_all in_row d ≡ true → list_all (is_row_part is_ascii_digit) d ≡ true
+pub part_row : (d : List ℕ) → list_all in_row d ≡ true → list_all (is_run_part is_ascii_digit) d ≡ true
 part_row d h = same_row d ∙ h
 
 pub some_value : (d : List ℕ) → list_any is_ascii_digit d ≡ list_any (has_value 10) d
 some_value d = any_same is_ascii_digit (has_value 10) digit_is_ten d
 
 -- the digits at the front of a text
-pub front_digits : (t : List ℕ) → first_passes is_ascii_digit t ≡ true → IsDigits (digit_row_at 10 t)
-front_digits t h = (run_first t h, part_row (digit_row_at 10 t) (run_all in_row t))
+pub front_digits : (t : List ℕ) → first_passes is_ascii_digit t ≡ true → IsDigits (digit_run_at 10 t)
+front_digits t h = (run_first t h, part_row (digit_run_at 10 t) (run_all in_row t))
 
 -- ---- a suffix
 
@@ -152,28 +152,28 @@ sign_past sign z (inl e) n = ap (λ s. after_power_sign (s ++ z)) e ∙ bare z (
 sign_past sign z (inr (inl e)) n = ap (λ s. after_power_sign (s ++ z)) e
 sign_past sign z (inr (inr e)) n = ap (λ s. after_power_sign (s ++ z)) e
 
--- a row with a digit begins with no sign
-pub row_bare : (row x : List ℕ) → list_all in_row row ≡ true → list_any (has_value 10) row ≡ true
-    → first_passes is_sign (row ++ x) ≡ false
+-- a run with a digit begins with no sign
+pub row_bare : (run x : List ℕ) → list_all in_row run ≡ true → list_any (has_value 10) run ≡ true
+    → first_passes is_sign (run ++ x) ≡ false
 row_bare [] x each some = absurd (cc)
 row_bare (c ∷ cs) x each some =
     let p = and_parts (in_row c) (list_all in_row cs) each in
     or_from (c == 43) (c == 45) (apart in_row c 43 p.0 refl) (apart in_row c 45 p.0 refl)
 
--- what follows the row, by whether it has a digit
+-- what follows the run, by whether it has a digit
 abbrev pub power_tail : Bool → List ℕ → Ending
 power_tail some y = cond some (suffix_end_at y) (stopped NoExponentDigit y)
 
-pub power_is : (sign row x : List ℕ) (some : Bool) → IsSign sign
-    → (sign ≡ [] → first_passes is_sign (row ++ x) ≡ false) → list_all in_row row ≡ true
-    → list_any (has_value 10) row ≡ some → first_passes in_row x ≡ false
-    → power_end_at (sign ++ (row ++ x)) ≡ power_tail some x
+pub power_is : (sign run x : List ℕ) (some : Bool) → IsSign sign
+    → (sign ≡ [] → first_passes is_sign (run ++ x) ≡ false) → list_all in_row run ≡ true
+    → list_any (has_value 10) run ≡ some → first_passes in_row x ≡ false
+    → power_end_at (sign ++ (run ++ x)) ≡ power_tail some x
 unfolding power_end_at
-power_is sign row x some s bare each is stops =
-    let p = run_past in_row row x each stops in
-    ap (λ z. power_tail (has_digit_at 10 z) (after_digits 10 z)) (sign_past sign (row ++ x) s bare)
-    ∙ ap (λ z. power_tail (list_any (has_value 10) z) (after_digits 10 (row ++ x))) p.0
-    ∙ ap (power_tail (list_any (has_value 10) row)) p.1
+power_is sign run x some s bare each is stops =
+    let p = run_past in_row run x each stops in
+    ap (λ z. power_tail (has_digit_at 10 z) (after_digits 10 z)) (sign_past sign (run ++ x) s bare)
+    ∙ ap (λ z. power_tail (list_any (has_value 10) z) (after_digits 10 (run ++ x))) p.0
+    ∙ ap (power_tail (list_any (has_value 10) run)) p.1
     ∙ ap (λ b. power_tail b x) is
 
 -- ---- what follows digits, a dot, and a whole part
@@ -299,19 +299,19 @@ abbrev pub of_base : Base → ℕ → Bool
 of_base b = has_value (radix b)
 
 abbrev pub in_base : Base → ℕ → Bool
-in_base b = is_row_part (of_base b)
+in_base b = is_run_part (of_base b)
 
--- what follows the row of another base, by three tests: a decimal digit follows; the row has none; a float goes on
+-- what follows the run of another base, by three tests: a decimal digit follows; the run has none; a float goes on
 abbrev pub row_tail : Bool → Bool → Bool → List ℕ → Ending
 row_tail digit none mark y = cond digit (stopped DigitOfBase y)
     (cond none (stopped NoDigits y) (cond mark (stopped BasedFloat y) (suffix_end_at y)))
 
 abbrev pub row_end : Base → List ℕ → List ℕ → Ending
-row_end b row y = row_tail (first_passes is_ascii_digit y) (not (list_any (of_base b) row))
+row_end b run y = row_tail (first_passes is_ascii_digit y) (not (list_any (of_base b) run))
     (first_passes is_float_mark y) y
 
 based_end : (b : Base) (t : List ℕ) → end_of (based_read_at (radix b) t)
-    ≡ row_end b (digit_row_at (radix b) t) (after_digits (radix b) t)
+    ≡ row_end b (digit_run_at (radix b) t) (after_digits (radix b) t)
 unfolding based_read_at
 based_end b t = go (first_passes is_ascii_digit y) (not (has_digit_at (radix b) t)) (first_passes is_float_mark y)
   where
@@ -338,18 +338,18 @@ number_based Octal x n = refl
 number_based Hexadecimal x n = refl
 number_based Decimal x n = absurd (n refl)
 
--- of another base, after its prefix and a row
-pub based_is : (b : Base) (row x : List ℕ) → b ≢ Decimal → list_all (in_base b) row ≡ true
-    → first_passes (in_base b) x ≡ false → number_end_at ((prefix b ++ row) ++ x) ≡ row_end b row x
-based_is b row x n each stops =
-    let p = run_past (in_base b) row x each stops in
-    ap number_end_at (append_assoc (prefix b) row x) ∙ number_based b (row ++ x) n ∙ based_end b (row ++ x)
-    ∙ ap (λ z. row_end b z (after_digits (radix b) (row ++ x))) p.0 ∙ ap (row_end b row) p.1
+-- of another base, after its prefix and a run
+pub based_is : (b : Base) (run x : List ℕ) → b ≢ Decimal → list_all (in_base b) run ≡ true
+    → first_passes (in_base b) x ≡ false → number_end_at ((prefix b ++ run) ++ x) ≡ row_end b run x
+based_is b run x n each stops =
+    let p = run_past (in_base b) run x each stops in
+    ap number_end_at (append_assoc (prefix b) run x) ∙ number_based b (run ++ x) n ∙ based_end b (run ++ x)
+    ∙ ap (λ z. row_end b z (after_digits (radix b) (run ++ x))) p.0 ∙ ap (row_end b run) p.1
 
--- a row that is whole goes on with a suffix
-pub row_plain : (b : Base) (row x : List ℕ) → list_any (of_base b) row ≡ true → first_passes is_ascii_digit x ≡ false
-    → first_passes is_float_mark x ≡ false → row_end b row x ≡ suffix_end_at x
-row_plain b row x some digit mark =
-    ap (λ z. row_tail z (not (list_any (of_base b) row)) (first_passes is_float_mark x) x) digit
+-- a run that is whole goes on with a suffix
+pub row_plain : (b : Base) (run x : List ℕ) → list_any (of_base b) run ≡ true → first_passes is_ascii_digit x ≡ false
+    → first_passes is_float_mark x ≡ false → row_end b run x ≡ suffix_end_at x
+row_plain b run x some digit mark =
+    ap (λ z. row_tail z (not (list_any (of_base b) run)) (first_passes is_float_mark x) x) digit
     ∙ ap (λ z. row_tail false (not z) (first_passes is_float_mark x) x) some
     ∙ ap (λ z. row_tail false false z x) mark

@@ -36,13 +36,13 @@ no_mark x s n = both_fail (λ c. c == 46) is_exponent_letter x (no_dot x s) n
 
 exponent_is : (e x : List ℕ) → IsStrictExponent e → IsNumberSuffix x → digits_end_at (e ++ x) ≡ suffix_end_at x
 exponent_is e x p s =
-    let each = row_part p.row p.each in
-    let some = sym (some_value p.row) ∙ p.some in
-    ap digits_end_at (ap (λ z. z ++ x) p.text ∙ ap (λ z. p.letter ∷ z) (append_assoc p.sign p.row x))
-    ∙ digits_power p.letter (p.sign ++ (p.row ++ x)) p.is_letter
-    ∙ power_is p.sign p.row x true p.is_sign (λ e. row_bare p.row x each some) each some (no_row x s)
+    let each = row_part p.run p.each in
+    let some = sym (some_value p.run) ∙ p.some in
+    ap digits_end_at (ap (λ z. z ++ x) p.text ∙ ap (λ z. p.letter ∷ z) (append_assoc p.sign p.run x))
+    ∙ digits_power p.letter (p.sign ++ (p.run ++ x)) p.is_letter
+    ∙ power_is p.sign p.run x true p.is_sign (λ e. row_bare p.run x each some) each some (no_row x s)
 
--- it goes on with no row, and begins with no dot
+-- it goes on with no run, and begins with no dot
 exponent_front : (test : ℕ → Bool) (e x : List ℕ) (p : IsStrictExponent e) → test p.letter ≡ false
     → first_passes test (e ++ x) ≡ false
 exponent_front test e x p h = ap (λ z. first_passes test (z ++ x)) p.text ∙ h
@@ -98,20 +98,20 @@ float_passes t x v s =
 
 -- ---- an integer
 
-decimal_passes : (t x : List ℕ) (v : Contents) (s : StrictInt t v x) → s.prefix ≡ [] → IsDigits s.row
+decimal_passes : (t x : List ℕ) (v : Contents) (s : StrictInt t v x) → s.prefix ≡ [] → IsDigits s.run
     → IsDecimalText t → Passes number_end_at t
 decimal_passes t x v s p d n =
-    ap is_read (decimal_is t s.row x (not_based t n) (s.text ∙ ap (λ z. (z ++ s.row) ++ x) p) d (no_row x s.suffix)
+    ap is_read (decimal_is t s.run x (not_based t n) (s.text ∙ ap (λ z. (z ++ s.run) ++ x) p) d (no_row x s.suffix)
     ∙ whole_plain x (no_mark x s.suffix s.no_exponent)) ∙ suffix_is_read x s.suffix
 
 based_passes : (b : Base) (t x : List ℕ) (v : Contents) (s : StrictInt t v x) → b ≢ Decimal → s.prefix ≡ prefix b
     → s.base ≡ radix b → AllowsSuffix b x → Passes number_end_at t
 based_passes b t x v s n p base of =
-    let All : ℕ → Type 0 = λ r. list_all (λ c. has_value r c || is_underscore c) s.row ≡ true in
-    let Any : ℕ → Type 0 = λ r. list_any (has_value r) s.row ≡ true in
-    ap is_read (ap number_end_at (s.text ∙ ap (λ z. (z ++ s.row) ++ x) p)
-    ∙ based_is b s.row x n (subst All base s.each) (no_part b x (lenient_suffix x s.suffix) of)
-    ∙ row_plain b s.row x (subst Any base s.some) (no_digit x s.suffix) (no_mark x s.suffix s.no_exponent))
+    let All : ℕ → Type 0 = λ r. list_all (λ c. has_value r c || is_underscore c) s.run ≡ true in
+    let Any : ℕ → Type 0 = λ r. list_any (has_value r) s.run ≡ true in
+    ap is_read (ap number_end_at (s.text ∙ ap (λ z. (z ++ s.run) ++ x) p)
+    ∙ based_is b s.run x n (subst All base s.each) (no_part b x (lenient_suffix x s.suffix) of)
+    ∙ row_plain b s.run x (subst Any base s.some) (no_digit x s.suffix) (no_mark x s.suffix s.no_exponent))
     ∙ suffix_is_read x s.suffix
 
 int_passes : (t x : List ℕ) (v : Contents) → StrictInt t v x → Passes number_end_at t

@@ -135,7 +135,7 @@ pub strict_unit_cut : (kind : Kind) (k : FlawKind) (t rest : List ℕ) → Stric
 strict_unit_cut kind k t [] h = (t, sym (append-nil t))
 strict_unit_cut kind k t (c ∷ cs) h = let a = told kind k t c cs h in (a.front, a.text_is)
 
--- ---- rows of units
+-- ---- runs of units
 
 -- where no unit stands, the code takes none off
 pub none_left : (k : Kind) (t : List ℕ) → HasStrictUnits k → HasNoStrictUnit k t → unit_rest k t ≡ None

@@ -11,7 +11,7 @@ use Rattle.rl_reading.specs.Forms.{is_plain_body}
 use Rattle.rl_reading.specs.Founds.{IsQuotedAt, StandsIn, body_in, suffix_in}
 use Rattle.rl_reading.specs.Mirrors.OpenerAt.{found_opener, opener_at}
 use Rattle.rl_reading.specs.Mirrors.PlainAt.{is_some_text}
-use Rattle.rl_reading.specs.Rows.{BeginsRow, RowEnds}
+use Rattle.rl_reading.specs.UnitRuns.{BeginsRun, RunEnds}
 use Rattle.rl_reading.specs.StrictUnits.{BeginsStrictUnits, BreakEnds, BreaksEnd}
 use Rattle.rl_reading.proofs.FormLemmas.{cooked_found, single_found}
 use Rattle.rl_reading.proofs.FoundLemmas.{form_at}
@@ -101,7 +101,7 @@ cooked_open k f t closing piece rest s r stuck unquoted same is =
 pub record Lenient (k : Kind) (us : List StrictUnit) (rest : List ℕ) : Type 0 where
   pub units : List QuotedUnit
   pub each : AllByRecursion (IsUnit k) units
-  pub ends : RowEnds units rest
+  pub ends : RunEnds units rest
   pub text_is : texts units ≡ flat_map strict_text us
 
 seam : (test : ℕ → Bool) (a b : List ℕ) → first_passes test a ≡ false → first_passes test b ≡ false
@@ -139,14 +139,14 @@ lenient k (s ∷ us) x h b =
     }
 
 lenient_row : (k : Kind) (t closing x : List ℕ) → BeginsStrictUnits k t closing → closing ≡ 34 ∷ x
-    → (v : List ℕ) × BeginsRow k t v closing
+    → (v : List ℕ) × BeginsRun k t v closing
 lenient_row k t closing x r e =
     let l = lenient k r.units x r.each (subst (BreaksEnd r.units) e r.ends) in (
       values k l.units,
       record {
         units = l.units;
         each = l.each;
-        ends = subst (RowEnds l.units) (sym e) l.ends;
+        ends = subst (RunEnds l.units) (sym e) l.ends;
         text_is = r.text_is ∙ ap (λ z. z ++ closing) (sym l.text_is);
         value_is = refl;
       },

@@ -8,7 +8,7 @@ use Rattle.rl_text.specs.Texts.{is_continue, is_start}
 use Rattle.rl_forms.specs.Numbers.{is_power_sign}
 use Rattle.rl_forms.specs.Strict.{dec, IsDigits, IsDecimalText, IsNumberSuffix, BasedPrefix, StrictInt, IsStrictExponent, IsDotAlone, IsPointed, IsScientific, StrictFloat}
 use Rattle.rl_text.proofs.Basics.{digit_is_ten, hex_is_sixteen, passes_same}
-use Rattle.rl_reading.specs.Mirrors.NumberAt.{after_digits, after_power_sign, capped, digit_row_at, has_digit_at, has_value, magnitude_at, radix_at}
+use Rattle.rl_reading.specs.Mirrors.NumberAt.{after_digits, after_power_sign, capped, digit_run_at, has_digit_at, has_value, magnitude_at, radix_at}
 use Rattle.rl_reading.specs.Mirrors.PlainAt.{is_some_text}
 use Rattle.rl_reading.proofs.IntegerLemmas.{based, hex_stops, not_based}
 use Rattle.rl_reading.proofs.RunLemmas.{run_all, run_ends, run_join}
@@ -20,7 +20,7 @@ use Rattle.rl_strict.proofs.StrictWordLemmas.{number_suffix_sound}
 use Rattle.rl_reasons.specs.declared.flaws.FlawKind.{FlawKind}
 use Rattle.rl_reasons.specs.declared.flaws.FlawKind.TheVariants.{NoExponentDigit, BadSuffix, NoDigits, DigitOfBase, BasedFloat, NoFractionDigit}
 use Rattle.rl_reasons.specs.StrictFlawKinds.{goes_on_with_suffix, is_suffix_front}
-use Rattle.rl_reasons.specs.StrictNumberFlaws.{IsBasedRow, IsDigitFlaw, IsStrictFraction, is_float_mark}
+use Rattle.rl_reasons.specs.StrictNumberFlaws.{IsBasedRun, IsDigitFlaw, IsStrictFraction, is_float_mark}
 use Rattle.rl_reasons.specs.Mirrors.StrictFlawAt.{suffix_rest}
 use Rattle.rl_reasons.specs.Mirrors.NumberRead.{Ending, NumberRead, as_float, as_integer, based_read_at, digits_end_at, fraction_end_at, number_read_at, power_end_at, stopped, suffix_end_at, whole_read_at}
 use Rattle.rl_reasons.proofs.NumberEnds.{Fails, IsSign, Passes, SignCut, based_is, both_fail, digits_plain, digits_power, each_fails, end_of, fraction_is, fraction_none, front_digits, in_base, in_row, is_read, is_sign, names, names_none, number_end_at, of_base, part_row, power_is, row_bare, row_part, row_plain, row_tail, sign_cut, some_value, suffix_reads, suffix_whole, ten_first, ten_is, whole_digits, whole_dot, whole_end_at, whole_plain}
@@ -136,7 +136,7 @@ unfolding suffix_end_at
 suffix_judged before t u = cond_both (is_some_text (suffix_rest t)) _ _ (Judged (SuffixOf t) suffix_end_at before t)
     (suffix_flaw before t u) (λ none. (number_suffix_sound t (suffix_whole t u ∙ ap not none), refl))
 
--- after a row no underscore follows
+-- after a run no underscore follows
 no_mark : (test : ℕ → Bool) (t : List ℕ) → first_passes (λ c. test c || is_underscore c) t ≡ false
     → first_passes is_underscore t ≡ false
 no_mark test t h = (each_fails test is_underscore t h).1
@@ -160,9 +160,9 @@ sign_passes sign (inl e) = ap is_power_sign e
 sign_passes sign (inr (inl e)) = ap is_power_sign e
 sign_passes sign (inr (inr e)) = ap is_power_sign e
 
--- a row of a base without a digit is underscores
-underscores : (r : ℕ) (row : List ℕ) → list_all (λ c. has_value r c || is_underscore c) row ≡ true
-    → list_any (has_value r) row ≡ false → list_all is_underscore row ≡ true
+-- a run of a base without a digit is underscores
+underscores : (r : ℕ) (run : List ℕ) → list_all (λ c. has_value r c || is_underscore c) run ≡ true
+    → list_any (has_value r) run ≡ false → list_all is_underscore run ≡ true
 underscores r [] each none = refl
 underscores r (c ∷ cs) each none =
     let p = and_parts (has_value r c || is_underscore c) (list_all (λ c. has_value r c || is_underscore c) cs) each in
@@ -170,42 +170,42 @@ underscores r (c ∷ cs) each none =
     and_from (is_underscore c) (list_all is_underscore cs) (sym (ap (λ b. b || is_underscore c) n.0) ∙ p.0)
     (underscores r cs p.1 n.1)
 
--- a row before its end begins as what stands behind the sign
-row_sign : (row y : List ℕ) (c : ℕ) (cs e : List ℕ) → y ≡ c ∷ cs → first_passes is_sign (row ++ y) ≡ false
-    → first_passes is_sign (row ++ (c ∷ e)) ≡ false
+-- a run before its end begins as what stands behind the sign
+row_sign : (run y : List ℕ) (c : ℕ) (cs e : List ℕ) → y ≡ c ∷ cs → first_passes is_sign (run ++ y) ≡ false
+    → first_passes is_sign (run ++ (c ∷ e)) ≡ false
 row_sign [] y c cs e h n = sym (ap (first_passes is_sign) h) ∙ n
 row_sign (d ∷ ds) y c cs e h n = n
 
-empty_sign : (sign row y : List ℕ) → sign ++ row ≡ [] → (sign ≡ [] → first_passes is_sign (row ++ y) ≡ false)
+empty_sign : (sign run y : List ℕ) → sign ++ run ≡ [] → (sign ≡ [] → first_passes is_sign (run ++ y) ≡ false)
     → first_passes is_sign y ≡ false
 empty_sign [] [] y n h = h refl
 empty_sign [] (r ∷ rs) y n h = absurd (cc)
-empty_sign (s ∷ ss) row y n h = absurd (cc)
+empty_sign (s ∷ ss) run y n h = absurd (cc)
 
 -- no digit after the letter
-power_empty : (before cs sign row y : List ℕ) (c : ℕ) → BeforePower before → is_exponent_letter c ≡ true → IsSign sign
-    → list_all in_row row ≡ true → list_any (has_value 10) row ≡ false → first_passes in_row y ≡ false
-    → cs ≡ sign ++ (row ++ y) → (sign ≡ [] → first_passes is_sign (row ++ y) ≡ false)
+power_empty : (before cs sign run y : List ℕ) (c : ℕ) → BeforePower before → is_exponent_letter c ≡ true → IsSign sign
+    → list_all in_row run ≡ true → list_any (has_value 10) run ≡ false → first_passes in_row y ≡ false
+    → cs ≡ sign ++ (run ++ y) → (sign ≡ [] → first_passes is_sign (run ++ y) ≡ false)
     → TailFlaw digits_end_at before (c ∷ cs) NoExponentDigit y
 unfolding suffix_end_at suffix_rest
-power_empty before cs sign row y c b l s each none stops text bare =
-    let row_one : List ℕ = row ++ (49 ∷ []) in
-    let all : list_all in_row row_one ≡ true = list_all-append in_row row (49 ∷ [])
-    ∙ and_from (list_all in_row row) true each refl in
-    let some : list_any (has_value 10) row_one ≡ true = list_any-append (has_value 10) row (49 ∷ [])
-    ∙ or_right (list_any (has_value 10) row) true refl in
-    let one : digits_end_at (c ∷ ((sign ++ row) ++ (49 ∷ []))) ≡ suffix_end_at [] = digits_power c
-    ((sign ++ row) ++ (49 ∷ [])) l ∙ ap power_end_at (append_assoc sign row (49 ∷ [])
+power_empty before cs sign run y c b l s each none stops text bare =
+    let row_one : List ℕ = run ++ (49 ∷ []) in
+    let all : list_all in_row row_one ≡ true = list_all-append in_row run (49 ∷ [])
+    ∙ and_from (list_all in_row run) true each refl in
+    let some : list_any (has_value 10) row_one ≡ true = list_any-append (has_value 10) run (49 ∷ [])
+    ∙ or_right (list_any (has_value 10) run) true refl in
+    let one : digits_end_at (c ∷ ((sign ++ run) ++ (49 ∷ []))) ≡ suffix_end_at [] = digits_power c
+    ((sign ++ run) ++ (49 ∷ [])) l ∙ ap power_end_at (append_assoc sign run (49 ∷ [])
     ∙ ap (λ z. sign ++ z) (sym (append-nil row_one)))
     ∙ power_is sign row_one [] true s (λ e. row_bare row_one [] all some) all some refl in
     record {
       stops = record {
-        front = c ∷ (sign ++ row);
-        text_is = ap (λ z. c ∷ z) (text ∙ sym (append_assoc sign row y));
+        front = c ∷ (sign ++ run);
+        text_is = ap (λ z. c ∷ z) (text ∙ sym (append_assoc sign run y));
         begins = record { ending = 49 ∷ []; are_characters = (refl, tt); is_taken = ap is_read one };
-        stuck = λ d ds e h. ap is_read (digits_power c ((sign ++ row) ++ (d ∷ e)) l
-            ∙ ap power_end_at (append_assoc sign row (d ∷ e))
-            ∙ power_is sign row (d ∷ e) false s (λ n. row_sign row y d ds e h (bare n)) each none
+        stuck = λ d ds e h. ap is_read (digits_power c ((sign ++ run) ++ (d ∷ e)) l
+            ∙ ap power_end_at (append_assoc sign run (d ∷ e))
+            ∙ power_is sign run (d ∷ e) false s (λ n. row_sign run y d ds e h (bare n)) each none
             (sym (ap (first_passes in_row) h) ∙ stops));
       };
       fits = λ e. absurd (cc);
@@ -216,17 +216,17 @@ power_empty before cs sign row y c b l s each none stops text bare =
           fraction = b.fraction;
           letter = c;
           sign = sign;
-          underscores = row;
+          underscores = run;
           is_whole = b.is_whole;
           is_fraction = b.is_fraction;
           is_letter = l;
           is_sign = sign_passes sign s;
-          all_underscores = underscores 10 row each none;
-          front_is = ap (λ z. z ++ (c ∷ (sign ++ row))) b.before_is
-              ∙ append_assoc b.digits b.fraction (c ∷ (sign ++ row));
+          all_underscores = underscores 10 run each none;
+          front_is = ap (λ z. z ++ (c ∷ (sign ++ run))) b.before_is
+              ∙ append_assoc b.digits b.fraction (c ∷ (sign ++ run));
         },
         stops,
-        λ n. empty_sign sign row y n bare,
+        λ n. empty_sign sign run y n bare,
       );
     }
 
@@ -236,7 +236,7 @@ power_judged : (before cs : List ℕ) (c : ℕ) → BeforePower before → is_ex
 unfolding power_end_at
 power_judged before cs c b l = cond_both (has_digit_at 10 u) _ _
     (Judged (PowerOf (c ∷ cs)) digits_end_at before (c ∷ cs))
-    digits (λ none. power_empty before cs s.sign row y c b l s.is_sign_of each none stops text bare)
+    digits (λ none. power_empty before cs s.sign run y c b l s.is_sign_of each none stops text bare)
   where
     u : List ℕ
     u = after_power_sign cs
@@ -244,38 +244,38 @@ power_judged before cs c b l = cond_both (has_digit_at 10 u) _ _
     s : SignCut cs u
     s = sign_cut cs
 
-    row : List ℕ
-    row = digit_row_at 10 u
+    run : List ℕ
+    run = digit_run_at 10 u
 
     y : List ℕ
     y = after_digits 10 u
 
-    each : list_all in_row row ≡ true
+    each : list_all in_row run ≡ true
     each = run_all in_row u
 
     stops : first_passes in_row y ≡ false
     stops = run_ends in_row u
 
-    text : cs ≡ s.sign ++ (row ++ y)
+    text : cs ≡ s.sign ++ (run ++ y)
     text = s.text_is ∙ ap (λ z. s.sign ++ z) (run_join in_row u)
 
-    bare : s.sign ≡ [] → first_passes is_sign (row ++ y) ≡ false
+    bare : s.sign ≡ [] → first_passes is_sign (run ++ y) ≡ false
     bare e = ap (first_passes is_sign) (sym (run_join in_row u)) ∙ s.bare e
 
     front : List ℕ
-    front = c ∷ (s.sign ++ row)
+    front = c ∷ (s.sign ++ run)
 
     joined : c ∷ cs ≡ front ++ y
-    joined = ap (λ z. c ∷ z) (text ∙ sym (append_assoc s.sign row y))
+    joined = ap (λ z. c ∷ z) (text ∙ sym (append_assoc s.sign run y))
 
     digits : has_digit_at 10 u ≡ true → Judged (PowerOf (c ∷ cs)) digits_end_at before (c ∷ cs) (suffix_end_at y)
     digits some = through (SuffixOf y) (PowerOf (c ∷ cs)) suffix_end_at digits_end_at in_row before front y (c ∷ cs)
         (suffix_end_at y) joined stops
-        (λ x k. digits_power c ((s.sign ++ row) ++ x) l ∙ ap power_end_at (append_assoc s.sign row x)
-        ∙ power_is s.sign row x true s.is_sign_of (λ e. row_bare row x each some) each some k)
+        (λ x k. digits_power c ((s.sign ++ run) ++ x) l ∙ ap power_end_at (append_assoc s.sign run x)
+        ∙ power_is s.sign run x true s.is_sign_of (λ e. row_bare run x each some) each some k)
         (λ x h. (
           front,
-          record { letter = c; sign = s.sign; row = row; is_letter = l; is_sign = s.is_sign_of; each = part_row row each; some = some_value row ∙ some; text = refl },
+          record { letter = c; sign = s.sign; run = run; is_letter = l; is_sign = s.is_sign_of; each = part_row run each; some = some_value run ∙ some; text = refl },
           h.0,
           joined ∙ ap (λ z. front ++ z) h.1,
         ))
@@ -345,7 +345,7 @@ fraction_judged t before d (c ∷ cs) h n e text =
     z = c ∷ cs
 
     f : List ℕ
-    f = digit_row_at 10 z
+    f = digit_run_at 10 z
 
     y : List ℕ
     y = after_digits 10 z
@@ -394,7 +394,7 @@ int_judged : (t : List ℕ) (m : Option ℕ) (read : List ℕ → Ending) (befor
 int_judged t m read before u (None, x) h = h
 int_judged t m read before u (Some k, x) h = h
 
--- a row that begins with a digit has one
+-- a run that begins with a digit has one
 first_some : (d : List ℕ) → first_passes is_ascii_digit d ≡ true → list_any (has_value 10) d ≡ true
 first_some [] h = absurd (both_ways false refl h)
 first_some (c ∷ cs) h = or_left (has_value 10 c) (list_any (has_value 10) cs) (sym (digit_is_ten c) ∙ h)
@@ -408,7 +408,7 @@ int_of t d x m h n s p text is = (
   record {
     prefix = [];
     base = 10;
-    row = d;
+    run = d;
     is_front = inl (refl, refl, h, n);
     each = row_part d h.1;
     some = first_some d h.0;
@@ -486,7 +486,7 @@ read_through t inner outer first pre y u (Some k, m, x) text ok same h = subst (
 decimal_judged : (t : List ℕ) → first_passes is_ascii_digit t ≡ true → IsDecimalText t
     → ReadJudged t number_end_at [] t (whole_read_at (capped (magnitude_at 10 t)) (after_digits 10 t))
 decimal_judged t d n =
-    let w : List ℕ = digit_row_at 10 t in
+    let w : List ℕ = digit_run_at 10 t in
     let y : List ℕ = after_digits 10 t in
     let m : Option ℕ = capped (magnitude_at 10 t) in
     let is = front_digits t d in
@@ -506,7 +506,7 @@ one_of Octal = refl
 one_of Decimal = refl
 one_of Hexadecimal = refl
 
--- a digit completes any row
+-- a digit completes any run
 based_one : (b : Base) (w : List ℕ) → b ≢ Decimal → list_all (in_base b) w ≡ true
     → Passes number_end_at ((prefix b ++ w) ++ (49 ∷ []))
 unfolding suffix_end_at suffix_rest
@@ -574,11 +574,11 @@ based_first b c = in_base b c || (is_ascii_digit c || is_float_mark c)
 based_judged : (b : Base) (t w : List ℕ) → (radix b == 10) ≡ false → t ≡ prefix b ++ w
     → ReadJudged t number_end_at [] t (based_read_at (radix b) w)
 unfolding based_read_at
-based_judged b t w other text = go (first_passes is_ascii_digit y) refl (list_any (of_base b) row) refl
+based_judged b t w other text = go (first_passes is_ascii_digit y) refl (list_any (of_base b) run) refl
     (first_passes is_float_mark y) refl
   where
-    row : List ℕ
-    row = digit_row_at (radix b) w
+    run : List ℕ
+    run = digit_run_at (radix b) w
 
     y : List ℕ
     y = after_digits (radix b) w
@@ -589,35 +589,35 @@ based_judged b t w other text = go (first_passes is_ascii_digit y) refl (list_an
     n : b ≢ Decimal
     n e = both_ways (radix b == 10) other (ap (λ z. radix z == 10) e)
 
-    each : list_all (in_base b) row ≡ true
+    each : list_all (in_base b) run ≡ true
     each = run_all (in_base b) w
 
     stops : first_passes (in_base b) y ≡ false
     stops = run_ends (in_base b) w
 
-    whole : t ≡ (prefix b ++ row) ++ y
-    whole = text ∙ ap (λ z. prefix b ++ z) (run_join (in_base b) w) ∙ sym (append_assoc (prefix b) row y)
+    whole : t ≡ (prefix b ++ run) ++ y
+    whole = text ∙ ap (λ z. prefix b ++ z) (run_join (in_base b) w) ∙ sym (append_assoc (prefix b) run y)
 
-    is_row : IsBasedRow b row (prefix b ++ row)
-    is_row = record { not_decimal = n; each = each; front_is = refl }
+    is_run : IsBasedRun b run (prefix b ++ run)
+    is_run = record { not_decimal = n; each = each; front_is = refl }
 
     no_digit : first_passes (of_base b) y ≡ false
     no_digit = (each_fails (of_base b) is_underscore y stops).0
 
     flaw : (k : FlawKind) → (k ≡ BadSuffix → ⊥)
-        → (first_passes is_ascii_digit y || (not (list_any (of_base b) row) || first_passes is_float_mark y)) ≡ true
-        → Says k (prefix b ++ row) y → TailFlaw number_end_at [] t k y
+        → (first_passes is_ascii_digit y || (not (list_any (of_base b) run) || first_passes is_float_mark y)) ≡ true
+        → Says k (prefix b ++ run) y → TailFlaw number_end_at [] t k y
     flaw k not_suffix tests says = subst (λ z. TailFlaw number_end_at [] z k y) (sym whole)
-        (based_flaw b row y k n each stops not_suffix tests says)
+        (based_flaw b run y k n each stops not_suffix tests says)
 
-    read : list_any (of_base b) row ≡ true → first_passes is_float_mark y ≡ false → (x : List ℕ) → SuffixOf y x
+    read : list_any (of_base b) run ≡ true → first_passes is_float_mark y ≡ false → (x : List ℕ) → SuffixOf y x
         → IntOf t m x
     read some mark x s = (
-      place_value (radix b) (without_underscores row),
+      place_value (radix b) (without_underscores run),
       record {
         prefix = prefix b;
         base = radix b;
-        row = row;
+        run = run;
         is_front = inr (prefix_of b other);
         each = each;
         some = some;
@@ -625,41 +625,41 @@ based_judged b t w other text = go (first_passes is_ascii_digit y) refl (list_an
         no_exponent = sym (ap (first_passes is_exponent_letter) s.1)
             ∙ (each_fails (λ c. c == 46) is_exponent_letter y mark).1;
         no_digit = no_more_digits b x (sym (ap (first_passes (in_base b)) s.1) ∙ stops);
-        text = whole ∙ ap (λ z. (prefix b ++ row) ++ z) s.1;
+        text = whole ∙ ap (λ z. (prefix b ++ run) ++ z) s.1;
         contents = refl;
       },
       refl,
     )
 
-    suffix : first_passes is_ascii_digit y ≡ false → list_any (of_base b) row ≡ true
+    suffix : first_passes is_ascii_digit y ≡ false → list_any (of_base b) run ≡ true
         → first_passes is_float_mark y ≡ false → ReadJudged t number_end_at [] t (as_integer m (suffix_end_at y))
     suffix digit some mark =
         let Other : ℕ → Bool = λ c. is_ascii_digit c || is_float_mark c in
         int_judged t m number_end_at [] t (suffix_end_at y)
-        (through (SuffixOf y) (IntOf t m) suffix_end_at number_end_at (based_first b) [] (prefix b ++ row) y t
+        (through (SuffixOf y) (IntOf t m) suffix_end_at number_end_at (based_first b) [] (prefix b ++ run) y t
         (suffix_end_at y) whole (both_fail (in_base b) Other y stops
         (both_fail is_ascii_digit is_float_mark y digit mark))
         (λ x k.
         let p = each_fails (in_base b) Other x k in
         let q = each_fails is_ascii_digit is_float_mark x p.1 in
-        based_is b row x n each p.0 ∙ row_plain b row x some q.0 q.1) (read some mark)
-        (suffix_judged (prefix b ++ row) y (no_mark (of_base b) y stops)))
+        based_is b run x n each p.0 ∙ row_plain b run x some q.0 q.1) (read some mark)
+        (suffix_judged (prefix b ++ run) y (no_mark (of_base b) y stops)))
 
-    go : (d : Bool) → first_passes is_ascii_digit y ≡ d → (s : Bool) → list_any (of_base b) row ≡ s → (k : Bool)
+    go : (d : Bool) → first_passes is_ascii_digit y ≡ d → (s : Bool) → list_any (of_base b) run ≡ s → (k : Bool)
         → first_passes is_float_mark y ≡ k → ReadJudged t number_end_at [] t (cond d (as_float (stopped DigitOfBase y))
         (cond (not s) (as_float (stopped NoDigits y)) (cond k (as_float (stopped BasedFloat y))
         (as_integer m (suffix_end_at y)))))
     go true digit s some k mark = flaw DigitOfBase (λ e. absurd (cc))
-        (or_left (first_passes is_ascii_digit y) (not (list_any (of_base b) row) || first_passes is_float_mark y) digit)
-        (b, row, is_row, digit, no_digit)
+        (or_left (first_passes is_ascii_digit y) (not (list_any (of_base b) run) || first_passes is_float_mark y) digit)
+        (b, run, is_run, digit, no_digit)
     go false digit false none k mark = flaw NoDigits (λ e. absurd (cc))
-        (or_right (first_passes is_ascii_digit y) (not (list_any (of_base b) row) || first_passes is_float_mark y)
-        (or_left (not (list_any (of_base b) row)) (first_passes is_float_mark y) (ap not none)))
-        (b, row, is_row, underscores (radix b) row each none, both_fail is_ascii_digit (in_base b) y digit stops)
+        (or_right (first_passes is_ascii_digit y) (not (list_any (of_base b) run) || first_passes is_float_mark y)
+        (or_left (not (list_any (of_base b) run)) (first_passes is_float_mark y) (ap not none)))
+        (b, run, is_run, underscores (radix b) run each none, both_fail is_ascii_digit (in_base b) y digit stops)
     go false digit true some true mark = flaw BasedFloat (λ e. absurd (cc))
-        (or_right (first_passes is_ascii_digit y) (not (list_any (of_base b) row) || first_passes is_float_mark y)
-        (or_right (not (list_any (of_base b) row)) (first_passes is_float_mark y) mark))
-        (b, row, is_row, some, mark, no_digit)
+        (or_right (first_passes is_ascii_digit y) (not (list_any (of_base b) run) || first_passes is_float_mark y)
+        (or_right (not (list_any (of_base b) run)) (first_passes is_float_mark y) mark))
+        (b, run, is_run, some, mark, no_digit)
     go false digit true some false mark = suffix digit some mark
 
 -- ---- any number

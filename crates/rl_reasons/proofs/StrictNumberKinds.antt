@@ -9,25 +9,25 @@ use Rattle.rl_reading.specs.Mirrors.NumberAt.{has_value, radix_at, radix_of}
 use Rattle.rl_reading.proofs.FloatLemmas.{letter_no_dot}
 use Rattle.rl_reasons.specs.declared.flaws.FlawKind.{FlawKind}
 use Rattle.rl_reasons.specs.declared.flaws.FlawKind.TheVariants.{NoExponentDigit, NoDigits, DigitOfBase, BasedFloat, NoFractionDigit}
-use Rattle.rl_reasons.specs.StrictNumberFlaws.{EndsInPower, IsBasedRow, IsDigitFlaw, IsStrictFraction, is_float_mark}
+use Rattle.rl_reasons.specs.StrictNumberFlaws.{EndsInPower, IsBasedRun, IsDigitFlaw, IsStrictFraction, is_float_mark}
 use Rattle.rl_reasons.specs.Mirrors.NumberRead.{power_end_at, stopped}
 use Rattle.rl_reasons.proofs.NumberEnds.{IsSign, based_is, decimal_is, digits_power, each_fails, fraction_is, fraction_none, in_base, in_row, is_sign, names, number_end_at, of_base, power_is, row_part, row_tail, whole_digits, whole_dot, whole_end_at}
 
 -- ---- other bases
 
--- the end of the walk, after the prefix and a row, by its three tests
-row_is : (b : Base) (row front rest : List ℕ) (digit none mark : Bool) → IsBasedRow b row front
+-- the end of the walk, after the prefix and a run, by its three tests
+row_is : (b : Base) (run front rest : List ℕ) (digit none mark : Bool) → IsBasedRun b run front
     → first_passes (in_base b) rest ≡ false → first_passes is_ascii_digit rest ≡ digit
-    → not (list_any (of_base b) row) ≡ none → first_passes is_float_mark rest ≡ mark
+    → not (list_any (of_base b) run) ≡ none → first_passes is_float_mark rest ≡ mark
     → number_end_at (front ++ rest) ≡ row_tail digit none mark rest
-row_is b row front rest digit none mark r stops d n m =
-    ap number_end_at (ap (λ z. z ++ rest) r.front_is) ∙ based_is b row rest r.not_decimal r.each stops
-    ∙ ap (λ z. row_tail z (not (list_any (of_base b) row)) (first_passes is_float_mark rest) rest) d
+row_is b run front rest digit none mark r stops d n m =
+    ap number_end_at (ap (λ z. z ++ rest) r.front_is) ∙ based_is b run rest r.not_decimal r.each stops
+    ∙ ap (λ z. row_tail z (not (list_any (of_base b) run)) (first_passes is_float_mark rest) rest) d
     ∙ ap (λ z. row_tail digit z (first_passes is_float_mark rest) rest) n
     ∙ ap (λ z. row_tail digit none z rest) m
 
 -- underscores are no digits
-no_digits : (b : Base) (row : List ℕ) → list_all is_underscore row ≡ true → list_any (of_base b) row ≡ false
+no_digits : (b : Base) (run : List ℕ) → list_all is_underscore run ≡ true → list_any (of_base b) run ≡ false
 no_digits b [] h = refl
 no_digits b (c ∷ cs) h =
     let p = and_parts (is_underscore c) (list_all is_underscore cs) h in
@@ -62,7 +62,7 @@ mark_no_digit (c ∷ cs) h = false_from_ne_true (is_ascii_digit c) (λ d.
 
 -- ---- base ten
 
--- a float's mark is in no row, and names no base
+-- a float's mark is in no run, and names no base
 never_row : (c : ℕ) → is_float_mark c ≡ true → in_row c ≡ false
 never_row c h = elim (or_cases (c == 46) (is_exponent_letter c) h) [
   | inl a ↦ ap in_row (eqb-true c 46 a)
@@ -177,14 +177,14 @@ fraction_kind front (c ∷ cs) whole d e some n =
 -- the walk finds what a kind says
 pub digit_kind : (k : FlawKind) (front rest : List ℕ) → IsDigitFlaw k front rest
     → number_end_at (front ++ rest) ≡ stopped k rest
-digit_kind NoDigits front rest (b, row, r, marks, none) =
+digit_kind NoDigits front rest (b, run, r, marks, none) =
     let p = each_fails is_ascii_digit (in_base b) rest none in
-    row_is b row front rest false true (first_passes is_float_mark rest) r p.1 p.0 (ap not (no_digits b row marks)) refl
-digit_kind DigitOfBase front rest (b, row, r, digit, other) =
-    row_is b row front rest true (not (list_any (of_base b) row)) (first_passes is_float_mark rest) r
+    row_is b run front rest false true (first_passes is_float_mark rest) r p.1 p.0 (ap not (no_digits b run marks)) refl
+digit_kind DigitOfBase front rest (b, run, r, digit, other) =
+    row_is b run front rest true (not (list_any (of_base b) run)) (first_passes is_float_mark rest) r
     (row_ends b rest other (no_underscore is_ascii_digit rest refl digit)) digit refl refl
-digit_kind BasedFloat front rest (b, row, r, some, mark, other) =
-    row_is b row front rest false false true r (row_ends b rest other (no_underscore is_float_mark rest refl mark))
+digit_kind BasedFloat front rest (b, run, r, some, mark, other) =
+    row_is b run front rest false false true r (row_ends b rest other (no_underscore is_float_mark rest refl mark))
     (mark_no_digit rest mark) (ap not some) mark
 digit_kind NoFractionDigit front rest (whole, d, e, some, n) = fraction_kind front rest whole d e some n
 digit_kind NoExponentDigit front rest (p, stops, bare) = power_kind front rest p stops bare

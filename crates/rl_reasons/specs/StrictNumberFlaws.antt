@@ -8,7 +8,7 @@ use Prim.Native.Char.{code}
 use Rattle.rl_forms.specs.Numbers.{Base, Decimal, is_digit, is_exponent_letter, is_power_sign, prefix}
 use Rattle.rl_forms.specs.Reading.{truth_text}
 use Rattle.rl_forms.specs.Strict.{IsDigits}
-use Rattle.rl_text.specs.Texts.{first_passes, is_row_part, is_underscore}
+use Rattle.rl_text.specs.Texts.{first_passes, is_run_part, is_underscore}
 use Rattle.rl_reasons.specs.declared.flaws.FlawKind.{FlawKind}
 use Rattle.rl_reasons.specs.declared.flaws.FlawKind.TheVariants.{Empty, NoLiteral, Unfinished, NoExponentDigit, BadSuffix, Minus, NoDigits, DigitOfBase, BasedFloat, NoFractionDigit}
 use Rattle.rl_reasons.specs.FlawKinds.{Begins}
@@ -18,11 +18,11 @@ use Rattle.rl_strict.specs.StrictShapes.{IsToken}
 abbrev pub is_float_mark : ℕ → Bool
 is_float_mark c = c == code "." || is_exponent_letter c
 
--- The front is the prefix of another base than ten, and this row of digits of the base and underscores.
-pub record IsBasedRow (base : Base) (row front : List ℕ) : Type 0 where
+-- The front is the prefix of another base than ten, and this run of digits of the base and underscores.
+pub record IsBasedRun (base : Base) (run front : List ℕ) : Type 0 where
   pub not_decimal : base ≢ Decimal
-  pub each : IsTrue (list_all (is_row_part (is_digit base)) row)
-  pub front_is : front ≡ prefix base ++ row
+  pub each : IsTrue (list_all (is_run_part (is_digit base)) run)
+  pub front_is : front ≡ prefix base ++ run
 
 -- nothing, or a dot and digits
 abbrev pub IsStrictFraction : List ℕ → Type 0
@@ -47,19 +47,19 @@ pub record EndsInPower (front : List ℕ) : Type 0 where
 -- the base lacks; a dot or an exponent after digits of a base; no digit after the dot; none in the exponent.
 abbrev pub IsDigitFlaw : FlawKind → List ℕ → List ℕ → Type 0
 IsDigitFlaw NoDigits front rest =
-    (base : Base) × (row : List ℕ) × IsBasedRow base row front × IsTrue (list_all is_underscore row)
-    × IsFalse (first_passes (λ c. is_ascii_digit c || is_row_part (is_digit base) c) rest)
+    (base : Base) × (run : List ℕ) × IsBasedRun base run front × IsTrue (list_all is_underscore run)
+    × IsFalse (first_passes (λ c. is_ascii_digit c || is_run_part (is_digit base) c) rest)
 IsDigitFlaw DigitOfBase front rest =
-    (base : Base) × (row : List ℕ) × IsBasedRow base row front × Begins is_ascii_digit rest
+    (base : Base) × (run : List ℕ) × IsBasedRun base run front × Begins is_ascii_digit rest
     × IsFalse (first_passes (is_digit base) rest)
 IsDigitFlaw BasedFloat front rest =
-    (base : Base) × (row : List ℕ) × IsBasedRow base row front × IsTrue (list_any (is_digit base) row)
+    (base : Base) × (run : List ℕ) × IsBasedRun base run front × IsTrue (list_any (is_digit base) run)
     × Begins is_float_mark rest × IsFalse (first_passes (is_digit base) rest)
 IsDigitFlaw NoFractionDigit front rest =
     (whole : List ℕ) × IsDigits whole × (front ≡ whole ++ codes ".") × (rest ≢ [])
     × IsFalse (first_passes is_ascii_digit rest)
 IsDigitFlaw NoExponentDigit front rest =
-    (power : EndsInPower front) × IsFalse (first_passes (is_row_part (is_digit Decimal)) rest)
+    (power : EndsInPower front) × IsFalse (first_passes (is_run_part (is_digit Decimal)) rest)
     × (power.sign ++ power.underscores ≡ [] → IsFalse (first_passes (λ c. is_power_sign (c ∷ [])) rest))
 IsDigitFlaw kind front rest = ⊥
 

@@ -9,7 +9,7 @@ ghost use Rattle.rl_reasons.specs.StrictRead.{IsSignedRead};
 
 use crate::flaws::{Flaw, FlawKind, make_flaw};
 use crate::strict_reading::{Reading, read_signed};
-use rl_reading::digit_rows::{after_minus, begins_digit, skip_row};
+use rl_reading::digit_runs::{after_minus, begins_digit, skip_digits};
 
 /// The place of the suffix, where the reading is an integer past 128 bits.
 pub fn past_at(reading: Reading) -> Option<usize>
@@ -35,7 +35,7 @@ pub fn is_float_by_suffix(text: &str) -> bool
 {
     let number = after_minus(text);
     if begins_digit(number) {
-        is_float_suffix(skip_row(number).rest)
+        is_float_suffix(skip_digits(number).rest)
     } else {
         false
     }

@@ -14,7 +14,7 @@ ghost use Rattle.rl_reasons.specs.Mirrors.SuffixRead.{is_suffix_byte};
 ghost use Rattle.rl_reasons.specs.Mirrors.NumberRead.{based_read_at, digits_end_at, fraction_end_at, number_outcome, number_read_at, outcome, power_end_at, suffix_end_at, whole_read_at};
 
 use crate::flaws::FlawKind;
-use rl_reading::digit_rows::{DigitRow, begins_digit, read_row, skip_row};
+use rl_reading::digit_runs::{DigitRun, begins_digit, read_digit_run, skip_digits};
 use rl_reading::number_forms::split_radix;
 use rl_text::characters::is_start;
 use rl_text::classes::{CharClass, skip_class};
@@ -121,13 +121,13 @@ fn read_power(text: &str) -> Result<&str, Stop<'_>>
     ensures value { outcome (λ x. chars x.now) result ≡ power_end_at (chars text.now) }
     ensures following { IfOk result (λ x. IsTail text.now x.now) }
 {
-    let row = skip_row(after_sign(text));
-    if row.has_digit {
-        read_suffix(row.rest)
+    let run = skip_digits(after_sign(text));
+    if run.has_digit {
+        read_suffix(run.rest)
     } else {
         Err(Stop {
             kind: FlawKind::NoExponentDigit,
-            rest: row.rest,
+            rest: run.rest,
         })
     }
 }
@@ -155,7 +155,7 @@ fn read_fraction(text: &str) -> Result<&str, Stop<'_>>
     if text.is_empty() {
         Ok(text)
     } else if begins_digit(text) {
-        read_exponent(skip_row(text).rest)
+        read_exponent(skip_digits(text).rest)
     } else {
         Err(Stop {
             kind: FlawKind::NoFractionDigit,
@@ -164,17 +164,17 @@ fn read_fraction(text: &str) -> Result<&str, Stop<'_>>
     }
 }
 
-/// The number whose whole part, in base ten, is this row.
+/// The number whose whole part, in base ten, is this run.
 #[inline(always)]
 #[tactic(auto, using(rl_text::proofs::TailLemmas::ok_tail, rl_text::proofs::TailLemmas::tail_step, rl_text::proofs::TailLemmas::tail_self), unfolding(crate::specs::Mirrors::NumberRead::whole_read_at))]
-fn read_whole(row: DigitRow<'_>) -> Result<Number<'_>, Stop<'_>>
-    ensures value { number_outcome result ≡ whole_read_at row.entry.magnitude (chars row.entry.rest.now) }
-    ensures following { IfOk result (λ n. IsTail row.entry.rest.now (suffix_of n)) }
+fn read_whole(run: DigitRun<'_>) -> Result<Number<'_>, Stop<'_>>
+    ensures value { number_outcome result ≡ whole_read_at run.entry.magnitude (chars run.entry.rest.now) }
+    ensures following { IfOk result (λ n. IsTail run.entry.rest.now (suffix_of n)) }
 {
-    match split_ascii(row.rest) {
+    match split_ascii(run.rest) {
         Some((b'.', fraction)) => Ok(Number::Float(read_fraction(fraction)?)),
         Some((b'e' | b'E', power)) => Ok(Number::Float(read_power(power)?)),
-        _ => Ok(Number::Integer(row.magnitude, read_suffix(row.rest)?)),
+        _ => Ok(Number::Integer(run.magnitude, read_suffix(run.rest)?)),
     }
 }
 
@@ -193,14 +193,14 @@ fn read_based(radix: u32, text: &str) -> Result<Number<'_>, Stop<'_>>
     ensures value { number_outcome result ≡ based_read_at radix (chars text.now) }
     ensures following { IfOk result (λ n. IsTail text.now (suffix_of n)) }
 {
-    let row = read_row(text, radix);
-    let rest = row.rest;
+    let run = read_digit_run(text, radix);
+    let rest = run.rest;
     if begins_digit(rest) {
         Err(Stop {
             kind: FlawKind::DigitOfBase,
             rest,
         })
-    } else if !row.has_digit {
+    } else if !run.has_digit {
         Err(Stop {
             kind: FlawKind::NoDigits,
             rest,
@@ -211,7 +211,7 @@ fn read_based(radix: u32, text: &str) -> Result<Number<'_>, Stop<'_>>
             rest,
         })
     } else {
-        Ok(Number::Integer(row.magnitude, read_suffix(rest)?))
+        Ok(Number::Integer(run.magnitude, read_suffix(rest)?))
     }
 }
 
@@ -224,7 +224,7 @@ pub fn read_digits(text: &str) -> Result<Number<'_>, Stop<'_>>
 {
     let (radix, digits) = split_radix(text);
     if radix == 10 {
-        read_whole(read_row(digits, 10))
+        read_whole(read_digit_run(digits, 10))
     } else {
         read_based(radix, digits)
     }

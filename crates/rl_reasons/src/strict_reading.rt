@@ -19,7 +19,7 @@ use crate::read_numbers::{Number, Stop, read_number};
 use crate::read_quoted::{Single, read_cooked, read_raw, read_single};
 use crate::strict_flaws::word_flaw;
 use rl_forms::Kind;
-use rl_reading::digit_rows::begins_digit;
+use rl_reading::digit_runs::begins_digit;
 use rl_reading::quoted_forms::{QuotedForm, split_opener};
 use rl_reading::units::is_bare_character;
 use rl_reading::{Body, truth_of};

@@ -149,8 +149,8 @@ pub hashes_taken : (front : List ℕ) (t quote body : List ℕ) → IsUtf8 front
     → quote ≡ after_run is_hash t → quote ≡ 34 ∷ body → 114 ∷ t ≡ 114 ∷ hashed (length front) body
 hashes_taken front t quote body u cut past is =
     let n = hashes t in
-    let row : chars front ≡ replicate n 35 = hashes_before (chars front) t quote past cut in
-    let count : length front ≡ n = sym (ap length (encodes-chars front u)) ∙ ap (λ z. length (encode_utf8_all z)) row
+    let run : chars front ≡ replicate n 35 = hashes_before (chars front) t quote past cut in
+    let count : length front ≡ n = sym (ap length (encodes-chars front u)) ∙ ap (λ z. length (encode_utf8_all z)) run
     ∙ hash_bytes n in
-    let whole : t ≡ hashed n body = cut ∙ ap (λ z. z ++ quote) row ∙ ap (λ z. replicate n 35 ++ z) is in
+    let whole : t ≡ hashed n body = cut ∙ ap (λ z. z ++ quote) run ∙ ap (λ z. replicate n 35 ++ z) is in
     ap (λ z. 114 ∷ z) (whole ∙ ap (λ k. hashed k body) (sym count))

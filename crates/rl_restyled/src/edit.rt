@@ -3,7 +3,7 @@
 use rl_lexer::LexError;
 use std::alloc::{Allocator, Global};
 
-/// Which literals inside of macro calls, macros' definitions and attributes are written anew: a macro may see how they are written.
+/// Which literals inside of macro calls, `macro_rules!` and attributes are written anew: a macro may see how they are written.
 #[derive(Clone, Copy)]
 pub enum Macros {
     /// None.

@@ -32,8 +32,8 @@ fn finished<A: Allocator>(source: &str, draft: Draft<A>) -> Result<Restyled<A>, 
 }
 
 /// The source in the style, and what is new in it: each literal that the style writes otherwise. As they are stay literals that Rust
-/// rejects, numbers after one dot, which may be fields (`t.0`), and with `Macros::Skip` what stands inside of macro calls, macros'
-/// definitions and attributes. The new text is cut into the same tokens, but for what was written, which is of the same kind.
+/// rejects, numbers after one dot, which may be fields (`t.0`), and with `Macros::Skip` what stands inside of macro calls,
+/// `macro_rules!` and attributes. The new text is cut into the same tokens, but for what was written, which is of the same kind.
 ///
 /// # Errors
 ///

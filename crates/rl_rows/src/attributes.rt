@@ -3,7 +3,7 @@
 use crate::tell::{HERE, ToRow, place, put, tell, tell_error, tell_line};
 use rl_attributes::{Attrs, Setting, SettingError, read};
 use rl_failing::Page;
-use rl_program::Refusal;
+use rl_program::Rejection;
 use rl_tokens::Error;
 use rust_literals::{Lit, LitStr};
 use std::alloc::Global;
@@ -47,7 +47,7 @@ fn tell_inside(answer: Result<Attrs, Error>, page: &mut Page) {
     match answer {
         Ok(attrs) => put(attrs, page),
         Err(error) => {
-            page.show(&Refusal(&error), "\n");
+            page.show(&Rejection(&error), "\n");
             drop(error)
         }
     }

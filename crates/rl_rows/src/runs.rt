@@ -3,7 +3,7 @@
 
 use crate::calls;
 use crate::streams::{Input, Output, Streams};
-use rl_commands::{Fault, call};
+use rl_commands::{ProgramError, call};
 use rl_failing::Page;
 use rl_program::{Ending, RunError};
 use rl_tokens::{Error, ErrorKind, Span};
@@ -126,19 +126,19 @@ fn put_ending<E: RunError + Drop>(held: &[u8], ending: Ending<E>, out: &mut Page
 }
 
 /// Prints how a call ends whose run fails.
-fn put_failed(fault: Fault, out: &mut Page) {
-    put_ending(&[], Ending::Failed(fault), out)
+fn put_failed(error: ProgramError, out: &mut Page) {
+    put_ending(&[], Ending::Failed(error), out)
 }
 
 /// Prints how a call ends whose run fails, of each kind of error.
 fn endings(out: &mut Page) {
-    put_failed(Fault::Read, out);
-    put_failed(Fault::Write, out);
-    put_failed(Fault::NotText, out);
-    put_failed(Fault::Memory, out);
+    put_failed(ProgramError::Read, out);
+    put_failed(ProgramError::Write, out);
+    put_failed(ProgramError::NotText, out);
+    put_failed(ProgramError::Memory, out);
     let error = Error {
         span: Span::new(0, 2, 5),
         kind: ErrorKind::TooLarge,
     };
-    put_failed(Fault::Literal(error), out)
+    put_failed(ProgramError::Literal(error), out)
 }

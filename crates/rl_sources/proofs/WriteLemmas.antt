@@ -5,11 +5,11 @@ use Rattle.rl_text.specs.Texts.{byte_len}
 use Rattle.rl_lexer.specs.Cursors.{CursorState}
 use Rattle.rl_lexer.specs.declared.lex_error.LexKind.{LexKind}
 use Rattle.rl_program.specs.Streams.{AppendsBeginning}
-use Rattle.rl_program.specs.declared.fault.Fault.{Fault as RunFault}
-use Rattle.rl_program.specs.declared.fault.Fault.TheVariants.{Write}
+use Rattle.rl_program.specs.declared.program_error.ProgramError.{ProgramError}
+use Rattle.rl_program.specs.declared.program_error.ProgramError.TheVariants.{Write}
 use Rattle.rl_sources.specs.declared.options.Options.{Options}
 use Rattle.rl_output.specs.declared.place.Place.{Place}
-use Rattle.rl_sources.specs.declared.scan_error.ScanError.TheVariants.{Fault, Source}
+use Rattle.rl_sources.specs.declared.scan_error.ScanError.TheVariants.{Program, Source}
 use Rattle.rl_sources.specs.declared.step.Step.{Step}
 use Rattle.rl_sources.specs.declared.step.Step.TheVariants.{More, End, Error}
 use Rattle.std.proofs.lemmas.Bool.{false≢true}
@@ -27,12 +27,12 @@ of_text options text old rest piece same adds = subst (λ (t : List ℕ). Adds o
 
 -- the write of the lines failed
 pub write_fails : {A : Type 0} (options : Options) (text lines : List ℕ) (old new : CursorState) (places : List ℕ)
-    (step : Step) (any : Bool) (out mid after : Option (List ℕ)) (fault : RunFault A) → old.text ≡ text
+    (step : Step) (any : Bool) (out mid after : Option (List ℕ)) (error : ProgramError A) → old.text ≡ text
     → HasWritten options (chars text) (chars old.rest) any out mid → IsStepOf options old (chars lines) new places step
-    → IsUtf8 lines → (fault ≡ Write) × AppendsBeginning mid after lines
-    → FailsTokens {A = A} options (chars text) out after (Fault fault)
-write_fails {A = A} options text lines old new places step any out mid after fault same has is utf8 (fault_is, begins) =
-    subst (λ (f : RunFault A). FailsTokens {A = A} options (chars text) out after (Fault f)) (sym fault_is)
+    → IsUtf8 lines → (error ≡ Write) × AppendsBeginning mid after lines
+    → FailsTokens {A = A} options (chars text) out after (Program error)
+write_fails {A = A} options text lines old new places step any out mid after error same has is utf8 (error_is, begins) =
+    subst (λ (f : ProgramError A). FailsTokens {A = A} options (chars text) out after (Program f)) (sym error_is)
     (written_beginning options (chars text) (chars old.rest) lines any out mid after has
     (subst (λ (t : List ℕ). ShowsOn options (chars t) (chars old.rest) (chars lines)) same
     (step_shows options old (chars lines) new places step is)) utf8 begins)
@@ -99,10 +99,10 @@ hidden_written options text lines empty old new utf8 shows empty_is appends = (
 
 -- a write failed
 pub hidden_unwritten : {A : Type 0} (options : Options) (text lines : List ℕ) (old new : Option (List ℕ))
-    (fault : RunFault A) → IsUtf8 lines → ShowsHidden options text (chars lines)
-    → (fault ≡ Write) × AppendsBeginning old new lines → FailsHidden {A = A} options text old new (Fault fault)
-hidden_unwritten {A = A} options text lines old new fault utf8 shows (fault_is, begins) =
-    subst (λ (f : RunFault A). FailsHidden {A = A} options text old new (Fault f)) (sym fault_is) (
+    (error : ProgramError A) → IsUtf8 lines → ShowsHidden options text (chars lines)
+    → (error ≡ Write) × AppendsBeginning old new lines → FailsHidden {A = A} options text old new (Program error)
+hidden_unwritten {A = A} options text lines old new error utf8 shows (error_is, begins) =
+    subst (λ (f : ProgramError A). FailsHidden {A = A} options text old new (Program f)) (sym error_is) (
       chars lines,
       shows,
       subst (λ (z : List ℕ). AppendsBeginning old new z) (sym (encodes-chars lines utf8)) begins,

@@ -20,7 +20,7 @@ use Rattle.rl_file_reasons.specs.FileTexts.{lf_text}
 use Rattle.rl_lines.specs.Lines.{IsLineOf, IsLabelOf, Joins}
 use Rattle.rl_files.specs.Visible.{visible, visible_lines}
 use Rattle.rl_program.specs.Streams.{AppendsBeginning}
-use Rattle.rl_program.specs.declared.fault.Fault.TheVariants.{Write, Memory}
+use Rattle.rl_program.specs.declared.program_error.ProgramError.TheVariants.{Write, Memory}
 use Rattle.rl_lexer.specs.LexErrors.{lex_message}
 use Rattle.rl_output.specs.declared.color.Paint.TheVariants as paint
 use Rattle.rl_output.specs.declared.form.Form.{Form}
@@ -38,7 +38,7 @@ use Rattle.rl_sources.specs.declared.options.Options.{Options}
 use Rattle.rl_sources.specs.declared.options.Shown.{Shown}
 use Rattle.rl_sources.specs.declared.options.Shown.TheVariants as asked
 use Rattle.rl_sources.specs.declared.scan_error.ScanError.{ScanError}
-use Rattle.rl_sources.specs.declared.scan_error.ScanError.TheVariants.{Fault, Source}
+use Rattle.rl_sources.specs.declared.scan_error.ScanError.TheVariants.{Program, Source}
 use Rattle.rl_output.specs.Spots.{bytes_before}
 use Rattle.rl_sources.specs.Findings.{AreFlawsLeft, IsBad, IsFlawFinding, IsFoundIn, IsLimitFinding, IsPieceOf, IsRight, IsWholeFinding, IsWrong, reason_id, reason_message}
 use Rattle.rl_sources.specs.declared.finding.Finding.{Finding}
@@ -339,22 +339,22 @@ abbrev pub FailsTokens : {A : Type 0} → Options → List ℕ → Option (List 
 FailsTokens options whole old new (Source place kind) =
     (shown : List ℕ) × StopsAtError options whole shown place kind
     × Appends old new (encode_utf8_all shown)
-FailsTokens options whole old new (Fault Memory) =
+FailsTokens options whole old new (Program Memory) =
     (shown : List ℕ) × ShowsFront options whole shown × Appends old new (encode_utf8_all shown)
-FailsTokens options whole old new (Fault Write) =
+FailsTokens options whole old new (Program Write) =
     (shown : List ℕ) × ShowsPart options whole shown
     × AppendsBeginning old new (encode_utf8_all shown)
-FailsTokens options whole old new (Fault _) = ⊥
+FailsTokens options whole old new (Program _) = ⊥
 
 -- What was written of what turns or hides text: nothing where an allocation failed; a beginning where a
 -- write failed. It has no errors of the source.
 abbrev pub FailsHidden : {A : Type 0} → Options → List ℕ → Option (List ℕ) → Option (List ℕ)
     → ScanError A → Type 0
 FailsHidden options whole old new (Source place kind) = ⊥
-FailsHidden options whole old new (Fault Memory) = Keeps old new
-FailsHidden options whole old new (Fault Write) =
+FailsHidden options whole old new (Program Memory) = Keeps old new
+FailsHidden options whole old new (Program Write) =
     (shown : List ℕ) × ShowsHidden options whole shown × AppendsBeginning old new (encode_utf8_all shown)
-FailsHidden options whole old new (Fault _) = ⊥
+FailsHidden options whole old new (Program _) = ⊥
 
 -- The same of what is asked for.
 abbrev pub FailsFor : {A : Type 0} → Shown → Options → List ℕ → Option (List ℕ) → Option (List ℕ)

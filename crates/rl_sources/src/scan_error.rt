@@ -4,7 +4,7 @@ ghost use Rattle.std.specs.Prelude.{Some};
 ghost use Rattle.rl_sources.specs.ScanErrors.{scan_error_line};
 
 use rl_output::Place;
-use rl_program::{Fault, RunError};
+use rl_program::{ProgramError, RunError};
 use rl_tokens::LexKind;
 use std::alloc::{Allocator, Global};
 use std::fmt;
@@ -13,7 +13,7 @@ use std::fmt;
 #[derive(Drop)]
 pub enum ScanError<A: Allocator = Global> {
     /// An allocation or a write failed; in a run also a read, or the input isn't UTF-8.
-    Fault(Fault<A>),
+    Program(ProgramError<A>),
     /// An error of the source, at a place: a quote or a comment that isn't closed, or a stray
     /// character where one ends the source.
     Source(Place, LexKind),
@@ -27,7 +27,7 @@ impl<A: Allocator> RunError for ScanError<A> {
 
     fn status(&self) -> u8 {
         match self {
-            ScanError::Fault(fault) => fault.status(),
+            ScanError::Program(error) => error.status(),
             ScanError::Source(_, _) => 1,
         }
     }
@@ -39,7 +39,7 @@ impl<A: Allocator> fmt::Display for ScanError<A> {
 
     fn fmt<W: fmt::Write>(&self, f: &mut fmt::Formatter<W>) -> fmt::Result {
         match self {
-            ScanError::Fault(fault) => write!(f, "{fault}"),
+            ScanError::Program(error) => write!(f, "{error}"),
             ScanError::Source(place, kind) => write!(f, "error at {place}: {kind}"),
         }
     }

@@ -9,7 +9,7 @@ use crate::options::{Options, Shown};
 use crate::scan_error::ScanError;
 use crate::step::{Step, gather};
 use rl_output::Places;
-use rl_program::{Fault, write_whole};
+use rl_program::{ProgramError, write_whole};
 use rl_tokens::Sources;
 use std::alloc::Allocator;
 use std::io::Write;
@@ -39,11 +39,11 @@ fn scan_tokens<A: Allocator + Copy, W: Write>(
     let mut any = false;
     loop {
         let Ok(step) = gather(alloc, options, &mut tokens, &mut places, &mut lines) else {
-            return Err(ScanError::Fault(Fault::Memory));
+            return Err(ScanError::Program(ProgramError::Memory));
         };
         match write_whole(out, lines.as_bytes()) {
             Ok(()) => {}
-            Err(fault) => return Err(ScanError::Fault(fault)),
+            Err(error) => return Err(ScanError::Program(error)),
         }
         any = is_any(any, lines.as_bytes());
         lines.clear();
@@ -68,12 +68,12 @@ fn scan_hidden<A: Allocator + Copy, W: Write>(
         (FailsHidden options.entry (chars text.now) (W.contents out.old) (W.contents out.new)) }
 {
     let Ok(lines) = hidden_lines(alloc, &options, text) else {
-        return Err(ScanError::Fault(Fault::Memory));
+        return Err(ScanError::Program(ProgramError::Memory));
     };
     let written = write_whole(out, lines.as_bytes());
     match written {
         Ok(()) => Ok(!lines.as_bytes().is_empty()),
-        Err(fault) => Err(ScanError::Fault(fault)),
+        Err(error) => Err(ScanError::Program(error)),
     }
 }
 

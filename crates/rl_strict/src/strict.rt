@@ -77,7 +77,7 @@ fn skip_bare(kind: Kind, text: &str) -> &str
 #[inline(always)]
 fn skip_units_of(kind: Kind, text: &str) -> &str
     requires { IsTrue (is_string kind) }
-    ensures row { BeginsStrictUnits kind (chars text.now) (chars result.now) }
+    ensures run { BeginsStrictUnits kind (chars text.now) (chars result.now) }
     ensures same { ClosesUnits kind (chars result.now) ↔ ClosesUnits kind (chars text.now) }
     ensures stuck { unit_rest kind (chars result.now) ≡ None }
 {
@@ -92,7 +92,7 @@ fn skip_units_of(kind: Kind, text: &str) -> &str
 #[inline(never)]
 pub fn skip_units(kind: Kind, text: &str) -> &str
     requires { IsTrue (is_string kind) }
-    ensures row { BeginsStrictUnits kind (chars text.now) (chars result.now) }
+    ensures run { BeginsStrictUnits kind (chars text.now) (chars result.now) }
     ensures same { ClosesUnits kind (chars result.now) ↔ ClosesUnits kind (chars text.now) }
     ensures stuck { unit_rest kind (chars result.now) ≡ None }
 {

@@ -3,7 +3,7 @@ use Rattle.rl_text.proofs.Common.{◌≡◌, ℕ, ◌+◌, ◌-◌, ◌<◌, ◌
 use Rattle.std.specs.Prelude.{Option}
 use Rattle.std.proofs.Math.Utf8.{scalars}
 use Rattle.std.proofs.lemmas.Bool.{lt-leb}
-use Rattle.rl_text.specs.Texts.{is_row_part}
+use Rattle.rl_text.specs.Texts.{is_run_part}
 use Rattle.rl_forms.specs.Spelling.{place_value, without_underscores}
 use Rattle.rl_style.specs.declared.style.Case.{Case}
 use Rattle.rl_style.specs.declared.style.Case.TheVariants.{Lower, Upper}
@@ -50,25 +50,25 @@ cased_underscore case c =
     low (Some Upper) c a = agree_below_at (λ c. upper_case c == 95) (λ c. c == 95) 128 c refl a
     low (Some Lower) c a = agree_below_at (λ c. lower_case c == 95) (λ c. c == 95) 128 c refl a
 
--- ---- rows
+-- ---- runs
 
-part_same : (case : Option Case) (base c : ℕ) → is_row_part (λ c. nat_lt (digit_value c) base) (cased case c)
-    ≡ is_row_part (λ c. nat_lt (digit_value c) base) c
+part_same : (case : Option Case) (base c : ℕ) → is_run_part (λ c. nat_lt (digit_value c) base) (cased case c)
+    ≡ is_run_part (λ c. nat_lt (digit_value c) base) c
 part_same case base c =
     ap (λ v. nat_lt v base || (cased case c == 95)) (cased_value case c)
     ∙ ap (λ b. nat_lt (digit_value c) base || b) (cased_underscore case c)
 
-pub row_cased : (case : Option Case) (base : ℕ) (row : List ℕ)
-    → list_all (is_row_part (λ c. nat_lt (digit_value c) base)) (map (cased case) row)
-    ≡ list_all (is_row_part (λ c. nat_lt (digit_value c) base)) row
+pub row_cased : (case : Option Case) (base : ℕ) (run : List ℕ)
+    → list_all (is_run_part (λ c. nat_lt (digit_value c) base)) (map (cased case) run)
+    ≡ list_all (is_run_part (λ c. nat_lt (digit_value c) base)) run
 row_cased case base [] = refl
 row_cased case base (c ∷ cs) =
-    ap (λ b. b && list_all (is_row_part (λ c. nat_lt (digit_value c) base)) (map (cased case) cs))
+    ap (λ b. b && list_all (is_run_part (λ c. nat_lt (digit_value c) base)) (map (cased case) cs))
     (part_same case base c)
-    ∙ ap (λ b. is_row_part (λ c. nat_lt (digit_value c) base) c && b) (row_cased case base cs)
+    ∙ ap (λ b. is_run_part (λ c. nat_lt (digit_value c) base) c && b) (row_cased case base cs)
 
-pub some_cased : (case : Option Case) (base : ℕ) (row : List ℕ) → list_any (λ c. nat_lt (digit_value c) base)
-    (map (cased case) row) ≡ list_any (λ c. nat_lt (digit_value c) base) row
+pub some_cased : (case : Option Case) (base : ℕ) (run : List ℕ) → list_any (λ c. nat_lt (digit_value c) base)
+    (map (cased case) run) ≡ list_any (λ c. nat_lt (digit_value c) base) run
 some_cased case base [] = refl
 some_cased case base (c ∷ cs) =
     ap (λ v. nat_lt v base || list_any (λ c. nat_lt (digit_value c) base) (map (cased case) cs)) (cased_value case c)
@@ -99,10 +99,10 @@ pub spelled_cased : (case : Option Case) (base : ℕ) (ds : List ℕ) → place_
 spelled_cased case base [] = refl
 spelled_cased case base (d ∷ ds) = rw (cased_value case d, length_cased case ds, spelled_cased case base ds) refl
 
-pub number_cased : (case : Option Case) (base : ℕ) (row : List ℕ) → place_value base
-    (without_underscores (map (cased case) row)) ≡ place_value base (without_underscores row)
-number_cased case base row = ap (place_value base) (bare_cased case row)
-    ∙ spelled_cased case base (without_underscores row)
+pub number_cased : (case : Option Case) (base : ℕ) (run : List ℕ) → place_value base
+    (without_underscores (map (cased case) run)) ≡ place_value base (without_underscores run)
+number_cased case base run = ap (place_value base) (bare_cased case run)
+    ∙ spelled_cased case base (without_underscores run)
 
 -- ---- once is enough
 

@@ -32,13 +32,13 @@ fewest_value [] = refl
 fewest_value (d ∷ []) = refl
 fewest_value (d ∷ e ∷ ds) = go (d.0 == 48) refl (fewest_value (e ∷ ds))
   where
-    row : List ℕ
-    row = map (λ d. d.0) (e ∷ ds)
+    run : List ℕ
+    run = map (λ d. d.0) (e ∷ ds)
 
     go : (b : Bool) → (d.0 == 48) ≡ b → spaced_value (fewest_digits (e ∷ ds)) ≡ spaced_value (e ∷ ds)
         → spaced_value (cond b (fewest_digits (e ∷ ds)) (map bare_digit (d ∷ e ∷ ds))) ≡ spaced_value (d ∷ e ∷ ds)
-    go true z more = more ∙ zero_first (16 ^ length row) (place_value 16 row)
-        ∙ ap (λ c. place_value 16 (c ∷ row)) (sym (eqb-true d.0 48 z))
+    go true z more = more ∙ zero_first (16 ^ length run) (place_value 16 run)
+        ∙ ap (λ c. place_value 16 (c ∷ run)) (sym (eqb-true d.0 48 z))
     go false z more = ap (place_value 16) (firsts_bare (d ∷ e ∷ ds))
 
 -- ---- how many, and which

@@ -1,15 +1,15 @@
 -- A decimal with the parts of the old one is a lexeme where that was.
 use Rattle.rl_text.proofs.Common.{◌≡◌, ℕ, ◌<◌, inl, inr, Bool, true, false, not, ◌&&◌, ◌||◌, ◌==◌, List, [], ◌∷◌, ◌++◌, replicate, refl, sym, ◌∙◌, ap, subst, arith, nat_tests, lit<, append_assoc, and_parts, list_all, is_ascii_alphabetic, is_ascii_digit}
 use Rattle.rl_text.proofs.Basics.{false_unless}
-use Rattle.rl_text.specs.Texts.{is_white, first_passes, is_row_part, is_start}
-use Rattle.rl_lexer.specs.Lexemes.{begins_dot, is_base_letter, LexedFraction, NoLexedFraction, LexedDot, lexed_fraction_text, LexedSign, LexedExponent, NoLexedExponent, LexedPower, lexed_exponent_text, lexed_sign_text, IsRow, IsLexedSuffix, IsLexedFraction, IsLexedExponent, DecimalLexeme, IsLexeme}
+use Rattle.rl_text.specs.Texts.{is_white, first_passes, is_run_part, is_start}
+use Rattle.rl_lexer.specs.Lexemes.{begins_dot, is_base_letter, LexedFraction, NoLexedFraction, LexedDot, lexed_fraction_text, LexedSign, LexedExponent, NoLexedExponent, LexedPower, lexed_exponent_text, lexed_sign_text, IsRun, IsLexedSuffix, IsLexedFraction, IsLexedExponent, DecimalLexeme, IsLexeme}
 use Rattle.rl_lexer.proofs.Pieces.{is_equal}
 use Rattle.rl_lexer.proofs.LexemeFronts.{start_ascii}
 use Rattle.rl_lexer.proofs.LexemeRows.{not_among}
 use Rattle.rl_style.specs.Around.{SameFraction, SamePower}
 
 abbrev is_part : ℕ → Bool
-is_part c = is_row_part is_ascii_digit c
+is_part c = is_run_part is_ascii_digit c
 
 pub letter_out : (test : ℕ → Bool) (c : ℕ) → (c == 101 || c == 69) ≡ true → test 101 ≡ false → test 69 ≡ false → test c
     ≡ false
@@ -32,19 +32,19 @@ no_start_no_base [] h = refl
 no_start_no_base (c ∷ t) h = false_unless (is_base_letter c) (λ is. let q : true ≡ false = sym (base_start c is) ∙ h in
     absurd (cc))
 
--- what ends the last row of the old one
+-- what ends the last run of the old one
 tail_ends : (f : LexedFraction) (e : LexedExponent) (more u : List ℕ)
-    → IsRow is_part more (lexed_fraction_text f ++ (lexed_exponent_text e ++ u))
+    → IsRun is_part more (lexed_fraction_text f ++ (lexed_exponent_text e ++ u))
     → IsLexedFraction f (lexed_exponent_text e ++ u) → IsLexedExponent e u → first_passes is_part u ≡ false
-tail_ends NoLexedFraction NoLexedExponent more u row fraction power = row.ends
-tail_ends (LexedDot ds) NoLexedExponent more u row (begins, digits) power = digits.ends
-tail_ends f (LexedPower letter s n d ds) more u row fraction (il, id, digits) = digits.ends
+tail_ends NoLexedFraction NoLexedExponent more u run fraction power = run.ends
+tail_ends (LexedDot ds) NoLexedExponent more u run (begins, digits) power = digits.ends
+tail_ends f (LexedPower letter s n d ds) more u run fraction (il, id, digits) = digits.ends
 
 -- a test that no exponent's letter passes
 power_first : (test : ℕ → Bool) (e p : LexedExponent) (u : List ℕ) → SamePower e p → test 101 ≡ false → test 69 ≡ false
     → first_passes test u ≡ false → first_passes test (lexed_exponent_text p ++ u) ≡ false
 power_first test NoLexedExponent NoLexedExponent u same a b h = h
-power_first test (LexedPower _ _ _ _ _) (LexedPower letter s n d ds) u (il, id, row) a b h = letter_out test letter il a
+power_first test (LexedPower _ _ _ _ _) (LexedPower letter s n d ds) u (il, id, run) a b h = letter_out test letter il a
     b
 power_first test NoLexedExponent (LexedPower letter s n d ds) u same a b h = absurd same
 power_first test (LexedPower _ _ _ _ _) NoLexedExponent u same a b h = absurd same
@@ -52,7 +52,7 @@ power_first test (LexedPower _ _ _ _ _) NoLexedExponent u same a b h = absurd sa
 dot_first : (e p : LexedExponent) (u : List ℕ) → SamePower e p → begins_dot (lexed_exponent_text e ++ u) ≡ false
     → begins_dot (lexed_exponent_text p ++ u) ≡ false
 dot_first NoLexedExponent NoLexedExponent u same h = h
-dot_first (LexedPower _ _ _ _ _) (LexedPower letter s n d ds) u (il, id, row) h =
+dot_first (LexedPower _ _ _ _ _) (LexedPower letter s n d ds) u (il, id, run) h =
     let rest : List ℕ = (lexed_sign_text s ++ (replicate n 95 ++ d ∷ ds)) ++ u in
     ap (λ b. b && not (first_passes (λ k. k == 46 || is_start k) rest)) (letter_out (λ c. c == 46) letter il refl refl)
 dot_first NoLexedExponent (LexedPower letter s n d ds) u same h = absurd same
@@ -85,7 +85,7 @@ fraction_is NoLexedFraction NoLexedFraction e p u same power ends is = dot_first
 fraction_is (LexedDot ds) (LexedDot es) e p u (each, inl first) power ends is =
     (digit_dot es (lexed_exponent_text p ++ u) first, record { each = each; ends = power_first is_part e p u power refl refl ends })
 fraction_is (LexedDot ds) (LexedDot es) NoLexedExponent NoLexedExponent u (each, inr (no_ds, no_es, none)) power ends
-    (begins, row) =
+    (begins, run) =
     (ap (λ z. begins_dot (46 ∷ z ++ u)) (no_es ∙ sym no_ds) ∙ begins, record { each = each; ends = ends })
 fraction_is (LexedDot ds) (LexedDot es) (LexedPower a b c d k) p u (each, inr (no_ds, no_es, none)) power ends is =
     absurd (no_power a b c d k none)
@@ -97,8 +97,8 @@ fraction_is (LexedDot ds) NoLexedFraction e p u same power ends is = absurd same
 power_is : (e p : LexedExponent) (u : List ℕ) → SamePower e p → first_passes is_part u ≡ false → IsLexedExponent e u
     → IsLexedExponent p u
 power_is NoLexedExponent NoLexedExponent u same ends is = is
-power_is (LexedPower _ _ _ _ _) (LexedPower letter s n d ds) u (il, id, row) ends is =
-    (il, id, record { each = row; ends = ends })
+power_is (LexedPower _ _ _ _ _) (LexedPower letter s n d ds) u (il, id, run) ends is =
+    (il, id, record { each = run; ends = ends })
 power_is NoLexedExponent (LexedPower letter s n d ds) u same ends is = absurd same
 power_is (LexedPower _ _ _ _ _) NoLexedExponent u same ends is = absurd same
 
@@ -127,8 +127,8 @@ pub decimal_is : (d : ℕ) (more new : List ℕ) (f g : LexedFraction) (e p : Le
     → list_all is_part new ≡ true → SameFraction f g e → SamePower e p
     → (d == 48 && first_passes is_base_letter (new ++ (lexed_fraction_text g ++ (lexed_exponent_text p ++ x)))) ≡ false
     → IsLexeme (DecimalLexeme d more f e x) after → IsLexeme (DecimalLexeme d new g p x) after
-decimal_is d more new f g e p x after each same power no_base (id, not_based, row, fraction, exponent, suffix) =
-    let ends : first_passes is_part (x ++ after) ≡ false = tail_ends f e more (x ++ after) row fraction exponent in
+decimal_is d more new f g e p x after each same power no_base (id, not_based, run, fraction, exponent, suffix) =
+    let ends : first_passes is_part (x ++ after) ≡ false = tail_ends f e more (x ++ after) run fraction exponent in
     let s : List ℕ = new ++ (lexed_fraction_text g ++ lexed_exponent_text p) in
     let base : (d == 48 && first_passes is_base_letter ((s ++ x) ++ after)) ≡ false = base_new (d == 48) s x after
     (ap (λ z. d == 48 && first_passes is_base_letter z) (joined_short new (lexed_fraction_text g)

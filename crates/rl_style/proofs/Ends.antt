@@ -86,7 +86,7 @@ Keeps l after m = IsLexeme m after × SameFront (lexeme_text l ++ after) (lexeme
 
 based_row : (letter : ℕ) (digits new after : List ℕ) → list_all is_continue new ≡ true
     → IsLexeme (BasedLexeme letter digits) after → IsLexeme (BasedLexeme letter new) after
-based_row letter digits new after is (l, row) = (l, record { each = is; ends = row.ends })
+based_row letter digits new after is (l, run) = (l, record { each = is; ends = run.ends })
 
 -- the two literals by what they are
 named : (l m a b : Lexeme) (after : List ℕ) → l ≡ a → m ≡ b → Keeps a after b → Keeps l after m
@@ -120,7 +120,7 @@ keeps_its_ends l m after (inr (inr (inl s))) is =
     )
 keeps_its_ends l m after (inr (inr (inr (inl s)))) is =
     named l m (BasedLexeme s.letter s.digits) (BasedLexeme s.letter s.new_digits) after s.old_is s.new_is (
-      based_row s.letter s.digits s.new_digits after s.is_row (as_named l (BasedLexeme s.letter s.digits) after s.old_is
+      based_row s.letter s.digits s.new_digits after s.is_run (as_named l (BasedLexeme s.letter s.digits) after s.old_is
           is),
       based_front s.letter s.digits s.new_digits after,
     )

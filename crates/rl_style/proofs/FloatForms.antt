@@ -1,7 +1,7 @@
 -- The forms of floats, their characters written anew and their digits in groups.
 use Rattle.rl_text.proofs.Common.{◌≡◌, ℕ, ◌⊎◌, ◌||◌, Bool, true, false, ◌==◌, cond, List, [], ◌∷◌, ◌++◌, refl, sym, ap, subst, ◌∙◌, inl, inr, append_assoc, append-nil, and_parts, list_all, or_from, or_cases, eqb-true, is_ascii_digit, flat_map, Some, None}
 use Rattle.std.specs.Prelude.{Option}
-use Rattle.rl_text.specs.Texts.{first_passes, is_row_part}
+use Rattle.rl_text.specs.Texts.{first_passes, is_run_part}
 use Rattle.rl_text.proofs.Basics.{apart}
 use Rattle.rl_reading.proofs.Names.{flat_map-append}
 use Rattle.rl_forms.specs.Strict.{IsDigits, IsDotAlone, IsPointed, IsScientific, IsStrictExponent}
@@ -14,12 +14,12 @@ use Rattle.rl_style.proofs.Decimals.{letter_out}
 use Rattle.rl_style.proofs.Regrouped.{grouped_digits}
 use Rattle.rl_style.proofs.NumberCharacters.{becomes, digits_each, digits_some, digits_stay, row_stays, stays}
 
--- ---- rows
+-- ---- runs
 
 digits_are : (drops plus : Bool) (digits letter : Option Case) (d : List ℕ) → IsDigits d
     → IsDigits (flat_map (becomes drops false plus digits letter) d)
 digits_are drops plus digits letter d h = digits_stay (becomes drops false plus digits letter) d
-    (row_stays (is_row_part is_ascii_digit) drops plus digits letter d refl refl refl h.1) h
+    (row_stays (is_run_part is_ascii_digit) drops plus digits letter d refl refl refl h.1) h
 
 -- ---- exponents
 
@@ -109,24 +109,24 @@ exponent_is drops plus digits letter e s =
     let f : ℕ → List ℕ = becomes drops false plus digits letter in
     let l = letter_is drops plus digits letter s.letter s.is_letter in
     let sign : List ℕ = flat_map f s.sign in
-    let row : List ℕ = flat_map f s.row in
-    let stay = row_stays (is_row_part is_ascii_digit) drops plus digits letter s.row refl refl refl s.each in
-    let is : flat_map f e ≡ l.new ∷ (sign ++ row) =
-    ap (flat_map f) s.text ∙ ap (λ z. z ++ flat_map f (s.sign ++ s.row)) l.is
-    ∙ ap (λ z. l.new ∷ z) (flat_map-append f s.sign s.row) in
+    let run : List ℕ = flat_map f s.run in
+    let stay = row_stays (is_run_part is_ascii_digit) drops plus digits letter s.run refl refl refl s.each in
+    let is : flat_map f e ≡ l.new ∷ (sign ++ run) =
+    ap (flat_map f) s.text ∙ ap (λ z. z ++ flat_map f (s.sign ++ s.run)) l.is
+    ∙ ap (λ z. l.new ∷ z) (flat_map-append f s.sign s.run) in
     record {
       first = l.new;
-      rest = sign ++ row;
+      rest = sign ++ run;
       is = is;
       is_letter = l.is_letter;
       exponent = record {
         letter = l.new;
         sign = sign;
-        row = row;
+        run = run;
         is_letter = l.is_letter;
         is_sign = sign_is drops plus digits letter s.sign s.is_sign;
-        each = digits_each f s.row stay s.each;
-        some = digits_some f s.row stay ∙ s.some;
+        each = digits_each f s.run stay s.each;
+        some = digits_some f s.run stay ∙ s.some;
         text = is;
       };
     }
@@ -159,34 +159,34 @@ shape_of numeral x (inr (inr a)) = PowerShape
 -- ---- digits in groups
 
 abbrev pub Groups : ℕ → ℕ → Bool → List ℕ → List ℕ
-Groups size least from_first row = regrouped from_first size least row
+Groups size least from_first run = regrouped from_first size least run
 
 -- digits at the front
-digits_past : (row x : List ℕ) → list_all (is_row_part is_ascii_digit) row ≡ true
-    → first_passes (is_row_part is_ascii_digit) x ≡ false
-    → (digit_run (row ++ x) ≡ row) × (after_run (is_row_part is_ascii_digit) (row ++ x) ≡ x)
+digits_past : (run x : List ℕ) → list_all (is_run_part is_ascii_digit) run ≡ true
+    → first_passes (is_run_part is_ascii_digit) x ≡ false
+    → (digit_run (run ++ x) ≡ run) × (after_run (is_run_part is_ascii_digit) (run ++ x) ≡ x)
 digits_past [] [] h n = (refl, refl)
 digits_past [] (c ∷ x) h n = (
   ap (λ b. cond b (c ∷ digit_run x) []) n,
-  ap (λ b. cond b (after_run (is_row_part is_ascii_digit) x) (c ∷ x)) n,
+  ap (λ b. cond b (after_run (is_run_part is_ascii_digit) x) (c ∷ x)) n,
 )
-digits_past (d ∷ row) x h n =
-    let p = and_parts (is_row_part is_ascii_digit d) (list_all (is_row_part is_ascii_digit) row) h in
-    let more = digits_past row x p.1 n in (
-      ap (λ b. cond b (d ∷ digit_run (row ++ x)) []) p.0 ∙ ap (λ z. d ∷ z) more.0,
-      ap (λ b. cond b (after_run (is_row_part is_ascii_digit) (row ++ x)) (d ∷ (row ++ x))) p.0 ∙ more.1,
+digits_past (d ∷ run) x h n =
+    let p = and_parts (is_run_part is_ascii_digit d) (list_all (is_run_part is_ascii_digit) run) h in
+    let more = digits_past run x p.1 n in (
+      ap (λ b. cond b (d ∷ digit_run (run ++ x)) []) p.0 ∙ ap (λ z. d ∷ z) more.0,
+      ap (λ b. cond b (after_run (is_run_part is_ascii_digit) (run ++ x)) (d ∷ (run ++ x))) p.0 ∙ more.1,
     )
 
 -- a whole part, and what follows it
 numeral_at : (f : ℕ → List ℕ) (closes : Bool) (size least : ℕ) (numeral d z : List ℕ) → IsDigits d
-    → first_passes (is_row_part is_ascii_digit) z ≡ false → numeral ≡ d ++ z
+    → first_passes (is_run_part is_ascii_digit) z ≡ false → numeral ≡ d ++ z
     → float_in_groups closes f (Groups size least) numeral
     ≡ Groups size least false (flat_map f d) ++ fraction_in_groups closes f (Groups size least true) z
 numeral_at f closes size least numeral d z h n e =
     let p = digits_past d z h.1 n in
     ap (float_in_groups closes f (Groups size least)) e
     ∙ ap (λ y. Groups size least false (flat_map f y)
-    ++ fraction_in_groups closes f (Groups size least true) (after_run (is_row_part is_ascii_digit) (d ++ z))) p.0
+    ++ fraction_in_groups closes f (Groups size least true) (after_run (is_run_part is_ascii_digit) (d ++ z))) p.0
     ∙ ap (λ y. Groups size least false (flat_map f d) ++ fraction_in_groups closes f (Groups size least true) y) p.1
 
 -- a zero, or nothing
@@ -202,17 +202,17 @@ at_dot f closes size least numeral d h e = numeral_at f closes size least numera
 -- where digits follow a dot, there is no zero to be put
 dot_some : (f : ℕ → List ℕ) (closes : Bool) (g : List ℕ → List ℕ) (z e : List ℕ) → IsDigits z
     → after_dot closes f g (z ++ e)
-    ≡ g (flat_map f (digit_run (z ++ e))) ++ flat_map f (after_run (is_row_part is_ascii_digit) (z ++ e))
+    ≡ g (flat_map f (digit_run (z ++ e))) ++ flat_map f (after_run (is_run_part is_ascii_digit) (z ++ e))
 dot_some f closes g [] e h = absurd (let n : false ≡ true = h.0 in cc)
 dot_some f closes g (c ∷ z) e h = refl
 
 dot_digits : (f : ℕ → List ℕ) (closes : Bool) (g : List ℕ → List ℕ) (z e : List ℕ) → IsDigits z
-    → first_passes (is_row_part is_ascii_digit) e ≡ false
+    → first_passes (is_run_part is_ascii_digit) e ≡ false
     → after_dot closes f g (z ++ e) ≡ g (flat_map f z) ++ flat_map f e
 dot_digits f closes g z e h n =
     let p = digits_past z e h.1 n in
     dot_some f closes g z e h
-    ∙ ap (λ y. g (flat_map f y) ++ flat_map f (after_run (is_row_part is_ascii_digit) (z ++ e))) p.0
+    ∙ ap (λ y. g (flat_map f y) ++ flat_map f (after_run (is_run_part is_ascii_digit) (z ++ e))) p.0
     ∙ ap (λ y. g (flat_map f z) ++ flat_map f y) p.1
 
 pub at_point : (f : ℕ → List ℕ) (closes : Bool) (size least : ℕ) (numeral d z : List ℕ) → IsDigits d → IsDigits z
@@ -227,8 +227,8 @@ at_point f closes size least numeral d z h k e =
     ∙ ap (λ y. whole ++ (46 ∷ y)) (dot_digits f closes g z [] k refl ∙ append-nil (g (flat_map f z)))
 
 -- no digit begins an exponent, nor does a dot
-exponent_begins : (e : List ℕ) → IsStrictExponent e → first_passes (is_row_part is_ascii_digit) e ≡ false
-exponent_begins e s = ap (first_passes (is_row_part is_ascii_digit)) s.text
+exponent_begins : (e : List ℕ) → IsStrictExponent e → first_passes (is_run_part is_ascii_digit) e ≡ false
+exponent_begins e s = ap (first_passes (is_run_part is_ascii_digit)) s.text
     ∙ or_from (is_ascii_digit s.letter) (s.letter == 95)
     (letter_out is_ascii_digit s.letter s.is_letter refl refl)
     (letter_out (λ c. c == 95) s.letter s.is_letter refl refl)
@@ -236,7 +236,7 @@ exponent_begins e s = ap (first_passes (is_row_part is_ascii_digit)) s.text
 power_fraction : (f : ℕ → List ℕ) (closes : Bool) (size least : ℕ) (e : List ℕ) → IsStrictExponent e
     → fraction_in_groups closes f (Groups size least true) e ≡ flat_map f e
 power_fraction f closes size least e s =
-    let rest : List ℕ = s.sign ++ s.row in
+    let rest : List ℕ = s.sign ++ s.run in
     ap (fraction_in_groups closes f (Groups size least true)) s.text
     ∙ ap (λ b. cond b (s.letter ∷ after_dot closes f (Groups size least true) rest) (flat_map f (s.letter ∷ rest)))
     (letter_out (λ c. c == 46) s.letter s.is_letter refl refl) ∙ ap (flat_map f) (sym s.text)

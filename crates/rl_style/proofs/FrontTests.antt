@@ -1,6 +1,6 @@
 -- Two texts that begin alike up to a literal's first character pass the same tests.
 use Rattle.rl_text.proofs.Common.{◌≡◌, ℕ, ◌<◌, Bool, true, false, not, ◌&&◌, ◌||◌, ◌==◌, cond, List, [], ◌∷◌, ◌++◌, drop, refl, sym, ◌∙◌, ap, subst, inl, inr, append_assoc, arith, nat_tests, or_from, codes, agree_below_at, is_ascii_digit, is_ascii_alphanumeric, is_xid_continue-ascii}
-use Rattle.rl_text.specs.Texts.{is_underscore, is_white, is_among, first_passes, begins, is_row_part, is_start, is_continue, begins_char}
+use Rattle.rl_text.specs.Texts.{is_underscore, is_white, is_among, first_passes, begins, is_run_part, is_start, is_continue, begins_char}
 use Rattle.rl_text.specs.Classes.{is_hash, after_run}
 use Rattle.rl_lexer.specs.Lexemes.{BeginsHashedQuote, begins_dot, begins_raw_identifier, is_base_letter}
 use Rattle.rl_lexer.specs.Mirrors.LexemeAt.{begins_hashed_quote, begins_exponent, after_sign, begins_otherwise}
@@ -31,7 +31,7 @@ code_on n other = fails_on (λ c. c == n) (λ c h. not_among c n is_ascii_digit 
 pub digit_on : OnDigits is_ascii_digit
 digit_on h k a b = a ∙ sym b
 
-pub part_on : OnDigits (is_row_part is_ascii_digit)
+pub part_on : OnDigits (is_run_part is_ascii_digit)
 part_on h k a b = ap (λ z. z || h == 95) a ∙ sym (ap (λ z. z || k == 95) b)
 
 pub start_on : OnDigits is_start

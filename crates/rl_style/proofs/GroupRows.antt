@@ -1,8 +1,8 @@
--- Digits in groups, and the underscores at a row's end.
+-- Digits in groups, and the underscores at a run's end.
 use Rattle.rl_text.proofs.Common.{◌≡◌, ℕ, ◌||◌, ◌&&◌, Bool, true, false, not, ◌==◌, cond, List, [], ◌∷◌, ◌++◌, length, refl, sym, ap, ◌∙◌, append-nil, and_from, and_parts, eqb-true, is_ascii_digit, list_all, list_any, list_all-append}
 use Rattle.std.proofs.lemmas.List.Elements.{filter-append}
 use Rattle.rl_text.proofs.Basics.{apart}
-use Rattle.rl_text.specs.Texts.{first_passes, is_row_part, is_underscore}
+use Rattle.rl_text.specs.Texts.{first_passes, is_run_part, is_underscore}
 use Rattle.rl_lexer.proofs.LexemeRows.{not_among}
 use Rattle.rl_forms.specs.Spelling.{without_underscores}
 use Rattle.rl_forms.specs.Strict.{IsDigits}
@@ -159,7 +159,7 @@ ending_join (c ∷ a) u h k =
     ∙ ap (λ b. b && only u) (none_trim c a h) in
     ap (λ b. cond b (c ∷ (a ++ u)) (ending (a ++ u))) some ∙ ending_join a u (trim_tail c a h) k
 
--- a row without underscores has none at its end
+-- a run without underscores has none at its end
 pub clear_ending : (cs : List ℕ) → list_all other cs ≡ true → ending cs ≡ []
 clear_ending [] h = refl
 clear_ending (c ∷ cs) h =
@@ -173,25 +173,25 @@ only_ending (c ∷ cs) h = ap (λ b. cond b (c ∷ cs) (ending cs)) h
 -- ---- both
 
 abbrev pub row_spaced : (ℕ → Bool) → List ℕ → List ℕ
-row_spaced test row = spaced test (without_underscores row) ++ ending row
+row_spaced test run = spaced test (without_underscores run) ++ ending run
 
-pub row_all : (p test : ℕ → Bool) (row : List ℕ) → p 95 ≡ true → list_all p row ≡ true
-    → list_all p (row_spaced test row) ≡ true
-row_all p test row m h =
-    list_all-append p (spaced test (without_underscores row)) (ending row)
-    ∙ and_from _ _ (spaced_all p test (without_underscores row) m (bare_all p row h)) (ending_all p row h)
+pub row_all : (p test : ℕ → Bool) (run : List ℕ) → p 95 ≡ true → list_all p run ≡ true
+    → list_all p (row_spaced test run) ≡ true
+row_all p test run m h =
+    list_all-append p (spaced test (without_underscores run)) (ending run)
+    ∙ and_from _ _ (spaced_all p test (without_underscores run) m (bare_all p run h)) (ending_all p run h)
 
-pub row_kept : (p test : ℕ → Bool) (row : List ℕ) → p 95 ≡ false → kept_of p (row_spaced test row) ≡ kept_of p row
-row_kept p test row n =
-    filter-append p (spaced test (without_underscores row)) (ending row)
-    ∙ ap (λ z. kept_of p (spaced test (without_underscores row)) ++ z) (none_of p (ending row) n (ending_only row))
-    ∙ append-nil (kept_of p (spaced test (without_underscores row)))
-    ∙ spaced_kept p test (without_underscores row) n ∙ bare_kept p row n
+pub row_kept : (p test : ℕ → Bool) (run : List ℕ) → p 95 ≡ false → kept_of p (row_spaced test run) ≡ kept_of p run
+row_kept p test run n =
+    filter-append p (spaced test (without_underscores run)) (ending run)
+    ∙ ap (λ z. kept_of p (spaced test (without_underscores run)) ++ z) (none_of p (ending run) n (ending_only run))
+    ∙ append-nil (kept_of p (spaced test (without_underscores run)))
+    ∙ spaced_kept p test (without_underscores run) n ∙ bare_kept p run n
 
-pub row_some : (p test : ℕ → Bool) (row : List ℕ) → p 95 ≡ false → list_any p row ≡ true
-    → list_any p (row_spaced test row) ≡ true
-row_some p test row n h = any_left p (spaced test (without_underscores row)) (ending row)
-    (spaced_any p test (without_underscores row) n ∙ bare_any p row n ∙ h)
+pub row_some : (p test : ℕ → Bool) (run : List ℕ) → p 95 ≡ false → list_any p run ≡ true
+    → list_any p (row_spaced test run) ≡ true
+row_some p test run n h = any_left p (spaced test (without_underscores run)) (ending run)
+    (spaced_any p test (without_underscores run) n ∙ bare_any p run n ∙ h)
 
 -- what is no underscore stays in front
 pub row_first : (test : ℕ → Bool) (c : ℕ) (cs : List ℕ) → (c == 95) ≡ false
@@ -202,21 +202,21 @@ row_first test c cs h =
     ∙ ap (λ b. (c ∷ (mark (test (length (without_underscores cs))) ++ spaced test (without_underscores cs)))
     ++ cond (b && only cs) (c ∷ cs) (ending cs)) h
 
-pub row_digits : (test : ℕ → Bool) (row : List ℕ) → IsDigits row → IsDigits (row_spaced test row)
+pub row_digits : (test : ℕ → Bool) (run : List ℕ) → IsDigits run → IsDigits (row_spaced test run)
 row_digits test [] h = absurd (let e : false ≡ true = h.0 in cc)
 row_digits test (c ∷ cs) h = (
   ap (first_passes is_ascii_digit) (row_first test c cs (not_among c 95 is_ascii_digit h.0 refl)) ∙ h.0,
-  row_all (is_row_part is_ascii_digit) test (c ∷ cs) refl h.1,
+  row_all (is_run_part is_ascii_digit) test (c ∷ cs) refl h.1,
 )
 
-pub row_ending : (test : ℕ → Bool) (row : List ℕ) → test 0 ≡ false → ending (row_spaced test row) ≡ ending row
-row_ending test row z = ending_join (spaced test (without_underscores row)) (ending row)
-    (spaced_trim test (without_underscores row) z (bare_other row)) (ending_only row)
+pub row_ending : (test : ℕ → Bool) (run : List ℕ) → test 0 ≡ false → ending (row_spaced test run) ≡ ending run
+row_ending test run z = ending_join (spaced test (without_underscores run)) (ending run)
+    (spaced_trim test (without_underscores run) z (bare_other run)) (ending_only run)
 
-pub row_trim : (test : ℕ → Bool) (row : List ℕ) → test 0 ≡ false → IsTrim row → IsTrim (row_spaced test row)
-row_trim test row z h =
-    let none : ending row ≡ [] = ending_none row h in
-    let ds : List ℕ = spaced test (without_underscores row) in
-    let is : row_spaced test row ≡ ds = ap (λ y. ds ++ y) none ∙ append-nil ds in
+pub row_trim : (test : ℕ → Bool) (run : List ℕ) → test 0 ≡ false → IsTrim run → IsTrim (row_spaced test run)
+row_trim test run z h =
+    let none : ending run ≡ [] = ending_none run h in
+    let ds : List ℕ = spaced test (without_underscores run) in
+    let is : row_spaced test run ≡ ds = ap (λ y. ds ++ y) none ∙ append-nil ds in
     ap trimmed is
-    ∙ spaced_trim test (without_underscores row) z (bare_other row) ∙ sym is
+    ∙ spaced_trim test (without_underscores run) z (bare_other run) ∙ sym is

@@ -3,20 +3,20 @@ use Rattle.rl_text.proofs.Common.{◌≡◌, ℕ, ◌≤◌, ◌+◌, ◌*◌, �
 use Rattle.std.specs.Str.{chars}
 use Rattle.rl_writing.proofs.AsciiLemmas.{low_chars}
 use Rattle.rl_text.specs.Classes.{after_run}
-use Rattle.rl_text.specs.Texts.{first_passes, is_row_part}
+use Rattle.rl_text.specs.Texts.{first_passes, is_run_part}
 use Rattle.rl_forms.specs.Spelling.{place_value, without_underscores}
 use Rattle.rl_forms.specs.Strict.{IsDigits}
 use Rattle.rl_style.specs.Cases.{is_padding, or_zero, significant}
 use Rattle.rl_style.proofs.NumberCharacters.{RowStays, Stays}
 
 -- what is left begins with no padding
-pub record Left (row : List ℕ) : Type 0 where
+pub record Left (run : List ℕ) : Type 0 where
   pub first : ℕ
   pub rest : List ℕ
-  pub is : after_run is_padding row ≡ first ∷ rest
+  pub is : after_run is_padding run ≡ first ∷ rest
   pub other : is_padding first ≡ false
 
-pub left : (row : List ℕ) → (after_run is_padding row ≡ []) ⊎ Left row
+pub left : (run : List ℕ) → (after_run is_padding run ≡ []) ⊎ Left run
 left [] = inl refl
 left (c ∷ cs) =
     elim (cases_Bool (is_padding c)) [
@@ -31,7 +31,7 @@ left (c ∷ cs) =
     ]
 
 -- what a test says of all, it says of what is left
-after_all : (test : ℕ → Bool) (row : List ℕ) → list_all test row ≡ true → list_all test (after_run is_padding row)
+after_all : (test : ℕ → Bool) (run : List ℕ) → list_all test run ≡ true → list_all test (after_run is_padding run)
     ≡ true
 after_all test [] h = refl
 after_all test (c ∷ cs) h =
@@ -43,59 +43,59 @@ after_all test (c ∷ cs) h =
     go true k = k
     go false k = h
 
-pub significant_none : (row : List ℕ) → after_run is_padding row ≡ [] → significant row ≡ 48 ∷ []
-significant_none row e = ap or_zero e
+pub significant_none : (run : List ℕ) → after_run is_padding run ≡ [] → significant run ≡ 48 ∷ []
+significant_none run e = ap or_zero e
 
-pub significant_left : (row : List ℕ) (l : Left row) → significant row ≡ l.first ∷ l.rest
-significant_left row l = ap or_zero l.is
+pub significant_left : (run : List ℕ) (l : Left run) → significant run ≡ l.first ∷ l.rest
+significant_left run l = ap or_zero l.is
 
-pub significant_all : (test : ℕ → Bool) (row : List ℕ) → test 48 ≡ true → list_all test row ≡ true
-    → list_all test (significant row) ≡ true
-significant_all test row z h =
-    elim (left row) [
-      | inl e ↦ ap (list_all test) (significant_none row e) ∙ and_from (test 48) true z refl
-      | inr l ↦ ap (list_all test) (significant_left row l ∙ sym l.is) ∙ after_all test row h
+pub significant_all : (test : ℕ → Bool) (run : List ℕ) → test 48 ≡ true → list_all test run ≡ true
+    → list_all test (significant run) ≡ true
+significant_all test run z h =
+    elim (left run) [
+      | inl e ↦ ap (list_all test) (significant_none run e) ∙ and_from (test 48) true z refl
+      | inr l ↦ ap (list_all test) (significant_left run l ∙ sym l.is) ∙ after_all test run h
     ]
 
 -- it begins with a digit
-first_digit : (test : ℕ → Bool) (c : ℕ) → is_row_part test c ≡ true → is_padding c ≡ false → test c ≡ true
+first_digit : (test : ℕ → Bool) (c : ℕ) → is_run_part test c ≡ true → is_padding c ≡ false → test c ≡ true
 first_digit test c h n =
     elim (or_cases (test c) (c == 95) h) [
       | inl a ↦ a
       | inr a ↦ absurd (both_ways (c == 95) (or_parts (c == 48) (c == 95) n).1 a)
     ]
 
-pub significant_first : (test : ℕ → Bool) (row : List ℕ) → test 48 ≡ true → list_all (is_row_part test) row ≡ true
-    → first_passes test (significant row) ≡ true
-significant_first test row z h =
-    elim (left row) [
-      | inl e ↦ ap (first_passes test) (significant_none row e) ∙ z
+pub significant_first : (test : ℕ → Bool) (run : List ℕ) → test 48 ≡ true → list_all (is_run_part test) run ≡ true
+    → first_passes test (significant run) ≡ true
+significant_first test run z h =
+    elim (left run) [
+      | inl e ↦ ap (first_passes test) (significant_none run e) ∙ z
       | inr l ↦
-          let all : list_all (is_row_part test) (l.first ∷ l.rest) ≡ true = ap (list_all (is_row_part test)) (sym l.is)
-          ∙ after_all (is_row_part test) row h in
-          let p = and_parts (is_row_part test l.first) (list_all (is_row_part test) l.rest) all in
-          ap (first_passes test) (significant_left row l) ∙ first_digit test l.first p.0 l.other
+          let all : list_all (is_run_part test) (l.first ∷ l.rest) ≡ true = ap (list_all (is_run_part test)) (sym l.is)
+          ∙ after_all (is_run_part test) run h in
+          let p = and_parts (is_run_part test l.first) (list_all (is_run_part test) l.rest) all in
+          ap (first_passes test) (significant_left run l) ∙ first_digit test l.first p.0 l.other
     ]
 
-some_first : (test : ℕ → Bool) (row : List ℕ) → first_passes test row ≡ true → list_any test row ≡ true
+some_first : (test : ℕ → Bool) (run : List ℕ) → first_passes test run ≡ true → list_any test run ≡ true
 some_first test [] h = absurd (cc)
 some_first test (c ∷ cs) h = or_left (test c) (list_any test cs) h
 
-pub significant_some : (test : ℕ → Bool) (row : List ℕ) → test 48 ≡ true → list_all (is_row_part test) row ≡ true
-    → list_any test (significant row) ≡ true
-significant_some test row z h = some_first test (significant row) (significant_first test row z h)
+pub significant_some : (test : ℕ → Bool) (run : List ℕ) → test 48 ≡ true → list_all (is_run_part test) run ≡ true
+    → list_any test (significant run) ≡ true
+significant_some test run z h = some_first test (significant run) (significant_first test run z h)
 
-pub significant_digits : (row : List ℕ) → IsDigits row → IsDigits (significant row)
-significant_digits row h = (
-  significant_first is_ascii_digit row refl h.1,
-  significant_all (is_row_part is_ascii_digit) row refl h.1,
+pub significant_digits : (run : List ℕ) → IsDigits run → IsDigits (significant run)
+significant_digits run h = (
+  significant_first is_ascii_digit run refl h.1,
+  significant_all (is_run_part is_ascii_digit) run refl h.1,
 )
 
 zero_first : (n v : ℕ) → v ≡ 0 * n + v
 zero_first n v = omega arith
 
-pub significant_number : (row : List ℕ) → place_value 10 (without_underscores (significant row))
-    ≡ place_value 10 (without_underscores row)
+pub significant_number : (run : List ℕ) → place_value 10 (without_underscores (significant run))
+    ≡ place_value 10 (without_underscores run)
 significant_number [] = refl
 significant_number (c ∷ cs) =
     elim (cases_Bool (is_padding c)) [
@@ -112,23 +112,23 @@ significant_number (c ∷ cs) =
     padded (inr u) = ap (λ d. place_value 10 (without_underscores (d ∷ cs))) (sym (eqb-true c 95 u))
 
 -- written anew, they stay so
-pub significant_again : (f : ℕ → List ℕ) (row : List ℕ) → f 48 ≡ 48 ∷ [] → RowStays f row
-    → significant (flat_map f (significant row)) ≡ flat_map f (significant row)
-significant_again f row z k =
-    elim (left row) [
+pub significant_again : (f : ℕ → List ℕ) (run : List ℕ) → f 48 ≡ 48 ∷ [] → RowStays f run
+    → significant (flat_map f (significant run)) ≡ flat_map f (significant run)
+significant_again f run z k =
+    elim (left run) [
       | inl e ↦
-          let is : flat_map f (significant row) ≡ 48 ∷ [] = ap (flat_map f) (significant_none row e)
+          let is : flat_map f (significant run) ≡ 48 ∷ [] = ap (flat_map f) (significant_none run e)
           ∙ ap (λ y. y ++ []) z in
           ap significant is ∙ sym is
       | inr l ↦
-          let is : flat_map f (significant row) ≡ l.first ∷ flat_map f l.rest = ap (flat_map f) (significant_left row l)
+          let is : flat_map f (significant run) ≡ l.first ∷ flat_map f l.rest = ap (flat_map f) (significant_left run l)
           ∙ ap (λ y. y ++ flat_map f l.rest) (itself l) in
           ap significant is
           ∙ ap (λ b. or_zero (cond b (after_run is_padding (flat_map f l.rest)) (l.first ∷ flat_map f l.rest))) l.other
           ∙ sym is
     ]
   where
-    in_row : (rows : List ℕ) (c : ℕ) (rest : List ℕ) → RowStays f rows → after_run is_padding rows ≡ c ∷ rest
+    in_row : (runs : List ℕ) (c : ℕ) (rest : List ℕ) → RowStays f runs → after_run is_padding runs ≡ c ∷ rest
         → is_padding c ≡ false → Stays f c
     in_row [] c rest s e n = absurd (cc)
     in_row (d ∷ ds) c rest s e n =
@@ -140,9 +140,9 @@ significant_again f row z k =
               subst (Stays f) same s.0
         ]
 
-    itself : (l : Left row) → f l.first ≡ l.first ∷ []
+    itself : (l : Left run) → f l.first ≡ l.first ∷ []
     itself l =
-        elim (in_row row l.first l.rest k l.is l.other) [
+        elim (in_row run l.first l.rest k l.is l.other) [
           | inl a ↦ absurd (both_ways (l.first == 95) (or_parts (l.first == 48) (l.first == 95) l.other).1 a.1)
           | inr a ↦ a
         ]

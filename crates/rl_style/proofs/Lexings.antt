@@ -1,6 +1,6 @@
 -- How far the lexer goes into a strict literal, by what follows it.
 use Rattle.rl_text.proofs.Common.{◌≡◌, ℕ, ◌<◌, ◌≤◌, suc, ◌⊎◌, inl, inr, Bool, true, false, not, ◌&&◌, ◌||◌, ◌==◌, cond, List, [], ◌∷◌, ◌++◌, length, Option, Some, None, drop, replicate, refl, sym, ◌∙◌, ap, subst, arith, append_assoc, lit<, and_parts, and_from, or_cases, eqb-true, ltb-true, lt-ltb, agree_below_at, nat_tests, nat_lt, digit_value, list_all, list_any, is_ascii_digit, is_ascii_hexdigit, is_ascii_alphanumeric, is_xid_continue, is_xid_continue-ascii, option_map}
-use Rattle.rl_text.specs.Texts.{is_underscore, is_white, first_passes, is_row_part, is_start, is_continue, begins_char}
+use Rattle.rl_text.specs.Texts.{is_underscore, is_white, first_passes, is_run_part, is_start, is_continue, begins_char}
 use Rattle.rl_text.specs.Classes.{after_run}
 use Rattle.rl_text.proofs.Basics.{all_weaker, false_unless, hex_is_sixteen, word_continues}
 use Rattle.rl_forms.specs.Strict.{IsDecimalText, IsDigits, IsStrictExponent, IsStrictSuffix}
@@ -194,7 +194,7 @@ decimal_goes t y f s e h =
 -- ---- the parts of a decimal
 
 abbrev is_part : ℕ → Bool
-is_part c = is_row_part is_ascii_digit c
+is_part c = is_run_part is_ascii_digit c
 
 -- after digits, and whatever stands there
 pub digits_gone : (more z : List ℕ) → list_all is_part more ≡ true → after_decimal (more ++ z) ≡ after_decimal z
@@ -271,9 +271,9 @@ power_gone letter u row w is e each some =
 exponent_gone : (e w : List ℕ) → IsStrictExponent e → after_lexed_exponent (e ++ w) ≡ after_run is_part w
 exponent_gone e w s =
     ap (λ z. after_lexed_exponent (z ++ w)) s.text
-    ∙ ap (λ z. after_lexed_exponent (s.letter ∷ z)) (append_assoc s.sign s.row w)
-    ∙ power_gone s.letter (s.sign ++ (s.row ++ w)) s.row w s.is_letter
-    (sign_gone s.sign s.row w s.is_sign s.each s.some) s.each s.some
+    ∙ ap (λ z. after_lexed_exponent (s.letter ∷ z)) (append_assoc s.sign s.run w)
+    ∙ power_gone s.letter (s.sign ++ (s.run ++ w)) s.run w s.is_letter
+    (sign_gone s.sign s.run w s.is_sign s.each s.some) s.each s.some
 
 -- no row and no dot goes on with an exponent
 exponent_stands : (test : ℕ → Bool) (e w : List ℕ) → IsStrictExponent e → test 101 ≡ false → test 69 ≡ false
@@ -305,7 +305,7 @@ pointed_power_ends more f e w each digits s =
     (stands is_part (e ++ w) (exponent_stands is_part e w s refl refl))
     ∙ ap after_suffix (exponent_gone e w s)
 
--- ---- rows and suffixes go on with an identifier
+-- ---- runs and suffixes go on with an identifier
 
 hex_low : (c : ℕ) → is_ascii_hexdigit c ≡ true → c < 128
 hex_low c h = grind (arith, nat_tests)
@@ -322,7 +322,7 @@ hex_continues c h =
     continue_ascii c low ∙ ap (λ b. not b || ((is_ascii_alphanumeric c || (c == 95)) && not (is_white c))) (sym h)
     ∙ same
 
-row_continues : (n c : ℕ) → n ≤ 16 → is_row_part (λ d. nat_lt (digit_value d) n) c ≡ true → is_continue c ≡ true
+row_continues : (n c : ℕ) → n ≤ 16 → is_run_part (λ d. nat_lt (digit_value d) n) c ≡ true → is_continue c ≡ true
 row_continues n c few h =
     elim (or_cases (nat_lt (digit_value c) n) (c == 95) h) [
       | inl a ↦
@@ -331,9 +331,9 @@ row_continues n c few h =
       | inr a ↦ subst (λ (x : ℕ). is_continue x ≡ true) (sym (eqb-true c 95 a)) (continue_ascii 95 (lit< tt))
     ]
 
-pub row_goes_on : (n : ℕ) (row : List ℕ) → n ≤ 16 → list_all (is_row_part (λ d. nat_lt (digit_value d) n)) row ≡ true
+pub row_goes_on : (n : ℕ) (row : List ℕ) → n ≤ 16 → list_all (is_run_part (λ d. nat_lt (digit_value d) n)) row ≡ true
     → list_all is_continue row ≡ true
-row_goes_on n row few h = all_weaker (is_row_part (λ d. nat_lt (digit_value d) n)) is_continue
+row_goes_on n row few h = all_weaker (is_run_part (λ d. nat_lt (digit_value d) n)) is_continue
     (λ c h. row_continues n c few h) row h
 
 all_both : (f g : ℕ → Bool) (cs : List ℕ) → list_all f cs ≡ true → list_all g cs ≡ true → list_all (λ c. f c && g c) cs

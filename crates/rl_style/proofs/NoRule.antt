@@ -7,10 +7,10 @@ use Rattle.rl_forms.specs.Strict.{spaced_value, strict_closer, strict_opener}
 use Rattle.rl_forms.proofs.StrictQuoted.{between}
 use Rattle.rl_writing.specs.RawStrings.{raw_text}
 use Rattle.rl_style.specs.declared.style.Style.{Style}
-use Rattle.rl_style.specs.Cases.{cased, drops_underscores, exponent_letter, kept_digits, kept_row, number_character, separator, separator_by, significant, trimmed, trims_by}
-use Rattle.rl_style.specs.Rewriting.{HasHashes, HasNoRule, Rewrites, RewritesCooked, RewritesFloat, RewritesInt, RewritesRaw, cased_digit, styled_digits, fewest_digits, needs_number, is_visible, letter_of, loses_raw, may_lose_r, needs_backslash, number_escape, reescaped, respelled, restyled, visible_unit, styled_numeral, styled_row, gets_letter, restyled_units, digit_follows}
-use Rattle.rl_text.specs.Texts.{first_passes, is_row_part}
-use Rattle.rl_style.specs.Groups.{after_dot, digit_run, fraction_in_groups, grouped_row, least_by, regrouped, size_by}
+use Rattle.rl_style.specs.Cases.{cased, drops_underscores, exponent_letter, kept_digits, kept_run, number_character, separator, separator_by, significant, trimmed, trims_by}
+use Rattle.rl_style.specs.Rewriting.{HasHashes, HasNoRule, Rewrites, RewritesCooked, RewritesFloat, RewritesInt, RewritesRaw, cased_digit, styled_digits, fewest_digits, needs_number, is_visible, letter_of, loses_raw, may_lose_r, needs_backslash, number_escape, reescaped, respelled, restyled, visible_unit, styled_numeral, styled_run, gets_letter, restyled_units, digit_follows}
+use Rattle.rl_text.specs.Texts.{first_passes, is_run_part}
+use Rattle.rl_style.specs.Groups.{after_dot, digit_run, fraction_in_groups, grouped_run, least_by, regrouped, size_by}
 use Rattle.rl_text.specs.Classes.{after_run}
 use Rattle.rl_lexer.specs.Lexemes.{is_base_letter}
 use Rattle.rl_style.proofs.CaseLemmas.{none_right}
@@ -46,39 +46,39 @@ numeral_kept style drops hex (c ∷ cs) n d =
 none_dropped : (style : Style) (x : List ℕ) → HasNoRule style → drops_underscores style x ≡ false
 none_dropped style x n = ap (λ b. b && not (first_passes is_base_letter x)) n.underscores
 
-zeros_kept : (style : Style) (base : ℕ) (x row : List ℕ) → HasNoRule style → kept_digits style base x row ≡ row
-zeros_kept style base x row n = ap (λ b. cond ((b && base == 10) && not (first_passes is_base_letter x))
-    (significant row) row)
+zeros_kept : (style : Style) (base : ℕ) (x run : List ℕ) → HasNoRule style → kept_digits style base x run ≡ run
+zeros_kept style base x run n = ap (λ b. cond ((b && base == 10) && not (first_passes is_base_letter x))
+    (significant run) run)
     n.leading_zeros
 
-untrimmed : (style : Style) (x row : List ℕ) → HasNoRule style → kept_row style x row ≡ row
-untrimmed style x row n = ap (λ z. cond (trims_by z x) (trimmed row) row) n.suffix_separator
+untrimmed : (style : Style) (x run : List ℕ) → HasNoRule style → kept_run style x run ≡ run
+untrimmed style x run n = ap (λ z. cond (trims_by z x) (trimmed run) run) n.suffix_separator
 
 unseparated : (style : Style) (x : List ℕ) → HasNoRule style → separator style x ≡ []
 unseparated style x n = ap (λ z. separator_by z x) n.suffix_separator
 
-ungrouped : (style : Style) (from_first : Bool) (base : ℕ) (x row : List ℕ) → HasNoRule style
-    → grouped_row from_first style base x row ≡ row
-ungrouped style from_first base x row n = ap (λ z. regrouped from_first (size_by z base x) (least_by z) row)
+ungrouped : (style : Style) (from_first : Bool) (base : ℕ) (x run : List ℕ) → HasNoRule style
+    → grouped_run from_first style base x run ≡ run
+ungrouped style from_first base x run n = ap (λ z. regrouped from_first (size_by z base x) (least_by z) run)
     n.digit_groups
 
-row_same : (style : Style) (base : ℕ) (x row : List ℕ) → HasNoRule style → styled_row style base x row ≡ row
-row_same style base x row n =
-    let kept : List ℕ = kept_digits style base x (kept_row style x row) in
+row_same : (style : Style) (base : ℕ) (x run : List ℕ) → HasNoRule style → styled_run style base x run ≡ run
+row_same style base x run n =
+    let kept : List ℕ = kept_digits style base x (kept_run style x run) in
     ungrouped style false base x _ n
     ∙ numeral_kept style (drops_underscores style x) (base == 16) kept n (none_dropped style x n)
-    ∙ zeros_kept style base x (kept_row style x row) n ∙ untrimmed style x row n
+    ∙ zeros_kept style base x (kept_run style x run) n ∙ untrimmed style x run n
 
-dot_same : (f : ℕ → List ℕ) (g : List ℕ → List ℕ) (cs : List ℕ) → ((row : List ℕ) → flat_map f row ≡ row)
-    → ((row : List ℕ) → g row ≡ row) → after_dot false f g cs ≡ cs
+dot_same : (f : ℕ → List ℕ) (g : List ℕ → List ℕ) (cs : List ℕ) → ((run : List ℕ) → flat_map f run ≡ run)
+    → ((run : List ℕ) → g run ≡ run) → after_dot false f g cs ≡ cs
 dot_same f g [] k h = refl
 dot_same f g (c ∷ cs) k h =
-    let rest : List ℕ = after_run (is_row_part is_ascii_digit) (c ∷ cs) in
+    let rest : List ℕ = after_run (is_run_part is_ascii_digit) (c ∷ cs) in
     ap (λ z. z ++ flat_map f rest) (h (flat_map f (digit_run (c ∷ cs))) ∙ k (digit_run (c ∷ cs)))
     ∙ ap (λ z. digit_run (c ∷ cs) ++ z) (k rest) ∙ run_joined (c ∷ cs)
 
-fraction_same : (f : ℕ → List ℕ) (g : List ℕ → List ℕ) (cs : List ℕ) → ((row : List ℕ) → flat_map f row ≡ row)
-    → ((row : List ℕ) → g row ≡ row) → fraction_in_groups false f g cs ≡ cs
+fraction_same : (f : ℕ → List ℕ) (g : List ℕ → List ℕ) (cs : List ℕ) → ((run : List ℕ) → flat_map f run ≡ run)
+    → ((run : List ℕ) → g run ≡ run) → fraction_in_groups false f g cs ≡ cs
 fraction_same f g [] k h = refl
 fraction_same f g (c ∷ cs) k h = go (c == 46)
   where
@@ -89,24 +89,24 @@ fraction_same f g (c ∷ cs) k h = go (c == 46)
 numeral_same : (style : Style) (x numeral : List ℕ) → HasNoRule style → styled_numeral style x numeral ≡ numeral
 numeral_same style x numeral n =
     let f : ℕ → List ℕ = number_character style (drops_underscores style x) false in
-    let kept : List ℕ = kept_row style x numeral in
-    let rest : List ℕ = after_run (is_row_part is_ascii_digit) kept in
-    let same : (row : List ℕ) → flat_map f row ≡ row =
-    λ row. numeral_kept style (drops_underscores style x) false row n (none_dropped style x n) in
-    ap (λ b. grouped_row false style 10 x (flat_map f (digit_run kept))
-    ++ fraction_in_groups b f (grouped_row true style 10 x) rest) n.float_zero
-    ∙ ap (λ z. z ++ fraction_in_groups false f (grouped_row true style 10 x) rest)
+    let kept : List ℕ = kept_run style x numeral in
+    let rest : List ℕ = after_run (is_run_part is_ascii_digit) kept in
+    let same : (run : List ℕ) → flat_map f run ≡ run =
+    λ run. numeral_kept style (drops_underscores style x) false run n (none_dropped style x n) in
+    ap (λ b. grouped_run false style 10 x (flat_map f (digit_run kept))
+    ++ fraction_in_groups b f (grouped_run true style 10 x) rest) n.float_zero
+    ∙ ap (λ z. z ++ fraction_in_groups false f (grouped_run true style 10 x) rest)
     (ungrouped style false 10 x (flat_map f (digit_run kept)) n ∙ same (digit_run kept))
-    ∙ ap (λ z. digit_run kept ++ z) (fraction_same f (grouped_row true style 10 x) rest same
-    (λ row. ungrouped style true 10 x row n))
+    ∙ ap (λ z. digit_run kept ++ z) (fraction_same f (grouped_run true style 10 x) rest same
+    (λ run. ungrouped style true 10 x run n))
     ∙ run_joined kept ∙ untrimmed style x numeral n
 
 integer_kept : (style : Style) (t u : List ℕ) → HasNoRule style → RewritesInt style t u → u ≡ t
 integer_kept style t u n c =
     let x : List ℕ = c.suffix in
-    c.new_is ∙ ap (λ z. c.int.prefix ++ (z ++ (separator style x ++ x))) (row_same style c.int.base x c.int.row n)
-    ∙ ap (λ z. c.int.prefix ++ (c.int.row ++ (z ++ x))) (unseparated style x n)
-    ∙ sym (append_assoc c.int.prefix c.int.row x) ∙ sym c.int.text
+    c.new_is ∙ ap (λ z. c.int.prefix ++ (z ++ (separator style x ++ x))) (row_same style c.int.base x c.int.run n)
+    ∙ ap (λ z. c.int.prefix ++ (c.int.run ++ (z ++ x))) (unseparated style x n)
+    ∙ sym (append_assoc c.int.prefix c.int.run x) ∙ sym c.int.text
 
 float_kept : (style : Style) (t u : List ℕ) → HasNoRule style → RewritesFloat style t u → u ≡ t
 float_kept style t u n c =

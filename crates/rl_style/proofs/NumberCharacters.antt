@@ -1,7 +1,7 @@
 -- What characters of numbers become, by the rules.
 use Rattle.rl_text.proofs.Common.{◌≡◌, ℕ, ◌⊎◌, ◌||◌, ◌&&◌, Bool, true, false, not, ◌==◌, cond, nat_lt, List, [], ◌∷◌, ◌++◌, length, Some, None, refl, sym, ap, ap₂, subst, ◌∙◌, inl, inr, arith, and_from, and_parts, cases_Bool, eqb-true, or_parts, digit_value, is_ascii_digit, list_all, list_any, flat_map, ⊤}
 use Rattle.std.specs.Prelude.{Option}
-use Rattle.rl_text.specs.Texts.{first_passes, is_row_part}
+use Rattle.rl_text.specs.Texts.{first_passes, is_run_part}
 use Rattle.rl_text.proofs.Basics.{apart}
 use Rattle.rl_reading.proofs.Names.{flat_map-append}
 use Rattle.rl_forms.specs.Spelling.{place_value, without_underscores}
@@ -59,7 +59,7 @@ pub stays : (drops plus : Bool) (digits letter : Option Case) (c : ℕ) → (c =
 stays drops plus digits letter c n p l u = other_kept (drops && c == 95) plus digits letter c
     (ap (λ z. drops && z) n ∙ none_right drops) p l u
 
--- ---- rows
+-- ---- runs
 
 -- a character stands for the same, or is an underscore and dropped
 abbrev pub Keeps : (ℕ → List ℕ) → ℕ → Type 0
@@ -71,8 +71,8 @@ abbrev pub RowKeeps : (ℕ → List ℕ) → List ℕ → Type 0
 RowKeeps f [] = ⊤
 RowKeeps f (c ∷ cs) = Keeps f c × RowKeeps f cs
 
-pub hex_keeps : (drops plus : Bool) (digits letter : Option Case) (row : List ℕ)
-    → RowKeeps (becomes drops true plus digits letter) row
+pub hex_keeps : (drops plus : Bool) (digits letter : Option Case) (run : List ℕ)
+    → RowKeeps (becomes drops true plus digits letter) run
 hex_keeps drops plus digits letter [] = tt
 hex_keeps drops plus digits letter (c ∷ cs) = (
   one (cases_Bool (drops && c == 95)),
@@ -97,9 +97,9 @@ abbrev pub RowStays : (ℕ → List ℕ) → List ℕ → Type 0
 RowStays f [] = ⊤
 RowStays f (c ∷ cs) = Stays f c × RowStays f cs
 
-pub row_stays : (test : ℕ → Bool) (drops plus : Bool) (digits letter : Option Case) (row : List ℕ) → test 43 ≡ false
-    → test 69 ≡ false → test 101 ≡ false → list_all test row ≡ true
-    → RowStays (becomes drops false plus digits letter) row
+pub row_stays : (test : ℕ → Bool) (drops plus : Bool) (digits letter : Option Case) (run : List ℕ) → test 43 ≡ false
+    → test 69 ≡ false → test 101 ≡ false → list_all test run ≡ true
+    → RowStays (becomes drops false plus digits letter) run
 row_stays test drops plus digits letter [] p l u h = tt
 row_stays test drops plus digits letter (c ∷ cs) p l u h =
     let q = and_parts (test c) (list_all test cs) h in
@@ -112,7 +112,7 @@ row_stays test drops plus digits letter (c ∷ cs) p l u h =
         (apart test c 69 t l)
         (apart test c 101 t u))
 
-pub keeps_of : (f : ℕ → List ℕ) (row : List ℕ) → RowStays f row → RowKeeps f row
+pub keeps_of : (f : ℕ → List ℕ) (run : List ℕ) → RowStays f run → RowKeeps f run
 keeps_of f [] h = tt
 keeps_of f (c ∷ cs) h = (one h.0, keeps_of f cs h.1)
   where
@@ -120,26 +120,26 @@ keeps_of f (c ∷ cs) h = (one h.0, keeps_of f cs h.1)
     one (inl a) = inl a
     one (inr a) = inr (c, a, refl, refl)
 
--- ---- what a row keeps
+-- ---- what a run keeps
 
 abbrev pub of_base : ℕ → ℕ → Bool
 of_base base c = nat_lt (digit_value c) base
 
-pub each_kept : (f : ℕ → List ℕ) (base : ℕ) (row : List ℕ) → RowKeeps f row
-    → list_all (is_row_part (of_base base)) row ≡ true → list_all (is_row_part (of_base base)) (flat_map f row) ≡ true
+pub each_kept : (f : ℕ → List ℕ) (base : ℕ) (run : List ℕ) → RowKeeps f run
+    → list_all (is_run_part (of_base base)) run ≡ true → list_all (is_run_part (of_base base)) (flat_map f run) ≡ true
 each_kept f base [] k h = refl
 each_kept f base (c ∷ cs) k h =
-    let p = and_parts (is_row_part (of_base base) c) (list_all (is_row_part (of_base base)) cs) h in
+    let p = and_parts (is_run_part (of_base base) c) (list_all (is_run_part (of_base base)) cs) h in
     let more = each_kept f base cs k.1 p.1 in
     elim k.0 [
-      | inl a ↦ ap (λ z. list_all (is_row_part (of_base base)) (z ++ flat_map f cs)) a.0 ∙ more
-      | inr a ↦ ap (λ z. list_all (is_row_part (of_base base)) (z ++ flat_map f cs)) a.1
-          ∙ and_from (is_row_part (of_base base) a.0) (list_all (is_row_part (of_base base)) (flat_map f cs))
+      | inl a ↦ ap (λ z. list_all (is_run_part (of_base base)) (z ++ flat_map f cs)) a.0 ∙ more
+      | inr a ↦ ap (λ z. list_all (is_run_part (of_base base)) (z ++ flat_map f cs)) a.1
+          ∙ and_from (is_run_part (of_base base) a.0) (list_all (is_run_part (of_base base)) (flat_map f cs))
           (ap₂ (λ v b. nat_lt v base || b) a.2 a.3 ∙ p.0) more
     ]
 
-pub some_kept : (f : ℕ → List ℕ) (base : ℕ) (row : List ℕ) → RowKeeps f row → of_base base 95 ≡ false
-    → list_any (of_base base) (flat_map f row) ≡ list_any (of_base base) row
+pub some_kept : (f : ℕ → List ℕ) (base : ℕ) (run : List ℕ) → RowKeeps f run → of_base base 95 ≡ false
+    → list_any (of_base base) (flat_map f run) ≡ list_any (of_base base) run
 some_kept f base [] k n = refl
 some_kept f base (c ∷ cs) k n =
     let more = some_kept f base cs k.1 n in
@@ -166,8 +166,8 @@ alike_value base (x ∷ xs) (y ∷ ys) h =
     let count = more.0 in
     (omega (arith, count), rw (h.0, more.0, more.1) refl)
 
-bare_alike : (f : ℕ → List ℕ) (row : List ℕ) → RowKeeps f row → Alike (without_underscores (flat_map f row))
-    (without_underscores row)
+bare_alike : (f : ℕ → List ℕ) (run : List ℕ) → RowKeeps f run → Alike (without_underscores (flat_map f run))
+    (without_underscores run)
 bare_alike f [] k = tt
 bare_alike f (c ∷ cs) k =
     let more = bare_alike f cs k.1 in
@@ -190,26 +190,26 @@ bare_alike f (c ∷ cs) k =
     go true d e m = m
     go false d e m = (e, m)
 
-pub number_kept : (f : ℕ → List ℕ) (base : ℕ) (row : List ℕ) → RowKeeps f row
-    → place_value base (without_underscores (flat_map f row)) ≡ place_value base (without_underscores row)
-number_kept f base row k = (alike_value base _ _ (bare_alike f row k)).1
+pub number_kept : (f : ℕ → List ℕ) (base : ℕ) (run : List ℕ) → RowKeeps f run
+    → place_value base (without_underscores (flat_map f run)) ≡ place_value base (without_underscores run)
+number_kept f base run k = (alike_value base _ _ (bare_alike f run k)).1
 
 -- ---- digits of base ten
 
-pub digits_each : (f : ℕ → List ℕ) (row : List ℕ) → RowStays f row → list_all (is_row_part is_ascii_digit) row ≡ true
-    → list_all (is_row_part is_ascii_digit) (flat_map f row) ≡ true
+pub digits_each : (f : ℕ → List ℕ) (run : List ℕ) → RowStays f run → list_all (is_run_part is_ascii_digit) run ≡ true
+    → list_all (is_run_part is_ascii_digit) (flat_map f run) ≡ true
 digits_each f [] k h = refl
 digits_each f (c ∷ cs) k h =
-    let p = and_parts (is_row_part is_ascii_digit c) (list_all (is_row_part is_ascii_digit) cs) h in
+    let p = and_parts (is_run_part is_ascii_digit c) (list_all (is_run_part is_ascii_digit) cs) h in
     let more = digits_each f cs k.1 p.1 in
     elim k.0 [
-      | inl a ↦ ap (λ z. list_all (is_row_part is_ascii_digit) (z ++ flat_map f cs)) a.0 ∙ more
-      | inr a ↦ ap (λ z. list_all (is_row_part is_ascii_digit) (z ++ flat_map f cs)) a
-          ∙ and_from (is_row_part is_ascii_digit c) (list_all (is_row_part is_ascii_digit) (flat_map f cs)) p.0 more
+      | inl a ↦ ap (λ z. list_all (is_run_part is_ascii_digit) (z ++ flat_map f cs)) a.0 ∙ more
+      | inr a ↦ ap (λ z. list_all (is_run_part is_ascii_digit) (z ++ flat_map f cs)) a
+          ∙ and_from (is_run_part is_ascii_digit c) (list_all (is_run_part is_ascii_digit) (flat_map f cs)) p.0 more
     ]
 
-pub digits_some : (f : ℕ → List ℕ) (row : List ℕ) → RowStays f row
-    → list_any is_ascii_digit (flat_map f row) ≡ list_any is_ascii_digit row
+pub digits_some : (f : ℕ → List ℕ) (run : List ℕ) → RowStays f run
+    → list_any is_ascii_digit (flat_map f run) ≡ list_any is_ascii_digit run
 digits_some f [] k = refl
 digits_some f (c ∷ cs) k =
     let more = digits_some f cs k.1 in
@@ -228,9 +228,9 @@ digits_stay f (c ∷ cs) k h = (first k.0, digits_each f (c ∷ cs) k h.1)
     first (inr a) = ap (λ z. first_passes is_ascii_digit (z ++ flat_map f cs)) a ∙ h.0
 
 -- where no underscore is dropped, none is
-pub row_kept : (test : ℕ → Bool) (plus : Bool) (digits letter : Option Case) (row : List ℕ) → test 43 ≡ false
-    → test 69 ≡ false → test 101 ≡ false → list_all test row ≡ true
-    → flat_map (becomes false false plus digits letter) row ≡ row
+pub row_kept : (test : ℕ → Bool) (plus : Bool) (digits letter : Option Case) (run : List ℕ) → test 43 ≡ false
+    → test 69 ≡ false → test 101 ≡ false → list_all test run ≡ true
+    → flat_map (becomes false false plus digits letter) run ≡ run
 row_kept test plus digits letter [] p l u h = refl
 row_kept test plus digits letter (c ∷ cs) p l u h =
     let q = and_parts (test c) (list_all test cs) h in
@@ -264,7 +264,7 @@ decimal_by (c ∷ []) (e ∷ es) h n =
     let q = or_parts (e == 120) (e == 111) p.0 in
     second_tells c e es p.1 q.1 q.0
 decimal_by (c ∷ b ∷ ds) z h n =
-    let test : ℕ → Bool = is_row_part is_ascii_digit in
+    let test : ℕ → Bool = is_run_part is_ascii_digit in
     let p = and_parts (test c) (list_all test (b ∷ ds)) h.1 in
     let q = and_parts (test b) (list_all test ds) p.1 in
     second_tells c b (ds ++ z) (apart test b 98 q.0 refl) (apart test b 111 q.0 refl) (apart test b 120 q.0 refl)

@@ -10,7 +10,7 @@ use Rattle.rl_forms.proofs.StrictQuoted.{between}
 use Rattle.rl_writing.specs.RawStrings.{HasFewestHashes, raw_contents, raw_text}
 use Rattle.rl_style.specs.declared.style.Style.{Style}
 use Rattle.rl_style.specs.Cases.{separator}
-use Rattle.rl_style.specs.Rewriting.{HasHashes, KeepsTruth, LosesRaw, Rewrites, RewritesCooked, RewritesFloat, RewritesInt, RewritesRaw, StaysRaw, loses_raw, unraw_text, styled_numeral, styled_row, restyled_inside}
+use Rattle.rl_style.specs.Rewriting.{HasHashes, KeepsTruth, LosesRaw, Rewrites, RewritesCooked, RewritesFloat, RewritesInt, RewritesRaw, StaysRaw, loses_raw, unraw_text, styled_numeral, styled_run, restyled_inside}
 use Rattle.rl_style.proofs.SameRaw.{first_quote, length_hashes, raw_joined, raw_strict, raw_string, second_quote}
 use Rattle.rl_style.proofs.SameUnits.{cooked_strict}
 use Rattle.rl_style.proofs.UnitRows.{texts_once}
@@ -37,7 +37,7 @@ prefix_is t v x i =
     ]
 
 abbrev integer_of : Style → ℕ → List ℕ → List ℕ → List ℕ → List ℕ
-integer_of style base prefix row x = prefix ++ (styled_row style base x row ++ (separator style x ++ x))
+integer_of style base prefix row x = prefix ++ (styled_run style base x row ++ (separator style x ++ x))
 
 integer_once : (style : Style) (t u w : List ℕ) → RewritesInt style t u → RewritesInt style t w → u ≡ w
 integer_once style t u w a b =
@@ -46,15 +46,15 @@ integer_once style t u w a b =
     ∙ base_found t b.contents b.suffix b.int in
     let prefix : a.int.prefix ≡ b.int.prefix = prefix_is t a.contents a.suffix a.int ∙ ap prefix_of base
     ∙ sym (prefix_is t b.contents b.suffix b.int) in
-    let front : a.int.prefix ++ a.int.row ≡ b.int.prefix ++ b.int.row =
-    append_cancel_right (a.int.prefix ++ a.int.row) (b.int.prefix ++ b.int.row) b.suffix
-    (ap (λ z. (a.int.prefix ++ a.int.row) ++ z) (sym suffix) ∙ sym a.int.text ∙ b.int.text) in
-    let row : a.int.row ≡ b.int.row = same_tail a.int.prefix a.int.row b.int.row (front
-    ∙ ap (λ z. z ++ b.int.row) (sym prefix)) in
-    a.new_is ∙ ap (λ z. integer_of style z a.int.prefix a.int.row a.suffix) base
-    ∙ ap (λ z. integer_of style b.int.base z a.int.row a.suffix) prefix
+    let front : a.int.prefix ++ a.int.run ≡ b.int.prefix ++ b.int.run =
+    append_cancel_right (a.int.prefix ++ a.int.run) (b.int.prefix ++ b.int.run) b.suffix
+    (ap (λ z. (a.int.prefix ++ a.int.run) ++ z) (sym suffix) ∙ sym a.int.text ∙ b.int.text) in
+    let row : a.int.run ≡ b.int.run = same_tail a.int.prefix a.int.run b.int.run (front
+    ∙ ap (λ z. z ++ b.int.run) (sym prefix)) in
+    a.new_is ∙ ap (λ z. integer_of style z a.int.prefix a.int.run a.suffix) base
+    ∙ ap (λ z. integer_of style b.int.base z a.int.run a.suffix) prefix
     ∙ ap (λ z. integer_of style b.int.base b.int.prefix z a.suffix) row
-    ∙ ap (integer_of style b.int.base b.int.prefix b.int.row) suffix ∙ sym b.new_is
+    ∙ ap (integer_of style b.int.base b.int.prefix b.int.run) suffix ∙ sym b.new_is
 
 abbrev float_of : Style → List ℕ → List ℕ → List ℕ
 float_of style numeral x = styled_numeral style x numeral ++ (separator style x ++ x)

@@ -92,8 +92,8 @@ token_piece (PlainToken l) t is = lexeme_piece l t is
 token_piece (RawIdentifierToken c more) t is = refl
 token_piece (LifetimeToken c more) t is = refl
 token_piece (RawLifetimeToken c more) t is = refl
-token_piece (DocLineToken body) t (row, doc) =
-    ap (λ b. cond b (Some (after_line (body ++ t))) None) (line_plain body t row.ends ∙ doc)
+token_piece (DocLineToken body) t (run, doc) =
+    ap (λ b. cond b (Some (after_line (body ++ t))) None) (line_plain body t run.ends ∙ doc)
 token_piece (DocBlockToken i) t (is, doc) =
     ap (λ b. cond b (after_block 0 (inside_text i ++ t)) None) (plain_block-same i t ∙ doc)
 token_piece (BadQuoteToken q) t is = absurd is

@@ -9,13 +9,13 @@ use Rattle.rl_style.specs.declared.style.Case.{Case}
 use Rattle.rl_style.specs.declared.style.Case.TheVariants.{Lower, Upper}
 use Rattle.rl_style.specs.Cases.{cased, exponent_letter}
 use Rattle.rl_style.specs.Groups.{ending, ends, in_groups, regrouped, spaced}
-use Rattle.rl_style.specs.Mirrors.{row_placed}
+use Rattle.rl_style.specs.Mirrors.{run_placed}
 use Rattle.rl_style.proofs.CaseLemmas.{cased_underscore, none_right}
 use Rattle.rl_style.proofs.GroupRows.{clear_ending, mark, not_false, only_ending, other, row_all, row_digits, row_ending, row_first, row_kept, row_some, row_spaced, row_trim}
 use Rattle.rl_style.proofs.NumberCharacters.{Keeps, RowKeeps, becomes}
 use Rattle.rl_style.proofs.Trimmed.{IsTrim, kept_of, none_of, only}
 
--- ---- a row in groups, or as it is
+-- ---- a run in groups, or as it is
 
 pub ends_none : (from_first : Bool) (size count : ℕ) → ends from_first size count 0 ≡ false
 ends_none false size count = ap (λ b. b && 0 % size == 0) (none_right (nat_lt 0 size))
@@ -25,44 +25,44 @@ ends_none true size count = refl
 abbrev pub tests : Bool → ℕ → ℕ → ℕ → ℕ → Bool
 tests from_first size least count = ends from_first (group_size size least count) count
 
-pub either : (P : List ℕ → Type 0) (from_first : Bool) (size least : ℕ) (row : List ℕ) → P row
-    → P (row_spaced (tests from_first size least (length (without_underscores row))) row)
-    → P (regrouped from_first size least row)
-either P from_first size least row same new = go (size == 0)
+pub either : (P : List ℕ → Type 0) (from_first : Bool) (size least : ℕ) (run : List ℕ) → P run
+    → P (row_spaced (tests from_first size least (length (without_underscores run))) run)
+    → P (regrouped from_first size least run)
+either P from_first size least run same new = go (size == 0)
   where
-    go : (b : Bool) → P (cond b row (row_spaced (tests from_first size least (length (without_underscores row))) row))
+    go : (b : Bool) → P (cond b run (row_spaced (tests from_first size least (length (without_underscores run))) run))
     go true = same
     go false = new
 
-pub grouped_all : (p : ℕ → Bool) (from_first : Bool) (size least : ℕ) (row : List ℕ) → p 95 ≡ true
-    → list_all p row ≡ true → list_all p (regrouped from_first size least row) ≡ true
-grouped_all p from_first size least row m h = either (λ z. list_all p z ≡ true) from_first size least row h
-    (row_all p (tests from_first size least (length (without_underscores row))) row m h)
+pub grouped_all : (p : ℕ → Bool) (from_first : Bool) (size least : ℕ) (run : List ℕ) → p 95 ≡ true
+    → list_all p run ≡ true → list_all p (regrouped from_first size least run) ≡ true
+grouped_all p from_first size least run m h = either (λ z. list_all p z ≡ true) from_first size least run h
+    (row_all p (tests from_first size least (length (without_underscores run))) run m h)
 
-pub grouped_kept : (p : ℕ → Bool) (from_first : Bool) (size least : ℕ) (row : List ℕ) → p 95 ≡ false
-    → kept_of p (regrouped from_first size least row) ≡ kept_of p row
-grouped_kept p from_first size least row n = either (λ z. kept_of p z ≡ kept_of p row) from_first size least row refl
-    (row_kept p (tests from_first size least (length (without_underscores row))) row n)
+pub grouped_kept : (p : ℕ → Bool) (from_first : Bool) (size least : ℕ) (run : List ℕ) → p 95 ≡ false
+    → kept_of p (regrouped from_first size least run) ≡ kept_of p run
+grouped_kept p from_first size least run n = either (λ z. kept_of p z ≡ kept_of p run) from_first size least run refl
+    (row_kept p (tests from_first size least (length (without_underscores run))) run n)
 
-pub grouped_some : (p : ℕ → Bool) (from_first : Bool) (size least : ℕ) (row : List ℕ) → p 95 ≡ false
-    → list_any p row ≡ true → list_any p (regrouped from_first size least row) ≡ true
-grouped_some p from_first size least row n h = either (λ z. list_any p z ≡ true) from_first size least row h
-    (row_some p (tests from_first size least (length (without_underscores row))) row n h)
+pub grouped_some : (p : ℕ → Bool) (from_first : Bool) (size least : ℕ) (run : List ℕ) → p 95 ≡ false
+    → list_any p run ≡ true → list_any p (regrouped from_first size least run) ≡ true
+grouped_some p from_first size least run n h = either (λ z. list_any p z ≡ true) from_first size least run h
+    (row_some p (tests from_first size least (length (without_underscores run))) run n h)
 
-pub grouped_digits : (from_first : Bool) (size least : ℕ) (row : List ℕ) → IsDigits row
-    → IsDigits (regrouped from_first size least row)
-grouped_digits from_first size least row h = either IsDigits from_first size least row h
-    (row_digits (tests from_first size least (length (without_underscores row))) row h)
+pub grouped_digits : (from_first : Bool) (size least : ℕ) (run : List ℕ) → IsDigits run
+    → IsDigits (regrouped from_first size least run)
+grouped_digits from_first size least run h = either IsDigits from_first size least run h
+    (row_digits (tests from_first size least (length (without_underscores run))) run h)
 
-pub grouped_trim : (from_first : Bool) (size least : ℕ) (row : List ℕ) → IsTrim row
-    → IsTrim (regrouped from_first size least row)
-grouped_trim from_first size least row h = either IsTrim from_first size least row h
-    (row_trim (tests from_first size least (length (without_underscores row))) row (ends_none from_first _ _) h)
+pub grouped_trim : (from_first : Bool) (size least : ℕ) (run : List ℕ) → IsTrim run
+    → IsTrim (regrouped from_first size least run)
+grouped_trim from_first size least run h = either IsTrim from_first size least run h
+    (row_trim (tests from_first size least (length (without_underscores run))) run (ends_none from_first _ _) h)
 
 -- its first character stays, where that is no underscore
-pub record Begins (c : ℕ) (row : List ℕ) : Type 0 where
+pub record Begins (c : ℕ) (run : List ℕ) : Type 0 where
   pub rest : List ℕ
-  pub is : row ≡ c ∷ rest
+  pub is : run ≡ c ∷ rest
 
 pub grouped_first : (from_first : Bool) (size least c : ℕ) (cs : List ℕ) → (c == 95) ≡ false
     → Begins c (regrouped from_first size least (c ∷ cs))
@@ -79,9 +79,9 @@ grouped_one from_first size least c h =
     (row_first (tests from_first size least n) c [] h
     ∙ ap (λ b. c ∷ ((mark b ++ []) ++ [])) (ends_none from_first (group_size size least n) n))
 
-pub ungrouped : (from_first : Bool) (size least : ℕ) (row : List ℕ) → size ≡ 0
-    → regrouped from_first size least row ≡ row
-ungrouped from_first size least row e = ap (λ z. regrouped from_first z least row) e
+pub ungrouped : (from_first : Bool) (size least : ℕ) (run : List ℕ) → size ≡ 0
+    → regrouped from_first size least run ≡ run
+ungrouped from_first size least run e = ap (λ z. regrouped from_first z least run) e
 
 -- ---- characters that become one, or underscores that are dropped
 
@@ -94,7 +94,7 @@ abbrev pub RowPlain : (ℕ → List ℕ) → List ℕ → Type 0
 RowPlain f [] = ⊤
 RowPlain f (c ∷ cs) = Plain f c × RowPlain f cs
 
-pub plain_of : (f : ℕ → List ℕ) (row : List ℕ) → RowKeeps f row → RowPlain f row
+pub plain_of : (f : ℕ → List ℕ) (run : List ℕ) → RowKeeps f run → RowPlain f run
 plain_of f [] k = tt
 plain_of f (c ∷ cs) k = (one k.0, plain_of f cs k.1)
   where
@@ -136,8 +136,8 @@ plain_character drops hex plus digits letter c h =
       )
     ]
 
-pub row_plain : (drops hex plus : Bool) (digits letter : Option Case) (row : List ℕ)
-    → list_all (λ c. not (c == 43)) row ≡ true → RowPlain (becomes drops hex plus digits letter) row
+pub row_plain : (drops hex plus : Bool) (digits letter : Option Case) (run : List ℕ)
+    → list_all (λ c. not (c == 43)) run ≡ true → RowPlain (becomes drops hex plus digits letter) run
 row_plain drops hex plus digits letter [] h = tt
 row_plain drops hex plus digits letter (c ∷ cs) h =
     let p = and_parts (not (c == 43)) (list_all (λ c. not (c == 43)) cs) h in (
@@ -208,7 +208,7 @@ bare_flat drops hex plus digits letter (c ∷ cs) =
 
 -- ---- the underscores at the end
 
-only_flat : (f : ℕ → List ℕ) (row : List ℕ) → f 95 ≡ 95 ∷ [] → RowPlain f row → only (flat_map f row) ≡ only row
+only_flat : (f : ℕ → List ℕ) (run : List ℕ) → f 95 ≡ 95 ∷ [] → RowPlain f run → only (flat_map f run) ≡ only run
 only_flat f [] u k = refl
 only_flat f (c ∷ cs) u k =
     elim k.0 [
@@ -217,15 +217,15 @@ only_flat f (c ∷ cs) u k =
           ∙ ap (λ b. (c == 95) && b) (only_flat f cs u k.1)
     ]
 
-only_self : (f : ℕ → List ℕ) (row : List ℕ) → f 95 ≡ 95 ∷ [] → only row ≡ true → flat_map f row ≡ row
+only_self : (f : ℕ → List ℕ) (run : List ℕ) → f 95 ≡ 95 ∷ [] → only run ≡ true → flat_map f run ≡ run
 only_self f [] u h = refl
 only_self f (c ∷ cs) u h =
     let p = and_parts (c == 95) (only cs) h in
     let is : c ≡ 95 = eqb-true c 95 p.0 in
     ap (λ z. z ++ flat_map f cs) (ap f is ∙ u ∙ ap (λ z. z ∷ []) (sym is)) ∙ ap (λ z. c ∷ z) (only_self f cs u p.1)
 
-pub ending_flat : (f : ℕ → List ℕ) (row : List ℕ) → f 95 ≡ 95 ∷ [] → RowPlain f row
-    → ending (flat_map f row) ≡ ending row
+pub ending_flat : (f : ℕ → List ℕ) (run : List ℕ) → f 95 ≡ 95 ∷ [] → RowPlain f run
+    → ending (flat_map f run) ≡ ending run
 ending_flat f [] u k = refl
 ending_flat f (c ∷ cs) u k =
     elim (cases_Bool (only (c ∷ cs))) [
@@ -244,51 +244,51 @@ ending_flat f (c ∷ cs) u k =
 -- ---- once is enough
 
 pub again_grouped : (drops hex plus : Bool) (digits letter : Option Case) (from_first : Bool) (size least : ℕ)
-    (row : List ℕ) → flat_map (becomes drops hex plus digits letter) row ≡ row
-    → RowPlain (becomes drops hex plus digits letter) (regrouped from_first size least row)
+    (run : List ℕ) → flat_map (becomes drops hex plus digits letter) run ≡ run
+    → RowPlain (becomes drops hex plus digits letter) (regrouped from_first size least run)
     → regrouped from_first size least (flat_map (becomes drops hex plus digits letter)
-    (regrouped from_first size least row)) ≡ regrouped from_first size least row
-again_grouped drops hex plus digits letter from_first size least row same plain = go (size == 0) plain
+    (regrouped from_first size least run)) ≡ regrouped from_first size least run
+again_grouped drops hex plus digits letter from_first size least run same plain = go (size == 0) plain
   where
     f : ℕ → List ℕ
     f = becomes drops hex plus digits letter
 
     test : ℕ → Bool
-    test = tests from_first size least (length (without_underscores row))
+    test = tests from_first size least (length (without_underscores run))
 
     new : List ℕ
-    new = row_spaced test row
+    new = row_spaced test run
 
-    bare : without_underscores (flat_map f new) ≡ without_underscores row
+    bare : without_underscores (flat_map f new) ≡ without_underscores run
     bare = bare_flat drops hex plus digits letter new
-        ∙ ap (flat_map f) (row_kept other test row refl)
-        ∙ sym (bare_flat drops hex plus digits letter row) ∙ ap without_underscores same
+        ∙ ap (flat_map f) (row_kept other test run refl)
+        ∙ sym (bare_flat drops hex plus digits letter run) ∙ ap without_underscores same
 
     -- whether they are dropped or not
-    last : (drops : Bool) → flat_map (becomes drops hex plus digits letter) row ≡ row
+    last : (drops : Bool) → flat_map (becomes drops hex plus digits letter) run ≡ run
         → RowPlain (becomes drops hex plus digits letter) new
-        → ending (flat_map (becomes drops hex plus digits letter) new) ≡ ending row
+        → ending (flat_map (becomes drops hex plus digits letter) new) ≡ ending run
     last true s p = clear_ending (flat_map (becomes true hex plus digits letter) new)
         (drops_all hex plus digits letter new)
-        ∙ sym (ap ending (sym s) ∙ clear_ending (flat_map (becomes true hex plus digits letter) row)
-        (drops_all hex plus digits letter row))
+        ∙ sym (ap ending (sym s) ∙ clear_ending (flat_map (becomes true hex plus digits letter) run)
+        (drops_all hex plus digits letter run))
     last false s p = ending_flat (becomes false hex plus digits letter) new (keeps_under hex plus digits letter) p
-        ∙ row_ending test row (ends_none from_first (group_size size least (length (without_underscores row)))
-        (length (without_underscores row)))
+        ∙ row_ending test run (ends_none from_first (group_size size least (length (without_underscores run)))
+        (length (without_underscores run)))
 
-    go : (b : Bool) → RowPlain f (cond b row new)
-        → cond b (flat_map f (cond b row new))
-        (row_spaced (tests from_first size least (length (without_underscores (flat_map f (cond b row new)))))
-        (flat_map f (cond b row new))) ≡ cond b row new
+    go : (b : Bool) → RowPlain f (cond b run new)
+        → cond b (flat_map f (cond b run new))
+        (row_spaced (tests from_first size least (length (without_underscores (flat_map f (cond b run new)))))
+        (flat_map f (cond b run new))) ≡ cond b run new
     go true p = same
     go false p =
         ap (λ z. in_groups from_first size least z ++ ending (flat_map f new)) bare
-        ∙ ap (λ z. in_groups from_first size least (without_underscores row) ++ z) (last drops same p)
+        ∙ ap (λ z. in_groups from_first size least (without_underscores run) ++ z) (last drops same p)
 
 -- ---- as the code puts them
 
-count_same : (f : ℕ → List ℕ) (row : List ℕ) → RowPlain f row
-    → length (without_underscores (flat_map f row)) ≡ length (without_underscores row)
+count_same : (f : ℕ → List ℕ) (run : List ℕ) → RowPlain f run
+    → length (without_underscores (flat_map f run)) ≡ length (without_underscores run)
 count_same f [] k = refl
 count_same f (c ∷ cs) k =
     elim k.0 [
@@ -305,38 +305,38 @@ count_same f (c ∷ cs) k =
     go true d e = e
     go false d e = omega (arith, e)
 
--- a row of underscores alone has no digits
+-- a run of underscores alone has no digits
 only_bare : (cs : List ℕ) → only cs ≡ true → without_underscores cs ≡ []
 only_bare cs h = none_of other cs refl h
 
-pub placed_is : (f : ℕ → List ℕ) (test : ℕ → Bool) (row : List ℕ) → (f 95 ≡ []) ⊎ (f 95 ≡ 95 ∷ []) → RowPlain f row
-    → row_placed f test row ≡ row_spaced test (flat_map f row)
+pub placed_is : (f : ℕ → List ℕ) (test : ℕ → Bool) (run : List ℕ) → (f 95 ≡ []) ⊎ (f 95 ≡ 95 ∷ []) → RowPlain f run
+    → run_placed f test run ≡ row_spaced test (flat_map f run)
 placed_is f test [] u k = refl
 placed_is f test (c ∷ cs) u k =
     let more = placed_is f test cs u k.1 in
     elim (cases_Bool (c == 95)) [
       | inl a ↦
           let is : c ≡ 95 = eqb-true c 95 a in
-          ap (λ b. cond b (cond (only cs) (f 95) [] ++ row_placed f test cs)
-          ((f c ++ mark (test (length (without_underscores cs)))) ++ row_placed f test cs)) a
+          ap (λ b. cond b (cond (only cs) (f 95) [] ++ run_placed f test cs)
+          ((f c ++ mark (test (length (without_underscores cs)))) ++ run_placed f test cs)) a
           ∙ under u more ∙ ap (λ z. row_spaced test (f z ++ flat_map f cs)) (sym is)
       | inr a ↦
-          ap (λ b. cond b (cond (only cs) (f 95) [] ++ row_placed f test cs)
-          ((f c ++ mark (test (length (without_underscores cs)))) ++ row_placed f test cs)) a
+          ap (λ b. cond b (cond (only cs) (f 95) [] ++ run_placed f test cs)
+          ((f c ++ mark (test (length (without_underscores cs)))) ++ run_placed f test cs)) a
           ∙ digit a k.0 more
     ]
   where
-    under : (f 95 ≡ []) ⊎ (f 95 ≡ 95 ∷ []) → row_placed f test cs ≡ row_spaced test (flat_map f cs)
-        → cond (only cs) (f 95) [] ++ row_placed f test cs ≡ row_spaced test (f 95 ++ flat_map f cs)
-    under (inl e) more = ap (λ z. cond (only cs) z [] ++ row_placed f test cs) e ∙ both (only cs) ∙ more
+    under : (f 95 ≡ []) ⊎ (f 95 ≡ 95 ∷ []) → run_placed f test cs ≡ row_spaced test (flat_map f cs)
+        → cond (only cs) (f 95) [] ++ run_placed f test cs ≡ row_spaced test (f 95 ++ flat_map f cs)
+    under (inl e) more = ap (λ z. cond (only cs) z [] ++ run_placed f test cs) e ∙ both (only cs) ∙ more
         ∙ ap (λ z. row_spaced test (z ++ flat_map f cs)) (sym e)
       where
-        both : (b : Bool) → cond b [] [] ++ row_placed f test cs ≡ row_placed f test cs
+        both : (b : Bool) → cond b [] [] ++ run_placed f test cs ≡ run_placed f test cs
         both true = refl
         both false = refl
     under (inr e) more =
         let same : only (flat_map f cs) ≡ only cs = only_flat f cs e k.1 in
-        ap (λ z. cond (only cs) z [] ++ row_placed f test cs) e ∙ ap (λ z. cond (only cs) (95 ∷ []) [] ++ z) more
+        ap (λ z. cond (only cs) z [] ++ run_placed f test cs) e ∙ ap (λ z. cond (only cs) (95 ∷ []) [] ++ z) more
         ∙ go (only cs) same
         ∙ ap (λ z. row_spaced test (z ++ flat_map f cs)) (sym e)
       where
@@ -351,14 +351,14 @@ placed_is f test (c ∷ cs) u k =
         go false h = ap (λ z. spaced test (without_underscores (flat_map f cs))
             ++ cond z (95 ∷ flat_map f cs) (ending (flat_map f cs))) (sym h)
 
-    digit : (c == 95) ≡ false → Plain f c → row_placed f test cs ≡ row_spaced test (flat_map f cs)
-        → (f c ++ mark (test (length (without_underscores cs)))) ++ row_placed f test cs
+    digit : (c == 95) ≡ false → Plain f c → run_placed f test cs ≡ row_spaced test (flat_map f cs)
+        → (f c ++ mark (test (length (without_underscores cs)))) ++ run_placed f test cs
         ≡ row_spaced test (f c ++ flat_map f cs)
     digit n (inl a) more = absurd (let e : true ≡ false = sym a.1 ∙ n in cc)
     digit n (inr a) more =
         let other : (a.0 == 95) ≡ false = a.2 ∙ n in
         let b : Bool = test (length (without_underscores cs)) in
-        ap (λ z. (z ++ mark b) ++ row_placed f test cs) a.1 ∙ ap (λ z. a.0 ∷ (mark b ++ z)) more
+        ap (λ z. (z ++ mark b) ++ run_placed f test cs) a.1 ∙ ap (λ z. a.0 ∷ (mark b ++ z)) more
         ∙ ap (λ m. a.0 ∷ (mark (test m) ++ row_spaced test (flat_map f cs))) (sym (count_same f cs k.1))
         ∙ ap (λ z. a.0 ∷ z) (sym (append_assoc (mark (test (length (without_underscores (flat_map f cs)))))
         (spaced test (without_underscores (flat_map f cs))) (ending (flat_map f cs))))
@@ -391,24 +391,24 @@ some_counted cs n =
     ]
 
 pub placed_digit : (f : ℕ → List ℕ) (test : ℕ → Bool) (c : ℕ) (cs : List ℕ) → (c == 95) ≡ false
-    → row_placed f test (c ∷ cs) ≡ (f c ++ mark (test (length (without_underscores cs)))) ++ row_placed f test cs
-placed_digit f test c cs h = ap (λ b. cond b (cond (only cs) (f 95) [] ++ row_placed f test cs)
-    ((f c ++ mark (test (length (without_underscores cs)))) ++ row_placed f test cs)) h
+    → run_placed f test (c ∷ cs) ≡ (f c ++ mark (test (length (without_underscores cs)))) ++ run_placed f test cs
+placed_digit f test c cs h = ap (λ b. cond b (cond (only cs) (f 95) [] ++ run_placed f test cs)
+    ((f c ++ mark (test (length (without_underscores cs)))) ++ run_placed f test cs)) h
 
 placed_under : (f : ℕ → List ℕ) (test : ℕ → Bool) (c : ℕ) (cs : List ℕ) → (c == 95) ≡ true
-    → row_placed f test (c ∷ cs) ≡ cond (only cs) (f 95) [] ++ row_placed f test cs
-placed_under f test c cs h = ap (λ b. cond b (cond (only cs) (f 95) [] ++ row_placed f test cs)
-    ((f c ++ mark (test (length (without_underscores cs)))) ++ row_placed f test cs)) h
+    → run_placed f test (c ∷ cs) ≡ cond (only cs) (f 95) [] ++ run_placed f test cs
+placed_under f test c cs h = ap (λ b. cond b (cond (only cs) (f 95) [] ++ run_placed f test cs)
+    ((f c ++ mark (test (length (without_underscores cs)))) ++ run_placed f test cs)) h
 
 pub placed_last : (f : ℕ → List ℕ) (test : ℕ → Bool) (c : ℕ) (cs : List ℕ) → (c == 95) ≡ true
-    → length (without_underscores (c ∷ cs)) ≡ 0 → row_placed f test (c ∷ cs) ≡ f 95 ++ row_placed f test cs
+    → length (without_underscores (c ∷ cs)) ≡ 0 → run_placed f test (c ∷ cs) ≡ f 95 ++ run_placed f test cs
 placed_last f test c cs h n = placed_under f test c cs h
-    ∙ ap (λ b. cond b (f 95) [] ++ row_placed f test cs) (none_counted cs (sym (uncounted c cs h) ∙ n))
+    ∙ ap (λ b. cond b (f 95) [] ++ run_placed f test cs) (none_counted cs (sym (uncounted c cs h) ∙ n))
 
 pub placed_skip : (f : ℕ → List ℕ) (test : ℕ → Bool) (c : ℕ) (cs : List ℕ) → (c == 95) ≡ true
-    → (length (without_underscores (c ∷ cs)) ≡ 0 → ⊥) → row_placed f test (c ∷ cs) ≡ row_placed f test cs
+    → (length (without_underscores (c ∷ cs)) ≡ 0 → ⊥) → run_placed f test (c ∷ cs) ≡ run_placed f test cs
 placed_skip f test c cs h n = placed_under f test c cs h
-    ∙ ap (λ b. cond b (f 95) [] ++ row_placed f test cs) (some_counted cs (λ e. n (uncounted c cs h ∙ e)))
+    ∙ ap (λ b. cond b (f 95) [] ++ run_placed f test cs) (some_counted cs (λ e. n (uncounted c cs h ∙ e)))
 
 under_is : (drops hex plus : Bool) (digits letter : Option Case)
     → (becomes drops hex plus digits letter 95 ≡ []) ⊎ (becomes drops hex plus digits letter 95 ≡ 95 ∷ [])
@@ -416,15 +416,15 @@ under_is true hex plus digits letter = inl refl
 under_is false hex plus digits letter = inr (keeps_under hex plus digits letter)
 
 pub placed_groups : (drops hex plus : Bool) (digits letter : Option Case) (from_first : Bool)
-    (size least among count : ℕ) (row : List ℕ) → list_all (λ c. not (c == 43)) row ≡ true
-    → among ≡ group_size size least count → count ≡ length (without_underscores row)
-    → row_placed (becomes drops hex plus digits letter) (ends from_first among count) row
-    ≡ in_groups from_first size least (without_underscores (flat_map (becomes drops hex plus digits letter) row))
-    ++ ending (flat_map (becomes drops hex plus digits letter) row)
-placed_groups drops hex plus digits letter from_first size least among count row h a n =
+    (size least among count : ℕ) (run : List ℕ) → list_all (λ c. not (c == 43)) run ≡ true
+    → among ≡ group_size size least count → count ≡ length (without_underscores run)
+    → run_placed (becomes drops hex plus digits letter) (ends from_first among count) run
+    ≡ in_groups from_first size least (without_underscores (flat_map (becomes drops hex plus digits letter) run))
+    ++ ending (flat_map (becomes drops hex plus digits letter) run)
+placed_groups drops hex plus digits letter from_first size least among count run h a n =
     let f : ℕ → List ℕ = becomes drops hex plus digits letter in
-    let plain = row_plain drops hex plus digits letter row h in
-    ap (λ z. row_placed f (ends from_first z count) row) a
-    ∙ ap (λ z. row_placed f (tests from_first size least z) row) (n ∙ sym (count_same f row plain))
-    ∙ placed_is f (tests from_first size least (length (without_underscores (flat_map f row)))) row
+    let plain = row_plain drops hex plus digits letter run h in
+    ap (λ z. run_placed f (ends from_first z count) run) a
+    ∙ ap (λ z. run_placed f (tests from_first size least z) run) (n ∙ sym (count_same f run plain))
+    ∙ placed_is f (tests from_first size least (length (without_underscores (flat_map f run)))) run
     (under_is drops hex plus digits letter) plain

@@ -1,6 +1,6 @@
 -- A literal written anew is a token where the old one was, and begins so that no token in front can tell.
 use Rattle.rl_text.proofs.Common.{◌≡◌, ℕ, ◌≤◌, ◌⊎◌, nat_lt, digit_value, ◌||◌, inl, inr, Bool, true, false, not, ◌==◌, cond, length, lit<, List, [], ◌∷◌, ◌++◌, Some, refl, sym, ◌∙◌, ap, subst, arith, append_assoc, and_from, and_parts, codes, list_all, list_all-append, is_ascii_digit}
-use Rattle.rl_text.specs.Texts.{first_passes, is_among, is_continue, is_row_part, is_start}
+use Rattle.rl_text.specs.Texts.{first_passes, is_among, is_continue, is_run_part, is_start}
 use Rattle.rl_text.specs.Classes.{after_run}
 use Rattle.rl_forms.specs.declared.kind.Kind.{Kind}
 use Rattle.rl_forms.specs.declared.kind.Kind.TheVariants.{Str, ByteStr, CStr, Byte, Char, Int, Float, Bool as BoolKind}
@@ -129,28 +129,28 @@ decimals_replace t u y s r same = record {
 }
 
 -- digits, and what follows them
-record DigitsThen (row z t : List ℕ) : Type 0 where
+record DigitsThen (run z t : List ℕ) : Type 0 where
   form : DecimalForm t
   rest : List ℕ
-  each : list_all (is_row_part is_ascii_digit) rest ≡ true
+  each : list_all (is_run_part is_ascii_digit) rest ≡ true
   more_is : form.more ≡ rest ++ z
 
-digits_then : (row z t : List ℕ) → IsDigits row → IsDecimalText t → t ≡ row ++ z → DigitsThen row z t
+digits_then : (run z t : List ℕ) → IsDigits run → IsDecimalText t → t ≡ run ++ z → DigitsThen run z t
 digits_then [] z t (first, each) is e = absurd (cc)
-digits_then (d ∷ row) z t (first, each) is e = record {
-  form = record { digit = d; more = row ++ z; is_digit = first; is_decimal = subst IsDecimalText e is; text_is = e };
-  rest = row;
-  each = (and_parts (is_row_part is_ascii_digit d) (list_all (is_row_part is_ascii_digit) row) each).1;
+digits_then (d ∷ run) z t (first, each) is e = record {
+  form = record { digit = d; more = run ++ z; is_digit = first; is_decimal = subst IsDecimalText e is; text_is = e };
+  rest = run;
+  each = (and_parts (is_run_part is_ascii_digit d) (list_all (is_run_part is_ascii_digit) run) each).1;
   more_is = refl;
 }
 
 -- integers of base ten
-ten_then : (t x : List ℕ) (v : Contents) (s : StrictInt t v x) → s.prefix ≡ [] → IsDigits s.row → IsDecimalText t
-    → DigitsThen s.row x t
-ten_then t x v s none digits is = digits_then s.row x t digits is (s.text ∙ ap (λ z. (z ++ s.row) ++ x) none)
+ten_then : (t x : List ℕ) (v : Contents) (s : StrictInt t v x) → s.prefix ≡ [] → IsDigits s.run → IsDecimalText t
+    → DigitsThen s.run x t
+ten_then t x v s none digits is = digits_then s.run x t digits is (s.text ∙ ap (λ z. (z ++ s.run) ++ x) none)
 
-ten_end : (row x t y : List ℕ) → (d : DigitsThen row x t) → after_decimal (d.form.more ++ y) ≡ after_decimal (x ++ y)
-ten_end row x t y d = ap (λ z. after_decimal (z ++ y)) d.more_is ∙ ap after_decimal (append_assoc d.rest x y)
+ten_end : (run x t y : List ℕ) → (d : DigitsThen run x t) → after_decimal (d.form.more ++ y) ≡ after_decimal (x ++ y)
+ten_end run x t y d = ap (λ z. after_decimal (z ++ y)) d.more_is ∙ ap after_decimal (append_assoc d.rest x y)
     ∙ digits_gone d.rest (x ++ y) d.each
 
 -- integers with a prefix
@@ -165,14 +165,14 @@ record Based (t x : List ℕ) (prefix : List ℕ) : Type 0 where
 based : (letter n : ℕ) (t x : List ℕ) (v : Contents) (s : StrictInt t v x) → s.prefix ≡ 48 ∷ letter ∷ [] → s.base ≡ n
     → n ≤ 16 → is_base_letter letter ≡ true → Based t x s.prefix
 based letter n t x v s front base few is =
-    let row = row_goes_on n s.row few (subst (λ (k : ℕ). list_all (is_row_part (λ d. nat_lt (digit_value d) k)) s.row
+    let run = row_goes_on n s.run few (subst (λ (k : ℕ). list_all (is_run_part (λ d. nat_lt (digit_value d) k)) s.run
     ≡ true) base s.each) in
     record {
       letter = letter;
-      digits = s.row ++ x;
+      digits = s.run ++ x;
       is_letter = is;
-      each = list_all-append is_continue s.row x ∙ and_from _ _ row (suffix_goes_on x s.suffix.0);
-      text_is = s.text ∙ ap (λ z. (z ++ s.row) ++ x) front;
+      each = list_all-append is_continue s.run x ∙ and_from _ _ run (suffix_goes_on x s.suffix.0);
+      text_is = s.text ∙ ap (λ z. (z ++ s.run) ++ x) front;
       prefix_is = front;
     }
 
@@ -199,13 +199,13 @@ pub integers_replace : (t u x y : List ℕ) (v w : Contents) (a : StrictInt t v 
     → b.base ≡ a.base → Replaces t u y
 integers_replace t u x y v w a b same = go a.is_front b.is_front
   where
-    go : ((a.prefix ≡ []) × (a.base ≡ 10) × IsDigits a.row × IsDecimalText t) ⊎ BasedPrefix a.prefix a.base
-        → ((b.prefix ≡ []) × (b.base ≡ 10) × IsDigits b.row × IsDecimalText u) ⊎ BasedPrefix b.prefix b.base
+    go : ((a.prefix ≡ []) × (a.base ≡ 10) × IsDigits a.run × IsDecimalText t) ⊎ BasedPrefix a.prefix a.base
+        → ((b.prefix ≡ []) × (b.base ≡ 10) × IsDigits b.run × IsDecimalText u) ⊎ BasedPrefix b.prefix b.base
         → Replaces t u y
     go (inl f) (inl g) =
         let d = ten_then t x v a f.0 f.2 f.3 in
         let e = ten_then u x w b g.0 g.2 g.3 in
-        decimals_replace t u y d.form e.form (λ h. ten_end b.row x u y e ∙ sym (ten_end a.row x t y d) ∙ h)
+        decimals_replace t u y d.form e.form (λ h. ten_end b.run x u y e ∙ sym (ten_end a.run x t y d) ∙ h)
     go (inr f) (inr g) = based_replace t u x y a.prefix b.prefix (each_based t x v a f) (each_based u x w b g)
     go (inl f) (inr g) = absurd (not_ten b.prefix b.base g (same ∙ f.1))
     go (inr f) (inl g) = absurd (not_ten a.prefix a.base f (sym same ∙ g.1))
@@ -213,8 +213,8 @@ integers_replace t u x y v w a b same = go a.is_front b.is_front
 -- floats: where the lexer goes on after the numeral, by its shape
 abbrev shape_end : FloatShape → List ℕ → List ℕ
 shape_end DotShape z = after_decimal (46 ∷ z)
-shape_end PointShape z = after_suffix (after_lexed_exponent (after_run (is_row_part is_ascii_digit) z))
-shape_end PowerShape z = after_suffix (after_run (is_row_part is_ascii_digit) z)
+shape_end PointShape z = after_suffix (after_lexed_exponent (after_run (is_run_part is_ascii_digit) z))
+shape_end PowerShape z = after_suffix (after_run (is_run_part is_ascii_digit) z)
 
 record FloatParts (t x : List ℕ) (shape : FloatShape) : Type 0 where
   form : DecimalForm t
@@ -262,7 +262,7 @@ float_parts t x v s (inr (inr (d, p, h, k, inr (f, g, e)))) =
 dot_closes : (y : List ℕ) → after_decimal (46 ∷ y) ≡ y → shape_end PointShape y ≡ y
 dot_closes y h = go (first_passes (λ d. d == 46 || is_start d) y) h
   where
-    go : (b : Bool) → after_suffix (after_lexed_exponent (cond (not b) (after_run (is_row_part is_ascii_digit) y)
+    go : (b : Bool) → after_suffix (after_lexed_exponent (cond (not b) (after_run (is_run_part is_ascii_digit) y)
         (46 ∷ y))) ≡ y → shape_end PointShape y ≡ y
     go false k = k
     go true k =

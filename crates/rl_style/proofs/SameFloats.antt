@@ -2,7 +2,7 @@
 use Rattle.rl_text.proofs.Common.{◌≡◌, ◌⊎◌, ℕ, ◌||◌, Bool, true, false, not, ◌==◌, cond, List, [], ◌∷◌, ◌++◌, map, refl, sym, ap, subst, ◌∙◌, inl, inr, ◌&&◌, append_assoc, append-nil, cases_Bool, append_cancel_right, map-append, list_all, list_any, list_all-append, and_from, or_cases, eqb-true, is_ascii_digit, flat_map, Some, None}
 use Rattle.std.specs.Prelude.{Option, filter}
 use Rattle.std.proofs.lemmas.List.Elements.{filter-append}
-use Rattle.rl_text.specs.Texts.{is_row_part}
+use Rattle.rl_text.specs.Texts.{is_run_part}
 use Rattle.rl_text.proofs.Basics.{apart}
 use Rattle.rl_reading.proofs.Names.{flat_map-append}
 use Rattle.rl_forms.specs.declared.kind.Kind.TheVariants.{Float}
@@ -13,7 +13,7 @@ use Rattle.rl_style.specs.declared.style.Case.TheVariants.{Lower, Upper}
 use Rattle.rl_style.specs.declared.style.Style.{Style}
 use Rattle.rl_style.specs.declared.style.Separator.{Separator}
 use Rattle.rl_style.specs.declared.style.Separator.TheVariants.{Nothing, Underscore}
-use Rattle.rl_style.specs.Cases.{drops_underscores, kept_row, number_character, separator, separator_by, trimmed, trims_by}
+use Rattle.rl_style.specs.Cases.{drops_underscores, kept_run, number_character, separator, separator_by, trimmed, trims_by}
 use Rattle.rl_text.specs.Classes.{after_run}
 use Rattle.rl_style.specs.Groups.{digit_run, float_in_groups, least_by, size_by}
 use Rattle.rl_style.specs.Rewriting.{GetsZero, SameLiteral, SameNumber, RewritesFloat, styled_numeral}
@@ -40,25 +40,25 @@ letter_only : (c : ℕ) (cs : List ℕ) → (c == 101 || c == 69) ≡ true → o
 letter_only c cs h = ap (λ b. b && only cs) (apart (λ d. d == 101 || d == 69) c 95 h refl)
 
 -- an exponent without them
-exponent_row : (e : List ℕ) → (s : IsStrictExponent e) → trimmed e ≡ s.letter ∷ (s.sign ++ trimmed s.row)
+exponent_row : (e : List ℕ) → (s : IsStrictExponent e) → trimmed e ≡ s.letter ∷ (s.sign ++ trimmed s.run)
 exponent_row e s =
-    let some : only s.row ≡ false = some_not_only is_ascii_digit s.row refl s.some in
-    ap trimmed s.text ∙ trimmed_join (s.letter ∷ s.sign) s.row some
+    let some : only s.run ≡ false = some_not_only is_ascii_digit s.run refl s.some in
+    ap trimmed s.text ∙ trimmed_join (s.letter ∷ s.sign) s.run some
 
 exponent_trims : (e : List ℕ) → IsStrictExponent e → IsStrictExponent (trimmed e)
 exponent_trims e s = record {
   letter = s.letter;
   sign = s.sign;
-  row = trimmed s.row;
+  run = trimmed s.run;
   is_letter = s.is_letter;
   is_sign = s.is_sign;
-  each = trimmed_all (is_row_part is_ascii_digit) s.row s.each;
-  some = trimmed_some is_ascii_digit s.row refl ∙ s.some;
+  each = trimmed_all (is_run_part is_ascii_digit) s.run s.each;
+  some = trimmed_some is_ascii_digit s.run refl ∙ s.some;
   text = exponent_row e s;
 }
 
 exponent_only : (e : List ℕ) → IsStrictExponent e → only e ≡ false
-exponent_only e s = ap only s.text ∙ letter_only s.letter (s.sign ++ s.row) s.is_letter
+exponent_only e s = ap only s.text ∙ letter_only s.letter (s.sign ++ s.run) s.is_letter
 
 trimmed_form : (numeral x : List ℕ) (form : FloatForm numeral x) → Shaped (trimmed numeral) x (shape_of numeral x form)
 trimmed_form numeral x (inl (d, h, e, n)) = record {
@@ -91,7 +91,7 @@ trimmed_form numeral x (inr (inr (d, e, h, s, inr (z, k, n)))) = record {
   same_shape = refl;
 }
 
-pub kept_form : (style : Style) (numeral x : List ℕ) (form : FloatForm numeral x) → Shaped (kept_row style x numeral) x
+pub kept_form : (style : Style) (numeral x : List ℕ) (form : FloatForm numeral x) → Shaped (kept_run style x numeral) x
     (shape_of numeral x form)
 kept_form style numeral x form = go (trims_by style.suffix_separator x)
   where
@@ -100,20 +100,20 @@ kept_form style numeral x form = go (trims_by style.suffix_separator x)
     go false = record { form = form; same_shape = refl }
 
 -- with one underscore
-exponent_more : (e s : List ℕ) → IsStrictExponent e → list_all (is_row_part is_ascii_digit) s ≡ true
+exponent_more : (e s : List ℕ) → IsStrictExponent e → list_all (is_run_part is_ascii_digit) s ≡ true
     → IsStrictExponent (e ++ s)
 exponent_more e s p h = record {
   letter = p.letter;
   sign = p.sign;
-  row = p.row ++ s;
+  run = p.run ++ s;
   is_letter = p.is_letter;
   is_sign = p.is_sign;
-  each = list_all-append (is_row_part is_ascii_digit) p.row s ∙ and_from _ _ p.each h;
-  some = any_left is_ascii_digit p.row s p.some;
-  text = ap (λ z. z ++ s) p.text ∙ ap (λ z. p.letter ∷ z) (append_assoc p.sign p.row s);
+  each = list_all-append (is_run_part is_ascii_digit) p.run s ∙ and_from _ _ p.each h;
+  some = any_left is_ascii_digit p.run s p.some;
+  text = ap (λ z. z ++ s) p.text ∙ ap (λ z. p.letter ∷ z) (append_assoc p.sign p.run s);
 }
 
-more_form : (numeral x s : List ℕ) (form : FloatForm numeral x) → list_all (is_row_part is_ascii_digit) s ≡ true
+more_form : (numeral x s : List ℕ) (form : FloatForm numeral x) → list_all (is_run_part is_ascii_digit) s ≡ true
     → (x ≡ [] → s ≡ []) → Shaped (numeral ++ s) x (shape_of numeral x form)
 more_form numeral x s (inl (d, h, e, n)) all none = record {
   form = inl (d, h, ap (λ z. numeral ++ z) (none n) ∙ append-nil numeral ∙ e, n);
@@ -230,34 +230,34 @@ spelled_join a b = ap (map (λ c. cond (c == 69) 101 c)) (filter-append (λ c. n
 spelled_more : (c : ℕ) (a b : List ℕ) → spelled a ≡ spelled b → spelled (c ∷ a) ≡ spelled (c ∷ b)
 spelled_more c a b same = spelled_join (c ∷ []) a ∙ ap (λ z. spelled (c ∷ []) ++ z) same ∙ sym (spelled_join (c ∷ []) b)
 
-pub run_joined : (cs : List ℕ) → digit_run cs ++ after_run (is_row_part is_ascii_digit) cs ≡ cs
+pub run_joined : (cs : List ℕ) → digit_run cs ++ after_run (is_run_part is_ascii_digit) cs ≡ cs
 run_joined [] = refl
-run_joined (c ∷ cs) = go (is_row_part is_ascii_digit c) (run_joined cs)
+run_joined (c ∷ cs) = go (is_run_part is_ascii_digit c) (run_joined cs)
   where
-    go : (b : Bool) → digit_run cs ++ after_run (is_row_part is_ascii_digit) cs ≡ cs
-        → cond b (c ∷ digit_run cs) [] ++ cond b (after_run (is_row_part is_ascii_digit) cs) (c ∷ cs) ≡ c ∷ cs
+    go : (b : Bool) → digit_run cs ++ after_run (is_run_part is_ascii_digit) cs ≡ cs
+        → cond b (c ∷ digit_run cs) [] ++ cond b (after_run (is_run_part is_ascii_digit) cs) (c ∷ cs) ≡ c ∷ cs
     go true h = ap (λ z. c ∷ z) h
     go false h = refl
 
-run_digits : (cs : List ℕ) → list_all (is_row_part is_ascii_digit) (digit_run cs) ≡ true
+run_digits : (cs : List ℕ) → list_all (is_run_part is_ascii_digit) (digit_run cs) ≡ true
 run_digits [] = refl
-run_digits (c ∷ cs) = go (is_row_part is_ascii_digit c) refl (run_digits cs)
+run_digits (c ∷ cs) = go (is_run_part is_ascii_digit c) refl (run_digits cs)
   where
-    go : (b : Bool) → is_row_part is_ascii_digit c ≡ b → list_all (is_row_part is_ascii_digit) (digit_run cs) ≡ true
-        → list_all (is_row_part is_ascii_digit) (cond b (c ∷ digit_run cs) []) ≡ true
-    go true h more = and_from (is_row_part is_ascii_digit c) (list_all (is_row_part is_ascii_digit) (digit_run cs)) h
+    go : (b : Bool) → is_run_part is_ascii_digit c ≡ b → list_all (is_run_part is_ascii_digit) (digit_run cs) ≡ true
+        → list_all (is_run_part is_ascii_digit) (cond b (c ∷ digit_run cs) []) ≡ true
+    go true h more = and_from (is_run_part is_ascii_digit c) (list_all (is_run_part is_ascii_digit) (digit_run cs)) h
         more
     go false h more = refl
 
 -- the text before what follows its digits
-pub run_cut : (cs front rest : List ℕ) → cs ≡ front ++ rest → rest ≡ after_run (is_row_part is_ascii_digit) cs
+pub run_cut : (cs front rest : List ℕ) → cs ≡ front ++ rest → rest ≡ after_run (is_run_part is_ascii_digit) cs
     → (front ≡ digit_run cs) × (list_all (λ c. not (c == 43)) front ≡ true)
 run_cut cs front rest cut is =
     let same : front ≡ digit_run cs = append_cancel_right front (digit_run cs) rest
     (sym cut ∙ sym (run_joined cs) ∙ ap (λ z. digit_run cs ++ z) (sym is)) in (
       same,
-      plus_free (is_row_part is_ascii_digit) front refl
-          (ap (list_all (is_row_part is_ascii_digit)) same ∙ run_digits cs),
+      plus_free (is_run_part is_ascii_digit) front refl
+          (ap (list_all (is_run_part is_ascii_digit)) same ∙ run_digits cs),
     )
 
 spelled_row : (drops plus : Bool) (digits letter : Option Case) (from_first : Bool) (size least : ℕ) (cs : List ℕ)
@@ -333,9 +333,9 @@ Least style = least_by style.digit_groups
 -- as the kept one is written
 pub kept_numeral : (style : Style) (numeral x : List ℕ) (form : FloatForm numeral x)
     → Numeral (styled_numeral style x numeral) x
-    (closed_shape (shape_of (kept_row style x numeral) x (kept_form style numeral x form).form) style.float_zero)
+    (closed_shape (shape_of (kept_run style x numeral) x (kept_form style numeral x form).form) style.float_zero)
 kept_numeral style numeral x form = form_is (drops_underscores style x) style.exponent_plus style.hex_digits
-    style.exponent_letter style.float_zero (Size style x) (Least style) (kept_row style x numeral) x
+    style.exponent_letter style.float_zero (Size style x) (Least style) (kept_run style x numeral) x
     (kept_form style numeral x form).form
 
 pub new_form : (style : Style) (numeral x : List ℕ) (form : FloatForm numeral x)
@@ -351,7 +351,7 @@ new_form style numeral x form =
           ∙ ap (λ shape. closed_shape shape style.float_zero) (kept_form style numeral x form).same_shape;
     }
 
-spelled_kept : (style : Style) (x numeral : List ℕ) → spelled (kept_row style x numeral) ≡ spelled numeral
+spelled_kept : (style : Style) (x numeral : List ℕ) → spelled (kept_run style x numeral) ≡ spelled numeral
 spelled_kept style x numeral = go (trims_by style.suffix_separator x)
   where
     go : (b : Bool) → spelled (cond b (trimmed numeral) numeral) ≡ spelled numeral
@@ -369,8 +369,8 @@ new_spelled style numeral x form =
     ap (map (λ c. cond (c == 69) 101 c)) (separator_gone (λ c. not (c == 95 || c == 43)) style.suffix_separator x
     (styled_numeral style x numeral) refl)
     ∙ spelled_numeral (drops_underscores style x) style.exponent_plus style.hex_digits style.exponent_letter
-    style.float_zero (Size style x) (Least style) (kept_row style x numeral) x kept.form
-    ∙ ap (λ y. y ++ added (shape_of (kept_row style x numeral) x kept.form) style.float_zero)
+    style.float_zero (Size style x) (Least style) (kept_run style x numeral) x kept.form
+    ∙ ap (λ y. y ++ added (shape_of (kept_run style x numeral) x kept.form) style.float_zero)
     (spelled_kept style x numeral)
     ∙ ap (λ shape. spelled numeral ++ added shape style.float_zero) kept.same_shape
 
@@ -452,20 +452,20 @@ float_number style t u c = record {
 tail_trims : (a b : List ℕ) → only b ≡ false → IsTrim (a ++ b) → IsTrim b
 tail_trims a b n h = same_tail a (trimmed b) b (sym (trimmed_join a b n) ∙ h)
 
-row_mapped : (drops plus : Bool) (digits letter : Option Case) (row : List ℕ)
-    → list_all (is_row_part is_ascii_digit) row ≡ true → IsTrim row
-    → IsTrim (flat_map (becomes drops false plus digits letter) row)
-row_mapped drops plus digits letter row each h = mapped_trim (becomes drops false plus digits letter) row
-    (keeps_of (becomes drops false plus digits letter) row
-    (row_stays (is_row_part is_ascii_digit) drops plus digits letter row refl refl refl each)) h
+row_mapped : (drops plus : Bool) (digits letter : Option Case) (run : List ℕ)
+    → list_all (is_run_part is_ascii_digit) run ≡ true → IsTrim run
+    → IsTrim (flat_map (becomes drops false plus digits letter) run)
+row_mapped drops plus digits letter run each h = mapped_trim (becomes drops false plus digits letter) run
+    (keeps_of (becomes drops false plus digits letter) run
+    (row_stays (is_run_part is_ascii_digit) drops plus digits letter run refl refl refl each)) h
 
-some_mapped : (drops plus : Bool) (digits letter : Option Case) (row : List ℕ)
-    → list_all (is_row_part is_ascii_digit) row ≡ true → list_any is_ascii_digit row ≡ true
-    → only (flat_map (becomes drops false plus digits letter) row) ≡ false
-some_mapped drops plus digits letter row each some = some_not_only is_ascii_digit
-    (flat_map (becomes drops false plus digits letter) row) refl
-    (digits_some (becomes drops false plus digits letter) row
-    (row_stays (is_row_part is_ascii_digit) drops plus digits letter row refl refl refl each) ∙ some)
+some_mapped : (drops plus : Bool) (digits letter : Option Case) (run : List ℕ)
+    → list_all (is_run_part is_ascii_digit) run ≡ true → list_any is_ascii_digit run ≡ true
+    → only (flat_map (becomes drops false plus digits letter) run) ≡ false
+some_mapped drops plus digits letter run each some = some_not_only is_ascii_digit
+    (flat_map (becomes drops false plus digits letter) run) refl
+    (digits_some (becomes drops false plus digits letter) run
+    (row_stays (is_run_part is_ascii_digit) drops plus digits letter run refl refl refl each) ∙ some)
 
 exponent_mapped : (drops plus : Bool) (digits letter : Option Case) (e : List ℕ) → IsStrictExponent e → IsTrim e
     → IsTrim (flat_map (becomes drops false plus digits letter) e)
@@ -473,21 +473,21 @@ exponent_mapped : (drops plus : Bool) (digits letter : Option Case) (e : List �
 exponent_mapped drops plus digits letter e s h =
     let f : ℕ → List ℕ = becomes drops false plus digits letter in
     let front : List ℕ = s.letter ∷ s.sign in
-    let last : IsTrim s.row = tail_trims front s.row (some_not_only is_ascii_digit s.row refl s.some)
+    let last : IsTrim s.run = tail_trims front s.run (some_not_only is_ascii_digit s.run refl s.some)
     (subst IsTrim s.text h) in
-    let some : only (flat_map f s.row) ≡ false = some_mapped drops plus digits letter s.row s.each s.some in
-    let is : flat_map f e ≡ flat_map f front ++ flat_map f s.row = ap (flat_map f) s.text
-    ∙ flat_map-append f front s.row in (
-      ap trimmed is ∙ trimmed_join (flat_map f front) (flat_map f s.row) some
-          ∙ ap (λ z. flat_map f front ++ z) (row_mapped drops plus digits letter s.row s.each last) ∙ sym is,
-      ap only is ∙ only_join (flat_map f front) (flat_map f s.row) some,
+    let some : only (flat_map f s.run) ≡ false = some_mapped drops plus digits letter s.run s.each s.some in
+    let is : flat_map f e ≡ flat_map f front ++ flat_map f s.run = ap (flat_map f) s.text
+    ∙ flat_map-append f front s.run in (
+      ap trimmed is ∙ trimmed_join (flat_map f front) (flat_map f s.run) some
+          ∙ ap (λ z. flat_map f front ++ z) (row_mapped drops plus digits letter s.run s.each last) ∙ sym is,
+      ap only is ∙ only_join (flat_map f front) (flat_map f s.run) some,
     )
 
-row_trims : (drops plus : Bool) (digits letter : Option Case) (from_first : Bool) (size least : ℕ) (row : List ℕ)
-    → list_all (is_row_part is_ascii_digit) row ≡ true → IsTrim row
-    → IsTrim (Groups size least from_first (flat_map (becomes drops false plus digits letter) row))
-row_trims drops plus digits letter from_first size least row each h = grouped_trim from_first size least
-    (flat_map (becomes drops false plus digits letter) row) (row_mapped drops plus digits letter row each h)
+row_trims : (drops plus : Bool) (digits letter : Option Case) (from_first : Bool) (size least : ℕ) (run : List ℕ)
+    → list_all (is_run_part is_ascii_digit) run ≡ true → IsTrim run
+    → IsTrim (Groups size least from_first (flat_map (becomes drops false plus digits letter) run))
+row_trims drops plus digits letter from_first size least run each h = grouped_trim from_first size least
+    (flat_map (becomes drops false plus digits letter) run) (row_mapped drops plus digits letter run each h)
 
 form_trims : (drops plus : Bool) (digits letter : Option Case) (closes : Bool) (size least : ℕ) (numeral x : List ℕ)
     → FloatForm numeral x
@@ -530,13 +530,13 @@ form_trims drops plus digits letter closes size least numeral x (inr (inr (d, e,
 numeral_trims : (style : Style) (x numeral : List ℕ) → FloatForm numeral x → trims_by style.suffix_separator x ≡ true
     → IsTrim (styled_numeral style x numeral)
 numeral_trims style x numeral form h =
-    let kept : List ℕ = kept_row style x numeral in
+    let kept : List ℕ = kept_run style x numeral in
     let short : IsTrim kept = subst IsTrim (sym (ap (λ b. cond b (trimmed numeral) numeral) h)) (trimmed_again numeral)
     in
     form_trims (drops_underscores style x) style.exponent_plus style.hex_digits style.exponent_letter style.float_zero
     (Size style x) (Least style) kept x (kept_form style numeral x form).form short
 
--- a row that was written
+-- a run that was written
 row_stays_so : (drops plus : Bool) (digits letter : Option Case) (from_first : Bool) (size least : ℕ) (d : List ℕ)
     → IsDigits d
     → Groups size least from_first (flat_map (becomes drops false plus digits letter)
@@ -547,7 +547,7 @@ row_stays_so drops plus digits letter from_first size least d h =
     let new : List ℕ = Groups size least from_first (flat_map f d) in
     again_grouped drops false plus digits letter from_first size least (flat_map f d)
     (twice drops false plus digits letter d)
-    (plain_of f new (keeps_of f new (row_stays (is_row_part is_ascii_digit) drops plus digits letter new refl refl refl
+    (plain_of f new (keeps_of f new (row_stays (is_run_part is_ascii_digit) drops plus digits letter new refl refl refl
     (row_is drops plus digits letter from_first size least d h).1)))
 
 numeral_stays : (drops plus : Bool) (digits letter : Option Case) (closes : Bool) (size least : ℕ) (numeral x : List ℕ)
@@ -608,12 +608,12 @@ float_stays style t u c =
     let f : ℕ → List ℕ = number_character style (drops_underscores style x) false in
     let end : List ℕ = separator style x ++ x in
     let new : List ℕ = styled_numeral style x c.float.numeral in
-    let same : kept_row style x (new ++ separator style x) ≡ new = row_again style.suffix_separator x new
+    let same : kept_run style x (new ++ separator style x) ≡ new = row_again style.suffix_separator x new
     (numeral_trims style x c.float.numeral c.float.form) in
     let again : styled_numeral style x (new ++ separator style x) ≡ new =
     ap (float_in_groups style.float_zero f (Groups (Size style x) (Least style))) same
     ∙ numeral_stays (drops_underscores style x) style.exponent_plus style.hex_digits style.exponent_letter
-    style.float_zero (Size style x) (Least style) (kept_row style x c.float.numeral) x
+    style.float_zero (Size style x) (Least style) (kept_run style x c.float.numeral) x
     (kept_form style c.float.numeral x c.float.form).form in
     record {
       contents = Digits (new_digits style c.float.numeral x c.float.form);

@@ -1,17 +1,17 @@
 -- An integer written anew is the same literal.
 use Rattle.rl_text.proofs.Common.{◌≡◌, ℕ, ◌⊎◌, Bool, true, false, not, ◌==◌, ◌&&◌, ◌||◌, cond, nat_lt, List, [], ◌∷◌, ◌++◌, refl, sym, ap, subst, ◌∙◌, inl, inr, append_assoc, append-nil, list_all-append, and_from, and_parts, cases_Bool, digit_value, eqb-true, or_parts, is_ascii_digit, list_all, list_any, flat_map, Some, None}
 use Rattle.std.specs.Prelude.{Option}
-use Rattle.rl_text.specs.Texts.{first_passes, is_row_part}
+use Rattle.rl_text.specs.Texts.{first_passes, is_run_part}
 use Rattle.rl_forms.specs.declared.kind.Kind.TheVariants.{Int}
 use Rattle.rl_forms.specs.Reading.{Contents, Digits}
 use Rattle.rl_forms.specs.Strict.{BasedPrefix, IsDecimalText, IsDigits, StrictInt, dec}
 use Rattle.rl_lexer.specs.Lexemes.{is_base_letter}
 use Rattle.rl_style.specs.declared.style.Style.{Style}
-use Rattle.rl_style.specs.Cases.{drops_underscores, drops_zeros, is_padding, kept_digits, kept_row, number_character, or_zero, separator, significant, trimmed, trims_by}
+use Rattle.rl_style.specs.Cases.{drops_underscores, drops_zeros, is_padding, kept_digits, kept_run, number_character, or_zero, separator, significant, trimmed, trims_by}
 use Rattle.rl_text.specs.Classes.{after_run}
 use Rattle.rl_style.specs.declared.style.DigitGroups.{DigitGroups}
-use Rattle.rl_style.specs.Groups.{base_group, grouped_row, least_by, regrouped, size_by}
-use Rattle.rl_style.specs.Rewriting.{SameLiteral, RewritesInt, styled_row}
+use Rattle.rl_style.specs.Groups.{base_group, grouped_run, least_by, regrouped, size_by}
+use Rattle.rl_style.specs.Rewriting.{SameLiteral, RewritesInt, styled_run}
 use Rattle.rl_forms.specs.Spelling.{place_value, without_underscores}
 use Rattle.rl_style.proofs.LeadingZeros.{left, significant_again, significant_all, significant_digits, significant_left, significant_none, significant_number, significant_some}
 use Rattle.rl_style.proofs.CaseLemmas.{none_right}
@@ -23,14 +23,14 @@ use Rattle.rl_style.proofs.NumberCharacters.{RowKeeps, RowStays, decimal_by, dig
 -- ---- digits without the zeros in front
 
 abbrev row_of : ℕ → List ℕ → Type 0
-row_of base row = list_all (is_row_part (of_base base)) row ≡ true
+row_of base run = list_all (is_run_part (of_base base)) run ≡ true
 
--- what a row of a base keeps without them
-pub record RowFacts (base : ℕ) (row kept : List ℕ) : Type 0 where
+-- what a run of a base keeps without them
+pub record RowFacts (base : ℕ) (run kept : List ℕ) : Type 0 where
   pub each : row_of base kept
   pub some : list_any (of_base base) kept ≡ true
-  pub number : place_value base (without_underscores kept) ≡ place_value base (without_underscores row)
-  pub digits : IsDigits row → IsDigits kept
+  pub number : place_value base (without_underscores kept) ≡ place_value base (without_underscores run)
+  pub digits : IsDigits run → IsDigits kept
 
 pub zeros_ten : (style : Style) (base : ℕ) (x : List ℕ) → drops_zeros style base x ≡ true → base ≡ 10
 zeros_ten style base x h = eqb-true base 10 (and_parts style.leading_zeros (base == 10) (and_parts
@@ -45,104 +45,104 @@ facts_then base a b c f g = record {
 }
 
 -- without the underscores at the end
-kept_facts : (style : Style) (base : ℕ) (x row : List ℕ) → row_of base row → list_any (of_base base) row ≡ true
-    → of_base base 95 ≡ false → RowFacts base row (kept_row style x row)
-kept_facts style base x row h some n = go (trims_by style.suffix_separator x)
+kept_facts : (style : Style) (base : ℕ) (x run : List ℕ) → row_of base run → list_any (of_base base) run ≡ true
+    → of_base base 95 ≡ false → RowFacts base run (kept_run style x run)
+kept_facts style base x run h some n = go (trims_by style.suffix_separator x)
   where
-    go : (b : Bool) → RowFacts base row (cond b (trimmed row) row)
+    go : (b : Bool) → RowFacts base run (cond b (trimmed run) run)
     go true = record {
-      each = trimmed_all (is_row_part (of_base base)) row h;
-      some = trimmed_some (of_base base) row n ∙ some;
-      number = ap (place_value base) (trimmed_filter (λ c. not (c == 95)) row refl);
-      digits = trimmed_digits row;
+      each = trimmed_all (is_run_part (of_base base)) run h;
+      some = trimmed_some (of_base base) run n ∙ some;
+      number = ap (place_value base) (trimmed_filter (λ c. not (c == 95)) run refl);
+      digits = trimmed_digits run;
     }
     go false = record { each = h; some = some; number = refl; digits = λ d. d }
 
-zero_facts : (style : Style) (base : ℕ) (x row : List ℕ) → row_of base row → list_any (of_base base) row ≡ true
-    → RowFacts base row (kept_digits style base x row)
-zero_facts style base x row h some = go (drops_zeros style base x) refl
+zero_facts : (style : Style) (base : ℕ) (x run : List ℕ) → row_of base run → list_any (of_base base) run ≡ true
+    → RowFacts base run (kept_digits style base x run)
+zero_facts style base x run h some = go (drops_zeros style base x) refl
   where
-    of_ten : row_of 10 row → RowFacts 10 row (significant row)
+    of_ten : row_of 10 run → RowFacts 10 run (significant run)
     of_ten h = record {
-      each = significant_all (is_row_part (of_base 10)) row refl h;
-      some = significant_some (of_base 10) row refl h;
-      number = significant_number row;
-      digits = significant_digits row;
+      each = significant_all (is_run_part (of_base 10)) run refl h;
+      some = significant_some (of_base 10) run refl h;
+      number = significant_number run;
+      digits = significant_digits run;
     }
 
-    go : (b : Bool) → drops_zeros style base x ≡ b → RowFacts base row (cond b (significant row) row)
+    go : (b : Bool) → drops_zeros style base x ≡ b → RowFacts base run (cond b (significant run) run)
     go true e =
         let ten = zeros_ten style base x e in
-        subst (λ z. RowFacts z row (significant row)) (sym ten) (of_ten (subst (λ z. row_of z row) ten h))
+        subst (λ z. RowFacts z run (significant run)) (sym ten) (of_ten (subst (λ z. row_of z run) ten h))
     go false e = record { each = h; some = some; number = refl; digits = λ d. d }
 
 -- the digits that are kept
 abbrev pub kept_of_row : Style → ℕ → List ℕ → List ℕ → List ℕ
-kept_of_row style base x row = kept_digits style base x (kept_row style x row)
+kept_of_row style base x run = kept_digits style base x (kept_run style x run)
 
 -- ---- digits by the base
 
-pub record IntegerFacts (style : Style) (drops : Bool) (base : ℕ) (row : List ℕ) : Type 0 where
-  pub keeps : RowKeeps (number_character style drops (base == 16)) row
+pub record IntegerFacts (style : Style) (drops : Bool) (base : ℕ) (run : List ℕ) : Type 0 where
+  pub keeps : RowKeeps (number_character style drops (base == 16)) run
   pub underscore : nat_lt (digit_value 95) base ≡ false
 
-small_row : (style : Style) (drops : Bool) (base : ℕ) (row : List ℕ) → is_row_part (of_base base) 43 ≡ false
-    → is_row_part (of_base base) 69 ≡ false → is_row_part (of_base base) 101 ≡ false → row_of base row
-    → RowStays (number_character style drops false) row
-small_row style drops base row p u l h = row_stays (is_row_part (of_base base)) drops style.exponent_plus
+small_row : (style : Style) (drops : Bool) (base : ℕ) (run : List ℕ) → is_run_part (of_base base) 43 ≡ false
+    → is_run_part (of_base base) 69 ≡ false → is_run_part (of_base base) 101 ≡ false → row_of base run
+    → RowStays (number_character style drops false) run
+small_row style drops base run p u l h = row_stays (is_run_part (of_base base)) drops style.exponent_plus
     style.hex_digits
-    style.exponent_letter row p u l h
+    style.exponent_letter run p u l h
 
-pub integer_facts : (style : Style) (drops : Bool) (t : List ℕ) (v : Contents) (x row : List ℕ) → (i : StrictInt t v x)
-    → row_of i.base row → IntegerFacts style drops i.base row
-integer_facts style drops t v x row i each = go i.is_front
+pub integer_facts : (style : Style) (drops : Bool) (t : List ℕ) (v : Contents) (x run : List ℕ) → (i : StrictInt t v x)
+    → row_of i.base run → IntegerFacts style drops i.base run
+integer_facts style drops t v x run i each = go i.is_front
   where
-    of : (b : ℕ) → i.base ≡ b → (row_of b row → IntegerFacts style drops b row)
-        → IntegerFacts style drops i.base row
-    of b e f = subst (λ z. IntegerFacts style drops z row) (sym e) (f (subst (λ z. row_of z row) e each))
+    of : (b : ℕ) → i.base ≡ b → (row_of b run → IntegerFacts style drops b run)
+        → IntegerFacts style drops i.base run
+    of b e f = subst (λ z. IntegerFacts style drops z run) (sym e) (f (subst (λ z. row_of z run) e each))
 
-    go : ((i.prefix ≡ []) × (i.base ≡ 10) × IsDigits i.row × IsDecimalText t) ⊎ BasedPrefix i.prefix i.base
-        → IntegerFacts style drops i.base row
+    go : ((i.prefix ≡ []) × (i.base ≡ 10) × IsDigits i.run × IsDecimalText t) ⊎ BasedPrefix i.prefix i.base
+        → IntegerFacts style drops i.base run
     go (inl f) = of 10 f.1 (λ h. record {
-      keeps = keeps_of (number_character style drops false) row (small_row style drops 10 row refl refl refl h);
+      keeps = keeps_of (number_character style drops false) run (small_row style drops 10 run refl refl refl h);
       underscore = refl;
     })
     go (inr (inl b)) = of 2 b.1 (λ h. record {
-      keeps = keeps_of (number_character style drops false) row (small_row style drops 2 row refl refl refl h);
+      keeps = keeps_of (number_character style drops false) run (small_row style drops 2 run refl refl refl h);
       underscore = refl;
     })
     go (inr (inr (inl b))) = of 8 b.1 (λ h. record {
-      keeps = keeps_of (number_character style drops false) row (small_row style drops 8 row refl refl refl h);
+      keeps = keeps_of (number_character style drops false) run (small_row style drops 8 run refl refl refl h);
       underscore = refl;
     })
     go (inr (inr (inr b))) = of 16 b.1 (λ h. record {
-      keeps = hex_keeps drops style.exponent_plus style.hex_digits style.exponent_letter row;
+      keeps = hex_keeps drops style.exponent_plus style.hex_digits style.exponent_letter run;
       underscore = refl;
     })
 
 pub row_facts : (style : Style) (t : List ℕ) (v : Contents) (x : List ℕ) → (i : StrictInt t v x)
-    → RowFacts i.base i.row (kept_of_row style i.base x i.row)
+    → RowFacts i.base i.run (kept_of_row style i.base x i.run)
 row_facts style t v x i =
-    let kept = kept_facts style i.base x i.row i.each i.some
-    (integer_facts style false t v x i.row i i.each).underscore in
-    facts_then i.base i.row (kept_row style x i.row) (kept_of_row style i.base x i.row) kept
-    (zero_facts style i.base x (kept_row style x i.row) kept.each kept.some)
+    let kept = kept_facts style i.base x i.run i.each i.some
+    (integer_facts style false t v x i.run i i.each).underscore in
+    facts_then i.base i.run (kept_run style x i.run) (kept_of_row style i.base x i.run) kept
+    (zero_facts style i.base x (kept_run style x i.run) kept.each kept.some)
 
 -- the digits that are kept, written anew
 abbrev pub new_row : Style → Bool → ℕ → List ℕ → List ℕ → List ℕ
-new_row style hex base x row = flat_map (number_character style (drops_underscores style x) hex)
-    (kept_of_row style base x row)
+new_row style hex base x run = flat_map (number_character style (drops_underscores style x) hex)
+    (kept_of_row style base x run)
 
--- no plus stands in a row
-pub integer_plus : (t : List ℕ) (v : Contents) (x row : List ℕ) → (i : StrictInt t v x) → row_of i.base row
-    → list_all (λ c. not (c == 43)) row ≡ true
-integer_plus t v x row i each = go i.is_front
+-- no plus stands in a run
+pub integer_plus : (t : List ℕ) (v : Contents) (x run : List ℕ) → (i : StrictInt t v x) → row_of i.base run
+    → list_all (λ c. not (c == 43)) run ≡ true
+integer_plus t v x run i each = go i.is_front
   where
-    of : (b : ℕ) → i.base ≡ b → is_row_part (of_base b) 43 ≡ false → list_all (λ c. not (c == 43)) row ≡ true
-    of b e n = plus_free (is_row_part (of_base b)) row n (subst (λ z. row_of z row) e each)
+    of : (b : ℕ) → i.base ≡ b → is_run_part (of_base b) 43 ≡ false → list_all (λ c. not (c == 43)) run ≡ true
+    of b e n = plus_free (is_run_part (of_base b)) run n (subst (λ z. row_of z run) e each)
 
-    go : ((i.prefix ≡ []) × (i.base ≡ 10) × IsDigits i.row × IsDecimalText t) ⊎ BasedPrefix i.prefix i.base
-        → list_all (λ c. not (c == 43)) row ≡ true
+    go : ((i.prefix ≡ []) × (i.base ≡ 10) × IsDigits i.run × IsDecimalText t) ⊎ BasedPrefix i.prefix i.base
+        → list_all (λ c. not (c == 43)) run ≡ true
     go (inl f) = of 10 f.1 refl
     go (inr (inl b)) = of 2 b.1 refl
     go (inr (inr (inl b))) = of 8 b.1 refl
@@ -150,17 +150,17 @@ integer_plus t v x row i each = go i.is_front
 
 -- ---- in groups
 
--- what groups keep of a row
-pub in_row_facts : (style : Style) (base : ℕ) (x row : List ℕ) → of_base base 95 ≡ false → row_of base row
-    → list_any (of_base base) row ≡ true → RowFacts base row (grouped_row false style base x row)
-in_row_facts style base x row n h some =
+-- what groups keep of a run
+pub in_row_facts : (style : Style) (base : ℕ) (x run : List ℕ) → of_base base 95 ≡ false → row_of base run
+    → list_any (of_base base) run ≡ true → RowFacts base run (grouped_run false style base x run)
+in_row_facts style base x run n h some =
     let size : ℕ = size_by style.digit_groups base x in
     let least : ℕ = least_by style.digit_groups in
     record {
-      each = grouped_all (is_row_part (of_base base)) false size least row (or_true (of_base base 95)) h;
-      some = grouped_some (of_base base) false size least row n some;
-      number = ap (place_value base) (grouped_kept (λ c. not (c == 95)) false size least row refl);
-      digits = grouped_digits false size least row;
+      each = grouped_all (is_run_part (of_base base)) false size least run (or_true (of_base base 95)) h;
+      some = grouped_some (of_base base) false size least run n some;
+      number = ap (place_value base) (grouped_kept (λ c. not (c == 95)) false size least run refl);
+      digits = grouped_digits false size least run;
     }
   where
     or_true : (b : Bool) → (b || true) ≡ true
@@ -185,40 +185,40 @@ kept_zeros style base x h = ap (λ b. (style.leading_zeros && base == 10) && not
     ∙ none_right (style.leading_zeros && base == 10)
 
 pub decimal_front : (style : Style) (t : List ℕ) (v : Contents) (x : List ℕ) → (i : StrictInt t v x) → i.prefix ≡ []
-    → IsDigits i.row → IsDecimalText t
-    → IsDigits (grouped_row false style i.base x (new_row style false i.base x i.row) ++ separator style x)
-    × IsDecimalText ((grouped_row false style i.base x (new_row style false i.base x i.row) ++ separator style x) ++ x)
+    → IsDigits i.run → IsDecimalText t
+    → IsDigits (grouped_run false style i.base x (new_row style false i.base x i.run) ++ separator style x)
+    × IsDecimalText ((grouped_run false style i.base x (new_row style false i.base x i.run) ++ separator style x) ++ x)
 decimal_front style t v x i e d h =
     let drops : Bool = drops_underscores style x in
-    let row : List ℕ = kept_of_row style i.base x i.row in
+    let run : List ℕ = kept_of_row style i.base x i.run in
     let sep : List ℕ = separator style x in
     let size : ℕ = size_by style.digit_groups i.base x in
     let least : ℕ = least_by style.digit_groups in
-    let kept : IsDigits row = (row_facts style t v x i).digits d in
-    let stay = row_stays (is_row_part is_ascii_digit) drops style.exponent_plus style.hex_digits style.exponent_letter
-    row
+    let kept : IsDigits run = (row_facts style t v x i).digits d in
+    let stay = row_stays (is_run_part is_ascii_digit) drops style.exponent_plus style.hex_digits style.exponent_letter
+    run
     refl refl refl kept.1 in
-    let bare : List ℕ = flat_map (number_character style drops false) row in
-    let new : List ℕ = grouped_row false style i.base x bare in
-    let digits = grouped_digits false size least bare (digits_stay (number_character style drops false) row stay kept)
+    let bare : List ℕ = flat_map (number_character style drops false) run in
+    let new : List ℕ = grouped_run false style i.base x bare in
+    let digits = grouped_digits false size least bare (digits_stay (number_character style drops false) run stay kept)
     in (
       digits_join new sep digits (separator_all is_ascii_digit style.suffix_separator x),
       elim (cases_Bool (first_passes is_base_letter (sep ++ x))) [
         | inl a ↦
             let base = base_kept style.suffix_separator x a in
             let none : drops ≡ false = kept_before style x base.2 in
-            let untrimmed : kept_row style x i.row ≡ i.row = ap (λ b. cond b (trimmed i.row) i.row) base.0 in
-            let whole : row ≡ i.row = ap (λ b. cond b (significant (kept_row style x i.row)) (kept_row style x i.row))
+            let untrimmed : kept_run style x i.run ≡ i.run = ap (λ b. cond b (trimmed i.run) i.run) base.0 in
+            let whole : run ≡ i.run = ap (λ b. cond b (significant (kept_run style x i.run)) (kept_run style x i.run))
             (kept_zeros style i.base x base.2) ∙ untrimmed in
-            let same : new ≡ i.row =
+            let same : new ≡ i.run =
             ungrouped false size least bare (no_groups style.digit_groups i.base x base.2)
-            ∙ ap (λ b. flat_map (number_character style b false) row) none
-            ∙ row_kept (is_row_part is_ascii_digit) style.exponent_plus style.hex_digits style.exponent_letter row refl
+            ∙ ap (λ b. flat_map (number_character style b false) run) none
+            ∙ row_kept (is_run_part is_ascii_digit) style.exponent_plus style.hex_digits style.exponent_letter run refl
             refl
             refl kept.1 ∙ whole in
             let text : t ≡ (new ++ sep) ++ x =
-            i.text ∙ ap (λ z. (z ++ i.row) ++ x) e ∙ ap (λ z. z ++ x) (sym (ap (λ z. z ++ sep) same
-            ∙ ap (λ z. i.row ++ z) base.1 ∙ append-nil i.row)) in
+            i.text ∙ ap (λ z. (z ++ i.run) ++ x) e ∙ ap (λ z. z ++ x) (sym (ap (λ z. z ++ sep) same
+            ∙ ap (λ z. i.run ++ z) base.1 ∙ append-nil i.run)) in
             subst IsDecimalText text h
         | inr a ↦ subst IsDecimalText (sym (append_assoc new sep x)) (decimal_by new (sep ++ x) digits a)
       ],
@@ -230,33 +230,33 @@ pub regrouped_text : (p r s x : List ℕ) → p ++ (r ++ (s ++ x)) ≡ (p ++ (r 
 regrouped_text p r s x = simp append_assoc
 
 abbrev pub written : (style : Style) (t u : List ℕ) (v : Contents) (x : List ℕ) (i : StrictInt t v x) → u
-    ≡ i.prefix ++ (styled_row style i.base x i.row ++ (separator style x ++ x)) → StrictInt u v x
+    ≡ i.prefix ++ (styled_run style i.base x i.run ++ (separator style x ++ x)) → StrictInt u v x
 written style t u v x i e =
     let drops : Bool = drops_underscores style x in
-    let row : List ℕ = kept_of_row style i.base x i.row in
+    let run : List ℕ = kept_of_row style i.base x i.run in
     let sep : List ℕ = separator style x in
     let f : ℕ → List ℕ = number_character style drops (i.base == 16) in
     let kept = row_facts style t v x i in
-    let facts = integer_facts style drops t v x row i kept.each in
-    let new : List ℕ = styled_row style i.base x i.row in
-    let groups = in_row_facts style i.base x (flat_map f row) facts.underscore
-    (each_kept f i.base row facts.keeps kept.each) (some_kept f i.base row facts.keeps facts.underscore ∙ kept.some) in
+    let facts = integer_facts style drops t v x run i kept.each in
+    let new : List ℕ = styled_run style i.base x i.run in
+    let groups = in_row_facts style i.base x (flat_map f run) facts.underscore
+    (each_kept f i.base run facts.keeps kept.each) (some_kept f i.base run facts.keeps facts.underscore ∙ kept.some) in
     let text : u ≡ (i.prefix ++ (new ++ sep)) ++ x = e ∙ regrouped_text i.prefix new sep x in
     record {
       prefix = i.prefix;
       base = i.base;
-      row = new ++ sep;
+      run = new ++ sep;
       is_front = elim i.is_front [
         | inl g ↦
             let front = decimal_front style t v x i g.0 g.2 g.3 in
             let hex : (i.base == 16) ≡ false = ap (λ z. z == 16) g.1 in
-            let Row : Bool → List ℕ = λ b. grouped_row false style i.base x (new_row style b i.base x i.row) ++ sep in
+            let Row : Bool → List ℕ = λ b. grouped_run false style i.base x (new_row style b i.base x i.run) ++ sep in
             let is : u ≡ Row false ++ x = text ∙ ap (λ z. (z ++ Row (i.base == 16)) ++ x) g.0
             ∙ ap (λ b. Row b ++ x) hex in
             inl (g.0, g.1, subst (λ b. IsDigits (Row b)) (sym hex) front.0, subst IsDecimalText (sym is) front.1)
         | inr g ↦ inr g
       ];
-      each = list_all-append (is_row_part (of_base i.base)) new sep
+      each = list_all-append (is_run_part (of_base i.base)) new sep
           ∙ and_from _ _ groups.each (separator_all (of_base i.base) style.suffix_separator x);
       some = any_left (of_base i.base) new sep groups.some;
       suffix = i.suffix;
@@ -265,7 +265,7 @@ written style t u v x i e =
       text = text;
       contents = i.contents ∙ ap (λ n. Digits (dec n)) (sym (ap (place_value i.base)
           (separator_gone (λ c. not (c == 95)) style.suffix_separator x new refl)
-          ∙ groups.number ∙ number_kept f i.base row facts.keeps ∙ kept.number));
+          ∙ groups.number ∙ number_kept f i.base run facts.keeps ∙ kept.number));
     }
 
 pub integer_same : (style : Style) (t u : List ℕ) → RewritesInt style t u → SameLiteral t u
@@ -280,75 +280,75 @@ integer_same style t u c = record {
 -- ---- once is enough
 
 -- no zero stands in front of what was written
-zeros_again : (style : Style) (drops : Bool) (base : ℕ) (x row : List ℕ) → row_of base row
-    → kept_digits style base x (flat_map (number_character style drops (base == 16)) (kept_digits style base x row))
-    ≡ flat_map (number_character style drops (base == 16)) (kept_digits style base x row)
-zeros_again style drops base x row each = go (drops_zeros style base x) refl
+zeros_again : (style : Style) (drops : Bool) (base : ℕ) (x run : List ℕ) → row_of base run
+    → kept_digits style base x (flat_map (number_character style drops (base == 16)) (kept_digits style base x run))
+    ≡ flat_map (number_character style drops (base == 16)) (kept_digits style base x run)
+zeros_again style drops base x run each = go (drops_zeros style base x) refl
   where
-    ten : row_of 10 row → significant (flat_map (number_character style drops false) (significant row))
-        ≡ flat_map (number_character style drops false) (significant row)
-    ten h = significant_again (number_character style drops false) row
+    ten : row_of 10 run → significant (flat_map (number_character style drops false) (significant run))
+        ≡ flat_map (number_character style drops false) (significant run)
+    ten h = significant_again (number_character style drops false) run
         (stays drops style.exponent_plus style.hex_digits style.exponent_letter 48 refl refl refl refl)
-        (small_row style drops 10 row refl refl refl h)
+        (small_row style drops 10 run refl refl refl h)
 
     go : (b : Bool) → drops_zeros style base x ≡ b
-        → cond b (significant (flat_map (number_character style drops (base == 16)) (cond b (significant row) row)))
-        (flat_map (number_character style drops (base == 16)) (cond b (significant row) row))
-        ≡ flat_map (number_character style drops (base == 16)) (cond b (significant row) row)
+        → cond b (significant (flat_map (number_character style drops (base == 16)) (cond b (significant run) run)))
+        (flat_map (number_character style drops (base == 16)) (cond b (significant run) run))
+        ≡ flat_map (number_character style drops (base == 16)) (cond b (significant run) run)
     go true e =
         let is = zeros_ten style base x e in
-        subst (λ z. significant (flat_map (number_character style drops (z == 16)) (significant row))
-        ≡ flat_map (number_character style drops (z == 16)) (significant row)) (sym is)
-        (ten (subst (λ z. row_of z row) is each))
+        subst (λ z. significant (flat_map (number_character style drops (z == 16)) (significant run))
+        ≡ flat_map (number_character style drops (z == 16)) (significant run)) (sym is)
+        (ten (subst (λ z. row_of z run) is each))
     go false e = refl
 
 -- nor do underscores stand at its end
 row_trims : (style : Style) (t : List ℕ) (v : Contents) (x : List ℕ) (i : StrictInt t v x)
     → trims_by style.suffix_separator x ≡ true
     → IsTrim (flat_map (number_character style (drops_underscores style x) (i.base == 16))
-    (kept_of_row style i.base x i.row))
+    (kept_of_row style i.base x i.run))
 row_trims style t v x i h =
-    let row : List ℕ = kept_of_row style i.base x i.row in
-    let facts = integer_facts style (drops_underscores style x) t v x row i (row_facts style t v x i).each in
-    mapped_trim (number_character style (drops_underscores style x) (i.base == 16)) row facts.keeps
+    let run : List ℕ = kept_of_row style i.base x i.run in
+    let facts = integer_facts style (drops_underscores style x) t v x run i (row_facts style t v x i).each in
+    mapped_trim (number_character style (drops_underscores style x) (i.base == 16)) run facts.keeps
     (go (drops_zeros style i.base x))
   where
     short : List ℕ
-    short = kept_row style x i.row
+    short = kept_run style x i.run
 
     short_trims : IsTrim short
-    short_trims = subst IsTrim (sym (ap (λ b. cond b (trimmed i.row) i.row) h)) (trimmed_again i.row)
+    short_trims = subst IsTrim (sym (ap (λ b. cond b (trimmed i.run) i.run) h)) (trimmed_again i.run)
 
     go : (b : Bool) → IsTrim (cond b (significant short) short)
     go true = significant_trim short short_trims
     go false = short_trims
 
 -- nor in front of groups
-significant_groups : (size least : ℕ) (row : List ℕ) → significant row ≡ row
-    → significant (regrouped false size least row) ≡ regrouped false size least row
-significant_groups size least row same =
-    elim (left row) [
+significant_groups : (size least : ℕ) (run : List ℕ) → significant run ≡ run
+    → significant (regrouped false size least run) ≡ regrouped false size least run
+significant_groups size least run same =
+    elim (left run) [
       | inl e ↦
-          let is : row ≡ 48 ∷ [] = sym same ∙ significant_none row e in
-          let new : regrouped false size least row ≡ 48 ∷ [] = ap (regrouped false size least) is
+          let is : run ≡ 48 ∷ [] = sym same ∙ significant_none run e in
+          let new : regrouped false size least run ≡ 48 ∷ [] = ap (regrouped false size least) is
           ∙ grouped_one false size least 48 refl in
           ap significant new ∙ sym new
       | inr l ↦
-          let is : row ≡ l.first ∷ l.rest = sym same ∙ significant_left row l in
+          let is : run ≡ l.first ∷ l.rest = sym same ∙ significant_left run l in
           let b = grouped_first false size least l.first l.rest (or_parts (l.first == 48) (l.first == 95) l.other).1 in
-          let new : regrouped false size least row ≡ l.first ∷ b.rest = ap (regrouped false size least) is ∙ b.is in
+          let new : regrouped false size least run ≡ l.first ∷ b.rest = ap (regrouped false size least) is ∙ b.is in
           ap significant new
           ∙ ap (λ k. or_zero (cond k (after_run is_padding b.rest) (l.first ∷ b.rest))) l.other ∙ sym new
     ]
 
-zeros_groups : (style : Style) (base : ℕ) (x row : List ℕ) → kept_digits style base x row ≡ row
-    → kept_digits style base x (grouped_row false style base x row) ≡ grouped_row false style base x row
-zeros_groups style base x row same = go (drops_zeros style base x) same
+zeros_groups : (style : Style) (base : ℕ) (x run : List ℕ) → kept_digits style base x run ≡ run
+    → kept_digits style base x (grouped_run false style base x run) ≡ grouped_run false style base x run
+zeros_groups style base x run same = go (drops_zeros style base x) same
   where
-    go : (b : Bool) → cond b (significant row) row ≡ row
-        → cond b (significant (grouped_row false style base x row)) (grouped_row false style base x row)
-        ≡ grouped_row false style base x row
-    go true h = significant_groups (size_by style.digit_groups base x) (least_by style.digit_groups) row h
+    go : (b : Bool) → cond b (significant run) run ≡ run
+        → cond b (significant (grouped_run false style base x run)) (grouped_run false style base x run)
+        ≡ grouped_run false style base x run
+    go true h = significant_groups (size_by style.digit_groups base x) (least_by style.digit_groups) run h
     go false h = refl
 
 pub integer_stays : (style : Style) (t u : List ℕ) → RewritesInt style t u → RewritesInt style u u
@@ -358,30 +358,30 @@ integer_stays style t u c =
     let sep : List ℕ = separator style x in
     let drops : Bool = drops_underscores style x in
     let f : ℕ → List ℕ = number_character style drops (i.base == 16) in
-    let short : List ℕ = kept_row style x i.row in
-    let row : List ℕ = kept_of_row style i.base x i.row in
-    let bare : List ℕ = flat_map f row in
-    let new : List ℕ = styled_row style i.base x i.row in
+    let short : List ℕ = kept_run style x i.run in
+    let run : List ℕ = kept_of_row style i.base x i.run in
+    let bare : List ℕ = flat_map f run in
+    let new : List ℕ = styled_run style i.base x i.run in
     let size : ℕ = size_by style.digit_groups i.base x in
     let least : ℕ = least_by style.digit_groups in
     let facts = row_facts style t c.contents x i in
-    let of_row = integer_facts style drops t c.contents x row i facts.each in
-    let groups = in_row_facts style i.base x bare of_row.underscore (each_kept f i.base row of_row.keeps facts.each)
-    (some_kept f i.base row of_row.keeps of_row.underscore ∙ facts.some) in
-    let kept : kept_row style x (new ++ sep) ≡ new = row_again style.suffix_separator x new
+    let of_row = integer_facts style drops t c.contents x run i facts.each in
+    let groups = in_row_facts style i.base x bare of_row.underscore (each_kept f i.base run of_row.keeps facts.each)
+    (some_kept f i.base run of_row.keeps of_row.underscore ∙ facts.some) in
+    let kept : kept_run style x (new ++ sep) ≡ new = row_again style.suffix_separator x new
     (λ h. grouped_trim false size least bare (row_trims style t c.contents x i h)) in
-    let each : row_of i.base short = (kept_facts style i.base x i.row i.each i.some
-    (integer_facts style false t c.contents x i.row i i.each).underscore).each in
+    let each : row_of i.base short = (kept_facts style i.base x i.run i.each i.some
+    (integer_facts style false t c.contents x i.run i i.each).underscore).each in
     let zeros : kept_digits style i.base x new ≡ new = zeros_groups style i.base x bare
     (zeros_again style drops i.base x short each) in
     let same : bare ≡ flat_map f bare = sym (twice drops (i.base == 16) style.exponent_plus style.hex_digits
-    style.exponent_letter row) in
-    let again : grouped_row false style i.base x (flat_map f new) ≡ new = again_grouped drops (i.base == 16)
+    style.exponent_letter run) in
+    let again : grouped_run false style i.base x (flat_map f new) ≡ new = again_grouped drops (i.base == 16)
     style.exponent_plus style.hex_digits style.exponent_letter false size least bare (sym same)
     (plain_of f new (integer_facts style drops t c.contents x new i groups.each).keeps) in
-    let whole : styled_row style i.base x (new ++ sep) ≡ new =
-    ap (λ z. grouped_row false style i.base x (flat_map f (kept_digits style i.base x z))) kept
-    ∙ ap (λ z. grouped_row false style i.base x (flat_map f z)) zeros ∙ again in
+    let whole : styled_run style i.base x (new ++ sep) ≡ new =
+    ap (λ z. grouped_run false style i.base x (flat_map f (kept_digits style i.base x z))) kept
+    ∙ ap (λ z. grouped_run false style i.base x (flat_map f z)) zeros ∙ again in
     record {
       contents = c.contents;
       suffix = x;

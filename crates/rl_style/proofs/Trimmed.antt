@@ -3,14 +3,14 @@ use Rattle.rl_text.proofs.Common.{◌≡◌, ℕ, inl, inr, ◌||◌, ◌&&◌, 
 use Rattle.std.specs.Prelude.{Option, filter}
 use Rattle.std.proofs.lemmas.List.Elements.{filter-append}
 use Rattle.rl_text.specs.Classes.{after_run}
-use Rattle.rl_text.specs.Texts.{first_passes, is_row_part, is_underscore}
+use Rattle.rl_text.specs.Texts.{first_passes, is_run_part, is_underscore}
 use Rattle.rl_lexer.proofs.LexemeRows.{not_among}
 use Rattle.rl_lexer.specs.Lexemes.{is_base_letter}
 use Rattle.rl_forms.specs.Strict.{IsDigits}
 use Rattle.rl_style.specs.declared.style.Separator.{Separator}
 use Rattle.rl_style.specs.declared.style.Separator.TheVariants.{Nothing, Underscore}
 use Rattle.rl_style.specs.declared.style.Style.{Style}
-use Rattle.rl_style.specs.Cases.{is_padding, kept_row, or_zero, separator_by, significant, trimmed, trims_by}
+use Rattle.rl_style.specs.Cases.{is_padding, kept_run, or_zero, separator_by, significant, trimmed, trims_by}
 use Rattle.rl_style.proofs.CaseLemmas.{none_right}
 use Rattle.rl_style.proofs.NumberCharacters.{RowKeeps}
 
@@ -76,7 +76,7 @@ trimmed_first [] h = h
 trimmed_first (c ∷ cs) h = ap (first_passes is_ascii_digit) (digit_first c cs h) ∙ h
 
 pub trimmed_digits : (cs : List ℕ) → IsDigits cs → IsDigits (trimmed cs)
-trimmed_digits cs h = (trimmed_first cs h.0, trimmed_all (is_row_part is_ascii_digit) cs h.1)
+trimmed_digits cs h = (trimmed_first cs h.0, trimmed_all (is_run_part is_ascii_digit) cs h.1)
 
 -- ---- joined
 
@@ -210,18 +210,18 @@ under_only u c h k = list_all-append is_underscore u (c ∷ []) ∙ and_from (on
 
 -- ---- what is kept
 
-pub kept_first : (style : Style) (x row : List ℕ) → first_passes is_ascii_digit row ≡ true
-    → first_passes is_ascii_digit (kept_row style x row) ≡ true
-kept_first style x row h = go (trims_by style.suffix_separator x)
+pub kept_first : (style : Style) (x run : List ℕ) → first_passes is_ascii_digit run ≡ true
+    → first_passes is_ascii_digit (kept_run style x run) ≡ true
+kept_first style x run h = go (trims_by style.suffix_separator x)
   where
-    go : (k : Bool) → first_passes is_ascii_digit (cond k (trimmed row) row) ≡ true
-    go true = trimmed_first row h
+    go : (k : Bool) → first_passes is_ascii_digit (cond k (trimmed run) run) ≡ true
+    go true = trimmed_first run h
     go false = h
 
 -- ---- the separator
 
 pub separator_all : (test : ℕ → Bool) (s : Option Separator) (x : List ℕ)
-    → list_all (is_row_part test) (separator_by s x)
+    → list_all (is_run_part test) (separator_by s x)
     ≡ true
 separator_all test None x = refl
 separator_all test (Some Nothing) x = refl
@@ -249,17 +249,17 @@ base_kept (Some Nothing) x h = (ap not h, refl, h)
 base_kept (Some Underscore) [] h = absurd (cc)
 base_kept (Some Underscore) (c ∷ cs) h = absurd (cc)
 
--- what was written keeps its row
-pub row_again : (s : Option Separator) (x row : List ℕ) → (trims_by s x ≡ true → IsTrim row)
-    → cond (trims_by s x) (trimmed (row ++ separator_by s x)) (row ++ separator_by s x) ≡ row
-row_again None x row h = append-nil row
-row_again (Some Nothing) x row h = go (not (first_passes is_base_letter x)) h
+-- what was written keeps its run
+pub row_again : (s : Option Separator) (x run : List ℕ) → (trims_by s x ≡ true → IsTrim run)
+    → cond (trims_by s x) (trimmed (run ++ separator_by s x)) (run ++ separator_by s x) ≡ run
+row_again None x run h = append-nil run
+row_again (Some Nothing) x run h = go (not (first_passes is_base_letter x)) h
   where
-    go : (b : Bool) → (b ≡ true → IsTrim row) → cond b (trimmed (row ++ [])) (row ++ []) ≡ row
-    go true k = ap trimmed (append-nil row) ∙ k refl
-    go false k = append-nil row
-row_again (Some Underscore) [] row h = ap trimmed (append-nil row) ∙ h refl
-row_again (Some Underscore) (c ∷ cs) row h = one_after row ∙ h refl
+    go : (b : Bool) → (b ≡ true → IsTrim run) → cond b (trimmed (run ++ [])) (run ++ []) ≡ run
+    go true k = ap trimmed (append-nil run) ∙ k refl
+    go false k = append-nil run
+row_again (Some Underscore) [] run h = ap trimmed (append-nil run) ∙ h refl
+row_again (Some Underscore) (c ∷ cs) run h = one_after run ∙ h refl
 
 pub any_left : (test : ℕ → Bool) (a b : List ℕ) → list_any test a ≡ true → list_any test (a ++ b) ≡ true
 any_left test [] b h = absurd (cc)
@@ -270,6 +270,6 @@ any_left test (c ∷ a) b h = go (test c) h (any_left test a b)
     go true n more = refl
     go false n more = more n
 
-pub digits_join : (a b : List ℕ) → IsDigits a → list_all (is_row_part is_ascii_digit) b ≡ true → IsDigits (a ++ b)
+pub digits_join : (a b : List ℕ) → IsDigits a → list_all (is_run_part is_ascii_digit) b ≡ true → IsDigits (a ++ b)
 digits_join [] b h k = absurd (let e : false ≡ true = h.0 in cc)
-digits_join (c ∷ a) b h k = (h.0, list_all-append (is_row_part is_ascii_digit) (c ∷ a) b ∙ and_from _ _ h.1 k)
+digits_join (c ∷ a) b h k = (h.0, list_all-append (is_run_part is_ascii_digit) (c ∷ a) b ∙ and_from _ _ h.1 k)

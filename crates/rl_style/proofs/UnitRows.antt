@@ -1,4 +1,4 @@
--- Rows of units: one text is one row, and each is written anew by what follows it.
+-- Rows of units: one text is one run, and each is written anew by what follows it.
 use Rattle.rl_text.proofs.Common.{is_ascii_digit, nat_tests, ◌≡◌, ℕ, ◌≤◌, inl, inr, arith, cases_lt, Bool, true, not, List, [], ◌∷◌, ◌++◌, Some, None, refl, sym, ap, subst, ◌∙◌, append_assoc, append-nil, append_cancel_right, and_parts, list_all, flat_map, encode_utf8_all, encodes-append}
 use Rattle.rl_text.proofs.Basics.{false_unless}
 use Rattle.rl_reading.proofs.Names.{Kind, strict_content_of, strict_contents, first_passes, StrictUnit, Itself, QuoteEscape, PlainEscape, AsciiEscape, ByteEscape, UnicodeEscape, LineBreak, strict_text, is_strict_unit, unit_value}
@@ -32,7 +32,7 @@ blanks_after (AsciiEscape high low) us b = b
 blanks_after (ByteEscape high low) us b = b
 blanks_after (UnicodeEscape digits) us b = b
 
--- the first of a row of units is the one that is read
+-- the first of a run of units is the one that is read
 record FirstIs (k : Kind) (u : StrictUnit) (us : List StrictUnit) (t : List ℕ) : Type 0 where
   value : List ℕ
   value_is : value ≡ strict_contents (strict_content_of k) u
@@ -83,7 +83,7 @@ follows_is k (u ∷ us) t a =
     let f = first_is k u us t a in
     ap (first_passes is_ascii_digit) (sym f.value_is) ∙ digit_ascii f.value ∙ sym (ap stands_for_digit f.read)
 
--- one text is one row of units, as far as their texts go
+-- one text is one run of units, as far as their texts go
 pub texts_once : (style : Style) (k : Kind) (us vs : List StrictUnit) (t : List ℕ) → AreUnits k us t → AreUnits k vs t
     → flat_map strict_text (restyled_units style k us) ≡ flat_map strict_text (restyled_units style k vs)
 texts_once style k [] [] t a b = refl

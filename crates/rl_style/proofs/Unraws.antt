@@ -1,8 +1,8 @@
 -- A raw string that becomes one with escapes: what stands in front stays, where it ends with neither a hash nor a dot.
 use Rattle.rl_text.proofs.Common.{◌≡◌, ℕ, inl, inr, Bool, true, false, not, ◌&&◌, ◌||◌, ◌==◌, cond, List, [], ◌∷◌, ◌++◌, drop, refl, sym, ◌∙◌, ap, replicate, append_assoc, lit<, is_ascii_digit, is_xid_continue-ascii}
-use Rattle.rl_text.specs.Texts.{is_white, is_underscore, first_passes, is_row_part, is_start, is_continue, begins_char}
+use Rattle.rl_text.specs.Texts.{is_white, is_underscore, first_passes, is_run_part, is_start, is_continue, begins_char}
 use Rattle.rl_text.specs.Classes.{is_hash, after_run}
-use Rattle.rl_lexer.specs.Lexemes.{begins_dot, begins_raw_identifier, is_base_letter, LexedFraction, NoLexedFraction, LexedDot, lexed_fraction_text, LexedExponent, NoLexedExponent, LexedPower, lexed_exponent_text, lexed_sign_text, IsRow, IsLexedSuffix, IsLexedFraction, IsLexedExponent, Lexeme, QuotedLexeme, RawLexeme, CharacterLexeme, BasedLexeme, DecimalLexeme, IdentifierLexeme, DelimiterLexeme, MarkLexeme, IsLexeme}
+use Rattle.rl_lexer.specs.Lexemes.{begins_dot, begins_raw_identifier, is_base_letter, LexedFraction, NoLexedFraction, LexedDot, lexed_fraction_text, LexedExponent, NoLexedExponent, LexedPower, lexed_exponent_text, lexed_sign_text, IsRun, IsLexedSuffix, IsLexedFraction, IsLexedExponent, Lexeme, QuotedLexeme, RawLexeme, CharacterLexeme, BasedLexeme, DecimalLexeme, IdentifierLexeme, DelimiterLexeme, MarkLexeme, IsLexeme}
 use Rattle.rl_lexer.specs.Mirrors.LexemeAt.{begins_hashed_quote, begins_exponent, after_sign, begins_otherwise}
 use Rattle.rl_lexer.specs.Sources.{is_in_line, is_apostrophe, PlainToken, RawIdentifierToken, LifetimeToken, RawLifetimeToken, DocLineToken, DocBlockToken, BadQuoteToken, StrayToken, IsName}
 use Rattle.rl_lexer.proofs.LexemeFronts.{start_ascii}
@@ -37,8 +37,8 @@ continue_34 = ap (λ b. b && not (is_white 34)) (is_xid_continue-ascii 34 (lit< 
 continue_114 : is_continue 114 ≡ true
 continue_114 = ap (λ b. b && not (is_white 114)) (is_xid_continue-ascii 114 (lit< tt))
 
-row_fits : (test : ℕ → Bool) (row f x y : List ℕ) → test 34 ≡ false → IsRow test row (old f x)
-    → IsRow test row (new f y)
+row_fits : (test : ℕ → Bool) (row f x y : List ℕ) → test 34 ≡ false → IsRun test row (old f x)
+    → IsRun test row (new f y)
 row_fits test row f x y out r = record { each = r.each; ends = first_fits test f x y out r.ends }
 
 suffix_fits : (s f x y : List ℕ) → IsLexedSuffix s (old f x) → IsLexedSuffix s (new f y)
@@ -90,7 +90,7 @@ fraction_fits (LexedDot ds) e s f x y may suffix power (h, r) =
     let t : List ℕ = lexed_exponent_text e in (
       ap not (behind (λ d. d == 46 || is_start d) ds t s f x y start_34 (not_true (first_passes
           (λ d. d == 46 || is_start d) (ds ++ (t ++ (s ++ old f x)))) h)),
-      record { each = r.each; ends = behind (is_row_part is_ascii_digit) [] t s f x y refl r.ends },
+      record { each = r.each; ends = behind (is_run_part is_ascii_digit) [] t s f x y refl r.ends },
     )
 
 -- ---- exponents
@@ -130,7 +130,7 @@ power_fits NoLexedExponent s f x y none =
     ∙ sym (exponent_agrees (s ++ f) x y) ∙ ap begins_exponent (append_assoc s f (114 ∷ x))
     ∙ no_exponent_here (s ++ old f x) none)
 power_fits (LexedPower letter sign n d more) s f x y (il, id, r) =
-    (il, id, record { each = r.each; ends = behind (is_row_part is_ascii_digit) [] [] s f x y refl r.ends })
+    (il, id, record { each = r.each; ends = behind (is_run_part is_ascii_digit) [] [] s f x y refl r.ends })
 
 decimal_fits : (d : ℕ) (more : List ℕ) (g : LexedFraction) (e : LexedExponent) (s f x y : List ℕ) → may_precede_quote f
     ≡ true
@@ -138,7 +138,7 @@ decimal_fits : (d : ℕ) (more : List ℕ) (g : LexedFraction) (e : LexedExponen
 decimal_fits d more g e s f x y may (id, not_based, row, fraction, power, suffix) = (
   id,
   base (d == 48) not_based,
-  record { each = row.each; ends = behind (is_row_part is_ascii_digit) (lexed_fraction_text g) (lexed_exponent_text e) s f x y refl row.ends },
+  record { each = row.each; ends = behind (is_run_part is_ascii_digit) (lexed_fraction_text g) (lexed_exponent_text e) s f x y refl row.ends },
   fraction_fits g e s f x y may suffix power fraction,
   power_fits e s f x y power,
   suffix_fits s f x y suffix,
@@ -216,7 +216,7 @@ may_more [] d f may = may
 may_more (c ∷ []) d f may = may
 may_more (c ∷ e ∷ more) d f may = may_more (e ∷ more) d f may
 
-word_fits : (k : ℕ) (more f x y : List ℕ) → may_precede_quote f ≡ true → IsRow is_continue more (old f x)
+word_fits : (k : ℕ) (more f x y : List ℕ) → may_precede_quote f ≡ true → IsRun is_continue more (old f x)
     → begins_otherwise (k ∷ more ++ old f x) ≡ false → begins_otherwise (k ∷ more ++ new f y) ≡ false
 word_fits k more [] x y may row h = let q : true ≡ false = sym continue_114 ∙ row.ends in absurd (cc)
 word_fits k [] (d ∷ f) x y may row h =

@@ -14,11 +14,11 @@ use Rattle.rl_style.specs.declared.style.Case.TheVariants.{Lower, Upper}
 use Rattle.rl_style.specs.declared.style.Separator.{Separator}
 use Rattle.rl_style.specs.declared.style.Separator.TheVariants.{Nothing, Underscore}
 use Rattle.rl_style.specs.declared.style.Style.{Style}
-use Rattle.rl_style.specs.Cases.{cased, drops_underscores, drops_zeros, exponent_letter, kept_digits, kept_row, number_character, separator, separator_by}
-use Rattle.rl_text.specs.Texts.{first_passes, is_row_part}
+use Rattle.rl_style.specs.Cases.{cased, drops_underscores, drops_zeros, exponent_letter, kept_digits, kept_run, number_character, separator, separator_by}
+use Rattle.rl_text.specs.Texts.{first_passes, is_run_part}
 use Rattle.rl_text.proofs.Common.{is_ascii_digit}
-use Rattle.rl_style.specs.Groups.{after_dot, digit_run, fraction_in_groups, float_in_groups, grouped_row, least_by, regrouped, size_by}
-use Rattle.rl_style.specs.Rewriting.{RewritesFloat, RewritesInt, styled_row}
+use Rattle.rl_style.specs.Groups.{after_dot, digit_run, fraction_in_groups, float_in_groups, grouped_run, least_by, regrouped, size_by}
+use Rattle.rl_style.specs.Rewriting.{RewritesFloat, RewritesInt, styled_run}
 use Rattle.rl_text.specs.Classes.{after_run}
 use denote.Bor.{Bor}
 use Rattle.rl_reasons.specs.declared.read_numbers.Number.{Number}
@@ -39,8 +39,8 @@ radix_of t = (radix_at t).0
 
 pub base_found : (t : List ℕ) (v : Contents) (x : List ℕ) (i : StrictInt t v x) → radix_of t ≡ i.base
 base_found t v x i =
-    let w : List ℕ = i.row ++ x in
-    let text : t ≡ i.prefix ++ w = i.text ∙ append_assoc i.prefix i.row x in
+    let w : List ℕ = i.run ++ x in
+    let text : t ≡ i.prefix ++ w = i.text ∙ append_assoc i.prefix i.run x in
     elim i.is_front [
       | inl f ↦ ap (λ (p : ℕ × List ℕ). p.0) (not_based t f.3) ∙ sym f.1
       | inr f ↦ elim f [
@@ -56,10 +56,10 @@ base_found t v x i =
       ]
     ]
 
-pub digits_found : (t : List ℕ) (v : Contents) (x : List ℕ) (i : StrictInt t v x) → (radix_at t).1 ≡ i.row ++ x
+pub digits_found : (t : List ℕ) (v : Contents) (x : List ℕ) (i : StrictInt t v x) → (radix_at t).1 ≡ i.run ++ x
 digits_found t v x i =
-    let w : List ℕ = i.row ++ x in
-    let text : t ≡ i.prefix ++ w = i.text ∙ append_assoc i.prefix i.row x in
+    let w : List ℕ = i.run ++ x in
+    let text : t ≡ i.prefix ++ w = i.text ∙ append_assoc i.prefix i.run x in
     let after : List ℕ → List ℕ = λ z. (radix_at z).1 in
     elim i.is_front [
       | inl f ↦ ap (λ (p : ℕ × List ℕ). p.1) (not_based t f.3) ∙ text ∙ ap (λ z. z ++ w) f.0
@@ -136,16 +136,16 @@ pub integer_scalars : (style : Style) (drops hex : Bool) (size least : ℕ) (cs 
 integer_scalars style drops hex size least cs h = row_scalars false size least _ (numeral_scalars style drops hex cs h)
 
 run_scalars : (cs : List ℕ) → scalars cs ≡ true → (scalars (digit_run cs) ≡ true)
-    × (scalars (after_run (is_row_part is_ascii_digit) cs) ≡ true)
+    × (scalars (after_run (is_run_part is_ascii_digit) cs) ≡ true)
 run_scalars [] h = (refl, refl)
 run_scalars (c ∷ cs) h =
     let p = and_parts (scalar c) (scalars cs) h in
-    go (is_row_part is_ascii_digit c) p.0 (run_scalars cs p.1)
+    go (is_run_part is_ascii_digit c) p.0 (run_scalars cs p.1)
   where
     go : (b : Bool) → scalar c ≡ true
-        → (scalars (digit_run cs) ≡ true) × (scalars (after_run (is_row_part is_ascii_digit) cs) ≡ true)
+        → (scalars (digit_run cs) ≡ true) × (scalars (after_run (is_run_part is_ascii_digit) cs) ≡ true)
         → (scalars (cond b (c ∷ digit_run cs) []) ≡ true)
-        × (scalars (cond b (after_run (is_row_part is_ascii_digit) cs) (c ∷ cs)) ≡ true)
+        × (scalars (cond b (after_run (is_run_part is_ascii_digit) cs) (c ∷ cs)) ≡ true)
     go true k more = (and_from (scalar c) (scalars (digit_run cs)) k more.0, more.1)
     go false k more = (refl, h)
 
@@ -156,11 +156,11 @@ dot_scalars false style drops size least [] h = refl
 dot_scalars closes style drops size least (c ∷ cs) h =
     let f : ℕ → List ℕ = number_character style drops false in
     let q = run_scalars (c ∷ cs) h in
-    let row : List ℕ = flat_map f (digit_run (c ∷ cs)) in
-    let rest : List ℕ = flat_map f (after_run (is_row_part is_ascii_digit) (c ∷ cs)) in
-    scalars_join (regrouped true size least row) rest
-    (row_scalars true size least row (numeral_scalars style drops false (digit_run (c ∷ cs)) q.0))
-    (numeral_scalars style drops false (after_run (is_row_part is_ascii_digit) (c ∷ cs)) q.1)
+    let run : List ℕ = flat_map f (digit_run (c ∷ cs)) in
+    let rest : List ℕ = flat_map f (after_run (is_run_part is_ascii_digit) (c ∷ cs)) in
+    scalars_join (regrouped true size least run) rest
+    (row_scalars true size least run (numeral_scalars style drops false (digit_run (c ∷ cs)) q.0))
+    (numeral_scalars style drops false (after_run (is_run_part is_ascii_digit) (c ∷ cs)) q.1)
 
 fraction_scalars : (closes : Bool) (style : Style) (drops : Bool) (size least : ℕ) (cs : List ℕ) → scalars cs ≡ true
     → scalars (fraction_in_groups closes (number_character style drops false) (regrouped true size least) cs) ≡ true
@@ -183,11 +183,11 @@ pub float_scalars : (closes : Bool) (style : Style) (drops : Bool) (size least :
     (λ from_first. regrouped from_first size least) cs) ≡ true
 float_scalars closes style drops size least cs h =
     let q = run_scalars cs h in
-    let row : List ℕ = flat_map (number_character style drops false) (digit_run cs) in
-    let rest : List ℕ = after_run (is_row_part is_ascii_digit) cs in
-    scalars_join (regrouped false size least row)
+    let run : List ℕ = flat_map (number_character style drops false) (digit_run cs) in
+    let rest : List ℕ = after_run (is_run_part is_ascii_digit) cs in
+    scalars_join (regrouped false size least run)
     (fraction_in_groups closes (number_character style drops false) (regrouped true size least) rest)
-    (row_scalars false size least row (numeral_scalars style drops false (digit_run cs) q.0))
+    (row_scalars false size least run (numeral_scalars style drops false (digit_run cs) q.0))
     (fraction_scalars closes style drops size least rest q.1)
 
 abbrev Written : Style → List ℕ → List ℕ → List ℕ → List ℕ → Type 0
@@ -210,48 +210,48 @@ number_utf8 style front middle suffix new u us h e = (number_text style front mi
 pub digits_cut : (text digits suffix full : List ℕ) (base : ℕ) (v : Contents)
     → ◌≡◌ {A = ℕ × List ℕ} (base, chars digits) (radix_at (chars text))
     → chars digits ≡ chars full ++ chars suffix → (i : StrictInt (chars text) v (chars suffix))
-    → (base ≡ i.base) × (chars full ≡ i.row)
+    → (base ≡ i.base) × (chars full ≡ i.run)
 digits_cut text digits suffix full base v at cut i = (
   ap (λ (p : ℕ × List ℕ). p.0) at ∙ base_found (chars text) v (chars suffix) i,
-  append_cancel_right (chars full) i.row (chars suffix)
+  append_cancel_right (chars full) i.run (chars suffix)
       (sym cut ∙ ap (λ (p : ℕ × List ℕ). p.1) at ∙ digits_found (chars text) v (chars suffix) i),
 )
 
-pub integer_written : (style : Style) (text digits suffix full whole row front new : List ℕ) (base : ℕ) (v : Contents)
-    → IsUtf8 front → IsUtf8 suffix → IsUtf8 row → ◌≡◌ {A = ℕ × List ℕ} (base, chars digits) (radix_at (chars text))
-    → chars digits ≡ chars full ++ chars suffix → chars whole ≡ kept_row style (chars suffix) (chars full)
-    → chars row ≡ kept_digits style base (chars suffix) (chars whole) → chars text ≡ chars front ++ chars digits
-    → Written style front (grouped_row false style base (chars suffix)
-    (flat_map (number_character style (drops_underscores style (chars suffix)) (base == 16)) (chars row))) suffix new
+pub integer_written : (style : Style) (text digits suffix full whole run front new : List ℕ) (base : ℕ) (v : Contents)
+    → IsUtf8 front → IsUtf8 suffix → IsUtf8 run → ◌≡◌ {A = ℕ × List ℕ} (base, chars digits) (radix_at (chars text))
+    → chars digits ≡ chars full ++ chars suffix → chars whole ≡ kept_run style (chars suffix) (chars full)
+    → chars run ≡ kept_digits style base (chars suffix) (chars whole) → chars text ≡ chars front ++ chars digits
+    → Written style front (grouped_run false style base (chars suffix)
+    (flat_map (number_character style (drops_underscores style (chars suffix)) (base == 16)) (chars run))) suffix new
     → StrictInt (chars text) v (chars suffix) → IsUtf8 new × RewritesInt style (chars text) (chars new)
-integer_written style text digits suffix full whole row front new base v u us ur at cut kept zeros before e i =
+integer_written style text digits suffix full whole run front new base v u us ur at cut kept zeros before e i =
     let x : List ℕ = chars suffix in
     let p = digits_cut text digits suffix full base v at cut i in
     let end : List ℕ = separator style x ++ x in
-    let Of : ℕ → List ℕ → List ℕ = λ b z. grouped_row false style b x
+    let Of : ℕ → List ℕ → List ℕ = λ b z. grouped_run false style b x
     (flat_map (number_character style (drops_underscores style x) (b == 16)) z) in
-    let t = number_text style front (Of base (chars row)) suffix new u us (integer_scalars style
+    let t = number_text style front (Of base (chars run)) suffix new u us (integer_scalars style
     (drops_underscores style x) (base == 16) (size_by style.digit_groups base x) (least_by style.digit_groups)
-    (chars row) (scalars-chars row ur)) e in
-    let row_is : chars row ≡ kept_digits style base x (kept_row style x i.row) = zeros
-    ∙ ap (kept_digits style base x) (kept ∙ ap (kept_row style x) p.1) in
-    let front_is : chars front ≡ i.prefix = append_cancel_right (chars front) i.prefix (i.row ++ x)
+    (chars run) (scalars-chars run ur)) e in
+    let row_is : chars run ≡ kept_digits style base x (kept_run style x i.run) = zeros
+    ∙ ap (kept_digits style base x) (kept ∙ ap (kept_run style x) p.1) in
+    let front_is : chars front ≡ i.prefix = append_cancel_right (chars front) i.prefix (i.run ++ x)
     (ap (λ z. chars front ++ z) (sym (cut ∙ ap (λ z. z ++ x) p.1)) ∙ sym before ∙ i.text
-    ∙ append_assoc i.prefix i.row x) in (
+    ∙ append_assoc i.prefix i.run x) in (
       t.0,
       record {
         contents = v;
         suffix = x;
         int = i;
-        new_is = t.1 ∙ ap (λ z. z ++ (Of base (chars row) ++ end)) front_is
+        new_is = t.1 ∙ ap (λ z. z ++ (Of base (chars run) ++ end)) front_is
             ∙ ap (λ z. i.prefix ++ (Of base z ++ end)) row_is
-            ∙ ap (λ b. i.prefix ++ (styled_row style b x i.row ++ end)) p.0;
+            ∙ ap (λ b. i.prefix ++ (styled_run style b x i.run ++ end)) p.0;
       },
     )
 
 -- the digits of an integer of base ten begin with one
 integer_digit : (style : Style) (t : List ℕ) (base : ℕ) (x : List ℕ) (v : Contents) (i : StrictInt t v x)
-    → base ≡ i.base → drops_zeros style base x ≡ true → first_passes is_ascii_digit i.row ≡ true
+    → base ≡ i.base → drops_zeros style base x ≡ true → first_passes is_ascii_digit i.run ≡ true
 integer_digit style t base x v i is h =
     let ten : i.base ≡ 10 = sym is ∙ zeros_ten style base x h in
     elim i.is_front [
@@ -267,34 +267,34 @@ integer_digit style t base x v i is h =
 
 pub whole_digit : (style : Style) (text digits suffix full whole : List ℕ) (base : ℕ) (v : Contents)
     → ◌≡◌ {A = ℕ × List ℕ} (base, chars digits) (radix_at (chars text)) → chars digits ≡ chars full ++ chars suffix
-    → chars whole ≡ kept_row style (chars suffix) (chars full) → StrictInt (chars text) v (chars suffix)
+    → chars whole ≡ kept_run style (chars suffix) (chars full) → StrictInt (chars text) v (chars suffix)
     → drops_zeros style base (chars suffix) ≡ true → first_passes is_ascii_digit (chars whole) ≡ true
 whole_digit style text digits suffix full whole base v at cut kept i h =
     let p = digits_cut text digits suffix full base v at cut i in
-    ap (first_passes is_ascii_digit) (kept ∙ ap (kept_row style (chars suffix)) p.1)
-    ∙ kept_first style (chars suffix) i.row (integer_digit style (chars text) base (chars suffix) v i p.0 h)
+    ap (first_passes is_ascii_digit) (kept ∙ ap (kept_run style (chars suffix)) p.1)
+    ∙ kept_first style (chars suffix) i.run (integer_digit style (chars text) base (chars suffix) v i p.0 h)
 
 -- no plus stands in them
-pub row_plus : (style : Style) (text digits suffix full whole row : List ℕ) (base : ℕ) (v : Contents)
+pub row_plus : (style : Style) (text digits suffix full whole run : List ℕ) (base : ℕ) (v : Contents)
     → ◌≡◌ {A = ℕ × List ℕ} (base, chars digits) (radix_at (chars text)) → chars digits ≡ chars full ++ chars suffix
-    → chars whole ≡ kept_row style (chars suffix) (chars full)
-    → chars row ≡ kept_digits style base (chars suffix) (chars whole) → StrictInt (chars text) v (chars suffix)
-    → list_all (λ c. not (c == 43)) (chars row) ≡ true
-row_plus style text digits suffix full whole row base v at cut kept zeros i =
+    → chars whole ≡ kept_run style (chars suffix) (chars full)
+    → chars run ≡ kept_digits style base (chars suffix) (chars whole) → StrictInt (chars text) v (chars suffix)
+    → list_all (λ c. not (c == 43)) (chars run) ≡ true
+row_plus style text digits suffix full whole run base v at cut kept zeros i =
     let x : List ℕ = chars suffix in
     let p = digits_cut text digits suffix full base v at cut i in
-    let is : chars row ≡ kept_of_row style i.base x i.row = zeros
-    ∙ ap (kept_digits style base x) (kept ∙ ap (kept_row style x) p.1)
-    ∙ ap (λ b. kept_digits style b x (kept_row style x i.row)) p.0 in
+    let is : chars run ≡ kept_of_row style i.base x i.run = zeros
+    ∙ ap (kept_digits style base x) (kept ∙ ap (kept_run style x) p.1)
+    ∙ ap (λ b. kept_digits style b x (kept_run style x i.run)) p.0 in
     ap (list_all (λ c. not (c == 43))) is
-    ∙ integer_plus (chars text) v x (kept_of_row style i.base x i.row) i (row_facts style (chars text) v x i).each
+    ∙ integer_plus (chars text) v x (kept_of_row style i.base x i.run) i (row_facts style (chars text) v x i).each
 
 pub float_written : (style : Style) (text full numeral suffix new : List ℕ) (v : Contents)
     → IsUtf8 numeral → IsUtf8 suffix
-    → chars text ≡ chars full ++ chars suffix → chars numeral ≡ kept_row style (chars suffix) (chars full)
+    → chars text ≡ chars full ++ chars suffix → chars numeral ≡ kept_run style (chars suffix) (chars full)
     → Written style [] (float_in_groups style.float_zero (number_character style
     (drops_underscores style (chars suffix)) false)
-    (λ from_first. grouped_row from_first style 10 (chars suffix)) (chars numeral)) suffix new
+    (λ from_first. grouped_run from_first style 10 (chars suffix)) (chars numeral)) suffix new
     → StrictFloat (chars text) v (chars suffix)
     → IsUtf8 new × RewritesFloat style (chars text) (chars new)
 float_written style text full numeral suffix new v un us cut kept e f =
@@ -303,7 +303,7 @@ float_written style text full numeral suffix new v un us cut kept e f =
     let front : chars full ≡ f.numeral = append_cancel_right (chars full) f.numeral x (sym cut ∙ f.text) in
     let Of : List ℕ → List ℕ = λ z. float_in_groups style.float_zero
     (number_character style (drops_underscores style x) false)
-    (λ from_first. grouped_row from_first style 10 x) z in
+    (λ from_first. grouped_run from_first style 10 x) z in
     let t = number_text style [] (Of (chars numeral)) suffix new empty_utf8 us (float_scalars style.float_zero style
     (drops_underscores style x) (size_by style.digit_groups 10 x) (least_by style.digit_groups) (chars numeral)
     (scalars-chars numeral un)) e in (
@@ -313,7 +313,7 @@ float_written style text full numeral suffix new v un us cut kept e f =
         suffix = x;
         float = f;
         new_is = t.1 ∙ ap (λ z. z ++ (Of (chars numeral) ++ end)) (low_chars [] refl)
-            ∙ ap (λ z. Of z ++ end) (kept ∙ ap (kept_row style x) front);
+            ∙ ap (λ z. Of z ++ end) (kept ∙ ap (kept_run style x) front);
       },
     )
   where
@@ -371,20 +371,20 @@ none_put closes f g old new cs e is = e ∙ ap (λ z. old ++ encode_utf8_all (af
 
 dot_some : (closes : Bool) (f : ℕ → List ℕ) (g : List ℕ → List ℕ) (cs rest : List ℕ) (c : ℕ) → cs ≡ c ∷ rest
     → after_dot closes f g cs
-    ≡ g (flat_map f (digit_run cs)) ++ flat_map f (after_run (is_row_part is_ascii_digit) cs)
+    ≡ g (flat_map f (digit_run cs)) ++ flat_map f (after_run (is_run_part is_ascii_digit) cs)
 dot_some closes f g cs rest c e = ap (after_dot closes f g) e
-    ∙ ap (λ z. g (flat_map f (digit_run z)) ++ flat_map f (after_run (is_row_part is_ascii_digit) z)) (sym e)
+    ∙ ap (λ z. g (flat_map f (digit_run z)) ++ flat_map f (after_run (is_run_part is_ascii_digit) z)) (sym e)
 
-pub some_put : (closes : Bool) (f : ℕ → List ℕ) (g : List ℕ → List ℕ) (old second third cs row rest more : List ℕ)
-    (c : ℕ) → second ≡ old ++ encode_utf8_all (g (flat_map f row))
-    → third ≡ second ++ encode_utf8_all (flat_map f rest) → row ≡ digit_run cs
-    → rest ≡ after_run (is_row_part is_ascii_digit) cs → cs ≡ c ∷ more
+pub some_put : (closes : Bool) (f : ℕ → List ℕ) (g : List ℕ → List ℕ) (old second third cs run rest more : List ℕ)
+    (c : ℕ) → second ≡ old ++ encode_utf8_all (g (flat_map f run))
+    → third ≡ second ++ encode_utf8_all (flat_map f rest) → run ≡ digit_run cs
+    → rest ≡ after_run (is_run_part is_ascii_digit) cs → cs ≡ c ∷ more
     → third ≡ old ++ encode_utf8_all (after_dot closes f g cs)
-some_put closes f g old second third cs row rest more c b t r s is =
+some_put closes f g old second third cs run rest more c b t r s is =
     let part : List ℕ = g (flat_map f (digit_run cs)) in
-    let last : List ℕ = flat_map f (after_run (is_row_part is_ascii_digit) cs) in
+    let last : List ℕ = flat_map f (after_run (is_run_part is_ascii_digit) cs) in
     t ∙ ap (λ z. z ++ encode_utf8_all (flat_map f rest)) b
-    ∙ append_assoc old (encode_utf8_all (g (flat_map f row))) (encode_utf8_all (flat_map f rest))
+    ∙ append_assoc old (encode_utf8_all (g (flat_map f run))) (encode_utf8_all (flat_map f rest))
     ∙ ap (λ z. old ++ (encode_utf8_all (g (flat_map f z)) ++ encode_utf8_all (flat_map f rest))) r
     ∙ ap (λ z. old ++ (encode_utf8_all part ++ encode_utf8_all (flat_map f z))) s
     ∙ ap (λ z. old ++ z) (sym (encodes-append part last))
@@ -402,19 +402,19 @@ fraction_put closes f g old first second text cs a b t =
 
 -- ---- in the manner of the style
 
-pub float_put : (style : Style) (manner : Manner) (cs row rest first second third suffix : List ℕ)
+pub float_put : (style : Style) (manner : Manner) (cs run rest first second third suffix : List ℕ)
     → manner.style ≡ style → manner.drops ≡ drops_underscores style (chars suffix)
     → manner.hex ≡ false → manner.size ≡ size_by style.digit_groups 10 (chars suffix)
     → first ≡ encode_utf8_all (regrouped false manner.size (least_by manner.style.digit_groups)
-    (flat_map (number_character manner.style manner.drops manner.hex) row))
+    (flat_map (number_character manner.style manner.drops manner.hex) run))
     → second ≡ first ++ encode_utf8_all (fraction_in_groups manner.style.float_zero
     (number_character manner.style manner.drops manner.hex)
     (regrouped true manner.size (least_by manner.style.digit_groups)) rest)
-    → third ≡ second ++ ended style suffix → row ≡ digit_run cs → rest ≡ after_run (is_row_part is_ascii_digit) cs
+    → third ≡ second ++ ended style suffix → run ≡ digit_run cs → rest ≡ after_run (is_run_part is_ascii_digit) cs
     → Written style [] (float_in_groups style.float_zero (number_character style
     (drops_underscores style (chars suffix)) false)
-    (λ from_first. grouped_row from_first style 10 (chars suffix)) cs) suffix third
-float_put style manner cs row rest first second third suffix e d h z a b c r s =
+    (λ from_first. grouped_run from_first style 10 (chars suffix)) cs) suffix third
+float_put style manner cs run rest first second third suffix e d h z a b c r s =
     let Of : Style → Bool → Bool → ℕ → List ℕ = λ t drops hex size. float_in_groups t.float_zero
     (number_character t drops hex)
     (λ from_first. regrouped from_first size (least_by t.digit_groups)) cs in
@@ -428,24 +428,24 @@ float_put style manner cs row rest first second third suffix e d h z a b c r s =
     ∙ ap (Of style (drops_underscores style (chars suffix)) false) z in
     c ∙ ap (λ y. y ++ ended style suffix) (b
     ∙ ap (λ y. y ++ encode_utf8_all (fraction_in_groups manner.style.float_zero f (G true) rest)) a
-    ∙ sym (encodes-append (G false (flat_map f row)) (fraction_in_groups manner.style.float_zero f (G true) rest))
+    ∙ sym (encodes-append (G false (flat_map f run)) (fraction_in_groups manner.style.float_zero f (G true) rest))
     ∙ ap (λ y. encode_utf8_all (G false (flat_map f y) ++ fraction_in_groups manner.style.float_zero f (G true) rest)) r
     ∙ ap (λ y. encode_utf8_all (G false (flat_map f (digit_run cs))
     ++ fraction_in_groups manner.style.float_zero f (G true) y)) s
     ∙ ap encode_utf8_all same)
 
-pub integer_put : (style : Style) (manner : Manner) (base : ℕ) (row front first second third suffix : List ℕ)
+pub integer_put : (style : Style) (manner : Manner) (base : ℕ) (run front first second third suffix : List ℕ)
     → manner.style ≡ style → manner.drops ≡ drops_underscores style (chars suffix)
     → manner.hex ≡ (base == 16) → manner.size ≡ size_by style.digit_groups base (chars suffix)
     → first ≡ front
     → second ≡ first ++ encode_utf8_all (regrouped false manner.size (least_by manner.style.digit_groups)
-    (flat_map (number_character manner.style manner.drops manner.hex) row))
+    (flat_map (number_character manner.style manner.drops manner.hex) run))
     → third ≡ second ++ ended style suffix
-    → Written style front (grouped_row false style base (chars suffix)
-    (flat_map (number_character style (drops_underscores style (chars suffix)) (base == 16)) row)) suffix third
-integer_put style manner base row front first second third suffix e d h z a b c =
+    → Written style front (grouped_run false style base (chars suffix)
+    (flat_map (number_character style (drops_underscores style (chars suffix)) (base == 16)) run)) suffix third
+integer_put style manner base run front first second third suffix e d h z a b c =
     let Of : Style → Bool → Bool → ℕ → List ℕ = λ t drops hex size. regrouped false size (least_by t.digit_groups)
-    (flat_map (number_character t drops hex) row) in
+    (flat_map (number_character t drops hex) run) in
     let same : Of manner.style manner.drops manner.hex manner.size ≡ Of style (drops_underscores style (chars suffix))
     (base == 16) (size_by style.digit_groups base (chars suffix)) =
     ap (λ t. Of t manner.drops manner.hex manner.size) e ∙ ap (λ t. Of style t manner.hex manner.size) d

@@ -4,7 +4,7 @@ use Rattle.std.specs.Prelude.{◌≡◌, ◌≢◌, ℕ, ◌⊎◌, Bool, true, 
 use Rattle.std.specs.Char.{is_ascii_digit}
 use Rattle.std.specs.List.{list_all}
 use Prim.Native.Char.{code}
-use Rattle.rl_text.specs.Texts.{is_among, first_passes, is_row_part, is_continue}
+use Rattle.rl_text.specs.Texts.{is_among, first_passes, is_run_part, is_continue}
 use Rattle.rl_forms.specs.Numbers.{is_exponent_letter}
 use Rattle.rl_lexer.specs.Lexemes.{LiteralPrefix, NoPrefix, BeginsHashedQuote, BodyPart, IsBody, CharacterBody, IsCharacterBody, IsRawBody, Lexeme, QuotedLexeme, RawLexeme, CharacterLexeme, BasedLexeme, DecimalLexeme, LexedFraction, NoLexedFraction, LexedDot, lexed_fraction_text, LexedExponent, NoLexedExponent, LexedPower, lexed_exponent_text, is_base_letter, lexeme_text, IsLexeme}
 use Rattle.rl_lexer.specs.Sources.{SourceLexeme, IsProper}
@@ -78,12 +78,12 @@ pub record SameCharacter (old new : Lexeme) : Type 0 where
   pub old_is : old ≡ CharacterLexeme is_byte inside suffix
   pub new_is : new ≡ CharacterLexeme is_byte new_inside suffix
 
--- Both are integers with a base's prefix, of one base; the suffix stands in their rows.
+-- Both are integers with a base's prefix, of one base; the suffix stands in their runs.
 pub record SameBased (old new : Lexeme) : Type 0 where
   pub letter : ℕ
   pub digits : List ℕ
   pub new_digits : List ℕ
-  pub is_row : IsTrue (list_all is_continue new_digits)
+  pub is_run : IsTrue (list_all is_continue new_digits)
   pub old_is : old ≡ BasedLexeme letter digits
   pub new_is : new ≡ BasedLexeme letter new_digits
 
@@ -91,7 +91,7 @@ pub record SameBased (old new : Lexeme) : Type 0 where
 abbrev pub SameFraction : LexedFraction → LexedFraction → LexedExponent → Type 0
 SameFraction NoLexedFraction NoLexedFraction power = ⊤
 SameFraction (LexedDot digits) (LexedDot new) power =
-    IsTrue (list_all (is_row_part is_ascii_digit) new)
+    IsTrue (list_all (is_run_part is_ascii_digit) new)
     × (IsTrue (first_passes is_ascii_digit new) ⊎ ((digits ≡ []) × (new ≡ []) × (power ≡ NoLexedExponent)))
 SameFraction _ _ power = ⊥
 
@@ -100,7 +100,7 @@ abbrev pub SamePower : LexedExponent → LexedExponent → Type 0
 SamePower NoLexedExponent NoLexedExponent = ⊤
 SamePower (LexedPower _ _ _ _ _) (LexedPower letter sign n d more) =
     IsTrue (is_exponent_letter letter) × IsTrue (is_ascii_digit d)
-    × IsTrue (list_all (is_row_part is_ascii_digit) more)
+    × IsTrue (list_all (is_run_part is_ascii_digit) more)
 SamePower _ _ = ⊥
 
 -- Both are decimals with the same first digit and suffix; the new one has a dot part and an exponent where the old one
@@ -114,7 +114,7 @@ pub record SameDecimal (old new : Lexeme) : Type 0 where
   pub exponent : LexedExponent
   pub new_exponent : LexedExponent
   pub suffix : List ℕ
-  pub each : IsTrue (list_all (is_row_part is_ascii_digit) new_more)
+  pub each : IsTrue (list_all (is_run_part is_ascii_digit) new_more)
   pub same_fraction : SameFraction fraction new_fraction exponent
   pub same_power : SamePower exponent new_exponent
   pub no_base : (digit == code "0" && first_passes is_base_letter (new_more ++ (lexed_fraction_text new_fraction

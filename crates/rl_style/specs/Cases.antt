@@ -51,8 +51,8 @@ trims_by None suffix = false
 trims_by (Some Nothing) suffix = not (first_passes is_base_letter suffix)
 trims_by (Some Underscore) suffix = true
 
-abbrev pub kept_row : Style → List ℕ → List ℕ → List ℕ
-kept_row style suffix row = if trims_by style.suffix_separator suffix then trimmed row else row
+abbrev pub kept_run : Style → List ℕ → List ℕ → List ℕ
+kept_run style suffix run = if trims_by style.suffix_separator suffix then trimmed run else run
 
 -- what is put before the suffix
 abbrev pub separator_by : Option Separator → List ℕ → List ℕ
@@ -74,11 +74,11 @@ or_zero (c ∷ cs) = c ∷ cs
 
 -- digits without the zeros in front; of zeros alone one
 abbrev pub significant : List ℕ → List ℕ
-significant row = or_zero (after_run is_padding row)
+significant run = or_zero (after_run is_padding run)
 
 -- An integer of base ten loses those zeros: the rule says so, and its suffix doesn't begin as a base does.
 abbrev pub drops_zeros : Style → ℕ → List ℕ → Bool
 drops_zeros style base suffix = (style.leading_zeros && base == 10) && not (first_passes is_base_letter suffix)
 
 abbrev pub kept_digits : Style → ℕ → List ℕ → List ℕ → List ℕ
-kept_digits style base suffix row = if drops_zeros style base suffix then significant row else row
+kept_digits style base suffix run = if drops_zeros style base suffix then significant run else run

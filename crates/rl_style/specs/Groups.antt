@@ -4,7 +4,7 @@ use Rattle.std.specs.Char.{is_ascii_digit}
 use Rattle.std.specs.List.{flat_map, list_all}
 use Prim.Native.Char.{code}
 use Rattle.rl_text.specs.Classes.{after_run}
-use Rattle.rl_text.specs.Texts.{first_passes, is_row_part, is_underscore}
+use Rattle.rl_text.specs.Texts.{first_passes, is_run_part, is_underscore}
 use Rattle.rl_forms.specs.Spelling.{without_underscores}
 use Rattle.rl_lexer.specs.Lexemes.{is_base_letter}
 use Rattle.rl_writing.specs.Integers.{ends_group, group_size}
@@ -48,20 +48,20 @@ abbrev pub ending : List ℕ → List ℕ
 ending [] = []
 ending (c ∷ cs) = if list_all is_underscore (c ∷ cs) then c ∷ cs else ending cs
 
--- a row's digits in groups, and the underscores at its end; of size 0 the row
+-- a run's digits in groups, and the underscores at its end; of size 0 the run
 abbrev pub regrouped : Bool → ℕ → ℕ → List ℕ → List ℕ
-regrouped from_first size least row =
-    if size == 0 then row else in_groups from_first size least (without_underscores row) ++ ending row
+regrouped from_first size least run =
+    if size == 0 then run else in_groups from_first size least (without_underscores run) ++ ending run
 
--- the same of a row of a number in the base with the suffix
-abbrev pub grouped_row : Bool → Style → ℕ → List ℕ → List ℕ → List ℕ
-grouped_row from_first style base suffix row =
-    regrouped from_first (size_by style.digit_groups base suffix) (least_by style.digit_groups) row
+-- the same of a run of a number in the base with the suffix
+abbrev pub grouped_run : Bool → Style → ℕ → List ℕ → List ℕ → List ℕ
+grouped_run from_first style base suffix run =
+    regrouped from_first (size_by style.digit_groups base suffix) (least_by style.digit_groups) run
 
 -- the digits and underscores at the front
 abbrev pub digit_run : List ℕ → List ℕ
 digit_run [] = []
-digit_run (c ∷ cs) = if is_row_part is_ascii_digit c then c ∷ digit_run cs else []
+digit_run (c ∷ cs) = if is_run_part is_ascii_digit c then c ∷ digit_run cs else []
 
 -- what follows a float's dot, each character written anew: digits in groups from the first one on, and an exponent;
 -- where
@@ -70,7 +70,7 @@ abbrev pub after_dot : Bool → (ℕ → List ℕ) → (List ℕ → List ℕ) �
 after_dot closes character group [] = if closes then codes "0" else []
 after_dot closes character group (c ∷ cs) =
     group (flat_map character (digit_run (c ∷ cs)))
-    ++ flat_map character (after_run (is_row_part is_ascii_digit) (c ∷ cs))
+    ++ flat_map character (after_run (is_run_part is_ascii_digit) (c ∷ cs))
 
 -- what follows a float's whole part
 abbrev pub fraction_in_groups : Bool → (ℕ → List ℕ) → (List ℕ → List ℕ) → List ℕ → List ℕ
@@ -82,4 +82,4 @@ fraction_in_groups closes character group (c ∷ cs) =
 abbrev pub float_in_groups : Bool → (ℕ → List ℕ) → (Bool → List ℕ → List ℕ) → List ℕ → List ℕ
 float_in_groups closes character group numeral =
     group false (flat_map character (digit_run numeral))
-    ++ fraction_in_groups closes character (group true) (after_run (is_row_part is_ascii_digit) numeral)
+    ++ fraction_in_groups closes character (group true) (after_run (is_run_part is_ascii_digit) numeral)

@@ -21,15 +21,15 @@ abbrev pub one_or_none : Option ℕ → List ℕ
 one_or_none None = []
 one_or_none (Some c) = c ∷ []
 
--- a row written anew, each digit with an underscore after it where the test says so of how many are left; of the
+-- a run written anew, each digit with an underscore after it where the test says so of how many are left; of the
 -- underscores those at the end
-abbrev pub row_placed : (ℕ → List ℕ) → (ℕ → Bool) → List ℕ → List ℕ
-row_placed character test [] = []
-row_placed character test (c ∷ cs) =
+abbrev pub run_placed : (ℕ → List ℕ) → (ℕ → Bool) → List ℕ → List ℕ
+run_placed character test [] = []
+run_placed character test (c ∷ cs) =
     if c == code "_" then (if list_all is_underscore cs then character (code "_") else [])
-    ++ row_placed character test cs
+    ++ run_placed character test cs
     else (character c ++ (if test (length (without_underscores cs)) then codes "_" else []))
-    ++ row_placed character test cs
+    ++ run_placed character test cs
 
 -- the text opens as a literal of the form and the kind
 abbrev pub OpensAs : QuotedForm → Kind → List ℕ → Type 0

@@ -16,8 +16,8 @@ use Rattle.rl_writing.specs.RawStrings.{raw_text, HasFewestHashes}
 use Rattle.rl_style.specs.Around.{may_precede_quote}
 use Rattle.rl_style.specs.declared.style.Case.{Case}
 use Rattle.rl_style.specs.declared.style.Style.{Style}
-use Rattle.rl_style.specs.Cases.{cased, drops_underscores, kept_digits, kept_row, number_character, separator}
-use Rattle.rl_style.specs.Groups.{float_in_groups, grouped_row}
+use Rattle.rl_style.specs.Cases.{cased, drops_underscores, kept_digits, kept_run, number_character, separator}
+use Rattle.rl_style.specs.Groups.{float_in_groups, grouped_run}
 
 -- Both texts are strict literals of one kind, with the same contents and the same suffix. By the laws of both grammars
 -- they then read alike.
@@ -49,11 +49,11 @@ pub record SameNumber (style : Style) (old new : List ℕ) : Type 0 where
 -- ---- numbers
 
 -- what the style makes of the digits of an integer in the base, with this suffix
-abbrev pub styled_row : Style → ℕ → List ℕ → List ℕ → List ℕ
-styled_row style base suffix row =
-    grouped_row false style base suffix
+abbrev pub styled_run : Style → ℕ → List ℕ → List ℕ → List ℕ
+styled_run style base suffix run =
+    grouped_run false style base suffix
     (flat_map (number_character style (drops_underscores style suffix) (base == 16))
-    (kept_digits style base suffix (kept_row style suffix row)))
+    (kept_digits style base suffix (kept_run style suffix run)))
 
 -- The old text is an integer; the new one has its prefix, its digits, and its suffix. The digits lose the underscores
 -- at their end and the zeros in front, where the style says so, then each character becomes what the style makes of it,
@@ -62,13 +62,13 @@ pub record RewritesInt (style : Style) (old new : List ℕ) : Type 0 where
   pub contents : Contents
   pub suffix : List ℕ
   pub int : StrictInt old contents suffix
-  pub new_is : new ≡ int.prefix ++ (styled_row style int.base suffix int.row ++ (separator style suffix ++ suffix))
+  pub new_is : new ≡ int.prefix ++ (styled_run style int.base suffix int.run ++ (separator style suffix ++ suffix))
 
 -- what the style makes of a float's numeral, with this suffix
 abbrev pub styled_numeral : Style → List ℕ → List ℕ → List ℕ
 styled_numeral style suffix numeral =
     float_in_groups style.float_zero (number_character style (drops_underscores style suffix) false)
-    (λ from_first. grouped_row from_first style 10 suffix) (kept_row style suffix numeral)
+    (λ from_first. grouped_run from_first style 10 suffix) (kept_run style suffix numeral)
 
 -- The same of a float, but for the zeros.
 pub record RewritesFloat (style : Style) (old new : List ℕ) : Type 0 where

@@ -1,4 +1,4 @@
-//! Where tokens stand inside of macro calls, of macros' definitions and of attributes.
+//! Where tokens stand inside of macro calls, of `macro_rules!` and of attributes.
 
 ghost use Rattle.std.specs.Prelude.{◌≡◌};
 ghost use Rattle.rl_lexer.specs.Cursors.{form_view};

@@ -36,7 +36,7 @@ pub(crate) fn group_size(style: Style, base: u32, suffix: &str) -> usize
     }
 }
 
-/// How many digits a row has at least that underscores stand in.
+/// How many digits a run has at least that underscores stand in.
 fn least_digits(style: Style) -> usize
     ensures { result ≡ least_by style.digit_groups }
 {
@@ -76,13 +76,13 @@ fn ends(from_first: bool, size: usize, count: usize, left: usize) -> bool
     }
 }
 
-/// How many digits a row of digits and underscores holds.
-fn count_digits(row: &str) -> usize
-    ensures digits { result ≡ length (without_underscores (chars row.now)) }
-    ensures within { result ≤ length row.now }
+/// How many digits a run of digits and underscores holds.
+fn count_digits(run: &str) -> usize
+    ensures digits { result ≡ length (without_underscores (chars run.now)) }
+    ensures within { result ≤ length run.now }
 {
     let mut count = 0;
-    let mut rest = row;
+    let mut rest = run;
     while let Some((c, after)) = split_char(rest) {
         if c != '_' {
             count += 1;
@@ -108,22 +108,22 @@ fn put_digit(out: &mut [u8], at: usize, manner: Manner, digit: char, ends: bool)
     end
 }
 
-/// Puts what a row of digits and underscores becomes, its digits in groups.
-fn put_grouped(out: &mut [u8], at: usize, manner: Manner, from_first: bool, row: &str) -> usize
-    requires room { at + 2 * length row.now ≤ length out.old }
-    requires no_plus { IsTrue (list_all (λ c. not (c == code "+")) (chars row.now)) }
-    ensures end { result ≤ at + 2 * length row.now }
-    ensures bytes { let new = flat_map (number_character manner.style manner.drops manner.hex) (chars row.now) in
+/// Puts what a run of digits and underscores becomes, its digits in groups.
+fn put_grouped(out: &mut [u8], at: usize, manner: Manner, from_first: bool, run: &str) -> usize
+    requires room { at + 2 * length run.now ≤ length out.old }
+    requires no_plus { IsTrue (list_all (λ c. not (c == code "+")) (chars run.now)) }
+    ensures end { result ≤ at + 2 * length run.now }
+    ensures bytes { let new = flat_map (number_character manner.style manner.drops manner.hex) (chars run.now) in
         take result out.new ≡ take at out.old
         ++ encode_utf8_all (in_groups from_first manner.size (least_by manner.style.digit_groups)
         (without_underscores new) ++ ending new) }
     ensures len { length out.new ≡ length out.old }
 {
-    let count = count_digits(row);
+    let count = count_digits(run);
     let size = group_among(manner, count);
     let mut left = count;
     let mut end = at;
-    let mut rest = row;
+    let mut rest = run;
     while let Some((c, after)) = split_char(rest) {
         if c != '_' {
             left -= 1;
@@ -136,24 +136,24 @@ fn put_grouped(out: &mut [u8], at: usize, manner: Manner, from_first: bool, row:
     end
 }
 
-/// Puts what a row of digits and underscores becomes, in groups where its number is.
-pub(crate) fn put_row(
+/// Puts what a run of digits and underscores becomes, in groups where its number is.
+pub(crate) fn put_digit_run(
     out: &mut [u8],
     at: usize,
     manner: Manner,
     from_first: bool,
-    row: &str,
+    run: &str,
 ) -> usize
-    requires room { at + 2 * length row.now ≤ length out.old }
-    requires no_plus { IsTrue (list_all (λ c. not (c == code "+")) (chars row.now)) }
-    ensures end { result ≤ at + 2 * length row.now }
+    requires room { at + 2 * length run.now ≤ length out.old }
+    requires no_plus { IsTrue (list_all (λ c. not (c == code "+")) (chars run.now)) }
+    ensures end { result ≤ at + 2 * length run.now }
     ensures bytes { take result out.new ≡ take at out.old
         ++ encode_utf8_all (regrouped from_first manner.size (least_by manner.style.digit_groups)
-        (flat_map (number_character manner.style manner.drops manner.hex) (chars row.now))) }
+        (flat_map (number_character manner.style manner.drops manner.hex) (chars run.now))) }
     ensures len { length out.new ≡ length out.old }
 {
     if manner.size == 0 {
-        return put_numeral(out, at, manner, row);
+        return put_numeral(out, at, manner, run);
     }
-    put_grouped(out, at, manner, from_first, row)
+    put_grouped(out, at, manner, from_first, run)
 }

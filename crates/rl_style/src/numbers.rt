@@ -8,12 +8,12 @@ ghost use Rattle.rl_forms.specs.Strict.{StrictFloat, StrictInt};
 ghost use Rattle.rl_reasons.specs.StrictNumbersRead.{IsNumberRead, suffix_of};
 ghost use Rattle.rl_text.specs.Classes.{after_run};
 ghost use Rattle.std.specs.Char.{is_ascii_digit};
-ghost use Rattle.rl_style.specs.Cases.{drops_underscores, drops_zeros, is_padding, kept_digits, kept_row, number_character, separator, significant, trimmed, trims_by};
+ghost use Rattle.rl_style.specs.Cases.{drops_underscores, drops_zeros, is_padding, kept_digits, kept_run, number_character, separator, significant, trimmed, trims_by};
 ghost use Rattle.rl_style.specs.Groups.{after_dot, fraction_in_groups, least_by, regrouped, size_by};
 ghost use Rattle.rl_style.specs.Rewriting.{Rewrites, RewritesFloat, RewritesInt};
 
 use crate::characters::{Manner, begins_base_letter, put_numeral};
-use crate::groups::{group_size, put_row};
+use crate::groups::{group_size, put_digit_run};
 use crate::style::{Separator, Style};
 use rl_reading::number_forms::split_radix;
 use rl_reasons::Number;
@@ -61,16 +61,16 @@ fn drops_zeros(style: Style, base: u32, suffix: &str) -> bool
 }
 
 /// The digits of an integer in the base with the suffix, perhaps without the zeros in front.
-fn kept_digits<'t>(style: Style, base: u32, suffix: &str, row: &'t str) -> &'t str
+fn kept_digits<'t>(style: Style, base: u32, suffix: &str, run: &'t str) -> &'t str
     requires { IsTrue (drops_zeros style base (chars suffix.now))
-        → IsTrue (first_passes is_ascii_digit (chars row.now)) }
-    ensures kept { chars result.now ≡ kept_digits style base (chars suffix.now) (chars row.now) }
-    ensures shorter { length result.now ≤ length row.now }
+        → IsTrue (first_passes is_ascii_digit (chars run.now)) }
+    ensures kept { chars result.now ≡ kept_digits style base (chars suffix.now) (chars run.now) }
+    ensures shorter { length result.now ≤ length run.now }
 {
     if drops_zeros(style, base, suffix) {
-        significant(row)
+        significant(run)
     } else {
-        row
+        run
     }
 }
 
@@ -102,8 +102,8 @@ fn trims(style: Style, suffix: &str) -> bool
 }
 
 /// What stands before the suffix, perhaps without the underscores at its end.
-fn kept_row<'t>(style: Style, suffix: &str, numeral: &'t str) -> &'t str
-    ensures kept { chars result.now ≡ kept_row style (chars suffix.now) (chars numeral.now) }
+fn kept_run<'t>(style: Style, suffix: &str, numeral: &'t str) -> &'t str
+    ensures kept { chars result.now ≡ kept_run style (chars suffix.now) (chars numeral.now) }
     ensures shorter { length result.now ≤ length numeral.now }
 {
     if trims(style, suffix) {
@@ -163,10 +163,10 @@ fn write_integer(text: &str, suffix: &str, style: Style, out: &mut [u8]) -> usiz
     ensures within { result ≤ 4 * length text.now + 1 }
 {
     let (base, digits) = split_radix(text);
-    let whole = kept_row(style, suffix, before(digits, suffix));
-    let row = kept_digits(style, base, suffix, whole);
+    let whole = kept_run(style, suffix, before(digits, suffix));
+    let run = kept_digits(style, base, suffix, whole);
     let at = put_text(out, 0, before(text, digits));
-    let at = put_row(out, at, manner_of(style, base, suffix), false, row);
+    let at = put_digit_run(out, at, manner_of(style, base, suffix), false, run);
     put_suffix(out, at, style, suffix)
 }
 
@@ -197,7 +197,7 @@ fn put_after_dot(out: &mut [u8], at: usize, manner: Manner, fraction: &str) -> u
     match split_char(fraction) {
         Some(_) => {
             let exponent = skip_class(CharClass::Numeral, fraction);
-            let at = put_row(out, at, manner, true, before(fraction, exponent));
+            let at = put_digit_run(out, at, manner, true, before(fraction, exponent));
             put_numeral(out, at, manner, exponent)
         }
         None => put_zero(out, at, manner.style),
@@ -233,9 +233,9 @@ fn write_float(text: &str, suffix: &str, style: Style, out: &mut [u8]) -> usize
     ensures within { result ≤ 4 * length text.now + 1 }
 {
     let manner = manner_of(style, 10, suffix);
-    let numeral = kept_row(style, suffix, before(text, suffix));
+    let numeral = kept_run(style, suffix, before(text, suffix));
     let rest = skip_class(CharClass::Numeral, numeral);
-    let at = put_row(out, 0, manner, false, before(numeral, rest));
+    let at = put_digit_run(out, 0, manner, false, before(numeral, rest));
     let at = put_fraction(out, at, manner, rest);
     put_suffix(out, at, style, suffix)
 }

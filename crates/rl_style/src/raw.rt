@@ -12,7 +12,7 @@ use crate::cooked::put_pair;
 use crate::hidden::{holds_hidden, put_itself};
 use crate::style::Style;
 use rl_forms::Kind;
-use rl_reading::digit_rows::begins_digit;
+use rl_reading::digit_runs::begins_digit;
 use rl_text::room::{put_byte, put_text};
 use rl_text::text::split_char;
 use rl_writing::{raw_hashes, write_raw_into};

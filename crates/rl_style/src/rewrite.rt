@@ -18,7 +18,7 @@ use crate::raw::write_raw;
 use crate::style::Style;
 use rl_forms::Kind;
 use rl_reading::Body;
-use rl_reading::digit_rows::begins_digit;
+use rl_reading::digit_runs::begins_digit;
 use rl_reading::quoted_forms::{QuotedForm, split_opener};
 use rl_reasons::read_numbers::read_number;
 use rl_reasons::{Flaw, Reading, explain, read};

@@ -3,7 +3,7 @@ use Rattle.std.specs.Prelude.{ℕ, Bool, not, ◌==◌, List, [], ◌∷◌, con
 use Rattle.std.specs.Char.{is_ascii, is_ascii_digit}
 use Rattle.unicode_ident.specs.Ident.{is_xid_continue}
 use Prim.Native.Char.{code}
-use Rattle.rl_text.specs.Texts.{is_underscore, is_white, is_row_part, is_blank, is_dropped_blank, is_continue}
+use Rattle.rl_text.specs.Texts.{is_underscore, is_white, is_run_part, is_blank, is_dropped_blank, is_continue}
 use Rattle.rl_text.specs.declared.classes.CharClass.{CharClass}
 use Rattle.rl_text.specs.declared.classes.CharClass.TheVariants.{Continue, Numeral, Underscore, White, Hash, Blank, StrictBlank, SuffixContinue, Unquoted, Ascii, NonNul}
 
@@ -13,7 +13,7 @@ is_hash c = c == code "#"
 -- the test of a class
 abbrev pub class_test : CharClass → ℕ → Bool
 class_test Continue = is_continue
-class_test Numeral = is_row_part is_ascii_digit
+class_test Numeral = is_run_part is_ascii_digit
 class_test Underscore = is_underscore
 class_test White = is_white
 class_test Hash = is_hash

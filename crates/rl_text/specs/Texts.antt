@@ -47,9 +47,9 @@ begins (p ∷ ps) (c ∷ cs) = c == p && begins ps cs
 abbrev pub is_underscore : ℕ → Bool
 is_underscore c = c == code "_"
 
--- what a row of digits holds: a digit, by this test, or an underscore
-abbrev pub is_row_part : (ℕ → Bool) → ℕ → Bool
-is_row_part digit c = digit c || is_underscore c
+-- what a run of digits holds: a digit, by this test, or an underscore
+abbrev pub is_run_part : (ℕ → Bool) → ℕ → Bool
+is_run_part digit c = digit c || is_underscore c
 
 -- The rest is the text without its front, and is a text. Both are bytes.
 pub record IsTail (text rest : List ℕ) : Type 0 where

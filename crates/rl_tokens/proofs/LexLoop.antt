@@ -42,8 +42,8 @@ fits (RawLexeme p k body x) after token lo hi is e f n = tt
 fits (CharacterLexeme b inside x) after token lo hi is e f n = tt
 fits (BasedLexeme letter digits) after token lo hi is e f n = tt
 fits (DecimalLexeme d more fr ex x) after token lo hi is e f n = tt
-fits (IdentifierLexeme c more) after token lo hi (start, row, _) e f n =
-    ap xid_ok e ∙ ap (λ b. b && list_all is_xid_continue more) (start_continues c start) ∙ row_continues more row.each
+fits (IdentifierLexeme c more) after token lo hi (start, run, _) e f n =
+    ap xid_ok e ∙ ap (λ b. b && list_all is_xid_continue more) (start_continues c start) ∙ row_continues more run.each
 fits (DelimiterLexeme c) after token lo hi is e f n =
     let one : encode_utf8_all (c ∷ []) ≡ c ∷ [] = ap (λ x. x ++ []) (encode_ascii c (low_among delimiters c refl is)) in
     (is, omega (arith, n, ap length (sym f ∙ one)))

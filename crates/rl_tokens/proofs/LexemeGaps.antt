@@ -1,7 +1,7 @@
 -- A lexeme but a mark stays one before a gap and at the end.
 use Rattle.rl_text.proofs.Common.{◌≡◌, ℕ, ◌<◌, Bool, true, false, not, ◌&&◌, ◌||◌, ◌==◌, cond, List, [], ◌∷◌, ◌++◌, drop, replicate, refl, sym, ◌∙◌, ap, subst, arith, append_assoc, lit<, and_parts, nat_tests, list_all, is_xid_start, is_xid_continue, is_ascii_alphanumeric, is_ascii_digit, is_xid_continue-ascii}
-use Rattle.rl_text.specs.Texts.{is_white, is_underscore, first_passes, is_row_part, is_start, is_continue, begins_char}
-use Rattle.rl_lexer.specs.Lexemes.{is_base_letter, begins_dot, LexedFraction, NoLexedFraction, LexedDot, lexed_fraction_text, lexed_sign_text, LexedExponent, NoLexedExponent, LexedPower, lexed_exponent_text, IsRow, IsLexedSuffix, IsLexedFraction, IsLexedExponent, QuotedLexeme, RawLexeme, CharacterLexeme, BasedLexeme, DecimalLexeme, IdentifierLexeme, DelimiterLexeme, MarkLexeme, IsLexeme}
+use Rattle.rl_text.specs.Texts.{is_white, is_underscore, first_passes, is_run_part, is_start, is_continue, begins_char}
+use Rattle.rl_lexer.specs.Lexemes.{is_base_letter, begins_dot, LexedFraction, NoLexedFraction, LexedDot, lexed_fraction_text, lexed_sign_text, LexedExponent, NoLexedExponent, LexedPower, lexed_exponent_text, IsRun, IsLexedSuffix, IsLexedFraction, IsLexedExponent, QuotedLexeme, RawLexeme, CharacterLexeme, BasedLexeme, DecimalLexeme, IdentifierLexeme, DelimiterLexeme, MarkLexeme, IsLexeme}
 use Rattle.rl_lexer.proofs.Gaps.{BeginsGap, StaysBeforeGap}
 use Rattle.rl_text.proofs.Basics.{false_unless}
 use Rattle.rl_lexer.proofs.Pieces.{is_equal}
@@ -50,7 +50,7 @@ digit_solid = solid_from is_ascii_digit refl (λ c w. false_unless (is_ascii_dig
     white_digit : (c : ℕ) → is_ascii_digit c ≡ true → is_white c ≡ true → ⊥
     white_digit c h w = grind (arith, nat_tests)
 
-part_solid : Solid (is_row_part is_ascii_digit)
+part_solid : Solid (is_run_part is_ascii_digit)
 part_solid = or_solid is_ascii_digit (λ c. c == 95) digit_solid (code_solid 95 refl refl)
 
 dot_solid : Solid (λ d. d == 46 || is_start d)
@@ -70,9 +70,9 @@ passes_gap : (test : ℕ → Bool) (s after gap : List ℕ) → Solid test → B
 passes_gap test [] after gap solid is h = gap_fails test gap solid is
 passes_gap test (c ∷ s) after gap solid is h = h
 
-row_gap : (test : ℕ → Bool) (row s after gap : List ℕ) → Solid test → BeginsGap gap → IsRow test row (s ++ after)
-    → IsRow test row (s ++ gap)
-row_gap test row s after gap solid is r = record { each = r.each; ends = passes_gap test s after gap solid is r.ends }
+row_gap : (test : ℕ → Bool) (run s after gap : List ℕ) → Solid test → BeginsGap gap → IsRun test run (s ++ after)
+    → IsRun test run (s ++ gap)
+row_gap test run s after gap solid is r = record { each = r.each; ends = passes_gap test s after gap solid is r.ends }
 
 suffix_gap : (x after gap : List ℕ) → BeginsGap gap → IsLexedSuffix x after → IsLexedSuffix x gap
 suffix_gap [] after gap is h = gap_fails is_start gap start_solid is
@@ -141,7 +141,7 @@ dot_gap NoLexedExponent [] after [] is ie suffix = refl
 dot_gap NoLexedExponent [] after (c ∷ t) is ie suffix = not_dot c t (code_solid 46 refl refl c is)
 dot_gap NoLexedExponent (c ∷ x) after gap is ie (h, r) = not_dot c (x ++ gap)
     (not_among c 46 is_start h (start_ascii 46 (lit< tt)))
-dot_gap (LexedPower letter s n d more) x after gap is (il, id, row) suffix = not_dot letter
+dot_gap (LexedPower letter s n d more) x after gap is (il, id, run) suffix = not_dot letter
     (lexed_sign_text s ++ (replicate n 95 ++ d ∷ more) ++ (x ++ gap))
     (not_among letter 46 (λ c. c == 101 || c == 69) il refl)
 
@@ -164,9 +164,9 @@ fraction_gap (LexedDot digits) e x after gap is (h, r) ie suffix =
     ∙ passes_gap (λ d. d == 46 || is_start d) (digits ++ (t ++ x)) after gap dot_solid is
     (ap (first_passes (λ d. d == 46 || is_start d)) (assoc3 digits t x after) ∙ k) in (
       ap not m,
-      subst (λ (s : List ℕ). IsRow (is_row_part is_ascii_digit) digits s) (assoc2 t x gap)
-          (row_gap (is_row_part is_ascii_digit) digits (t ++ x) after gap part_solid is
-          (subst (λ (s : List ℕ). IsRow (is_row_part is_ascii_digit) digits s) (sym (assoc2 t x after)) r)),
+      subst (λ (s : List ℕ). IsRun (is_run_part is_ascii_digit) digits s) (assoc2 t x gap)
+          (row_gap (is_run_part is_ascii_digit) digits (t ++ x) after gap part_solid is
+          (subst (λ (s : List ℕ). IsRun (is_run_part is_ascii_digit) digits s) (sym (assoc2 t x after)) r)),
     )
 
 power_gap : (e : LexedExponent) (x after gap : List ℕ) → BeginsGap gap → IsLexedExponent e (x ++ after)
@@ -174,11 +174,11 @@ power_gap : (e : LexedExponent) (x after gap : List ℕ) → BeginsGap gap → I
 power_gap NoLexedExponent x after gap is none suffix =
     no_exponent_begins (x ++ gap) (exponent_gap x after gap is suffix (no_exponent_here (x ++ after) none))
 power_gap (LexedPower letter s n d more) x after gap is (il, id, r) suffix =
-    (il, id, row_gap (is_row_part is_ascii_digit) more x after gap part_solid is r)
+    (il, id, row_gap (is_run_part is_ascii_digit) more x after gap part_solid is r)
 
 decimal_gap : (d : ℕ) (more : List ℕ) (f : LexedFraction) (e : LexedExponent) (x after gap : List ℕ) → BeginsGap gap
     → IsLexeme (DecimalLexeme d more f e x) after → IsLexeme (DecimalLexeme d more f e x) gap
-decimal_gap d more f e x after gap is (id, not_based, row, fraction, exponent, suffix) =
+decimal_gap d more f e x after gap is (id, not_based, run, fraction, exponent, suffix) =
     let t = lexed_fraction_text f ++ (lexed_exponent_text e ++ x) in
     let at : (rest : List ℕ) → (more ++ t) ++ rest ≡ more ++ (lexed_fraction_text f
     ++ (lexed_exponent_text e ++ (x ++ rest))) = λ rest. append_assoc more t rest
@@ -189,11 +189,11 @@ decimal_gap d more f e x after gap is (id, not_based, row, fraction, exponent, s
           (first_passes is_base_letter ((more ++ t) ++ gap)) (passes_gap is_base_letter (more ++ t) after gap
           base_solid is)
           (ap (λ s. d == 48 && first_passes is_base_letter s) (at after) ∙ not_based),
-      subst (λ (s : List ℕ). IsRow (is_row_part is_ascii_digit) more s)
+      subst (λ (s : List ℕ). IsRun (is_run_part is_ascii_digit) more s)
           (assoc3 (lexed_fraction_text f) (lexed_exponent_text e) x gap)
-          (row_gap (is_row_part is_ascii_digit) more t after gap part_solid is
-          (subst (λ (s : List ℕ). IsRow (is_row_part is_ascii_digit) more s)
-          (sym (assoc3 (lexed_fraction_text f) (lexed_exponent_text e) x after)) row)),
+          (row_gap (is_run_part is_ascii_digit) more t after gap part_solid is
+          (subst (λ (s : List ℕ). IsRun (is_run_part is_ascii_digit) more s)
+          (sym (assoc3 (lexed_fraction_text f) (lexed_exponent_text e) x after)) run)),
       fraction_gap f e x after gap is fraction exponent suffix,
       power_gap e x after gap is exponent suffix,
       suffix_gap x after gap is suffix,
@@ -202,17 +202,17 @@ decimal_gap d more f e x after gap is (id, not_based, row, fraction, exponent, s
 -- Identifiers.
 hash_none : (k : ℕ) (x gap : List ℕ) → list_all is_continue x ≡ true → BeginsGap gap → Solid (λ c. c == k)
     → is_continue k ≡ false → begins_char k (x ++ gap) ≡ false
-hash_none k [] [] row is solid no_cont = refl
-hash_none k [] (c ∷ t) row is solid no_cont = solid c is
-hash_none k (c ∷ x) gap row is solid no_cont = not_among c k is_continue
-    (and_parts (is_continue c) (list_all is_continue x) row).0 no_cont
+hash_none k [] [] run is solid no_cont = refl
+hash_none k [] (c ∷ t) run is solid no_cont = solid c is
+hash_none k (c ∷ x) gap run is solid no_cont = not_among c k is_continue
+    (and_parts (is_continue c) (list_all is_continue x) run).0 no_cont
 
 raw_none : (x gap : List ℕ) → list_all is_continue x ≡ true → BeginsGap gap → begins_hashed_quote (x ++ gap) ≡ false
-raw_none [] [] row is = refl
-raw_none [] (c ∷ t) row is = ap (λ b. begins_char 34 (cond b (after_run is_hash t) (c ∷ t)))
+raw_none [] [] run is = refl
+raw_none [] (c ∷ t) run is = ap (λ b. begins_char 34 (cond b (after_run is_hash t) (c ∷ t)))
     (code_solid 35 refl refl c is) ∙ code_solid 34 refl refl c is
-raw_none (c ∷ x) gap row is =
-    let k : is_continue c ≡ true = (and_parts (is_continue c) (list_all is_continue x) row).0 in
+raw_none (c ∷ x) gap run is =
+    let k : is_continue c ≡ true = (and_parts (is_continue c) (list_all is_continue x) run).0 in
     ap (λ b. begins_char 34 (cond b (after_run is_hash (x ++ gap)) (c ∷ x ++ gap)))
     (not_among c 35 is_continue k (continue_ascii 35 (lit< tt)))
     ∙ not_among c 34 is_continue k (continue_ascii 34 (lit< tt))
@@ -239,35 +239,35 @@ none_of a b r x y z v w p q s t u =
 
 second_raw : (more gap : List ℕ) → list_all is_continue more ≡ true → BeginsGap gap
     → (begins_char 114 (more ++ gap) && begins_hashed_quote (drop 1 (more ++ gap))) ≡ false
-second_raw [] [] row is = refl
-second_raw [] (c ∷ t) row is = ap (λ b. b && begins_hashed_quote t) (code_solid 114 refl refl c is)
-second_raw (c ∷ x) gap row is = ap (λ b. c == 114 && b) (raw_none x gap
-    (and_parts (is_continue c) (list_all is_continue x) row).1 is) ∙ and_false (c == 114)
+second_raw [] [] run is = refl
+second_raw [] (c ∷ t) run is = ap (λ b. b && begins_hashed_quote t) (code_solid 114 refl refl c is)
+second_raw (c ∷ x) gap run is = ap (λ b. c == 114 && b) (raw_none x gap
+    (and_parts (is_continue c) (list_all is_continue x) run).1 is) ∙ and_false (c == 114)
 
 otherwise_gap : (c : ℕ) (more gap : List ℕ) → list_all is_continue more ≡ true → BeginsGap gap
     → begins_otherwise (c ∷ more ++ gap) ≡ false
-otherwise_gap c more gap row is =
+otherwise_gap c more gap run is =
     let u = more ++ gap in
     none_of (c == 98) (c == 99) (c == 114) (begins_char 34 u) (begins_char 39 u)
     (begins_char 114 u && begins_hashed_quote (drop 1 u)) (begins_hashed_quote u)
     (begins_char 35 u && first_passes is_start (drop 1 u))
-    (hash_none 34 more gap row is (code_solid 34 refl refl) (continue_ascii 34 (lit< tt)))
-    (hash_none 39 more gap row is (code_solid 39 refl refl) (continue_ascii 39 (lit< tt)))
-    (second_raw more gap row is)
-    (raw_none more gap row is)
-    (ap (λ b. b && first_passes is_start (drop 1 u)) (hash_none 35 more gap row is (code_solid 35 refl refl)
+    (hash_none 34 more gap run is (code_solid 34 refl refl) (continue_ascii 34 (lit< tt)))
+    (hash_none 39 more gap run is (code_solid 39 refl refl) (continue_ascii 39 (lit< tt)))
+    (second_raw more gap run is)
+    (raw_none more gap run is)
+    (ap (λ b. b && first_passes is_start (drop 1 u)) (hash_none 35 more gap run is (code_solid 35 refl refl)
     (continue_ascii 35 (lit< tt))))
 
-run_end : (row after gap : List ℕ) → BeginsGap gap → IsRow is_continue row after → IsRow is_continue row gap
-run_end row after gap is r = row_gap is_continue row [] after gap continue_solid is r
+run_end : (run after gap : List ℕ) → BeginsGap gap → IsRun is_continue run after → IsRun is_continue run gap
+run_end run after gap is r = row_gap is_continue run [] after gap continue_solid is r
 
 pub stays_before_gap : StaysBeforeGap
 stays_before_gap (QuotedLexeme p parts x) after gap keeps (l, suffix) is = (l, suffix_gap x after gap is suffix)
 stays_before_gap (RawLexeme p n body x) after gap keeps (l, suffix) is = (l, suffix_gap x after gap is suffix)
 stays_before_gap (CharacterLexeme b inside x) after gap keeps (l, suffix) is = (l, suffix_gap x after gap is suffix)
-stays_before_gap (BasedLexeme letter digits) after gap keeps (l, row) is = (l, run_end digits after gap is row)
+stays_before_gap (BasedLexeme letter digits) after gap keeps (l, run) is = (l, run_end digits after gap is run)
 stays_before_gap (DecimalLexeme d more f e x) after gap keeps l is = decimal_gap d more f e x after gap is l
-stays_before_gap (IdentifierLexeme c more) after gap keeps (l, row, other) is =
-    (l, run_end more after gap is row, none_otherwise (c ∷ more ++ gap) (otherwise_gap c more gap row.each is))
+stays_before_gap (IdentifierLexeme c more) after gap keeps (l, run, other) is =
+    (l, run_end more after gap is run, none_otherwise (c ∷ more ++ gap) (otherwise_gap c more gap run.each is))
 stays_before_gap (DelimiterLexeme c) after gap keeps l is = l
 stays_before_gap (MarkLexeme c) after gap keeps l is = absurd keeps

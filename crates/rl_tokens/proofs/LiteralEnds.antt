@@ -1,6 +1,6 @@
 -- What may follow a literal in a print, and what no such text begins with.
 use Rattle.rl_text.proofs.Common.{◌≡◌, ℕ, ◌<◌, inl, inr, Bool, true, false, not, ◌&&◌, ◌||◌, ◌==◌, List, [], ◌∷◌, ◌++◌, refl, ◌∙◌, ap, lit<, and_parts, IsTrue, ⊤, codes, list_all, is_ascii_digit, is_ascii_alphanumeric, and_from, or_from, is_xid_start, is_xid_continue}
-use Rattle.rl_text.specs.Texts.{is_white, is_among, first_passes, is_row_part, is_start, is_continue}
+use Rattle.rl_text.specs.Texts.{is_white, is_among, first_passes, is_run_part, is_start, is_continue}
 use Rattle.rl_lexer.specs.Lexemes.{is_base_letter, IsLexedSuffix, IsLexeme}
 use Rattle.rl_lexer.proofs.Gaps.{BeginsGap}
 use Rattle.rl_forms.specs.Strict.{IsStrictSuffix}
@@ -63,8 +63,8 @@ clear_code k w all = clear_from (λ c. c == k) (λ c h. not_among c k is_white h
 clear_or : (f g : ℕ → Bool) → Clear f → Clear g → Clear (λ c. f c || g c)
 clear_or f g a b c h = or_from (f c) (g c) (a c h) (b c h)
 
--- It goes on with no row of digits.
-pub clear_part : Clear (is_row_part is_ascii_digit)
+-- It goes on with no run of digits.
+pub clear_part : Clear (is_run_part is_ascii_digit)
 clear_part = clear_or is_ascii_digit (λ c. c == 95) clear_digit (clear_code 95 refl refl)
 
 -- It doesn't keep a dot from being a dot part.

@@ -1,6 +1,6 @@
 -- A strict number is one lexeme before what may follow a literal.
 use Rattle.rl_text.proofs.Common.{◌≡◌, ℕ, ◌<◌, ◌≤◌, ◌⊎◌, inl, inr, suc, Bool, true, false, not, ◌&&◌, ◌||◌, ◌==◌, List, [], ◌∷◌, ◌++◌, replicate, refl, sym, ◌∙◌, ap, subst, arith, append_assoc, append-nil, lit<, nat_lt, list_all, list_any, digit_value, is_ascii_digit, is_ascii_hexdigit, is_ascii_alphanumeric, and_parts, and_from, or_from, or_cases, eqb-true, ltb-true, lt-ltb, agree_below_at, nat_tests, list_all-append}
-use Rattle.rl_text.specs.Texts.{is_white, first_passes, begins, is_row_part, is_start, is_continue}
+use Rattle.rl_text.specs.Texts.{is_white, first_passes, begins, is_run_part, is_start, is_continue}
 use Rattle.rl_forms.specs.Numbers.{Decimal, is_digit}
 use Rattle.rl_lexer.specs.Lexemes.{is_base_letter, begins_dot, LexedFraction, NoLexedFraction, LexedDot, lexed_fraction_text, LexedSign, NoLexedSign, LexedPlus, LexedMinus, lexed_sign_text, LexedExponent, NoLexedExponent, LexedPower, lexed_exponent_text, IsLexedFraction, IsLexedExponent, BasedLexeme, DecimalLexeme}
 use Rattle.rl_forms.specs.Reading.{Contents}
@@ -26,12 +26,12 @@ is_letter c = c == 101 || c == 69
 abbrev FractionFacts : LexedFraction → List ℕ → Type 0
 FractionFacts NoLexedFraction s = first_passes (λ c. c == 46) s ≡ false
 FractionFacts (LexedDot digits) s = (first_passes is_dot_or_start (digits ++ s) ≡ false)
-    × (list_all (is_row_part is_ascii_digit) digits ≡ true) × (first_passes (is_row_part is_ascii_digit) s ≡ false)
+    × (list_all (is_run_part is_ascii_digit) digits ≡ true) × (first_passes (is_run_part is_ascii_digit) s ≡ false)
 
 abbrev ExponentFacts : LexedExponent → List ℕ → Type 0
 ExponentFacts NoLexedExponent x = first_passes is_letter x ≡ false
 ExponentFacts (LexedPower letter sign n d more) x = (is_letter letter ≡ true) × (is_ascii_digit d ≡ true)
-    × (list_all (is_row_part is_ascii_digit) more ≡ true) × (first_passes (is_row_part is_ascii_digit) x ≡ false)
+    × (list_all (is_run_part is_ascii_digit) more ≡ true) × (first_passes (is_run_part is_ascii_digit) x ≡ false)
 
 record DecimalFacts (t : List ℕ) : Type 0 where
   pub digit : ℕ
@@ -40,8 +40,8 @@ record DecimalFacts (t : List ℕ) : Type 0 where
   pub exponent : LexedExponent
   pub suffix : List ℕ
   pub is_digit : is_ascii_digit digit ≡ true
-  pub each : list_all (is_row_part is_ascii_digit) more ≡ true
-  pub row_ends : first_passes (is_row_part is_ascii_digit) (lexed_fraction_text fraction
+  pub each : list_all (is_run_part is_ascii_digit) more ≡ true
+  pub row_ends : first_passes (is_run_part is_ascii_digit) (lexed_fraction_text fraction
       ++ (lexed_exponent_text exponent ++ suffix)) ≡ false
   pub is_fraction : FractionFacts fraction (lexed_exponent_text exponent ++ suffix)
   pub is_exponent : ExponentFacts exponent suffix
@@ -87,7 +87,7 @@ fraction_lexed NoLexedFraction e x after ends h = no_dot (e ++ (x ++ after))
 fraction_lexed (LexedDot digits) e x after ends (begins, each, row_ends) = (
   ap not (fails_tail3 is_dot_or_start digits e x after clear_dot ends begins),
   record
-      { each = each; ends = fails_tail2 (is_row_part is_ascii_digit) e x after clear_part ends row_ends },
+      { each = each; ends = fails_tail2 (is_run_part is_ascii_digit) e x after clear_part ends row_ends },
 )
 
 exponent_lexed : (e : LexedExponent) (x after : List ℕ) → EndsLiteral after → ExponentFacts e x
@@ -95,7 +95,7 @@ exponent_lexed : (e : LexedExponent) (x after : List ℕ) → EndsLiteral after 
 exponent_lexed NoLexedExponent x after ends h =
     no_exponent_begins (x ++ after) (no_exponent (x ++ after) (front_fails is_letter x after clear_exponent ends h))
 exponent_lexed (LexedPower letter sign n d more) x after ends (is, digit, each, row_ends) =
-    (is, digit, record { each = each; ends = front_fails (is_row_part is_ascii_digit) x after clear_part ends row_ends })
+    (is, digit, record { each = each; ends = front_fails (is_run_part is_ascii_digit) x after clear_part ends row_ends })
 
 decimal_lexed : (t : List ℕ) → DecimalFacts t → LexedBefore EndsLiteral t
 decimal_lexed t s =
@@ -110,7 +110,7 @@ decimal_lexed t s =
         ap (λ z. s.digit == 48 && first_passes is_base_letter z) (sym (decimal_text s.more f e s.suffix after))
             ∙ and_more (s.digit == 48) (first_passes is_base_letter u) (first_passes is_base_letter (u ++ after))
             (front_fails is_base_letter u after clear_base ends) (not_based s.digit u decimal),
-        record { each = s.each; ends = fails_tail3 (is_row_part is_ascii_digit) f e s.suffix after clear_part ends s.row_ends },
+        record { each = s.each; ends = fails_tail3 (is_run_part is_ascii_digit) f e s.suffix after clear_part ends s.row_ends },
         fraction_lexed s.fraction e s.suffix after ends s.is_fraction,
         exponent_lexed s.exponent s.suffix after ends s.is_exponent,
         strict_suffix_lexed s.suffix after s.is_suffix ends,
@@ -120,19 +120,19 @@ decimal_lexed t s =
     }
 
 -- Rows of digits, suffixes, exponents.
-record DigitRow (row : List ℕ) : Type 0 where
+record DigitRun (run : List ℕ) : Type 0 where
   pub digit : ℕ
   pub more : List ℕ
-  pub text : row ≡ digit ∷ more
+  pub text : run ≡ digit ∷ more
   pub is_digit : is_ascii_digit digit ≡ true
-  pub each : list_all (is_row_part is_ascii_digit) more ≡ true
+  pub each : list_all (is_run_part is_ascii_digit) more ≡ true
 
-digit_row : (row : List ℕ) → IsDigits row → DigitRow row
+digit_row : (run : List ℕ) → IsDigits run → DigitRun run
 digit_row [] (first, each) = absurd (cc)
-digit_row (d ∷ more) (first, each) = record { digit = d; more = more; text = refl; is_digit = first; each = (and_parts (is_row_part is_ascii_digit d) (list_all (is_row_part is_ascii_digit) more) each).1 }
+digit_row (d ∷ more) (first, each) = record { digit = d; more = more; text = refl; is_digit = first; each = (and_parts (is_run_part is_ascii_digit d) (list_all (is_run_part is_ascii_digit) more) each).1 }
 
-suffix_no_numeral : (x : List ℕ) → IsNumberSuffix x → first_passes (is_row_part is_ascii_digit) x ≡ false
-suffix_no_numeral x is = passes_same (is_row_part is_ascii_digit) (is_row_part (is_digit Decimal))
+suffix_no_numeral : (x : List ℕ) → IsNumberSuffix x → first_passes (is_run_part is_ascii_digit) x ≡ false
+suffix_no_numeral x is = passes_same (is_run_part is_ascii_digit) (is_run_part (is_digit Decimal))
     (λ c. ap (λ b. b || c == 95) (digit_is_ten c)) x ∙ suffix_no_part x (suffix_of_strict x is)
 
 suffix_no_dot : (x : List ℕ) → IsStrictSuffix x → first_passes (λ c. c == 46) x ≡ false
@@ -146,38 +146,38 @@ letter_fails test c lower upper h =
       | inr a ↦ subst (λ (x : ℕ). test x ≡ false) (sym (eqb-true c 69 a)) upper
     ]
 
--- a row with a digit: underscores, the digit, and more
-record PowerRow (row : List ℕ) : Type 0 where
+-- a run with a digit: underscores, the digit, and more
+record PowerRow (run : List ℕ) : Type 0 where
   pub underscores : ℕ
   pub digit : ℕ
   pub more : List ℕ
-  pub text : row ≡ replicate underscores 95 ++ (digit ∷ more)
+  pub text : run ≡ replicate underscores 95 ++ (digit ∷ more)
   pub is_digit : is_ascii_digit digit ≡ true
-  pub each : list_all (is_row_part is_ascii_digit) more ≡ true
+  pub each : list_all (is_run_part is_ascii_digit) more ≡ true
 
-power_row : (row : List ℕ) → list_all (is_row_part is_ascii_digit) row ≡ true → list_any is_ascii_digit row ≡ true
-    → PowerRow row
-power_row [] each some = absurd (cc)
-power_row (c ∷ row) each some =
-    let p = and_parts (is_row_part is_ascii_digit c) (list_all (is_row_part is_ascii_digit) row) each in
-    go (is_ascii_digit c) refl p.0 p.1 (power_row row p.1) some
+power_run : (run : List ℕ) → list_all (is_run_part is_ascii_digit) run ≡ true → list_any is_ascii_digit run ≡ true
+    → PowerRow run
+power_run [] each some = absurd (cc)
+power_run (c ∷ run) each some =
+    let p = and_parts (is_run_part is_ascii_digit c) (list_all (is_run_part is_ascii_digit) run) each in
+    go (is_ascii_digit c) refl p.0 p.1 (power_run run p.1) some
   where
-    go : (b : Bool) → is_ascii_digit c ≡ b → is_row_part is_ascii_digit c ≡ true
-        → list_all (is_row_part is_ascii_digit) row
-        ≡ true → (list_any is_ascii_digit row ≡ true → PowerRow row) → (b || list_any is_ascii_digit row) ≡ true
-        → PowerRow (c ∷ row)
-    go true digit here each rest some = record { underscores = 0; digit = c; more = row; text = refl; is_digit = digit; each = each }
+    go : (b : Bool) → is_ascii_digit c ≡ b → is_run_part is_ascii_digit c ≡ true
+        → list_all (is_run_part is_ascii_digit) run
+        ≡ true → (list_any is_ascii_digit run ≡ true → PowerRow run) → (b || list_any is_ascii_digit run) ≡ true
+        → PowerRow (c ∷ run)
+    go true digit here each rest some = record { underscores = 0; digit = c; more = run; text = refl; is_digit = digit; each = each }
     go false digit here each rest some =
         let r = rest some in
         let e : (c == 95) ≡ true = ap (λ b. b || c == 95) (sym digit) ∙ here in
-        record { underscores = suc r.underscores; digit = r.digit; more = r.more; text = ap (λ z. z ∷ row) (eqb-true c 95 e) ∙ ap (λ z. 95 ∷ z) r.text; is_digit = r.is_digit; each = r.each }
+        record { underscores = suc r.underscores; digit = r.digit; more = r.more; text = ap (λ z. z ∷ run) (eqb-true c 95 e) ∙ ap (λ z. 95 ∷ z) r.text; is_digit = r.is_digit; each = r.each }
 
 record PowerFacts (e : List ℕ) : Type 0 where
   pub letter : ℕ
   pub sign : LexedSign
-  pub row : List ℕ
+  pub run : List ℕ
   pub is_letter : is_letter letter ≡ true
-  pub power : PowerRow row
+  pub power : PowerRow run
   pub text : e ≡ lexed_exponent_text (LexedPower letter sign power.underscores power.digit power.more)
 
 sign_of : (sign : List ℕ) → ((sign ≡ []) ⊎ ((sign ≡ 43 ∷ []) ⊎ (sign ≡ 45 ∷ []))) → (s : LexedSign)
@@ -188,15 +188,15 @@ sign_of sign (inr (inr e)) = (LexedMinus, e)
 
 power_facts : (e : List ℕ) → IsStrictExponent e → PowerFacts e
 power_facts e s =
-    let p = power_row s.row s.each s.some in
+    let p = power_run s.run s.each s.some in
     let (sign, same) = sign_of s.sign s.is_sign in
-    record { letter = s.letter; sign = sign; row = s.row; is_letter = s.is_letter; power = p; text = s.text ∙ ap (λ z. s.letter ∷ (z ++ s.row)) same ∙ ap (λ z. s.letter ∷ (lexed_sign_text sign ++ z)) p.text }
+    record { letter = s.letter; sign = sign; run = s.run; is_letter = s.is_letter; power = p; text = s.text ∙ ap (λ z. s.letter ∷ (z ++ s.run)) same ∙ ap (λ z. s.letter ∷ (lexed_sign_text sign ++ z)) p.text }
 
 -- Integers.
-decimal_int : (t x : List ℕ) (v : Contents) (s : StrictInt t v x) → s.prefix ≡ [] → IsDigits s.row → IsDecimalText t
+decimal_int : (t x : List ℕ) (v : Contents) (s : StrictInt t v x) → s.prefix ≡ [] → IsDigits s.run → IsDecimalText t
     → LexedBefore EndsLiteral t
 decimal_int t x v s none digits decimal =
-    let r = digit_row s.row digits in
+    let r = digit_row s.run digits in
     decimal_lexed t
     (record {
       digit = r.digit;
@@ -211,7 +211,7 @@ decimal_int t x v s none digits decimal =
       is_exponent = s.no_exponent;
       is_suffix = s.suffix.0;
       is_decimal = decimal;
-      text = s.text ∙ ap (λ z. (z ++ s.row) ++ x) none ∙ ap (λ z. z ++ x) r.text;
+      text = s.text ∙ ap (λ z. (z ++ s.run) ++ x) none ∙ ap (λ z. z ++ x) r.text;
     })
 
 hex_low : (c : ℕ) → is_ascii_hexdigit c ≡ true → c < 128
@@ -226,7 +226,7 @@ hex_continues c h =
     continue_ascii c low ∙ ap (λ b. not b || ((is_ascii_alphanumeric c || (c == 95)) && not (is_white c))) (sym h)
     ∙ same
 
-row_continues : (n c : ℕ) → n ≤ 16 → is_row_part (λ d. nat_lt (digit_value d) n) c ≡ true → is_continue c ≡ true
+row_continues : (n c : ℕ) → n ≤ 16 → is_run_part (λ d. nat_lt (digit_value d) n) c ≡ true → is_continue c ≡ true
 row_continues n c few h =
     elim (or_cases (nat_lt (digit_value c) n) (c == 95) h) [
       | inl a ↦
@@ -238,22 +238,22 @@ row_continues n c few h =
 based_int : (letter n : ℕ) (t x : List ℕ) (v : Contents) (s : StrictInt t v x) → s.prefix ≡ 48 ∷ letter ∷ [] → s.base
     ≡ n → n ≤ 16 → is_base_letter letter ≡ true → LexedBefore EndsLiteral t
 based_int letter n t x v s front base few is =
-    let each : list_all (is_row_part (λ d. nat_lt (digit_value d) n)) s.row
-    ≡ true = subst (λ (k : ℕ). list_all (is_row_part (λ d. nat_lt (digit_value d) k)) s.row ≡ true) base s.each in
-    let digits : list_all is_continue s.row ≡ true = all_weaker (is_row_part (λ d. nat_lt (digit_value d) n))
+    let each : list_all (is_run_part (λ d. nat_lt (digit_value d) n)) s.run
+    ≡ true = subst (λ (k : ℕ). list_all (is_run_part (λ d. nat_lt (digit_value d) k)) s.run ≡ true) base s.each in
+    let digits : list_all is_continue s.run ≡ true = all_weaker (is_run_part (λ d. nat_lt (digit_value d) n))
     is_continue
-    (λ c h. row_continues n c few h) s.row each in
+    (λ c h. row_continues n c few h) s.run each in
     record {
-      lexeme = BasedLexeme letter (s.row ++ x);
+      lexeme = BasedLexeme letter (s.run ++ x);
       is_lexeme = λ after ends. (
         is,
         record {
-          each = list_all-append is_continue s.row x ∙ and_from _ _ digits (suffix_continues x s.suffix.0);
+          each = list_all-append is_continue s.run x ∙ and_from _ _ digits (suffix_continues x s.suffix.0);
           ends = ends_fails is_continue after clear_continue ends;
         },
       );
       form = refl;
-      text_is = s.text ∙ ap (λ z. (z ++ s.row) ++ x) front;
+      text_is = s.text ∙ ap (λ z. (z ++ s.run) ++ x) front;
     }
 
 -- A strict integer is one lexeme before what may follow it.
@@ -273,7 +273,7 @@ int_lexed t x v s =
 -- Floats.
 float_from : (t x d : List ℕ) (v : Contents) (s : StrictFloat t v x) (f : LexedFraction) (e : LexedExponent)
     → IsDigits d → s.numeral ≡ d ++ (lexed_fraction_text f ++ lexed_exponent_text e)
-    → first_passes (is_row_part is_ascii_digit) (lexed_fraction_text f ++ (lexed_exponent_text e ++ x)) ≡ false
+    → first_passes (is_run_part is_ascii_digit) (lexed_fraction_text f ++ (lexed_exponent_text e ++ x)) ≡ false
     → FractionFacts f (lexed_exponent_text e ++ x) → ExponentFacts e x → LexedBefore EndsLiteral t
 float_from t x d v s f e digits numeral row_ends is_fraction is_exponent =
     let r = digit_row d digits in
@@ -300,7 +300,7 @@ dot_alone : (t x d : List ℕ) (v : Contents) (s : StrictFloat t v x) → IsDigi
     → LexedBefore EndsLiteral t
 dot_alone t x d v s digits numeral none =
     float_from t x d v s (LexedDot []) NoLexedExponent digits numeral refl
-    (ap (first_passes is_dot_or_start) none, refl, ap (first_passes (is_row_part is_ascii_digit)) none)
+    (ap (first_passes is_dot_or_start) none, refl, ap (first_passes (is_run_part is_ascii_digit)) none)
     (ap (first_passes is_letter) none)
 
 -- after a dot the digits begin neither as a dot does nor as an identifier
@@ -322,7 +322,7 @@ whole_power : (t x d e : List ℕ) (v : Contents) (s : StrictFloat t v x) → Is
 whole_power t x d e v s digits p numeral =
     float_from t x d v s NoLexedFraction (LexedPower p.letter p.sign p.power.underscores p.power.digit p.power.more)
     digits (numeral ∙ ap (λ z. d ++ z) p.text)
-    (letter_fails (is_row_part is_ascii_digit) p.letter refl refl p.is_letter)
+    (letter_fails (is_run_part is_ascii_digit) p.letter refl refl p.is_letter)
     (letter_fails (λ c. c == 46) p.letter refl refl p.is_letter)
     (p.is_letter, p.power.is_digit, p.power.each, suffix_no_numeral x s.suffix)
 
@@ -333,7 +333,7 @@ pointed_power t x d f e v s digits following p numeral =
     (numeral ∙ append_assoc d (46 ∷ f) e ∙ ap (λ z. d ++ ((46 ∷ f) ++ z)) p.text) refl (
       digits_behind_dot f _ following,
       following.1,
-      letter_fails (is_row_part is_ascii_digit) p.letter refl refl
+      letter_fails (is_run_part is_ascii_digit) p.letter refl refl
           p.is_letter,
     )
     (p.is_letter, p.power.is_digit, p.power.each, suffix_no_numeral x s.suffix)

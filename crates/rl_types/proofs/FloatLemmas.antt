@@ -199,7 +199,7 @@ IsFirst (d ∷ ds) = (list_all is_ascii_digit (d ∷ ds) ≡ true) × ((d == 48)
 first_value : (d : ℕ) → is_ascii_digit d ≡ true → (d == 48) ≡ false → 0 < digit_value d
 first_value d h n = let e = (digit_code d h).0 in grind (arith, nat_tests)
 
--- a row that is longer spells more
+-- a run that is longer spells more
 pub more_digits : (ds bs : List ℕ) (up down : ℕ) → IsFirst ds → list_all is_ascii_digit bs ≡ true
     → length bs + down < length ds + up → place_value 10 bs * 10 ^ down < place_value 10 ds * 10 ^ up
 unfolding onto
@@ -365,14 +365,14 @@ pub record IsMeasured (n bs : List ℕ) (count places power : ℕ) : Type 0 wher
   pub count_fits : count < 2 ^ 64
   pub places_fit : places < 2 ^ 64
 
-rows : (n bs : List ℕ) (count places power : ℕ) → (s : IsMeasured n bs count places power)
+runs : (n bs : List ℕ) (count places power : ℕ) → (s : IsMeasured n bs count places power)
     → (length bs + places + cond (has_minus n) power 0 < count + cond (not (has_minus n)) power 0
     → length bs + lowered n < length (ours_of n) + raised n)
     × ((count + cond (not (has_minus n)) power 0 < length bs + places + cond (has_minus n) power 0
     → length (ours_of n) + raised n < length bs + lowered n)
     × (count + cond (not (has_minus n)) power 0 ≡ length bs + places + cond (has_minus n) power 0
     → length (ours_of n) + raised n ≡ length bs + lowered n))
-rows n bs count places power s =
+runs n bs count places power s =
     let e = exactly (has_minus n) count places (length bs) power (exponent n) s.power_is s.count_fits s.places_fit
     s.short in (
       λ h. omega (arith, e.0 h, s.count_is, s.places_are),
@@ -385,7 +385,7 @@ pub reach_more : (n bs : List ℕ) (count places power : ℕ) → IsMeasured n b
 reach_more n bs count places power s h =
     let f = bound_first bs s.bound in
     let more = more_digits (ours_of n) bs (raised n) (lowered n) (ours_first n count s.count_is s.some)
-    (first_digits bs f) ((rows n bs count places power s).0 h) in
+    (first_digits bs f) ((runs n bs count places power s).0 h) in
     let same : place_value 10 (ours_of n) * 10 ^ raised n ≡ significand n * 10 ^ raised n =
     ap (λ v. v * 10 ^ raised n) (ours_value n) in
     omega (arith, more, same)
@@ -396,7 +396,7 @@ pub reach_less : (n bs : List ℕ) (count places power : ℕ) → IsMeasured n b
 reach_less n bs count places power s h reaches =
     let f = ours_first n count s.count_is s.some in
     let less = more_digits bs (ours_of n) (lowered n) (raised n) (bound_first bs s.bound)
-    (first_digits (ours_of n) f) ((rows n bs count places power s).1.0 h) in
+    (first_digits (ours_of n) f) ((runs n bs count places power s).1.0 h) in
     let same : place_value 10 (ours_of n) * 10 ^ raised n ≡ significand n * 10 ^ raised n =
     ap (λ v. v * 10 ^ raised n) (ours_value n) in
     absurd (omega (arith, less, same, reaches))
@@ -409,7 +409,7 @@ reach_same n bs count places power s h r is =
     let f = bound_first bs s.bound in
     let g = ours_first n count s.count_is s.some in
     let c = same_digits (ours_of n) bs (raised n) (lowered n) (first_digits (ours_of n) g) (first_digits bs f)
-    ((rows n bs count places power s).1.1 h) in
+    ((runs n bs count places power s).1.1 h) in
     let same : place_value 10 (ours_of n) * 10 ^ raised n ≡ significand n * 10 ^ raised n =
     ap (λ v. v * 10 ^ raised n) (ours_value n) in
     go (not_below (ours_of n) bs) c (sym is) same

@@ -150,7 +150,7 @@ fine Str c h s = str_fine c s
 fine Char c h s = char_fine c s
 fine kind c h s = absurd (cc)
 
--- ---- a row of them
+-- ---- a run of them
 
 pub record FineRow (k : Kind) (v : List ℕ) : Type 0 where
   pub units : List StrictUnit

@@ -2,7 +2,7 @@
 use Rattle.rl_text.proofs.Common.{◌≡◌, ℕ, ◌^◌, ◌<◌, ◌≤◌, ◌||◌, ◌&&◌, Bool, true, false, not, eqb, List, [], ◌∷◌, ◌++◌, length, Option, ◌⊎◌, refl, sym, ap, subst, ◌∙◌, inl, inr, arith, append_assoc, nat_lt, digit_value, is_ascii_digit, list_all, list_any, and_parts, or_parts, or_from, or_left, or_right, chars, IsUtf8, if◌then◌else◌}
 use Rattle.std.proofs.lemmas.Bool.{and_right}
 use Rattle.std.specs.Fmt.{decimal}
-use Rattle.rl_text.specs.Texts.{first_passes, begins, is_underscore, is_row_part}
+use Rattle.rl_text.specs.Texts.{first_passes, begins, is_underscore, is_run_part}
 use Rattle.rl_text.proofs.Basics.{all_weaker, all_same, apart, digit_is_ten}
 use Rattle.rl_forms.specs.Numbers.{Base, Binary, Octal, Decimal, Hexadecimal, NoSign, prefix, radix, begins_base, limit}
 use Rattle.rl_forms.specs.Spelling.{place_value, without_underscores}
@@ -36,15 +36,15 @@ radix_high Hexadecimal = omega arith
 abbrev has_value : ℕ → ℕ → Bool
 has_value base c = nat_lt (digit_value c) base
 
--- a row of digits and underscores that begins with a digit
-pub record IsRow (base value : ℕ) (row : List ℕ) : Type 0 where
+-- a run of digits and underscores that begins with a digit
+pub record IsRun (base value : ℕ) (run : List ℕ) : Type 0 where
   pub first : ℕ
   pub more : List ℕ
-  pub is : row ≡ first ∷ more
+  pub is : run ≡ first ∷ more
   pub begins : has_value base first ≡ true
-  pub each : list_all (is_row_part (has_value base)) row ≡ true
-  pub ascii : list_all is_low row ≡ true
-  pub value_is : place_value base (without_underscores row) ≡ value
+  pub each : list_all (is_run_part (has_value base)) run ≡ true
+  pub ascii : list_all is_low run ≡ true
+  pub value_is : place_value base (without_underscores run) ≡ value
 
 glyph_part : (base c : ℕ) → is_glyph base c ≡ true → has_value base c ≡ true
 glyph_part base c h =
@@ -60,7 +60,7 @@ glyph_bare : (base c : ℕ) → is_glyph base c ≡ true → not (is_underscore 
 glyph_bare base c h = (and_parts (nat_lt c 128 && has_value base c) (not (eqb c 95)) h).1
 
 pub row_is : (b : Base) (upper : Bool) (size value : ℕ)
-    → IsRow (radix b) value (grouped size (numeral (radix b) upper value))
+    → IsRun (radix b) value (grouped size (numeral (radix b) upper value))
 row_is b upper size value =
     let base = radix b in
     let ds = numeral base upper value in
@@ -74,8 +74,8 @@ row_is b upper size value =
       more = (if ends_group size (length some.more) then 95 ∷ [] else []) ++ grouped size some.more;
       is = ap (grouped size) some.is;
       begins = glyph_part base first (and_parts (is_glyph base first) (list_all (is_glyph base) some.more) begun).0;
-      each = grouped_all (is_row_part (has_value base)) size ds (or_right (has_value base 95) true refl)
-          (all_weaker (is_glyph base) (is_row_part (has_value base))
+      each = grouped_all (is_run_part (has_value base)) size ds (or_right (has_value base 95) true refl)
+          (all_weaker (is_glyph base) (is_run_part (has_value base))
           (λ c h. or_left (has_value base c) (is_underscore c) (glyph_part base c h)) ds glyphs);
       ascii = grouped_all is_low size ds refl (all_weaker (is_glyph base) is_low (glyph_low base) ds glyphs);
       value_is = ap (place_value base) (grouped_digits size ds
@@ -84,34 +84,34 @@ row_is b upper size value =
     }
 
 -- in a style
-styled_row : (value : ℕ) (style : IntegerStyle) → IsRow (radix (base_of style.base)) value (grouped_numeral value style)
-styled_row value style =
+styled_run : (value : ℕ) (style : IntegerStyle) → IsRun (radix (base_of style.base)) value (grouped_numeral value style)
+styled_run value style =
     let b = base_of style.base in
     row_is b style.upper (group_size style.group style.least (length (numeral (radix b) style.upper value))) value
 
 -- ---- decimal digits
 
-decimal_part : (c : ℕ) → is_row_part (has_value 10) c ≡ is_row_part is_ascii_digit c
+decimal_part : (c : ℕ) → is_run_part (has_value 10) c ≡ is_run_part is_ascii_digit c
 decimal_part c = ap (λ b. b || is_underscore c) (sym (digit_is_ten c))
 
-decimal_digits : (value : ℕ) (row : List ℕ) → IsRow 10 value row → IsDigits row
-decimal_digits value row r = (
+decimal_digits : (value : ℕ) (run : List ℕ) → IsRun 10 value run → IsDigits run
+decimal_digits value run r = (
   ap (first_passes is_ascii_digit) r.is ∙ digit_is_ten r.first ∙ r.begins,
-  sym (all_same (is_row_part (has_value 10)) (is_row_part is_ascii_digit) decimal_part row) ∙ r.each,
+  sym (all_same (is_run_part (has_value 10)) (is_run_part is_ascii_digit) decimal_part run) ∙ r.each,
 )
 
 -- no prefix's letter follows a digit where digits and a suffix do
-part_no_letter : (c : ℕ) → is_row_part (has_value 10) c ≡ true → is_base_letter c ≡ false
+part_no_letter : (c : ℕ) → is_run_part (has_value 10) c ≡ true → is_base_letter c ≡ false
 part_no_letter c h =
-    let other : (k : ℕ) → is_row_part (has_value 10) k ≡ false → eqb c k
-    ≡ false = λ k n. apart (is_row_part (has_value 10)) c k h n in
+    let other : (k : ℕ) → is_run_part (has_value 10) k ≡ false → eqb c k
+    ≡ false = λ k n. apart (is_run_part (has_value 10)) c k h n in
     or_from _ _ (or_from _ _ (other 98 refl) (other 111 refl)) (other 120 refl)
 
-rest_no_letter : (row x : List ℕ) → list_all (is_row_part (has_value 10)) row ≡ true
-    → first_passes is_base_letter x ≡ false → first_passes is_base_letter (row ++ x) ≡ false
+rest_no_letter : (run x : List ℕ) → list_all (is_run_part (has_value 10)) run ≡ true
+    → first_passes is_base_letter x ≡ false → first_passes is_base_letter (run ++ x) ≡ false
 rest_no_letter [] x h n = n
-rest_no_letter (c ∷ row) x h n = part_no_letter c (and_parts (is_row_part (has_value 10) c)
-    (list_all (is_row_part (has_value 10)) row) h).0
+rest_no_letter (c ∷ run) x h n = part_no_letter c (and_parts (is_run_part (has_value 10) c)
+    (list_all (is_run_part (has_value 10)) run) h).0
 
 second : (p k c : ℕ) (t : List ℕ) → first_passes (λ z. eqb z k) t ≡ false → begins (p ∷ k ∷ []) (c ∷ t) ≡ false
 second p k c [] h = and_right (eqb c p) false refl
@@ -129,46 +129,46 @@ no_base c t h =
     (second 48 111 c t (no_letter 111 t (λ z n. (or_parts (eqb z 98) (eqb z 111) (or_parts _ (eqb z 120) n).0).1) h)))
     (second 48 120 c t (no_letter 120 t (λ z n. (or_parts (eqb z 98 || eqb z 111) (eqb z 120) n).1) h))
 
-decimal_text : (value : ℕ) (row x : List ℕ) → IsRow 10 value row → first_passes is_base_letter x ≡ false
-    → IsDecimalText (row ++ x)
-decimal_text value row x r n =
-    let each : list_all (is_row_part (has_value 10)) (r.first ∷ r.more)
-    ≡ true = ap (list_all (is_row_part (has_value 10))) (sym r.is) ∙ r.each in
-    let more = (and_parts (is_row_part (has_value 10) r.first) (list_all (is_row_part (has_value 10)) r.more) each).1 in
+decimal_text : (value : ℕ) (run x : List ℕ) → IsRun 10 value run → first_passes is_base_letter x ≡ false
+    → IsDecimalText (run ++ x)
+decimal_text value run x r n =
+    let each : list_all (is_run_part (has_value 10)) (r.first ∷ r.more)
+    ≡ true = ap (list_all (is_run_part (has_value 10))) (sym r.is) ∙ r.each in
+    let more = (and_parts (is_run_part (has_value 10) r.first) (list_all (is_run_part (has_value 10)) r.more) each).1 in
     ap (λ z. begins_base (z ++ x)) r.is ∙ no_base r.first (r.more ++ x) (rest_no_letter r.more x more n)
 
 -- ---- the whole
 
 -- how the text begins, by its base
 abbrev IsFront : Base → List ℕ → List ℕ → Type 0
-IsFront b row x =
-    ((prefix b ≡ []) × (radix b ≡ 10) × IsDigits row × IsDecimalText (prefix b ++ (row ++ x)))
+IsFront b run x =
+    ((prefix b ≡ []) × (radix b ≡ 10) × IsDigits run × IsDecimalText (prefix b ++ (run ++ x)))
     ⊎ BasedPrefix (prefix b) (radix b)
 
-front_is : (b : Base) (value : ℕ) (row x : List ℕ) → IsRow (radix b) value row → first_passes is_base_letter x ≡ false
-    → IsFront b row x
-front_is Binary value row x r n = inr (inl (refl, refl))
-front_is Octal value row x r n = inr (inr (inl (refl, refl)))
-front_is Decimal value row x r n = inl (refl, refl, decimal_digits value row r, decimal_text value row x r n)
-front_is Hexadecimal value row x r n = inr (inr (inr (refl, refl)))
+front_is : (b : Base) (value : ℕ) (run x : List ℕ) → IsRun (radix b) value run → first_passes is_base_letter x ≡ false
+    → IsFront b run x
+front_is Binary value run x r n = inr (inl (refl, refl))
+front_is Octal value run x r n = inr (inr (inl (refl, refl)))
+front_is Decimal value run x r n = inl (refl, refl, decimal_digits value run r, decimal_text value run x r n)
+front_is Hexadecimal value run x r n = inr (inr (inr (refl, refl)))
 
-row_some : (base value : ℕ) (row : List ℕ) → IsRow base value row → list_any (has_value base) row ≡ true
-row_some base value row r = ap (list_any (has_value base)) r.is
+row_some : (base value : ℕ) (run : List ℕ) → IsRun base value run → list_any (has_value base) run ≡ true
+row_some base value run r = ap (list_any (has_value base)) r.is
     ∙ or_left (has_value base r.first) (list_any (has_value base) r.more) r.begins
 
-integer_strict : (b : Base) (value : ℕ) (row x : List ℕ) → value ≤ limit → IsRow (radix b) value row → IsPlainSuffix x
-    → StrictInt (prefix b ++ (row ++ x)) (Digits (decimal value)) x
-integer_strict b value row x h r s = record {
+integer_strict : (b : Base) (value : ℕ) (run x : List ℕ) → value ≤ limit → IsRun (radix b) value run → IsPlainSuffix x
+    → StrictInt (prefix b ++ (run ++ x)) (Digits (decimal value)) x
+integer_strict b value run x h r s = record {
   prefix = prefix b;
   base = radix b;
-  row = row;
-  is_front = front_is b value row x r s.no_base;
+  run = run;
+  is_front = front_is b value run x r s.no_base;
   each = r.each;
-  some = row_some (radix b) value row r;
+  some = row_some (radix b) value run r;
   suffix = (s.word, s.no_underscore);
   no_exponent = s.no_exponent;
   no_digit = λ e. s.no_digit;
-  text = sym (append_assoc (prefix b) row x);
+  text = sym (append_assoc (prefix b) run x);
   contents = ap Digits (sym (dec_is_decimal value h)) ∙ ap (λ n. Digits (dec n)) (sym r.value_is);
 }
 
@@ -194,10 +194,10 @@ pub integer_written : (value : ℕ) (style : IntegerStyle) (suffix : Option Inte
     → IsWrittenInteger value style suffix (written_integer value style suffix)
 integer_written value style suffix h =
     let b = base_of style.base in
-    let row = grouped_numeral value style in
+    let run = grouped_numeral value style in
     let x = suffix_text suffix in
-    let strict = integer_strict b value row x h (styled_row value style) (suffix_is suffix) in
-    record { text_is = refl; strict = strict; reads = integer_reads (prefix b ++ (row ++ x)) x value h strict }
+    let strict = integer_strict b value run x h (styled_run value style) (suffix_is suffix) in
+    record { text_is = refl; strict = strict; reads = integer_reads (prefix b ++ (run ++ x)) x value h strict }
 
 -- ---- in ASCII
 
@@ -217,10 +217,10 @@ written_low : (value : ℕ) (style : IntegerStyle) (suffix : Option IntegerType)
     → list_all is_low (written_integer value style suffix) ≡ true
 written_low value style suffix =
     let b = base_of style.base in
-    let row = grouped_numeral value style in
+    let run = grouped_numeral value style in
     let x = suffix_text suffix in
-    low_join (prefix b) (row ++ x) (prefix_low b)
-    (low_join row x (styled_row value style).ascii (suffix_is suffix).ascii)
+    low_join (prefix b) (run ++ x) (prefix_low b)
+    (low_join run x (styled_run value style).ascii (suffix_is suffix).ascii)
 
 -- ---- the bytes that are put
 

@@ -4,7 +4,7 @@ use Rattle.rl_text.proofs.Common.{AllByRecursion, Bool, List, None, Option, Some
 use Rattle.std.proofs.lemmas.List.{nil_from_length}
 use Rattle.std.specs.Prelude.{min, max, IfNone, IfSome, OnSome}
 use Rattle.rl_text.specs.declared.span.Span.{Span}
-use Rattle.rl_lexer.specs.declared.cursor.Lexeme.{Lexeme as Lent}
+use Rattle.rl_lexer.specs.declared.cursor.Lexeme.{Lexeme as BorrowedLexeme}
 use Rattle.rl_lexer.specs.Lexemes.{LexemeForm, LiteralForm, IdentifierForm, MarkForm}
 use Rattle.rl_lexer.specs.Cursors.{form_view, CursorState, TakesNext}
 use Rattle.rl_tokens.specs.Puncts.{Mark}
@@ -31,10 +31,10 @@ pub empty_text : (t : List ℕ) → (length t == 0) ≡ true → t ≡ []
 empty_text t h = nil_from_length t (let q : length t ≡ 0 = grind (arith, nat_tests) in q)
 
 -- where a token stands
-abbrev pub span_at : ℕ → Lent → Span
+abbrev pub span_at : ℕ → BorrowedLexeme → Span
 span_at file l = record { file = file; lo = l.lo; hi = l.hi }
 
-abbrev token_at : ℕ → Lent → SpannedText
+abbrev token_at : ℕ → BorrowedLexeme → SpannedText
 token_at file l = record { text = l.text.now; span = span_at file l }
 
 all_more : (P : Tree → Type 0) (trees : List Tree) (tree : Tree) → AllByRecursion P trees → P tree
@@ -43,7 +43,7 @@ all_more P [] tree h p = (p, tt)
 all_more P (t ∷ trees) tree (q, h) p = (q, all_more P trees tree h p)
 
 -- one tree more, which is no group
-pub tree_more : (file : ℕ) (old new : CursorState) (l : Lent) (form : LexemeForm) (tree : Tree) (done : List Tree)
+pub tree_more : (file : ℕ) (old new : CursorState) (l : BorrowedLexeme) (form : LexemeForm) (tree : Tree) (done : List Tree)
     → TakesNext old l new → form_view l.form ≡ form → after_form [] form l.lo ≡ Some [] → flat_trees (tree ∷ [])
     ≡ flat_form form l.text.now (span_at file l) ∷ [] → IsNoGroup tree
     → LexesTreesUpTo (chars old.text) file done (chars old.rest)
@@ -68,7 +68,7 @@ tree_more file old new l form tree done t form_is none flat_is no_group c =
     }
 
 -- a literal token
-pub literal_next : {A : Type 0} (file : ℕ) (old new : CursorState) (l : Lent) (lit : Lit A) → TakesNext old l new
+pub literal_next : {A : Type 0} (file : ℕ) (old new : CursorState) (l : BorrowedLexeme) (lit : Lit A) → TakesNext old l new
     → form_view l.form ≡ LiteralForm → IsReadFrom (token_at file l) lit → ReadsNext file old lit new
 literal_next file old new l lit t form_is read =
     let tree : Tree = LiteralTree (token_at file l) in record {
@@ -79,7 +79,7 @@ literal_next file old new l lit t form_is read =
     }
 
 -- the word of a truth value
-pub truth_next : {A : Type 0} (file : ℕ) (old new : CursorState) (l : Lent) (lit : Lit A) (b : Bool)
+pub truth_next : {A : Type 0} (file : ℕ) (old new : CursorState) (l : BorrowedLexeme) (lit : Lit A) (b : Bool)
     → TakesNext old l new → form_view l.form ≡ IdentifierForm → l.text.now ≡ truth_text b → lit
     ≡ BoolLit (record { value = b; span = span_at file l }) → ReadsNext file old lit new
 truth_next {A} file old new l lit b t form_is word_is lit_is =
@@ -94,7 +94,7 @@ truth_next {A} file old new l lit b t form_is word_is lit_is =
     }
 
 -- a minus and a literal token
-pub negative_next : {A : Type 0} (file : ℕ) (old between new : CursorState) (m l : Lent) (lit : Lit A) (span : Span)
+pub negative_next : {A : Type 0} (file : ℕ) (old between new : CursorState) (m l : BorrowedLexeme) (lit : Lit A) (span : Span)
     → TakesNext old m between → TakesNext between l new → form_view m.form ≡ MarkForm 45 → form_view l.form
     ≡ LiteralForm → span ≡ joined_span (span_at file m) (span_at file l) → HasReading (45 ∷ chars l.text.now)
     → IsReadFrom (record { text = 45 ∷ l.text.now; span = span }) lit → ReadsNext file old lit new
@@ -123,7 +123,7 @@ negative_next file old between new m l lit span t u m_is l_is span_is together r
       same = u.same ∙ t.same;
     }
 
-same_file : (file : ℕ) (m l : Lent) (span : Span) → span ≡ record
+same_file : (file : ℕ) (m l : BorrowedLexeme) (span : Span) → span ≡ record
     { file = file; lo = min m.lo l.lo; hi = max m.hi l.hi } → span ≡ joined_span (span_at file m) (span_at file l)
 same_file file m l span e = e ∙ sym (ap (λ b. if b then record { file = file; lo = min m.lo l.lo; hi = max m.hi l.hi }
     else span_at file m) (same file))
@@ -132,14 +132,14 @@ same_file file m l span e = e ∙ sym (ap (λ b. if b then record { file = file;
     same n = grind (arith, nat_tests)
 
 -- the span that was joined
-pub joined_at : (file : ℕ) (m l : Lent) (a b span : Span) → a ≡ span_at file m → b ≡ span_at file l → span
+pub joined_at : (file : ℕ) (m l : BorrowedLexeme) (a b span : Span) → a ≡ span_at file m → b ≡ span_at file l → span
     ≡ record { file = a.file; lo = min a.lo b.lo; hi = max a.hi b.hi } → span
     ≡ record { file = file; lo = min m.lo l.lo; hi = max m.hi l.hi }
 joined_at file m l a b span p q e =
     let both : Span → Span → Span = λ x y. record { file = x.file; lo = min x.lo y.lo; hi = max x.hi y.hi } in
     e ∙ ap (λ x. both x b) p ∙ ap (λ y. both (span_at file m) y) q
 
-pub read_negative : {A : Type 0} (file : ℕ) (old between new : CursorState) (m l : Lent) (lit : Lit A) (span : Span)
+pub read_negative : {A : Type 0} (file : ℕ) (old between new : CursorState) (m l : BorrowedLexeme) (lit : Lit A) (span : Span)
     → TakesNext old m between → TakesNext between l new → form_view m.form ≡ MarkForm 45 → form_view l.form
     ≡ LiteralForm → span ≡ record { file = file; lo = min m.lo l.lo; hi = max m.hi l.hi }
     → HasReading (45 ∷ chars l.text.now) → IsReadFrom (record { text = 45 ∷ l.text.now; span = span }) lit
@@ -148,12 +148,12 @@ read_negative file old between new m l lit span t u m_is l_is span_is together r
     negative_next file old between new m l lit span t u m_is l_is (same_file file m l span span_is) together read
 
 -- no token that makes a literal with a minus before it
-pub none_number : (old new : CursorState) (l : Lent) → TakesNext old l new → (form_view l.form ≢ LiteralForm)
+pub none_number : (old new : CursorState) (l : BorrowedLexeme) → TakesNext old l new → (form_view l.form ≢ LiteralForm)
     ⊎ HasNoReading (45 ∷ chars l.text.now) → HasNoNumber old
 none_number old new l t h = inr (l, new, t, h)
 
 -- a word, and none of a truth value
-pub none_word : (old between : CursorState) (m : Lent) → TakesNext old m between → form_view m.form ≡ IdentifierForm
+pub none_word : (old between : CursorState) (m : BorrowedLexeme) → TakesNext old m between → form_view m.form ≡ IdentifierForm
     → ((b : Bool) → chars m.text.now ≡ truth_text b → ⊥) → HasNoNextLiteral old
 none_word old between m t is differs =
     let h : HasNoTruth (chars m.text.now) = λ contents suffix r. differs r.truth r.text_is in

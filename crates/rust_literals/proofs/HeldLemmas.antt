@@ -16,7 +16,7 @@ use Rattle.rl_reading.specs.NumberShapes.{AreDigits, IsNumber}
 use Rattle.rl_reading.specs.WholeShapes.{IsSplit, IsPlain}
 use Rattle.rl_fronts.proofs.NumberFoundLemmas.{number_integer, number_float, number_stands, plain_digits}
 use Rattle.rust_literals.specs.Held.{HasDigits, HasOwnSuffix, HoldsNumber}
-use Rattle.rust_literals.specs.Refusals.{IsNoNumber, IsRejectedAs}
+use Rattle.rust_literals.specs.Rejections.{IsNoNumber, IsRejectedAs}
 
 -- a number that was found, by its kind: an integer, or a float by the rule of floats
 abbrev IsOfKind : Kind → List ℕ → Found → Type 0
@@ -151,24 +151,24 @@ no_number_plain Float text Memory none p = absurd none
 no_number_plain kind text reason none p = absurd none
 
 -- why a text is no number, as an error
-pub no_number_refused : {A : Type 0} (kind : Kind) (text : List ℕ) (reason : ErrorKind A) → IsNoNumber kind text reason
+pub no_number_rejected : {A : Type 0} (kind : Kind) (text : List ℕ) (reason : ErrorKind A) → IsNoNumber kind text reason
     → IsRejectedAs kind text reason
-no_number_refused kind text (Expected w) none = none
-no_number_refused kind text (EndOfInput w) none = none
-no_number_refused kind text Unexpected none = none
-no_number_refused kind text (Lex l) none = none
-no_number_refused kind text (Suffix x) none = none
-no_number_refused kind text NotInteger none = none
-no_number_refused kind text TooLarge none = none
-no_number_refused kind text NotFloat none = none
-no_number_refused kind text Repeated none = none
-no_number_refused kind text (Number w) none = none
-no_number_refused Int text Memory none = absurd none
-no_number_refused kind text Memory none = absurd none
+no_number_rejected kind text (Expected w) none = none
+no_number_rejected kind text (EndOfInput w) none = none
+no_number_rejected kind text Unexpected none = none
+no_number_rejected kind text (Lex l) none = none
+no_number_rejected kind text (Suffix x) none = none
+no_number_rejected kind text NotInteger none = none
+no_number_rejected kind text TooLarge none = none
+no_number_rejected kind text NotFloat none = none
+no_number_rejected kind text Repeated none = none
+no_number_rejected kind text (Number w) none = none
+no_number_rejected Int text Memory none = absurd none
+no_number_rejected kind text Memory none = absurd none
 
 -- where an allocation failed for a number, it is reported as that
-pub memory_refused : {T A : Type 0} (kind : Kind) (text : List ℕ) (span : Span) (r : Result T (Kept SpannedText A))
+pub memory_rejected : {T A : Type 0} (kind : Kind) (text : List ℕ) (span : Span) (r : Result T (Kept SpannedText A))
     → IfErr r (λ k. k.error ≡ memory_at span) → IsNumber kind text
     → IfErr r (λ k. (k.error.span ≡ span) × IsRejectedAs kind text k.error.kind)
-memory_refused kind text span (Ok x) memory number = tt
-memory_refused kind text span (Err k) memory number = wants_memory kind text k.error span memory number
+memory_rejected kind text span (Ok x) memory number = tt
+memory_rejected kind text span (Err k) memory number = wants_memory kind text k.error span memory number

@@ -39,12 +39,12 @@ lex_memory text file trees TooDeep at e never lexes is r = absurd (never text fi
 lex_memory text file trees Memory at e never lexes is r = ap (λ x. x.kind) is
 
 -- The parser's error, after a list that led here.
-pub refused_next : {A : Type 0} (all trees rest : List Tree) (scope : Span) (list : List (Lit A)) (e : Error A)
+pub rejected_next : {A : Type 0} (all trees rest : List Tree) (scope : Span) (list : List (Lit A)) (e : Error A)
     → ReadsLiterals all list trees → trees ≢ [] → RunsLit trees scope (Err e) rest → RejectsNextLiteral all scope e
     ⊎ LacksMemory all scope e
-refused_next all trees rest scope list e leads some (inl (front, wants)) = inr
+rejected_next all trees rest scope list e leads some (inl (front, wants)) = inr
     (record { list = list; rest = trees; leads = leads; memory = inl (front, wants.error) })
-refused_next all trees rest scope list e leads some (inr none) = inl
+rejected_next all trees rest scope list e leads some (inr none) = inl
     (record { list = list; rest = trees; leads = leads; some = some; none = none.none; rejection = none.rejection })
 
 -- what the trees are read as, after literals that were let go, the text is
@@ -55,11 +55,11 @@ text_read text file trees gone (Ok l) lexes h = record { trees = trees; lexes = 
 text_read text file trees gone (Err x) lexes h = tt
 
 -- what is rejected of the trees, is rejected of the text
-pub text_refused : {A B : Type 0} (text : List ℕ) (file end : ℕ) (trees : List Tree) (scope : Span)
+pub text_rejected : {A B : Type 0} (text : List ℕ) (file end : ℕ) (trees : List Tree) (scope : Span)
     (r : Result (Vec (Lit A) B) (Error A)) → Lexes text file trees → scope ≡ at_span file end
     → IfErr r (λ e. RejectsNextLiteral trees scope e ⊎ LacksMemory trees scope e) → IfErr r (RejectsText text file end)
-text_refused text file end trees scope (Ok l) lexes s h = tt
-text_refused text file end trees scope (Err x) lexes s h =
+text_rejected text file end trees scope (Ok l) lexes s h = tt
+text_rejected text file end trees scope (Err x) lexes s h =
     inr (record {
       trees = trees;
       lexes = lexes;

@@ -38,6 +38,6 @@ pub record IsRejectedBy {N E A : Type 0} (gives : List ℕ → Result N E → Ty
     : Type 0 where
   pub digits : List ℕ
   pub are : AreOf digits
-  pub fault : E
-  pub rejected : gives digits (Err fault)
-  pub told : IsReported (output fault) span e
+  pub error : E
+  pub rejected : gives digits (Err error)
+  pub told : IsReported (output error) span e

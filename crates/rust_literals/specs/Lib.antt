@@ -1,5 +1,5 @@
 pub mod Held
-pub mod Refusals
+pub mod Rejections
 pub mod Literals
 pub mod Parsing
 pub mod Base10

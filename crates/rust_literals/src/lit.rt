@@ -137,7 +137,7 @@ impl<A: Allocator> Lit<A> {
         ensures kept { IfErr result (λ k. k.value ≡ token) }
         ensures memory { IfErr result (λ k. k.error ≡ memory_at token.span) }
         ensures numbers_alone { IfErr result (λ k. ReadsAsNumber (chars token.text)) }
-        ensures lent { IfErr result (λ k. ReadsPlain token.text → ⊥) }
+        ensures borrowed { IfErr result (λ k. ReadsPlain token.text → ⊥) }
         ensures strict { KeepsStrict (chars token.text) }
         ensures strict_after_minus { KeepsStrictAfterMinus (chars token.text) }
         ensures strict_bytes { KeepsBytesStrict (chars token.text) }
@@ -159,7 +159,7 @@ impl<A: Allocator> Lit<A> {
         ensures kept { IfErr result (λ k. k.value ≡ token) }
         ensures memory { IfErr result (λ k. k.error ≡ memory_at token.span) }
         ensures numbers_alone { IfErr result (λ k. ReadsAsNumber (chars token.text)) }
-        ensures lent { IfErr result (λ k. ReadsPlain token.text → ⊥) }
+        ensures borrowed { IfErr result (λ k. ReadsPlain token.text → ⊥) }
     {
         let Some(found) = found else {
             return Ok(Lit::Verbatim(token));

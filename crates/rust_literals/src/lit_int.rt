@@ -5,7 +5,7 @@ ghost use Rattle.std.proofs.Common.{inl};
 ghost use Rattle.std.specs.Str.{chars};
 ghost use Rattle.rl_forms.specs.declared.kind.Kind.TheVariants.{Int};
 ghost use Rattle.rl_reading.specs.Founds.{IsFoundNumber};
-ghost use Rattle.rust_literals.specs.Refusals.{IsNoNumber};
+ghost use Rattle.rust_literals.specs.Rejections.{IsNoNumber};
 
 use crate::number::{Number, NumberKind};
 use rl_forms::Kind;

@@ -10,7 +10,7 @@ ghost use Rattle.rl_reading.specs.Founds.{IsFoundNumber};
 ghost use Rattle.rl_reading.specs.NumberShapes.{IsNumber};
 ghost use Rattle.rl_reading.specs.WholeShapes.{IsPlain};
 ghost use Rattle.rust_literals.specs.Held.{HasDigits, HasOwnSuffix, HoldsNumber, digits_in};
-ghost use Rattle.rust_literals.specs.Refusals.{IsNoNumber, IsRejectedAs};
+ghost use Rattle.rust_literals.specs.Rejections.{IsNoNumber, IsRejectedAs};
 
 mod base10;
 mod copies;
@@ -54,7 +54,7 @@ fn own_digits<A: Allocator>(
     ensures held { IfOk result (λ d. HoldsNumber found.kind text.now
         (digits_in (option_map string_bytes d) text.now found.body.suffix_at)
         found.body.suffix_at) }
-    ensures lent { IfErr result (λ e. IsPlain found.kind text.now → ⊥) }
+    ensures borrowed { IfErr result (λ e. IsPlain found.kind text.now → ⊥) }
     ensures number { IsNumber found.kind (chars text.now) }
 {
     if found.body.plain {
@@ -131,7 +131,7 @@ impl<K: NumberKind, A: Allocator> Number<K, A> {
         ensures err { IfErr result
             (λ k. (k.error.span ≡ token.span)
             × IsRejectedAs K.KIND (chars token.text) k.error.kind) }
-        ensures lent { IfErr result (λ k. IsPlain K.KIND token.text → ⊥) }
+        ensures borrowed { IfErr result (λ k. IsPlain K.KIND token.text → ⊥) }
     {
         match K::find(token.text()) {
             Ok(found) => Number::of_found(alloc, token, found),
@@ -162,7 +162,7 @@ impl<K: NumberKind, A: Allocator> Number<K, A> {
         ensures ok { IfOk result (λ l. l ≡ token) }
         ensures kept { IfErr result (λ k. k.value ≡ token) }
         ensures memory { IfErr result (λ k. k.error ≡ memory_at token.span) }
-        ensures lent { IfErr result (λ k. IsPlain K.KIND token.text → ⊥) }
+        ensures borrowed { IfErr result (λ k. IsPlain K.KIND token.text → ⊥) }
         ensures number { IsNumber K.KIND (chars token.text) }
     {
         match own_digits(alloc, token.text(), found) {

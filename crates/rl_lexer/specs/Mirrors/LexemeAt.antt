@@ -5,7 +5,7 @@ use Rattle.std.proofs.Common.{suc, zero, Option, Some, None}
 use Rattle.std.specs.Char.{is_ascii_digit}
 use Rattle.std.specs.Option.{option_map}
 use Prim.Native.Char.{code}
-use Rattle.rl_text.specs.Texts.{is_underscore, is_among, first_passes, begins, is_row_part, is_start, is_continue, begins_char}
+use Rattle.rl_text.specs.Texts.{is_underscore, is_among, first_passes, begins, is_run_part, is_start, is_continue, begins_char}
 use Rattle.rl_lexer.specs.Lexemes.{is_base_letter, delimiters, marks, begins_hashes, begins_dot, LexemeForm, LiteralForm, IdentifierForm, DelimiterForm, MarkForm, form_of, Lexeme, lexeme_text, IsLexeme, is_punct}
 use Rattle.rl_lexer.specs.Cuts.{begins_lifetime}
 use Rattle.rl_text.specs.Classes.{after_run, is_hash}
@@ -94,16 +94,16 @@ after_single (c ∷ e ∷ t) =
     cond (c == code "\\") (after_apostrophe t) (cond (e == code "'") (Some t) None)
 
 abbrev pub after_lexed_fraction : List ℕ → List ℕ
-after_lexed_fraction t = cond (begins_dot t) (after_run (is_row_part is_ascii_digit) (drop 1 t)) t
+after_lexed_fraction t = cond (begins_dot t) (after_run (is_run_part is_ascii_digit) (drop 1 t)) t
 
 abbrev pub after_lexed_exponent : List ℕ → List ℕ
 after_lexed_exponent t =
-    cond (begins_exponent t) (after_run (is_row_part is_ascii_digit) (after_sign (drop 1 t))) t
+    cond (begins_exponent t) (after_run (is_run_part is_ascii_digit) (after_sign (drop 1 t))) t
 
 abbrev pub after_decimal : List ℕ → List ℕ
 after_decimal t =
     after_suffix
-    (after_lexed_exponent (after_lexed_fraction (after_run (is_row_part is_ascii_digit) t)))
+    (after_lexed_exponent (after_lexed_fraction (after_run (is_run_part is_ascii_digit) t)))
 
 abbrev pub after_digit : ℕ → List ℕ → List ℕ
 after_digit c t =

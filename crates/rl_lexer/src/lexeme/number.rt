@@ -24,7 +24,7 @@ pub(crate) fn after_decimal(text: &str) -> &str
     after_suffix(after_exponent(after_fraction(skip_class(CharClass::Numeral, text))))
 }
 
-/// What follows the longest row of digits, perhaps an empty one.
+/// What follows the longest run of digits, perhaps an empty one.
 #[inline(always)]
 pub(crate) fn after_digits(text: &str) -> &str
     ensures rest { chars result.now ≡ after_run is_ascii_digit (chars text.now) }

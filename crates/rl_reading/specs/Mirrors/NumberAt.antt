@@ -4,7 +4,7 @@ use Rattle.std.specs.Char.{digit_value, is_ascii_digit}
 use Rattle.std.specs.List.{list_any}
 use Prim.Native.Char.{code}
 use Rattle.rl_text.specs.Classes.{after_run}
-use Rattle.rl_text.specs.Texts.{first_passes, is_underscore, xid_ok, is_row_part}
+use Rattle.rl_text.specs.Texts.{first_passes, is_underscore, xid_ok, is_run_part}
 use Rattle.rl_forms.specs.Spelling.{place_value, without_underscores}
 use Rattle.rl_forms.specs.Numbers.{Sign, NoSign, Minus, limit, is_exponent_letter}
 
@@ -26,26 +26,26 @@ append_digit radix (Some v) d = capped (v * radix + d)
 
 -- digits and underscores from here on: whether there was a digit, the number within the limit, and
 -- what follows
-unfoldable pub row_from : ℕ → Bool → Option ℕ → List ℕ → Bool × Option ℕ × List ℕ
-row_from radix some m [] = (some, m, [])
-row_from radix some m (c ∷ cs) =
-    if c == code "_" then row_from radix some m cs
+unfoldable pub run_from : ℕ → Bool → Option ℕ → List ℕ → Bool × Option ℕ × List ℕ
+run_from radix some m [] = (some, m, [])
+run_from radix some m (c ∷ cs) =
+    if c == code "_" then run_from radix some m cs
     else (if nat_lt (digit_value c) radix
-    then row_from radix true (append_digit radix m (digit_value c)) cs
+    then run_from radix true (append_digit radix m (digit_value c)) cs
     else (some, m, c ∷ cs))
 
 -- the same by what stands there
-abbrev pub digit_row_at : ℕ → List ℕ → List ℕ
-digit_row_at radix t = run (is_row_part (has_value radix)) t
+abbrev pub digit_run_at : ℕ → List ℕ → List ℕ
+digit_run_at radix t = run (is_run_part (has_value radix)) t
 
 abbrev pub has_digit_at : ℕ → List ℕ → Bool
-has_digit_at radix t = list_any (has_value radix) (digit_row_at radix t)
+has_digit_at radix t = list_any (has_value radix) (digit_run_at radix t)
 
 abbrev pub magnitude_at : ℕ → List ℕ → ℕ
-magnitude_at radix t = place_value radix (without_underscores (digit_row_at radix t))
+magnitude_at radix t = place_value radix (without_underscores (digit_run_at radix t))
 
 abbrev pub after_digits : ℕ → List ℕ → List ℕ
-after_digits radix t = after_run (is_row_part (has_value radix)) t
+after_digits radix t = after_run (is_run_part (has_value radix)) t
 
 -- nothing, or an identifier that doesn't begin with `_`
 abbrev pub is_suffix : List ℕ → Bool
@@ -104,7 +104,7 @@ abbrev pub capped_int : Option (Sign × ℕ × List ℕ) → Option (Option ℕ 
 capped_int None = None
 capped_int (Some p) = Some (capped p.1, p.2)
 
--- What stands after the sign begins with a digit, has this base, and after its prefix this row:
+-- What stands after the sign begins with a digit, has this base, and after its prefix this run:
 -- whether there is a digit, the number within the limit, and what follows.
 pub record IsHead (unsigned : List ℕ) (radix : ℕ) (some : Bool) (magnitude : Option ℕ)
     (rest : List ℕ) : Type 0 where
@@ -114,7 +114,7 @@ pub record IsHead (unsigned : List ℕ) (radix : ℕ) (some : Bool) (magnitude :
   pub within : magnitude ≡ capped (magnitude_at (radix_at unsigned).0 (radix_at unsigned).1)
   pub rest_is : rest ≡ after_digits (radix_at unsigned).0 (radix_at unsigned).1
 
--- the magnitude and the suffix of an integer with such a row
+-- the magnitude and the suffix of an integer with such a run
 abbrev pub ended_at : ℕ → Bool → Option ℕ → List ℕ → Option (Option ℕ × List ℕ)
 ended_at radix some m x = if some && may_end radix x then Some (m, x) else None
 

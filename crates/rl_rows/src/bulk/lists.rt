@@ -5,7 +5,7 @@ use rl_attributes::Attrs;
 use rl_commands::{entry_lines, push_literal};
 use rl_failing::Page;
 use rl_lines::label_of;
-use rl_program::Refusal;
+use rl_program::Rejection;
 use rl_tokens::{Error, Literal};
 use rust_literals::{Lit, read_all};
 use std::alloc::{AllocError, Global};
@@ -50,7 +50,7 @@ fn put_lines(lines: Result<String, AllocError>, out: &mut Page) {
 
 /// Prints the line of an error, and one with a point.
 fn put_error(error: Error, out: &mut Page) {
-    out.show(&Refusal(&error), "\n.\n");
+    out.show(&Rejection(&error), "\n.\n");
     drop(error)
 }
 

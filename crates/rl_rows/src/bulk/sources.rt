@@ -29,6 +29,6 @@ fn put_end(answer: Result<bool, ScanError>, out: &mut Page) {
             out.show(&place, ": ");
             out.show(&kind, "\n.\n")
         }
-        Err(ScanError::Fault(_)) => out.fail(),
+        Err(ScanError::Program(_)) => out.fail(),
     }
 }

@@ -11,10 +11,10 @@ use std::str::FromStr;
 
 /// A number type's error in its own words, reported at a span; an allocation failure for the words
 /// is reported there too.
-fn reported<F: Display, B: Allocator>(alloc: B, fault: &F, span: Span) -> Error<B>
-    ensures { IsReported (F.output fault.now) span result }
+fn reported<F: Display, B: Allocator>(alloc: B, error: &F, span: Span) -> Error<B>
+    ensures { IsReported (F.output error.now) span result }
 {
-    match format!(in alloc; "{fault}") {
+    match format!(in alloc; "{error}") {
         Ok(words) => Error {
             span,
             kind: ErrorKind::Number(words),
@@ -44,7 +44,7 @@ impl<K: NumberKind, A: Allocator> Number<K, A> {
     {
         match N::from_str(self.base10_digits()) {
             Ok(number) => Ok(number),
-            Err(fault) => Err(reported(alloc, &fault, self.span())),
+            Err(error) => Err(reported(alloc, &error, self.span())),
         }
     }
 }

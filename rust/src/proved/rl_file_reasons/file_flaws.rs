@@ -3,7 +3,7 @@
 
 use crate::rl_file_reasons::file_units::split_read;
 use crate::rl_file_reasons::file_walk::{file_number, walk};
-use crate::rl_reading::digit_rows::begins_digit;
+use crate::rl_reading::digit_runs::begins_digit;
 use crate::rl_reasons::flaws::{Flaw, FlawAt, FlawKind, end_flaw};
 use crate::rl_reasons::limits::{limit_at, limit_of};
 use crate::rl_reasons::read_numbers::{Number, Stop};

@@ -3,7 +3,7 @@
 
 use crate::rl_file_reasons::file_units::{skip_raw, skip_units, split_read};
 use crate::rl_forms::Kind;
-use crate::rl_reading::digit_rows::begins_digit;
+use crate::rl_reading::digit_runs::begins_digit;
 use crate::rl_reading::quoted_forms::{QuotedForm, after_quote, split_opener};
 use crate::rl_reading::truth_of;
 use crate::rl_reasons::flaws::{FlawAt, FlawKind, end_flaw, first_flaw, make_flaw};

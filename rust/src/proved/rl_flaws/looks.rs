@@ -3,7 +3,7 @@
 
 use crate::rl_flaws::walks::open;
 use crate::rl_forms::Kind;
-use crate::rl_reading::digit_rows::{after_minus, begins_digit, skip_row};
+use crate::rl_reading::digit_runs::{after_minus, begins_digit, skip_digits};
 use crate::rl_reading::number_forms::split_radix;
 use crate::rl_reading::truth_of;
 use crate::rl_text::text::split_char;
@@ -15,11 +15,11 @@ fn begins_float(text: &str) -> bool {
 
 /// The kind of a number by its front, which is a digit.
 fn number_kind(digits: &str) -> Kind {
-    let (radix, row) = split_radix(digits);
+    let (radix, run) = split_radix(digits);
     if radix != 10 {
         return Kind::Int;
     }
-    if begins_float(skip_row(row).rest) {
+    if begins_float(skip_digits(run).rest) {
         Kind::Float
     } else {
         Kind::Int

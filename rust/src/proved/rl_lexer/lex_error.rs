@@ -12,7 +12,7 @@ pub struct LexError {
     pub at: usize,
 }
 
-/// What the lexer rejects, each reported at the byte that its line names. docs/REFUSALS.md has a
+/// What the lexer rejects, each reported at the byte that its line names. docs/ERRORS.md has a
 /// text for each, and what to do.
 #[cfg_attr(not(feature = "rendered"), expect(dead_code, reason = "Memory: the package's lists and sources take no memory to be cut"))]
 #[derive(Clone, Copy, PartialEq, Eq, Debug)]

@@ -249,7 +249,7 @@ fn after_slash(text: &str) -> Option<(Form, &str)> {
 }
 
 /// What follows the number after whose first digit the text stands, whichever that is: the letter
-/// of a base, and the row after it, are where a suffix would stand. Most numbers end after a row
+/// of a base, and the run after it, are where a suffix would stand. Most numbers end after a run
 /// of digits.
 #[inline(always)]
 fn after_digit(text: &str) -> &str {

@@ -2,7 +2,7 @@
 //! The parts of numbers.
 
 use crate::rl_forms::Kind;
-use crate::rl_reading::digit_rows::{after_minus, read_row, skip_row};
+use crate::rl_reading::digit_runs::{after_minus, read_digit_run, skip_digits};
 use crate::rl_reading::find;
 use crate::rl_reading::number_forms::split_radix;
 use crate::rl_text::text::{before, split_char, strip_byte};
@@ -33,14 +33,14 @@ pub fn integer_parts(text: &str) -> Option<IntegerParts<'_>> {
     if !matches!(found.kind, Kind::Int) {
         return None;
     }
-    let (radix, row) = split_radix(after_minus(text));
-    let digits = before(row, read_row(row, radix).rest);
+    let (radix, run) = split_radix(after_minus(text));
+    let digits = before(run, read_digit_run(run, radix).rest);
     Some(IntegerParts { radix, digits })
 }
 
 /// The digits and underscores at the front, and the text after them.
-fn split_row(text: &str) -> (&str, &str) {
-    let rest = skip_row(text).rest;
+fn split_digits(text: &str) -> (&str, &str) {
+    let rest = skip_digits(text).rest;
     (before(text, rest), rest)
 }
 
@@ -48,8 +48,8 @@ fn split_row(text: &str) -> (&str, &str) {
 fn split_fraction(text: &str) -> (Option<&str>, &str) {
     match strip_byte(text, b'.') {
         Some(digits) => {
-            let (row, rest) = split_row(digits);
-            (Some(row), rest)
+            let (run, rest) = split_digits(digits);
+            (Some(run), rest)
         }
         None => (None, text),
     }
@@ -71,7 +71,7 @@ pub fn float_parts(text: &str) -> Option<FloatParts<'_>> {
         return None;
     }
     let numeral = before(text, found.suffix_in(text));
-    let (integer, rest) = split_row(after_minus(numeral));
+    let (integer, rest) = split_digits(after_minus(numeral));
     let (fraction, power) = split_fraction(rest);
     Some(FloatParts {
         integer,

@@ -1,7 +1,7 @@
 // Rendered from crates/rl_reading/src/digits.rt by tools/render, which erases contracts: change that file, and render anew.
 //! The digits of numbers: whether a number's body is that, and a float's digits written into a slice that the caller passes.
 
-use crate::rl_reading::digit_rows::after_minus;
+use crate::rl_reading::digit_runs::after_minus;
 use crate::rl_text::room::{put_byte, put_char};
 use crate::rl_text::scan::{Marks, next_mark};
 use crate::rl_text::text::split_char;

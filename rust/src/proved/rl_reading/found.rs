@@ -1,7 +1,7 @@
 // Rendered from crates/rl_reading/src/found.rt by tools/render, which erases contracts: change that file, and render anew.
 //! The one reading of a text: what it finds, as places in it, so that nothing has to be read again to take a literal apart.
 
-use crate::rl_reading::digit_rows::is_negative;
+use crate::rl_reading::digit_runs::is_negative;
 use crate::rl_reading::digits::{is_plain_float, is_plain_integer};
 use crate::rl_reading::number_forms::{Number, read_number};
 #[cfg(feature = "rendered")]

@@ -2,7 +2,7 @@
 //! The one reading of a text as a literal: its kind, its parts, and what it stands for. No memory is taken.
 
 pub mod contents;
-pub mod digit_rows;
+pub mod digit_runs;
 mod digits;
 pub mod found;
 mod next_literals;

@@ -1,8 +1,8 @@
 // Rendered from crates/rl_reading/src/number_forms.rt by tools/render, which erases contracts: change that file, and render anew.
 //! Numbers: integers with their base, floats, and an integer before a float.
 
-use crate::rl_reading::digit_rows::{
-    DigitRow, after_minus, begins_digit, is_exponent_suffix, is_suffix, read_row, skip_row,
+use crate::rl_reading::digit_runs::{
+    DigitRun, after_minus, begins_digit, is_exponent_suffix, is_suffix, read_digit_run, skip_digits,
 };
 #[cfg(feature = "rendered")]
 use crate::rl_reading::found::{Parts, find_float, find_int, find_unsigned};
@@ -24,19 +24,19 @@ pub fn split_radix(text: &str) -> (u32, &str) {
     (10, text)
 }
 
-/// What a number begins with: its base, and the row of digits after sign and prefix.
+/// What a number begins with: its base, and the run of digits after sign and prefix.
 #[derive(Clone, Copy)]
 pub struct Head<'t> {
     pub radix: u32,
-    pub row: DigitRow<'t>,
+    pub run: DigitRun<'t>,
 }
 
 /// What a number begins with, from the text after its sign.
 #[inline(always)]
 fn head_of(unsigned: &str) -> Head<'_> {
     let (radix, digits) = split_radix(unsigned);
-    let row = read_row(digits, radix);
-    Head { radix, row }
+    let run = read_digit_run(digits, radix);
+    Head { radix, run }
 }
 
 /// What a number begins with; `None` where no digit stands after the sign. That test is written into the callers.
@@ -58,17 +58,17 @@ pub struct Integer<'t> {
     pub suffix: &'t str,
 }
 
-/// The integer that begins so, if what follows its row may be its suffix.
+/// The integer that begins so, if what follows its run may be its suffix.
 #[cfg_attr(debug_assertions, inline)]
 #[cfg_attr(not(debug_assertions), inline(always))]
 pub(crate) fn integer_of(head: Head<'_>) -> Option<Integer<'_>> {
-    let suffix = head.row.rest;
-    let is_integer = head.row.has_digit
+    let suffix = head.run.rest;
+    let is_integer = head.run.has_digit
         && is_suffix(suffix)
         && (head.radix != 10 || !is_exponent_suffix(suffix));
     if is_integer {
         Some(Integer {
-            magnitude: head.row.magnitude,
+            magnitude: head.run.magnitude,
             suffix,
         })
     } else {
@@ -101,7 +101,7 @@ pub fn int_shape(text: &str) -> Option<Option<Parts<'_>>> {
 #[inline(always)]
 fn after_fraction(text: &str) -> &str {
     match split_char(text) {
-        Some(('.', digits)) => skip_row(digits).rest,
+        Some(('.', digits)) => skip_digits(digits).rest,
         _ => text,
     }
 }
@@ -120,9 +120,9 @@ fn power_digits(text: &str) -> &str {
 #[inline(always)]
 fn after_exponent(text: &str) -> &str {
     if let Some(('e' | 'E', power)) = split_char(text) {
-        let row = skip_row(power_digits(power));
-        if row.has_digit {
-            return row.rest;
+        let run = skip_digits(power_digits(power));
+        if run.has_digit {
+            return run.rest;
         }
     }
     text
@@ -145,14 +145,14 @@ pub(crate) fn float_suffix(text: &str) -> Option<&str> {
     if !begins_digit(whole) {
         return None;
     }
-    tail_suffix(skip_row(whole).rest)
+    tail_suffix(skip_digits(whole).rest)
 }
 
 /// The suffix of the float that begins so: after another base's prefix the whole part is its zero.
 #[inline(always)]
 pub(crate) fn head_suffix<'t>(text: &'t str, head: Head<'t>) -> Option<&'t str> {
     if head.radix == 10 {
-        tail_suffix(head.row.rest)
+        tail_suffix(head.run.rest)
     } else {
         float_suffix(text)
     }

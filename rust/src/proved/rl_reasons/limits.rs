@@ -3,7 +3,7 @@
 
 use crate::rl_reasons::flaws::{Flaw, FlawKind, make_flaw};
 use crate::rl_reasons::strict_reading::{Reading, read_signed};
-use crate::rl_reading::digit_rows::{after_minus, begins_digit, skip_row};
+use crate::rl_reading::digit_runs::{after_minus, begins_digit, skip_digits};
 
 /// The place of the suffix, where the reading is an integer past 128 bits.
 pub fn past_at(reading: Reading) -> Option<usize> {
@@ -23,7 +23,7 @@ fn is_float_suffix(suffix: &str) -> bool {
 pub fn is_float_by_suffix(text: &str) -> bool {
     let number = after_minus(text);
     if begins_digit(number) {
-        is_float_suffix(skip_row(number).rest)
+        is_float_suffix(skip_digits(number).rest)
     } else {
         false
     }

@@ -2,7 +2,7 @@
 //! Numbers of the strict grammar, in one walk: what one is, or where and why the text stops being the front of one.
 
 use crate::rl_reasons::flaws::FlawKind;
-use crate::rl_reading::digit_rows::{DigitRow, begins_digit, read_row, skip_row};
+use crate::rl_reading::digit_runs::{DigitRun, begins_digit, read_digit_run, skip_digits};
 use crate::rl_reading::number_forms::split_radix;
 use crate::rl_text::characters::is_start;
 use crate::rl_text::classes::{CharClass, skip_class};
@@ -90,13 +90,13 @@ fn after_sign(text: &str) -> &str {
 #[cfg_attr(debug_assertions, inline)]
 #[cfg_attr(not(debug_assertions), inline(always))]
 fn read_power(text: &str) -> Result<&str, Stop<'_>> {
-    let row = skip_row(after_sign(text));
-    if row.has_digit {
-        read_suffix(row.rest)
+    let run = skip_digits(after_sign(text));
+    if run.has_digit {
+        read_suffix(run.rest)
     } else {
         Err(Stop {
             kind: FlawKind::NoExponentDigit,
-            rest: row.rest,
+            rest: run.rest,
         })
     }
 }
@@ -117,7 +117,7 @@ fn read_fraction(text: &str) -> Result<&str, Stop<'_>> {
     if text.is_empty() {
         Ok(text)
     } else if begins_digit(text) {
-        read_exponent(skip_row(text).rest)
+        read_exponent(skip_digits(text).rest)
     } else {
         Err(Stop {
             kind: FlawKind::NoFractionDigit,
@@ -126,13 +126,13 @@ fn read_fraction(text: &str) -> Result<&str, Stop<'_>> {
     }
 }
 
-/// The number whose whole part, in base ten, is this row.
+/// The number whose whole part, in base ten, is this run.
 #[inline(always)]
-fn read_whole(row: DigitRow<'_>) -> Result<Number<'_>, Stop<'_>> {
-    match split_ascii(row.rest) {
+fn read_whole(run: DigitRun<'_>) -> Result<Number<'_>, Stop<'_>> {
+    match split_ascii(run.rest) {
         Some((b'.', fraction)) => Ok(Number::Float(read_fraction(fraction)?)),
         Some((b'e' | b'E', power)) => Ok(Number::Float(read_power(power)?)),
-        _ => Ok(Number::Integer(row.magnitude, read_suffix(row.rest)?)),
+        _ => Ok(Number::Integer(run.magnitude, read_suffix(run.rest)?)),
     }
 }
 
@@ -144,14 +144,14 @@ fn begins_float(text: &str) -> bool {
 /// The integer of another base, from what follows its prefix.
 #[inline(never)]
 fn read_based(radix: u32, text: &str) -> Result<Number<'_>, Stop<'_>> {
-    let row = read_row(text, radix);
-    let rest = row.rest;
+    let run = read_digit_run(text, radix);
+    let rest = run.rest;
     if begins_digit(rest) {
         Err(Stop {
             kind: FlawKind::DigitOfBase,
             rest,
         })
-    } else if !row.has_digit {
+    } else if !run.has_digit {
         Err(Stop {
             kind: FlawKind::NoDigits,
             rest,
@@ -162,7 +162,7 @@ fn read_based(radix: u32, text: &str) -> Result<Number<'_>, Stop<'_>> {
             rest,
         })
     } else {
-        Ok(Number::Integer(row.magnitude, read_suffix(rest)?))
+        Ok(Number::Integer(run.magnitude, read_suffix(rest)?))
     }
 }
 
@@ -171,7 +171,7 @@ fn read_based(radix: u32, text: &str) -> Result<Number<'_>, Stop<'_>> {
 pub fn read_digits(text: &str) -> Result<Number<'_>, Stop<'_>> {
     let (radix, digits) = split_radix(text);
     if radix == 10 {
-        read_whole(read_row(digits, 10))
+        read_whole(read_digit_run(digits, 10))
     } else {
         read_based(radix, digits)
     }

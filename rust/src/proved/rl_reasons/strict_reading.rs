@@ -6,7 +6,7 @@ use crate::rl_reasons::read_numbers::{Number, Stop, read_number};
 use crate::rl_reasons::read_quoted::{Single, read_cooked, read_raw, read_single};
 use crate::rl_reasons::strict_flaws::word_flaw;
 use crate::rl_forms::Kind;
-use crate::rl_reading::digit_rows::begins_digit;
+use crate::rl_reading::digit_runs::begins_digit;
 use crate::rl_reading::quoted_forms::{QuotedForm, split_opener};
 use crate::rl_reading::units::is_bare_character;
 use crate::rl_reading::{Body, truth_of};

@@ -1,5 +1,5 @@
 // Rendered from crates/rl_style/src/calls.rt by tools/render, which erases contracts: change that file, and render anew.
-//! Where tokens stand inside of macro calls, of macros' definitions and of attributes.
+//! Where tokens stand inside of macro calls, of `macro_rules!` and of attributes.
 
 use crate::rl_lexer::{Form, SourceForm, SourceToken};
 

@@ -24,7 +24,7 @@ pub(crate) fn group_size(style: Style, base: u32, suffix: &str) -> usize {
     }
 }
 
-/// How many digits a row has at least that underscores stand in.
+/// How many digits a run has at least that underscores stand in.
 fn least_digits(style: Style) -> usize {
     match style.digit_groups {
         Some(groups) => groups.least,
@@ -55,10 +55,10 @@ fn ends(from_first: bool, size: usize, count: usize, left: usize) -> bool {
     }
 }
 
-/// How many digits a row of digits and underscores holds.
-fn count_digits(row: &str) -> usize {
+/// How many digits a run of digits and underscores holds.
+fn count_digits(run: &str) -> usize {
     let mut count = 0;
-    let mut rest = row;
+    let mut rest = run;
     while let Some((c, after)) = split_char(rest) {
         if c != '_' {
             count += 1;
@@ -77,13 +77,13 @@ fn put_digit(out: &mut [u8], at: usize, manner: Manner, digit: char, ends: bool)
     end
 }
 
-/// Puts what a row of digits and underscores becomes, its digits in groups.
-fn put_grouped(out: &mut [u8], at: usize, manner: Manner, from_first: bool, row: &str) -> usize {
-    let count = count_digits(row);
+/// Puts what a run of digits and underscores becomes, its digits in groups.
+fn put_grouped(out: &mut [u8], at: usize, manner: Manner, from_first: bool, run: &str) -> usize {
+    let count = count_digits(run);
     let size = group_among(manner, count);
     let mut left = count;
     let mut end = at;
-    let mut rest = row;
+    let mut rest = run;
     while let Some((c, after)) = split_char(rest) {
         if c != '_' {
             left -= 1;
@@ -96,16 +96,16 @@ fn put_grouped(out: &mut [u8], at: usize, manner: Manner, from_first: bool, row:
     end
 }
 
-/// Puts what a row of digits and underscores becomes, in groups where its number is.
-pub(crate) fn put_row(
+/// Puts what a run of digits and underscores becomes, in groups where its number is.
+pub(crate) fn put_digit_run(
     out: &mut [u8],
     at: usize,
     manner: Manner,
     from_first: bool,
-    row: &str,
+    run: &str,
 ) -> usize {
     if manner.size == 0 {
-        return put_numeral(out, at, manner, row);
+        return put_numeral(out, at, manner, run);
     }
-    put_grouped(out, at, manner, from_first, row)
+    put_grouped(out, at, manner, from_first, run)
 }

@@ -2,7 +2,7 @@
 //! Numbers written anew.
 
 use crate::rl_style::characters::{Manner, begins_base_letter, put_numeral};
-use crate::rl_style::groups::{group_size, put_row};
+use crate::rl_style::groups::{group_size, put_digit_run};
 use crate::rl_style::style::{Separator, Style};
 use crate::rl_reading::number_forms::split_radix;
 use crate::rl_reasons::Number;
@@ -39,11 +39,11 @@ fn drops_zeros(style: Style, base: u32, suffix: &str) -> bool {
 }
 
 /// The digits of an integer in the base with the suffix, perhaps without the zeros in front.
-fn kept_digits<'t>(style: Style, base: u32, suffix: &str, row: &'t str) -> &'t str {
+fn kept_digits<'t>(style: Style, base: u32, suffix: &str, run: &'t str) -> &'t str {
     if drops_zeros(style, base, suffix) {
-        significant(row)
+        significant(run)
     } else {
-        row
+        run
     }
 }
 
@@ -70,7 +70,7 @@ fn trims(style: Style, suffix: &str) -> bool {
 }
 
 /// What stands before the suffix, perhaps without the underscores at its end.
-fn kept_row<'t>(style: Style, suffix: &str, numeral: &'t str) -> &'t str {
+fn kept_run<'t>(style: Style, suffix: &str, numeral: &'t str) -> &'t str {
     if trims(style, suffix) {
         trimmed(numeral)
     } else {
@@ -108,10 +108,10 @@ fn manner_of(style: Style, base: u32, suffix: &str) -> Manner {
 /// Writes the integer anew that has this suffix.
 fn write_integer(text: &str, suffix: &str, style: Style, out: &mut [u8]) -> usize {
     let (base, digits) = split_radix(text);
-    let whole = kept_row(style, suffix, before(digits, suffix));
-    let row = kept_digits(style, base, suffix, whole);
+    let whole = kept_run(style, suffix, before(digits, suffix));
+    let run = kept_digits(style, base, suffix, whole);
     let at = put_text(out, 0, before(text, digits));
-    let at = put_row(out, at, manner_of(style, base, suffix), false, row);
+    let at = put_digit_run(out, at, manner_of(style, base, suffix), false, run);
     put_suffix(out, at, style, suffix)
 }
 
@@ -128,7 +128,7 @@ fn put_after_dot(out: &mut [u8], at: usize, manner: Manner, fraction: &str) -> u
     match split_char(fraction) {
         Some(_) => {
             let exponent = skip_class(CharClass::Numeral, fraction);
-            let at = put_row(out, at, manner, true, before(fraction, exponent));
+            let at = put_digit_run(out, at, manner, true, before(fraction, exponent));
             put_numeral(out, at, manner, exponent)
         }
         None => put_zero(out, at, manner.style),
@@ -149,9 +149,9 @@ fn put_fraction(out: &mut [u8], at: usize, manner: Manner, rest: &str) -> usize 
 /// Writes the float anew that has this suffix.
 fn write_float(text: &str, suffix: &str, style: Style, out: &mut [u8]) -> usize {
     let manner = manner_of(style, 10, suffix);
-    let numeral = kept_row(style, suffix, before(text, suffix));
+    let numeral = kept_run(style, suffix, before(text, suffix));
     let rest = skip_class(CharClass::Numeral, numeral);
-    let at = put_row(out, 0, manner, false, before(numeral, rest));
+    let at = put_digit_run(out, 0, manner, false, before(numeral, rest));
     let at = put_fraction(out, at, manner, rest);
     put_suffix(out, at, style, suffix)
 }

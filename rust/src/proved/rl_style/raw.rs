@@ -5,7 +5,7 @@ use crate::rl_style::cooked::put_pair;
 use crate::rl_style::hidden::{holds_hidden, put_itself};
 use crate::rl_style::style::Style;
 use crate::rl_forms::Kind;
-use crate::rl_reading::digit_rows::begins_digit;
+use crate::rl_reading::digit_runs::begins_digit;
 use crate::rl_text::room::{put_byte, put_text};
 use crate::rl_text::text::split_char;
 use crate::rl_writing::{raw_hashes, write_raw_into};

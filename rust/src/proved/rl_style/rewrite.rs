@@ -7,7 +7,7 @@ use crate::rl_style::raw::write_raw;
 use crate::rl_style::style::Style;
 use crate::rl_forms::Kind;
 use crate::rl_reading::Body;
-use crate::rl_reading::digit_rows::begins_digit;
+use crate::rl_reading::digit_runs::begins_digit;
 use crate::rl_reading::quoted_forms::{QuotedForm, split_opener};
 use crate::rl_reasons::read_numbers::read_number;
 use crate::rl_reasons::{Flaw, Reading, explain, read};

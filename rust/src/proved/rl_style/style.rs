@@ -27,7 +27,7 @@ pub struct DigitGroups {
     pub decimal: usize,
     /// After `0x`.
     pub hexadecimal: usize,
-    /// How many digits a row has at least that underscores stand in: of 5 and groups of 3 none in `1000`, and one in `10_000`.
+    /// How many digits a run has at least that underscores stand in: of 5 and groups of 3 none in `1000`, and one in `10_000`.
     pub least: usize,
 }
 
@@ -47,7 +47,7 @@ pub struct Style {
     pub suffix_separator: Option<Separator>,
     /// The groups of a number's digits: from the last digit on, of a float's fraction from the first one on. An exponent's aren't
     /// grouped. Zeros in front are dropped before, and so are underscores where the style says it: then no others are left than those
-    /// between groups. Else those at the end of a row of digits stay. A number whose suffix begins with `b`, `o` or `x` is left alone.
+    /// between groups. Else those at the end of a run of digits stay. A number whose suffix begins with `b`, `o` or `x` is left alone.
     pub digit_groups: Option<DigitGroups>,
     /// Whether a float that ends with its dot gets a zero: `1.0` for `1.`. It is the same number, of which `concat!` makes another text.
     pub float_zero: bool,

@@ -1,9 +1,9 @@
 use Rattle.rl_text.proofs.Common.{IfErr-weaker, IsUtf8-string_bytes, on_ok_weaker, string_bytes}
-use Rattle.rl_commands.proofs.RunLemmas.{rejection_fault, prints_known, begins_known}
+use Rattle.rl_commands.proofs.RunLemmas.{rejection_error, prints_known, begins_known}
 use Rattle.rl_commands.proofs.run.run.Goals as goal
 
-pub returns-in-Err-clause-fault : goal.returns-in-Err-clause-fault
-returns-in-Err-clause-fault g c = rejection_fault c.args.command _ _ c.in_ok-bytes.bytes.items c.in-Err.fault
+pub returns-in-Err-clause-error : goal.returns-in-Err-clause-error
+returns-in-Err-clause-error g c = rejection_error c.args.command _ _ c.in_ok-bytes.bytes.items c.in-Err.error
     c.in_ok-bytes.ensures.bytes c.in-Err.ensures.rejection
 
 pub returns-clause-printed : goal.returns-clause-printed
@@ -12,8 +12,8 @@ returns-clause-printed g c =
     (string_bytes c.in-Ok.lines) c.in_ok-bytes.ensures.bytes c.in-Ok.ensures.utf8 c.in-Ok.ensures.lines
     (IsUtf8-string_bytes c.in-Ok.lines) all) (rw c.as_bytes.ensures.value at c.write_whole.ensures.all)
 
-pub returns-clause-fault : goal.returns-clause-fault
-returns-clause-fault g c =
+pub returns-clause-error : goal.returns-clause-error
+returns-clause-error g c =
     IfErr-weaker c.write_whole.result _ _ (begins_known c.args.command _ _ _ c.in_ok-bytes.bytes.items
     (string_bytes c.in-Ok.lines) c.in_ok-bytes.ensures.bytes c.in-Ok.ensures.utf8 c.in-Ok.ensures.lines
     (IsUtf8-string_bytes c.in-Ok.lines)) (rw c.as_bytes.ensures.value at c.write_whole.ensures.beginning)

@@ -7,7 +7,7 @@ pub loop-after-init : goal.loop-after-init
 loop-after-init c = record {
   utf8 = search rules;
   stops = c.skip_bare-rest.ensures.stops;
-  row = c.skip_bare-rest.ensures.row;
+  run = c.skip_bare-rest.ensures.run;
   is_rest = c.skip_bare-rest.ensures.rest;
 }
 
@@ -15,8 +15,8 @@ pub loop-after-preserved : goal.loop-after-preserved
 loop-after-preserved c = record {
   utf8 = search rules;
   stops = c.skip_bare-rest-in-Some.ensures.stops;
-  row = units_more c.args.kind _ _ _ _ c.requires c.loop-after.invariant.row c.in-Some.ensures.value
-      c.skip_bare-rest-in-Some.ensures.row;
+  run = units_more c.args.kind _ _ _ _ c.requires c.loop-after.invariant.run c.in-Some.ensures.value
+      c.skip_bare-rest-in-Some.ensures.run;
   is_rest = rest_step _ _ _ c.loop-after.invariant.is_rest
       (rest_step _ _ _ c.in-Some.ensures.rest c.skip_bare-rest-in-Some.ensures.rest);
 }

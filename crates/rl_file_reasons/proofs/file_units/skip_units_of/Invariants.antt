@@ -13,7 +13,7 @@ abbrev pub invariant-loop-after : goal.invariant-loop-after
 invariant-loop-after l = record {
   utf8 : shadow (Utf8 l.rest);
   stops : first_passes (is_bare l.kind) (chars l.rest) ≡ false;
-  row : BeginsStrictUnits l.kind (lf_text (chars l.text)) (lf_text (chars l.rest));
+  run : BeginsStrictUnits l.kind (lf_text (chars l.text)) (lf_text (chars l.rest));
   is_rest : IsFileRest (chars l.text) (chars l.rest);
 }
 

@@ -8,8 +8,8 @@ returns-then-radix-ne10 c = other_base _ _ _ c.split_radix-radix.ensures.value c
 
 pub returns-then-begins_float : goal.returns-then-begins_float
 returns-then-begins_float c = sym (ap (λ b. cond b Float Int) c.if-begins_float.true)
-    ∙ ten _ _ _ _ _ c.split_radix-radix.ensures.value c.if-radix-ne10.false c.skip_row.ensures.rest c.begins_float.ensures
+    ∙ ten _ _ _ _ _ c.split_radix-radix.ensures.value c.if-radix-ne10.false c.skip_digits.ensures.rest c.begins_float.ensures
 
 pub returns-else-begins_float : goal.returns-else-begins_float
 returns-else-begins_float c = sym (ap (λ b. cond b Float Int) c.if-begins_float.false)
-    ∙ ten _ _ _ _ _ c.split_radix-radix.ensures.value c.if-radix-ne10.false c.skip_row.ensures.rest c.begins_float.ensures
+    ∙ ten _ _ _ _ _ c.split_radix-radix.ensures.value c.if-radix-ne10.false c.skip_digits.ensures.rest c.begins_float.ensures

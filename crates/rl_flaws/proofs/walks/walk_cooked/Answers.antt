@@ -9,29 +9,29 @@ use Rattle.rl_flaws.proofs.StandLemmas.{some_of_unit, some_text, stop_within, un
 use Rattle.rl_flaws.proofs.walks.walk_cooked.Goals as goal
 
 pub returns-in-Some-clause-good : goal.returns-in-Some-clause-good
-returns-in-Some-clause-good c = (c.skip_units-closing.ensures.row, no_unit _ _ c.skip_units-closing.ensures.stuck)
+returns-in-Some-clause-good c = (c.skip_units-closing.ensures.run, no_unit _ _ c.skip_units-closing.ensures.stuck)
 
 pub returns-in-Some-clause-following : goal.returns-in-Some-clause-following
 returns-in-Some-clause-following c = tail_chars _ _ _ c.utf8.text c.skip_units-closing.utf8
-    c.skip_units-closing.ensures.row.text_is
+    c.skip_units-closing.ensures.run.text_is
 
 pub returns-in-Some-clause-closes : goal.returns-in-Some-clause-closes
-returns-in-Some-clause-closes c = cooked_none _ _ _ _ _ c.requires c.skip_units-closing.ensures.row c.in-Some.ensures.some
+returns-in-Some-clause-closes c = cooked_none _ _ _ _ _ c.requires c.skip_units-closing.ensures.run c.in-Some.ensures.some
     c.suffix_flaw.ensures.flaw
 
 pub returns-in-Some-clause-stops : goal.returns-in-Some-clause-stops
-returns-in-Some-clause-stops c = cooked_some _ _ _ _ _ c.requires c.skip_units-closing.ensures.row c.in-Some.ensures.some
+returns-in-Some-clause-stops c = cooked_some _ _ _ _ _ c.requires c.skip_units-closing.ensures.run c.in-Some.ensures.some
     c.suffix_flaw.ensures.flaw c.suffix_flaw.ensures.piece
 
 pub returns-in-None-clause-good : goal.returns-in-None-clause-good
-returns-in-None-clause-good c = (c.skip_units-closing.ensures.row, no_unit _ _ c.skip_units-closing.ensures.stuck)
+returns-in-None-clause-good c = (c.skip_units-closing.ensures.run, no_unit _ _ c.skip_units-closing.ensures.stuck)
 
 pub returns-in-None-clause-following : goal.returns-in-None-clause-following
 returns-in-None-clause-following c = tail_chars _ _ _ c.utf8.text c.skip_units-closing.utf8
-    c.skip_units-closing.ensures.row.text_is
+    c.skip_units-closing.ensures.run.text_is
 
 pub returns-in-None-clause-stops : goal.returns-in-None-clause-stops
-returns-in-None-clause-stops c = cooked_open _ _ _ _ _ _ c.requires c.skip_units-closing.ensures.row
+returns-in-None-clause-stops c = cooked_open _ _ _ _ _ _ c.requires c.skip_units-closing.ensures.run
     c.skip_units-closing.ensures.stuck c.in-None.ensures.none
     (ap (λ k. found_flaw k (chars c.in_piece.result.rest.now)) c.in_piece.ensures.0
     ∙ ap (λ z. found_flaw c.unit_flaw.result.kind (chars z)) c.in_piece.ensures.1 ∙ c.unit_flaw.ensures)

@@ -26,9 +26,9 @@ returns-clause-parts c = elim c.match-matches.branch [
       (c.suffix_in.ensures.reads c.in_ok-found.ensures.found)) c.before-numeral.ensures.chars (record {
         unsigned = chars c.after_minus.result.now;
         unsigned_is = c.after_minus.ensures.value;
-        whole_is = c.split_row.ensures.row;
+        whole_is = c.split_digits.ensures.run;
         power = chars c.split_fraction.result.1.now;
-        fraction_is = c.split_fraction.ensures ∙ ap fraction_at c.split_row.ensures.rest;
+        fraction_is = c.split_fraction.ensures ∙ ap fraction_at c.split_digits.ensures.rest;
         exponent_is = c.after_letter.ensures;
       })
   | in_default w ↦ absurd (both_ways c.match-matches.matches w.matches-is c.if-not-matches.false)

@@ -22,8 +22,8 @@ returns-clause-parts c = elim c.match-matches.branch [
   | in-Int w ↦
       let h = c.in_ok-found.ensures.found.integer w.in-Int.is in
       integer_is (chars c.args.text.now) c.in_ok-found.found.magnitude _ c.split_radix-radix.result.0
-      (chars c.split_radix-radix.result.1.now) (chars c.before-digits.result.now) (chars c.read_row.result.rest.now)
+      (chars c.split_radix-radix.result.1.now) (chars c.before-digits.result.now) (chars c.read_digit_run.result.rest.now)
       (h.sign, h.reads) (c.split_radix-radix.ensures.value ∙ ap radix_at c.after_minus.ensures.value)
-      c.before-digits.ensures.chars c.read_row.ensures.rest
+      c.before-digits.ensures.chars c.read_digit_run.ensures.rest
   | in_default w ↦ absurd (both_ways c.match-matches.matches w.matches-is c.if-not-matches.false)
 ]

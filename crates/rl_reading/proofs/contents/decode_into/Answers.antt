@@ -24,7 +24,7 @@ returns-in_default-clause-decodes c =
     let f = run_filled _ _ _ _ _ _ _ _ _ l.invariant.filled cut.cut cut.plain c.utf8.text run following room put.end
     put.bytes in
     let none : unit_at c.args.kind (chars c.split_plain.result.1.now) ≡ None = search rules in
-    record { value = f.value; rest = _; row = f.row; stuck = none; bytes_are = f.bytes }
+    record { value = f.value; rest = _; run = f.run; stuck = none; bytes_are = f.bytes }
 
 pub returns-in_default-clause-within : goal.returns-in_default-clause-within
 returns-in_default-clause-within c =

@@ -3,4 +3,4 @@ use Rattle.rl_reading.proofs.number_forms.after_fraction.Goals as goal
 
 pub returns-in-Some-eq46-default-clause-following : goal.returns-in-Some-eq46-default-clause-following
 returns-in-Some-eq46-default-clause-following c = tail_step _ _ _ c.in-Some-eq46-default.ensures.following
-    c.skip_row.ensures.following
+    c.skip_digits.ensures.following

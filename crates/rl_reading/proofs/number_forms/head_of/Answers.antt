@@ -4,6 +4,6 @@ use Rattle.rl_reading.proofs.number_forms.head_of.Goals as goal
 
 pub returns-clause-head : goal.returns-clause-head
 returns-clause-head c =
-    let row = c.read_row-row.ensures in
-    head_read (chars c.args.unsigned.now) _ _ _ _ _ c.requires c.split_radix-radix.ensures.value row.has_digit
-    row.magnitude row.rest
+    let run = c.read_digit_run-run.ensures in
+    head_read (chars c.args.unsigned.now) _ _ _ _ _ c.requires c.split_radix-radix.ensures.value run.has_digit
+    run.magnitude run.rest

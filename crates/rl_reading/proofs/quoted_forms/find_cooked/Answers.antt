@@ -27,17 +27,17 @@ places-requires-clause-closer c =
 pub places-requires-2-clause-closer : goal.places-requires-2-clause-closer
 places-requires-2-clause-closer c =
     let cut = c.split_plain.ensures in
-    let (w, row) = cooked_units _ _ _ _ _ _ cut.cut cut.plain c.skip_units-closer.ensures.row.1 in
-    tail_chars _ _ _ c.utf8.inside c.skip_units-closer.utf8 row.text_is
+    let (w, run) = cooked_units _ _ _ _ _ _ cut.cut cut.plain c.skip_units-closer.ensures.run.1 in
+    tail_chars _ _ _ c.utf8.inside c.skip_units-closer.utf8 run.text_is
 
 pub returns-in-Some-clause-found : goal.returns-in-Some-clause-found
 returns-in-Some-clause-found c =
     let cut = c.split_plain.ensures in
     let at = c.places.ensures in
     let string = (front_sound _ _ c.requires).has in
-    let (w, row) = cooked_units _ _ _ _ _ _ cut.cut cut.plain (row_start c.args.kind (chars c.split_plain.result.1.now))
+    let (w, run) = cooked_units _ _ _ _ _ _ cut.cut cut.plain (row_start c.args.kind (chars c.split_plain.result.1.now))
     in
-    let parts = cooked_found _ _ _ _ _ _ string row at.body c.in-Some.ensures.some in
+    let parts = cooked_found _ _ _ _ _ _ string run at.body c.in-Some.ensures.some in
     let plain = at.plain ∙ one_run (is_plain c.args.kind) _ _ _ (sym at.body ∙ cut.cut) cut.plain in
     quoted_found _ _ _ _ _ c.utf8.text (form_at _ _ _ _ _ _ _ c.requires parts at.suffix at.stands plain
     (opener_lo CookedForm _ _ _ _ (λ e. cc) c.utf8.text c.utf8.inside c.requires at.lo)) (no_unit _ _ string)
@@ -46,8 +46,8 @@ returns-in-Some-clause-found c =
 pub returns-in_err-suffix-clause-none : goal.returns-in_err-suffix-clause-none
 returns-in_err-suffix-clause-none c =
     let cut = c.split_plain.ensures in
-    let (w, row) = cooked_units _ _ _ _ _ _ cut.cut cut.plain c.skip_units-closer.ensures.row.1 in
-    if_none _ (only_quoted _ _ _ _ c.requires (cooked_none _ _ _ _ row c.skip_units-closer.ensures.stuck
+    let (w, run) = cooked_units _ _ _ _ _ _ cut.cut cut.plain c.skip_units-closer.ensures.run.1 in
+    if_none _ (only_quoted _ _ _ _ c.requires (cooked_none _ _ _ _ run c.skip_units-closer.ensures.stuck
     c.in_err-suffix.ensures.none))
 
 pub returns-clause-found : goal.returns-clause-found
@@ -55,10 +55,10 @@ returns-clause-found c =
     let cut = c.split_plain.ensures in
     let at = c.places-2.ensures in
     let string = (front_sound _ _ c.requires).has in
-    let (w, row) = cooked_units _ _ _ _ _ _ cut.cut cut.plain c.skip_units-closer.ensures.row.1 in
-    let parts = cooked_found _ _ _ _ _ _ string row at.body c.in_ok-suffix.ensures.some in
+    let (w, run) = cooked_units _ _ _ _ _ _ cut.cut cut.plain c.skip_units-closer.ensures.run.1 in
+    let parts = cooked_found _ _ _ _ _ _ string run at.body c.in_ok-suffix.ensures.some in
     let plain = at.plain ∙ no_run (is_plain c.args.kind) _ _ _ _ _ (sym at.body ∙ cut.cut)
-    c.skip_units-closer.ensures.row.1.text_is cut.stops (λ e. c.in_default.ensures.none _
+    c.skip_units-closer.ensures.run.1.text_is cut.stops (λ e. c.in_default.ensures.none _
     (e ∙ c.in_ok-suffix.ensures.some)) in
     quoted_found _ _ _ _ _ c.utf8.text (form_at _ _ _ _ _ _ _ c.requires parts at.suffix at.stands plain
     (opener_lo CookedForm _ _ _ _ (λ e. cc) c.utf8.text c.utf8.inside c.requires at.lo)) (no_unit _ _ string)

@@ -57,43 +57,43 @@ pub places-requires-in-None-suffix_flaw-clause-closer :
 places-requires-in-None-suffix_flaw-clause-closer c =
     let string = (front_sound _ _ c.requires).has in
     let cut = c.split_plain.ensures in
-    let row = row_join _ _ _ _ (plain_row _ _ _ _ string cut.cut cut.plain) c.skip_units-closing.ensures.row in
-    tail_chars _ _ _ c.utf8.inside c.skip_units-closing.utf8 row.text_is
+    let run = row_join _ _ _ _ (plain_row _ _ _ _ string cut.cut cut.plain) c.skip_units-closing.ensures.run in
+    tail_chars _ _ _ c.utf8.inside c.skip_units-closing.utf8 run.text_is
 
 pub returns-in-None-suffix_flaw-clause-found : goal.returns-in-None-suffix_flaw-clause-found
 returns-in-None-suffix_flaw-clause-found c =
     let string = (front_sound _ _ c.requires).has in
     let cut = c.split_plain.ensures in
-    let row = row_join _ _ _ _ (plain_row _ _ _ _ string cut.cut cut.plain) c.skip_units-closing.ensures.row in
+    let run = row_join _ _ _ _ (plain_row _ _ _ _ string cut.cut cut.plain) c.skip_units-closing.ensures.run in
     let at = c.places-in-None-suffix_flaw.ensures in
     let plain = at.plain ∙ no_run (is_plain c.args.kind) _ _ _ _ _ (sym at.body ∙ cut.cut)
-    c.skip_units-closing.ensures.row.text_is cut.stops (λ e. c.in_default.ensures.none _
+    c.skip_units-closing.ensures.run.text_is cut.stops (λ e. c.in_default.ensures.none _
     (e ∙ c.in-Some-after_quote.ensures.some)) in
-    cooked_at _ _ _ _ _ _ c.requires string row c.in-Some-after_quote.ensures.some at.body at.suffix at.stands plain
+    cooked_at _ _ _ _ _ _ c.requires string run c.in-Some-after_quote.ensures.some at.body at.suffix at.stands plain
     c.utf8.text c.utf8.inside at.lo
 
 pub returns-in-None-suffix_flaw-clause-closes : goal.returns-in-None-suffix_flaw-clause-closes
 returns-in-None-suffix_flaw-clause-closes c =
     let string = (front_sound _ _ c.requires).has in
     let cut = c.split_plain.ensures in
-    let row = row_join _ _ _ _ (plain_row _ _ _ _ string cut.cut cut.plain) c.skip_units-closing.ensures.row in
-    cooked_closes _ _ _ _ string row c.in-Some-after_quote.ensures.some
+    let run = row_join _ _ _ _ (plain_row _ _ _ _ string cut.cut cut.plain) c.skip_units-closing.ensures.run in
+    cooked_closes _ _ _ _ string run c.in-Some-after_quote.ensures.some
     (judged_by _ _ _ c.in-None-suffix_flaw.ensures.flaw)
 
 pub returns-in-Some-suffix_flaw-2-clause-stops : goal.returns-in-Some-suffix_flaw-2-clause-stops
 returns-in-Some-suffix_flaw-2-clause-stops c =
     let string = (front_sound _ _ c.requires).has in
     let cut = c.split_plain.ensures in
-    let row = row_join _ _ _ _ (plain_row _ _ _ _ string cut.cut cut.plain) c.skip_units-closing.ensures.row in
-    cooked_suffix _ _ _ _ _ _ _ string row c.in-Some-after_quote.ensures.some
+    let run = row_join _ _ _ _ (plain_row _ _ _ _ string cut.cut cut.plain) c.skip_units-closing.ensures.run in
+    cooked_suffix _ _ _ _ _ _ _ string run c.in-Some-after_quote.ensures.some
     (judged_by _ _ _ c.in-Some-suffix_flaw-2.ensures.flaw) c.in-Some-suffix_flaw-2.ensures.piece
 
 pub returns-in-None-after_quote-clause-stops : goal.returns-in-None-after_quote-clause-stops
 returns-in-None-after_quote-clause-stops c =
     let string = (front_sound _ _ c.requires).has in
     let cut = c.split_plain.ensures in
-    let row = row_join _ _ _ _ (plain_row _ _ _ _ string cut.cut cut.plain) c.skip_units-closing.ensures.row in
-    cooked_open _ _ _ _ _ _ string row c.skip_units-closing.ensures.stuck c.in-None-after_quote.ensures.none
+    let run = row_join _ _ _ _ (plain_row _ _ _ _ string cut.cut cut.plain) c.skip_units-closing.ensures.run in
+    cooked_open _ _ _ _ _ _ string run c.skip_units-closing.ensures.stuck c.in-None-after_quote.ensures.none
     (ap (λ k. found_flaw k (chars c.in_piece.result.rest.now)) c.in_piece.ensures.0
     ∙ ap (λ z. found_flaw c.unit_flaw.result.kind (chars z)) c.in_piece.ensures.1 ∙ c.unit_flaw.ensures)
     (ap chars c.in_piece.ensures.2)

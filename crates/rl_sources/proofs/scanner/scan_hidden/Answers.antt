@@ -10,5 +10,5 @@ returns-in-Ok-written-clause-scans g c = hidden_written c.args.options (chars c.
 
 pub returns-clause-fails : goal.returns-clause-fails
 returns-clause-fails g c = hidden_unwritten c.args.options (chars c.args.text.now) (string_bytes c.in-Ok.lines) _ _
-    c.in-Err.fault (IsUtf8-string_bytes c.in-Ok.lines) c.in-Ok.ensures
+    c.in-Err.error (IsUtf8-string_bytes c.in-Ok.lines) c.in-Ok.ensures
     (rw c.as_bytes.ensures.value at c.in-Err.ensures.beginning)

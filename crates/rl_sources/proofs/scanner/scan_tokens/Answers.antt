@@ -6,7 +6,7 @@ pub returns-in-Err-clause-fails : goal.returns-in-Err-clause-fails
 returns-in-Err-clause-fails g c =
     let before = c.loop-step.invariant in
     write_fails c.args.options c.args.text.now (string_bytes c.gather.new.out) c.loop-step.tokens c.gather.new.tokens
-    c.gather.new.places c.in-Ok.step c.loop-step.any _ _ _ c.in-Err.fault
+    c.gather.new.places c.in-Ok.step c.loop-step.any _ _ _ c.in-Err.error
     before.text_is before.written c.in-Ok.ensures (IsUtf8-string_bytes c.gather.new.out)
     (rw c.as_bytes.ensures.value at c.in-Err.ensures.beginning)
 
@@ -37,7 +37,7 @@ returns-in-End-clause-scans g c =
 pub returns-in-Error-clause-fails : goal.returns-in-Error-clause-fails
 returns-in-Error-clause-fails g c =
     let before = c.loop-step.invariant in
-    writes_up_to g.row.A.Denot c.args.options c.args.text.now (string_bytes c.gather.new.out) c.loop-step.tokens
+    writes_up_to g.run.A.Denot c.args.options c.args.text.now (string_bytes c.gather.new.out) c.loop-step.tokens
     c.gather.new.tokens c.gather.new.places c.in-Error.place c.in-Error.kind c.loop-step.any c.is_any-any.result _ _
     _
     before.text_is before.written (rw c.in-Error.is at c.in-Ok.ensures) (IsUtf8-string_bytes c.gather.new.out)

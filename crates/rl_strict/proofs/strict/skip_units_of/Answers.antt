@@ -10,7 +10,7 @@ loop-after-init c =
     record {
       utf8 = search rules;
       stops = c.skip_bare-rest.ensures.stops;
-      row = row_run _ _ _ _ run (row_none _ _) e each;
+      run = row_run _ _ _ _ run (row_none _ _) e each;
       same = units_past _ _ _ _ run c.requires e each ((λ h. h), (λ h. h));
     }
 
@@ -22,6 +22,6 @@ loop-after-preserved c =
     record {
       utf8 = search rules;
       stops = c.skip_bare-rest-in-Some.ensures.stops;
-      row = row_run _ _ _ _ run (row_unit _ _ _ _ c.loop-after.invariant.row front) e each;
+      run = row_run _ _ _ _ run (row_unit _ _ _ _ c.loop-after.invariant.run front) e each;
       same = units_past _ _ _ _ run c.requires e each step;
     }

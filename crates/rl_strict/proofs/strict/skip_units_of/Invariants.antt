@@ -13,7 +13,7 @@ abbrev pub invariant-loop-after : goal.invariant-loop-after
 invariant-loop-after l = record {
   utf8 : shadow (Utf8 l.rest);
   stops : first_passes (is_bare l.kind) (chars l.rest) ≡ false;
-  row : BeginsStrictUnits l.kind (chars l.text) (chars l.rest);
+  run : BeginsStrictUnits l.kind (chars l.text) (chars l.rest);
   same : ClosesUnits l.kind (chars l.rest) ↔ ClosesUnits l.kind (chars l.text);
 }
 

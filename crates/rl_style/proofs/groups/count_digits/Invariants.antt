@@ -1,4 +1,4 @@
--- The digits that were passed, and those that are left, are those of the row.
+-- The digits that were passed, and those that are left, are those of the run.
 use Rattle.rl_text.proofs.Common.{◌≡◌, ◌≤◌, ◌+◌, length}
 use denote.Text.{Utf8}
 use denote.Shadow.{shadow}
@@ -9,8 +9,8 @@ use Rattle.rl_style.proofs.groups.count_digits.Given as goal
 abbrev pub invariant-loop-c : goal.invariant-loop-c
 invariant-loop-c l = record {
   utf8 : shadow (Utf8 l.rest);
-  digits : l.count + length (without_underscores (chars l.rest)) ≡ length (without_underscores (chars l.row));
-  within : l.count + length l.rest ≤ length l.row;
+  digits : l.count + length (without_underscores (chars l.rest)) ≡ length (without_underscores (chars l.run));
+  within : l.count + length l.rest ≤ length l.run;
 }
 
 abbrev pub decreases-loop-c : goal.decreases-loop-c

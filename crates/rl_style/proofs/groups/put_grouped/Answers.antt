@@ -4,7 +4,7 @@ use Rattle.std.specs.Str.{chars}
 use Rattle.rl_forms.specs.Spelling.{without_underscores}
 use Rattle.rl_style.specs.Cases.{number_character}
 use Rattle.rl_style.specs.Groups.{ends, least_by}
-use Rattle.rl_style.specs.Mirrors.{row_placed}
+use Rattle.rl_style.specs.Mirrors.{run_placed}
 use Rattle.rl_style.proofs.GroupRows.{mark}
 use Rattle.rl_style.proofs.Regrouped.{counted, placed_digit, placed_groups, placed_last, placed_skip, uncounted}
 use Rattle.rl_style.proofs.WrittenNumbers.{one_more}
@@ -28,8 +28,8 @@ loop-c-preserved-then-c-ne95 c =
     ∙ length-append (encode_utf8 first) c.in-Some.after.now in
     record {
       utf8 = search rules;
-      whole = one_more _ _ _ (f first ++ mark (test (length (without_underscores after)))) (row_placed f test after)
-          (l.invariant.whole ∙ ap (λ z. take l.end l.out ++ encode_utf8_all (row_placed f test z)) s.chars
+      whole = one_more _ _ _ (f first ++ mark (test (length (without_underscores after)))) (run_placed f test after)
+          (l.invariant.whole ∙ ap (λ z. take l.end l.out ++ encode_utf8_all (run_placed f test z)) s.chars
           ∙ ap (λ z. take l.end l.out ++ encode_utf8_all z) (placed_digit f test first after other))
           (d.bytes ∙ ap (λ b. take l.end l.out ++ encode_utf8_all (f first ++ mark b)) (c.ends.ensures ∙ ap test less));
       left = less;
@@ -57,8 +57,8 @@ loop-c-preserved-then-left-eq0 c =
     in
     record {
       utf8 = search rules;
-      whole = one_more _ _ _ (f 95) (row_placed f test after)
-          (l.invariant.whole ∙ ap (λ z. take l.end l.out ++ encode_utf8_all (row_placed f test z)) s.chars
+      whole = one_more _ _ _ (f 95) (run_placed f test after)
+          (l.invariant.whole ∙ ap (λ z. take l.end l.out ++ encode_utf8_all (run_placed f test z)) s.chars
           ∙ ap (λ z. take l.end l.out ++ encode_utf8_all z) (placed_last f test first after under (sym count
           ∙ c.if-left-eq0.true))) d.bytes;
       left = count ∙ uncounted first after under;
@@ -83,7 +83,7 @@ loop-c-preserved c =
     ∙ length-append (encode_utf8 first) c.in-Some.after.now in
     record {
       utf8 = search rules;
-      whole = l.invariant.whole ∙ ap (λ z. take l.end l.out ++ encode_utf8_all (row_placed f test z)) s.chars
+      whole = l.invariant.whole ∙ ap (λ z. take l.end l.out ++ encode_utf8_all (run_placed f test z)) s.chars
           ∙ ap (λ z. take l.end l.out ++ encode_utf8_all z) (placed_skip f test first after under
           (λ e. c.if-left-eq0.false (count ∙ e)));
       left = count ∙ uncounted first after under;
@@ -99,9 +99,9 @@ returns-clause-bytes c =
     let f : ℕ → List ℕ = number_character m.style m.drops m.hex in
     let test : ℕ → Bool = ends c.args.from_first c.group_among-size.result c.count_digits-count.result in
     sym (l.invariant.whole
-    ∙ ap (λ z. take l.end l.out ++ encode_utf8_all (row_placed f test z)) c.in_default.ensures.chars
+    ∙ ap (λ z. take l.end l.out ++ encode_utf8_all (run_placed f test z)) c.in_default.ensures.chars
     ∙ append-nil (take l.end l.out))
     ∙ ap (λ z. take c.args.at c.args.out.now ++ encode_utf8_all z) (placed_groups m.drops m.hex m.style.exponent_plus
     m.style.hex_digits m.style.exponent_letter c.args.from_first m.size (least_by m.style.digit_groups)
-    c.group_among-size.result c.count_digits-count.result (chars c.args.row.now) c.requires.no_plus
+    c.group_among-size.result c.count_digits-count.result (chars c.args.run.now) c.requires.no_plus
     c.group_among-size.ensures c.count_digits-count.ensures.digits)

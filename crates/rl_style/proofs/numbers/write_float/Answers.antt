@@ -3,32 +3,32 @@ use Rattle.rl_style.proofs.SameFloats.{run_cut}
 use Rattle.rl_style.proofs.WrittenNumbers.{float_put, float_written}
 use Rattle.rl_style.proofs.numbers.write_float.Goals as goal
 
-pub put_row-at-requires-clause-no_plus : goal.put_row-at-requires-clause-no_plus
-put_row-at-requires-clause-no_plus c = (run_cut (chars c.kept_row-numeral.result.now) (chars c.before-3.result.now)
+pub put_digit_run-at-requires-clause-no_plus : goal.put_digit_run-at-requires-clause-no_plus
+put_digit_run-at-requires-clause-no_plus c = (run_cut (chars c.kept_run-numeral.result.now) (chars c.before-3.result.now)
     (chars c.skip_class-rest.result.now) c.before-3.ensures.chars c.skip_class-rest.ensures.rest).1
 
 pub returns-clause-written : goal.returns-clause-written
 returns-clause-written c =
     let m = c.manner_of-manner.ensures in
-    let row = (run_cut (chars c.kept_row-numeral.result.now) (chars c.before-3.result.now)
+    let run = (run_cut (chars c.kept_run-numeral.result.now) (chars c.before-3.result.now)
     (chars c.skip_class-rest.result.now) c.before-3.ensures.chars c.skip_class-rest.ensures.rest).0 in
-    (float_written c.args.style c.args.text.now c.before-2.result.now c.kept_row-numeral.result.now c.args.suffix.now _
-    c.requires.float.0 c.kept_row-numeral.utf8 c.utf8.suffix c.before-2.ensures.chars c.kept_row-numeral.ensures.kept
-    (float_put c.args.style c.manner_of-manner.result (chars c.kept_row-numeral.result.now)
+    (float_written c.args.style c.args.text.now c.before-2.result.now c.kept_run-numeral.result.now c.args.suffix.now _
+    c.requires.float.0 c.kept_run-numeral.utf8 c.utf8.suffix c.before-2.ensures.chars c.kept_run-numeral.ensures.kept
+    (float_put c.args.style c.manner_of-manner.result (chars c.kept_run-numeral.result.now)
     (chars c.before-3.result.now)
-    (chars c.skip_class-rest.result.now) _ _ _ c.args.suffix.now m.style m.drops m.hex m.size c.put_row-at.ensures.bytes
-    c.put_fraction-at.ensures.bytes c.put_suffix.ensures.bytes row c.skip_class-rest.ensures.rest)
+    (chars c.skip_class-rest.result.now) _ _ _ c.args.suffix.now m.style m.drops m.hex m.size c.put_digit_run-at.ensures.bytes
+    c.put_fraction-at.ensures.bytes c.put_suffix.ensures.bytes run c.skip_class-rest.ensures.rest)
     c.requires.float.1).1
 
 pub returns-clause-utf8 : goal.returns-clause-utf8
 returns-clause-utf8 c =
     let m = c.manner_of-manner.ensures in
-    let row = (run_cut (chars c.kept_row-numeral.result.now) (chars c.before-3.result.now)
+    let run = (run_cut (chars c.kept_run-numeral.result.now) (chars c.before-3.result.now)
     (chars c.skip_class-rest.result.now) c.before-3.ensures.chars c.skip_class-rest.ensures.rest).0 in
-    (float_written c.args.style c.args.text.now c.before-2.result.now c.kept_row-numeral.result.now c.args.suffix.now _
-    c.requires.float.0 c.kept_row-numeral.utf8 c.utf8.suffix c.before-2.ensures.chars c.kept_row-numeral.ensures.kept
-    (float_put c.args.style c.manner_of-manner.result (chars c.kept_row-numeral.result.now)
+    (float_written c.args.style c.args.text.now c.before-2.result.now c.kept_run-numeral.result.now c.args.suffix.now _
+    c.requires.float.0 c.kept_run-numeral.utf8 c.utf8.suffix c.before-2.ensures.chars c.kept_run-numeral.ensures.kept
+    (float_put c.args.style c.manner_of-manner.result (chars c.kept_run-numeral.result.now)
     (chars c.before-3.result.now)
-    (chars c.skip_class-rest.result.now) _ _ _ c.args.suffix.now m.style m.drops m.hex m.size c.put_row-at.ensures.bytes
-    c.put_fraction-at.ensures.bytes c.put_suffix.ensures.bytes row c.skip_class-rest.ensures.rest)
+    (chars c.skip_class-rest.result.now) _ _ _ c.args.suffix.now m.style m.drops m.hex m.size c.put_digit_run-at.ensures.bytes
+    c.put_fraction-at.ensures.bytes c.put_suffix.ensures.bytes run c.skip_class-rest.ensures.rest)
     c.requires.float.1).0

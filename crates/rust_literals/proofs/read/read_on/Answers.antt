@@ -4,7 +4,7 @@ use Rattle.rl_text.specs.declared.span.Span.{Span}
 use Rattle.rl_tokens.specs.Errors.{memory_at}
 use Rattle.rl_tokens.specs.Buffers.{trees_in, scope_of}
 use Rattle.rust_literals.specs.Parsing.{ReadsLiterals, RejectsNextLiteral, LacksMemory}
-use Rattle.rust_literals.proofs.ReadLemmas.{refused_next}
+use Rattle.rust_literals.proofs.ReadLemmas.{rejected_next}
 use Rattle.rust_literals.proofs.LeadsLemmas.{lit_shorter, leads_step}
 use Rattle.rust_literals.proofs.read.read_on.Goals as goal
 
@@ -35,7 +35,7 @@ returns-in_err-literal-clause-rejected g c = λ all gone h.
     rw (p.1, p.2)
     (subst (λ (s : Span). RejectsNextLiteral all s c.in_err-literal.field-0.0
     ⊎ LacksMemory all s c.in_err-literal.field-0.0) c.loop-alloc.invariant.scope
-    (refused_next all (trees_in c.loop-alloc.input) (trees_in c.parse.new.self) (scope_of c.loop-alloc.input)
+    (rejected_next all (trees_in c.loop-alloc.input) (trees_in c.parse.new.self) (scope_of c.loop-alloc.input)
     (gone ++ c.loop-alloc.list.items) c.in_err-literal.field-0.0 (c.loop-alloc.invariant.leads all gone h) some
     c.in_err-literal.ensures.runs))
 

@@ -4,7 +4,7 @@
 use crate::rattle_std::prelude::{String};
 use crate::rl_commands::attr::{Entry, read};
 use crate::rl_commands::lit_line::push_literal;
-use crate::rl_program::Fault;
+use crate::rl_program::ProgramError;
 use crate::rattle_std::alloc::{AllocError, Allocator};
 
 /// Writes an attribute's line at the end: its name, a space, and its literal's line.
@@ -35,10 +35,13 @@ pub fn entry_lines<A: Allocator + Copy>(
 }
 
 /// The lines of the text's attributes.
-pub fn attribute_lines<A: Allocator + Copy>(alloc: A, text: &str) -> Result<String<A>, Fault<A>> {
+pub fn attribute_lines<A: Allocator + Copy>(
+    alloc: A,
+    text: &str,
+) -> Result<String<A>, ProgramError<A>> {
     let attrs = match read(alloc, text, 0) {
         Ok(attrs) => attrs,
-        Err(error) => return Err(Fault::Literal(error)),
+        Err(error) => return Err(ProgramError::Literal(error)),
     };
     let lines = entry_lines(alloc, attrs.entries())?;
     Ok(lines)

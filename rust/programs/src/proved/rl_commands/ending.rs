@@ -4,7 +4,7 @@
 use crate::rattle_std::prelude::{String};
 use crate::rl_commands::command::Command;
 use crate::rl_commands::run::run;
-use crate::rl_program::{Ending, Fault, write_whole};
+use crate::rl_program::{Ending, ProgramError, write_whole};
 use crate::rattle_std::alloc::Allocator;
 use crate::rattle_std::io::{Read, Write};
 
@@ -58,10 +58,10 @@ fn text_asked<A: Allocator>(args: &[String<A>]) -> Option<&'static str> {
 }
 
 /// How a call ends that writes a text.
-fn show_text<A: Allocator, W: Write>(out: &mut W, text: &str) -> Ending<Fault<A>> {
+fn show_text<A: Allocator, W: Write>(out: &mut W, text: &str) -> Ending<ProgramError<A>> {
     match write_whole(out, text.as_bytes()) {
         Ok(()) => Ending::Done,
-        Err(fault) => Ending::Failed(fault),
+        Err(error) => Ending::Failed(error),
     }
 }
 
@@ -72,7 +72,7 @@ pub fn call<A: Allocator + Copy, R: Read, W: Write>(
     args: &[String<A>],
     input: &mut R,
     out: &mut W,
-) -> Ending<Fault<A>> {
+) -> Ending<ProgramError<A>> {
     if let Some(text) = text_asked(args) {
         return show_text(out, text);
     }
@@ -81,6 +81,6 @@ pub fn call<A: Allocator + Copy, R: Read, W: Write>(
     };
     match run(alloc, command, input, out) {
         Ok(()) => Ending::Done,
-        Err(fault) => Ending::Failed(fault),
+        Err(error) => Ending::Failed(error),
     }
 }

@@ -3,7 +3,7 @@
 
 use crate::rattle_std::prelude::{String};
 use crate::rl_commands::lit_line::push_literal;
-use crate::rl_program::Fault;
+use crate::rl_program::ProgramError;
 use crate::rust_literals::{Lit, Literals};
 use crate::rattle_std::alloc::Allocator;
 
@@ -24,14 +24,17 @@ fn with_line<A: Allocator + Copy>(
 }
 
 /// The lines of the text's literals.
-pub fn literal_lines<A: Allocator + Copy>(alloc: A, text: &str) -> Result<String<A>, Fault<A>> {
+pub fn literal_lines<A: Allocator + Copy>(
+    alloc: A,
+    text: &str,
+) -> Result<String<A>, ProgramError<A>> {
     let mut lines = Some(String::new(alloc));
     let mut literals = Literals::new(alloc, text, 0);
     loop {
         match literals.next() {
             Ok(Some(literal)) => lines = with_line(alloc, lines, literal),
-            Ok(None) => return lines.ok_or(Fault::Memory),
-            Err(error) => return Err(Fault::Literal(error)),
+            Ok(None) => return lines.ok_or(ProgramError::Memory),
+            Err(error) => return Err(ProgramError::Literal(error)),
         }
     }
 }

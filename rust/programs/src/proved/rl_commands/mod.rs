@@ -14,4 +14,4 @@ pub use crate::rl_commands::attribute_lines::entry_lines;
 pub use crate::rl_commands::command::Command;
 pub use crate::rl_commands::ending::call;
 pub use crate::rl_commands::lit_line::{line_of, push_literal};
-pub use crate::rl_program::{Ending, Fault};
+pub use crate::rl_program::{Ending, ProgramError};

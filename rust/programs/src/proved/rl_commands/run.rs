@@ -6,32 +6,35 @@ use crate::rl_commands::attribute_lines::attribute_lines;
 use crate::rl_commands::command::Command;
 use crate::rl_commands::list::literal_lines;
 use crate::rl_commands::lit_line::line_of;
-use crate::rl_program::{Fault, read_whole, text_of, write_whole};
+use crate::rl_program::{ProgramError, read_whole, text_of, write_whole};
 use crate::rl_tokens::{Literal, Span};
 use crate::rust_literals::Lit;
 use crate::rattle_std::alloc::Allocator;
 use crate::rattle_std::io::{Read, Write};
 
 /// The whole input as one token. The input is let go.
-fn token_of<A: Allocator + Copy>(alloc: A, bytes: Vec<u8, A>) -> Result<Literal<A>, Fault<A>> {
+fn token_of<A: Allocator + Copy>(alloc: A, bytes: Vec<u8, A>) -> Result<Literal<A>, ProgramError<A>> {
     let text = text_of(bytes.as_slice())?;
     let span = Span::new(0, 0, text.len());
     match Literal::from_text(alloc, text, span) {
         Ok(token) => Ok(token),
-        Err(_) => Err(Fault::Memory),
+        Err(_) => Err(ProgramError::Memory),
     }
 }
 
 /// The literal that a token is. An allocation failure is the literal's.
-fn literal_of<A: Allocator + Copy>(alloc: A, token: Literal<A>) -> Result<Lit<A>, Fault<A>> {
+fn literal_of<A: Allocator + Copy>(alloc: A, token: Literal<A>) -> Result<Lit<A>, ProgramError<A>> {
     match Lit::new(alloc, token) {
         Ok(literal) => Ok(literal),
-        Err(kept) => Err(Fault::Literal(kept.error)),
+        Err(kept) => Err(ProgramError::Literal(kept.error)),
     }
 }
 
 /// The line of the whole input as one literal.
-fn literal_line<A: Allocator + Copy>(alloc: A, bytes: Vec<u8, A>) -> Result<String<A>, Fault<A>> {
+fn literal_line<A: Allocator + Copy>(
+    alloc: A,
+    bytes: Vec<u8, A>,
+) -> Result<String<A>, ProgramError<A>> {
     let token = token_of(alloc, bytes)?;
     let literal = literal_of(alloc, token)?;
     let line = line_of(alloc, &literal)?;
@@ -43,7 +46,7 @@ fn lines_of_input<A: Allocator + Copy>(
     alloc: A,
     command: Command,
     bytes: Vec<u8, A>,
-) -> Result<String<A>, Fault<A>> {
+) -> Result<String<A>, ProgramError<A>> {
     match command {
         Command::Text => literal_line(alloc, bytes),
         Command::Read => literal_lines(alloc, text_of(bytes.as_slice())?),
@@ -66,11 +69,11 @@ pub fn run<A: Allocator + Copy, R: Read, W: Write>(
     command: Command,
     input: &mut R,
     out: &mut W,
-) -> Result<(), Fault<A>> {
+) -> Result<(), ProgramError<A>> {
     let bytes = read_whole(alloc, input)?;
     let lines = match lines_of_input(alloc, command, bytes) {
         Ok(lines) => lines,
-        Err(fault) => return Err(fault),
+        Err(error) => return Err(error),
     };
     write_whole(out, lines.as_bytes())
 }

@@ -2,7 +2,7 @@
 //! The digits of numbers, in memory that is taken.
 
 use crate::rattle_std::prelude::{String, vec};
-use crate::rl_reading::digit_rows::is_negative;
+use crate::rl_reading::digit_runs::is_negative;
 use crate::rl_reading::found::found_in;
 use crate::rl_reading::{Found, find_float, numeral_into};
 use crate::rl_tokens::{Error, Kind};

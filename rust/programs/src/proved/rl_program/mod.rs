@@ -3,11 +3,11 @@
 //! ends.
 
 mod ending;
-mod fault;
+mod program_error;
 mod rejection;
 mod streams;
 
 pub use crate::rl_program::ending::{Ending, RunError, arguments, finish};
-pub use crate::rl_program::fault::Fault;
-pub use crate::rl_program::rejection::Refusal;
+pub use crate::rl_program::program_error::ProgramError;
+pub use crate::rl_program::rejection::Rejection;
 pub use crate::rl_program::streams::{WriteError, read_whole, text_of, write_bytes, write_whole};

@@ -6,9 +6,9 @@ use crate::rattle_std::alloc::{Allocator, Global};
 use crate::rattle_std::fmt;
 
 /// A borrowed error, displayed as the programs report it: its place in bytes, and its message.
-pub struct Refusal<'a, A: Allocator = Global>(pub &'a Error<A>);
+pub struct Rejection<'a, A: Allocator = Global>(pub &'a Error<A>);
 
-impl<A: Allocator> fmt::Display for Refusal<'_, A> {
+impl<A: Allocator> fmt::Display for Rejection<'_, A> {
     fn fmt(&self, f: &mut fmt::Formatter<'_>) -> fmt::Result {
         let error = self.0;
         let lo = error.span.lo;

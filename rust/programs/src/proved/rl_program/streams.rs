@@ -2,7 +2,7 @@
 //! Reading a whole input, its text, and writing whole lines.
 
 use crate::rattle_std::prelude::{Vec, prove};
-use crate::rl_program::fault::Fault;
+use crate::rl_program::program_error::ProgramError;
 use crate::rattle_std::alloc::Allocator;
 use crate::rattle_std::io::{ErrorKind, Read, Write};
 
@@ -21,7 +21,10 @@ const _: () = prove!(TURNS == 4_294_967_295);
 ///
 /// `Read` where a call of the reader failed or the turns brought no end, `Memory` where an
 /// allocation failed.
-pub fn read_whole<A: Allocator, R: Read>(alloc: A, input: &mut R) -> Result<Vec<u8, A>, Fault<A>> {
+pub fn read_whole<A: Allocator, R: Read>(
+    alloc: A,
+    input: &mut R,
+) -> Result<Vec<u8, A>, ProgramError<A>> {
     let mut bytes = Vec::new(alloc);
     let mut turn = [0_u8; TURN];
     for _ in 0..TURNS {
@@ -29,13 +32,13 @@ pub fn read_whole<A: Allocator, R: Read>(alloc: A, input: &mut R) -> Result<Vec<
             Ok(0) => return Ok(bytes),
             Ok(count) => {
                 if bytes.extend_from_slice(&turn[..count]).is_err() {
-                    return Err(Fault::Memory);
+                    return Err(ProgramError::Memory);
                 }
             }
-            Err(_) => return Err(Fault::Read),
+            Err(_) => return Err(ProgramError::Read),
         }
     }
-    Err(Fault::Read)
+    Err(ProgramError::Read)
 }
 
 /// The text of the bytes.
@@ -43,10 +46,10 @@ pub fn read_whole<A: Allocator, R: Read>(alloc: A, input: &mut R) -> Result<Vec<
 /// # Errors
 ///
 /// `NotText` where they aren't UTF-8.
-pub fn text_of<A: Allocator>(bytes: &[u8]) -> Result<&str, Fault<A>> {
+pub fn text_of<A: Allocator>(bytes: &[u8]) -> Result<&str, ProgramError<A>> {
     match crate::rattle_std::str::from_utf8(bytes) {
         Ok(text) => Ok(text),
-        Err(_) => Err(Fault::NotText),
+        Err(_) => Err(ProgramError::NotText),
     }
 }
 
@@ -89,9 +92,9 @@ pub fn write_bytes<W: Write>(out: &mut W, bytes: &[u8]) -> Result<(), WriteError
 /// # Errors
 ///
 /// `Write` where a call of the writer failed. A beginning of the bytes may have been written then.
-pub fn write_whole<A: Allocator, W: Write>(out: &mut W, bytes: &[u8]) -> Result<(), Fault<A>> {
+pub fn write_whole<A: Allocator, W: Write>(out: &mut W, bytes: &[u8]) -> Result<(), ProgramError<A>> {
     match write_bytes(out, bytes) {
         Ok(()) => Ok(()),
-        Err(_) => Err(Fault::Write),
+        Err(_) => Err(ProgramError::Write),
     }
 }

@@ -92,7 +92,7 @@ impl<A: Allocator> LitStr<A> {
     }
 
     /// Rejects a suffix.
-    fn refuse_suffix<B: Allocator>(&self, alloc: B) -> Result<(), Error<B>> {
+    fn reject_suffix<B: Allocator>(&self, alloc: B) -> Result<(), Error<B>> {
         let suffix = self.suffix();
         if suffix.is_empty() {
             return Ok(());
@@ -140,7 +140,7 @@ impl<A: Allocator> LitStr<A> {
         P: Drop,
         P::Output: Drop, {
         let parsed = self.parse_whole(placing, alloc, parser)?;
-        self.refuse_suffix(alloc)?;
+        self.reject_suffix(alloc)?;
         Ok(parsed)
     }
 

@@ -134,7 +134,7 @@ pub(crate) fn scan_text<A: Allocator + Copy>(
             lines,
             error: Some((place, kind)),
         }),
-        Err(ScanError::Fault(_)) => Err(AllocError),
+        Err(ScanError::Program(_)) => Err(AllocError),
     }
 }
 

@@ -5,7 +5,7 @@ use crate::rattle_std::prelude::{String, Vec};
 use crate::rl_lexer::LexError;
 use crate::rattle_std::alloc::{Allocator, Global};
 
-/// Which literals inside of macro calls, macros' definitions and attributes are written anew: a macro may see how they are written.
+/// Which literals inside of macro calls, `macro_rules!` and attributes are written anew: a macro may see how they are written.
 #[derive(Clone, Copy)]
 pub enum Macros {
     /// None.

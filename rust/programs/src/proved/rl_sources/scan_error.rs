@@ -2,7 +2,7 @@
 //! Why a scan ends before the end of the source.
 
 use crate::rl_output::Place;
-use crate::rl_program::{Fault, RunError};
+use crate::rl_program::{ProgramError, RunError};
 use crate::rl_tokens::LexKind;
 use crate::rattle_std::alloc::{Allocator, Global};
 use crate::rattle_std::fmt;
@@ -10,7 +10,7 @@ use crate::rattle_std::fmt;
 /// Why a scan ended before the end of the source.
 pub enum ScanError<A: Allocator = Global> {
     /// An allocation or a write failed; in a run also a read, or the input isn't UTF-8.
-    Fault(Fault<A>),
+    Program(ProgramError<A>),
     /// An error of the source, at a place: a quote or a comment that isn't closed, or a stray
     /// character where one ends the source.
     Source(Place, LexKind),
@@ -20,7 +20,7 @@ pub enum ScanError<A: Allocator = Global> {
 impl<A: Allocator> RunError for ScanError<A> {
     fn status(&self) -> u8 {
         match self {
-            ScanError::Fault(fault) => fault.status(),
+            ScanError::Program(error) => error.status(),
             ScanError::Source(_, _) => 1,
         }
     }
@@ -30,7 +30,7 @@ impl<A: Allocator> RunError for ScanError<A> {
 impl<A: Allocator> fmt::Display for ScanError<A> {
     fn fmt(&self, f: &mut fmt::Formatter<'_>) -> fmt::Result {
         match self {
-            ScanError::Fault(fault) => write!(f, "{fault}"),
+            ScanError::Program(error) => write!(f, "{error}"),
             ScanError::Source(place, kind) => write!(f, "error at {place}: {kind}"),
         }
     }

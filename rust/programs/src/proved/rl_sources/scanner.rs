@@ -7,7 +7,7 @@ use crate::rl_sources::options::{Options, Shown};
 use crate::rl_sources::scan_error::ScanError;
 use crate::rl_sources::step::{Step, gather};
 use crate::rl_output::Places;
-use crate::rl_program::{Fault, write_whole};
+use crate::rl_program::{ProgramError, write_whole};
 use crate::rl_tokens::Sources;
 use crate::rattle_std::alloc::Allocator;
 use crate::rattle_std::io::Write;
@@ -30,11 +30,11 @@ fn scan_tokens<A: Allocator + Copy, W: Write>(
     let mut any = false;
     loop {
         let Ok(step) = gather(alloc, options, &mut tokens, &mut places, &mut lines) else {
-            return Err(ScanError::Fault(Fault::Memory));
+            return Err(ScanError::Program(ProgramError::Memory));
         };
         match write_whole(out, lines.as_bytes()) {
             Ok(()) => {}
-            Err(fault) => return Err(ScanError::Fault(fault)),
+            Err(error) => return Err(ScanError::Program(error)),
         }
         any = is_any(any, lines.as_bytes());
         lines.clear();
@@ -54,12 +54,12 @@ fn scan_hidden<A: Allocator + Copy, W: Write>(
     out: &mut W,
 ) -> Result<bool, ScanError<A>> {
     let Ok(lines) = hidden_lines(alloc, &options, text) else {
-        return Err(ScanError::Fault(Fault::Memory));
+        return Err(ScanError::Program(ProgramError::Memory));
     };
     let written = write_whole(out, lines.as_bytes());
     match written {
         Ok(()) => Ok(!lines.as_bytes().is_empty()),
-        Err(fault) => Err(ScanError::Fault(fault)),
+        Err(error) => Err(ScanError::Program(error)),
     }
 }
 

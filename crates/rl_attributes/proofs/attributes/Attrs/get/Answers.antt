@@ -2,8 +2,8 @@ use Rattle.std.proofs.Common.{length, arith, ap, sym}
 use Rattle.rl_attributes.proofs.EntryLemmas.{is_name, no_name, value_lent, none_more}
 use Rattle.rl_attributes.proofs.attributes.Attrs.get.Goals as goal
 
-pub returns-then-eq-clause-lent : goal.returns-then-eq-clause-lent
-returns-then-eq-clause-lent g c =
+pub returns-then-eq-clause-borrowed : goal.returns-then-eq-clause-borrowed
+returns-then-eq-clause-borrowed g c =
     value_lent c.args.self.now.entries.items c.args.name.now c.loop-entry.entry-index c.entry-item.result
     c.args.self.now.differ (omega (arith, ap length c.entries-entry-items.ensures.entries))
     (rw c.entries-entry-items.ensures.entries at c.entry-item.is)
@@ -28,6 +28,6 @@ loop-entry-preserved g c =
     (no_name _ c.as_str.result.now c.args.name.now c.eq.result c.as_str.ensures.value c.eq.ensures c.if-eq.false)
     c.loop-entry.invariant
 
-pub returns-clause-lent : goal.returns-clause-lent
-returns-clause-lent g c = λ k d h. c.loop-entry.invariant k d
+pub returns-clause-borrowed : goal.returns-clause-borrowed
+returns-clause-borrowed g c = λ k d h. c.loop-entry.invariant k d
     (omega (arith, ap length c.entries-entry-items.ensures.entries))

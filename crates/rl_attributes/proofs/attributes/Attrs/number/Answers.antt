@@ -7,4 +7,4 @@ pub returns-in-Err-clause-rejected : goal.returns-in-Err-clause-rejected
 returns-in-Err-clause-rejected g c =
     value_rejected (entries_of c.args.self.now) c.args.setting.name.now c.in-Some.value.now
     (λ l. RejectsNumber g.N.FromStr.from_str_gives g.N.Err.Display.output c.args.setting l c.in-Err.error)
-    c.in-Some.ensures.named c.in-Some.ensures.lent c.in-Err.ensures.rejected
+    c.in-Some.ensures.named c.in-Some.ensures.borrowed c.in-Err.ensures.rejected

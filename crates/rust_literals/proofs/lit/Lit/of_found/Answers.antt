@@ -3,10 +3,10 @@ use Rattle.std.proofs.Common.{ap, inl, inr, sym, ◌∙◌}
 use Rattle.rust_literals.proofs.LitLemmas.{found_as, found_lent, on_err, read_truth, some_found}
 use Rattle.rust_literals.proofs.lit.Lit.of_found.Goals as goal
 
-pub returns-in_err-of_found-in-Int-clause-lent : goal.returns-in_err-of_found-in-Int-clause-lent
-returns-in_err-of_found-in-Int-clause-lent g c =
+pub returns-in_err-of_found-in-Int-clause-borrowed : goal.returns-in_err-of_found-in-Int-clause-borrowed
+returns-in_err-of_found-in-Int-clause-borrowed g c =
     on_err _ _ (found_lent Int c.args.token.text c.in-Some.found (some_found _ _ _ c.in-Some.is c.requires.found)
-    c.in-Int.is c.in_err-of_found-in-Int.ensures.lent)
+    c.in-Int.is c.in_err-of_found-in-Int.ensures.borrowed)
 
 pub returns-in_ok-of_found-in-Float-clause-reads : goal.returns-in_ok-of_found-in-Float-clause-reads
 returns-in_ok-of_found-in-Float-clause-reads g c = (
@@ -19,10 +19,10 @@ pub returns-in_err-of_found-in-Float-clause-numbers_alone : goal.returns-in_err-
 returns-in_err-of_found-in-Float-clause-numbers_alone g c =
     on_err _ _ (inr (found_as Float c.args.token.text _ c.in-Some.found c.in-Some.is c.requires.found c.in-Float.is))
 
-pub returns-in_err-of_found-in-Float-clause-lent : goal.returns-in_err-of_found-in-Float-clause-lent
-returns-in_err-of_found-in-Float-clause-lent g c =
+pub returns-in_err-of_found-in-Float-clause-borrowed : goal.returns-in_err-of_found-in-Float-clause-borrowed
+returns-in_err-of_found-in-Float-clause-borrowed g c =
     on_err _ _ (found_lent Float c.args.token.text c.in-Some.found (some_found _ _ _ c.in-Some.is c.requires.found)
-    c.in-Float.is c.in_err-of_found-in-Float.ensures.lent)
+    c.in-Float.is c.in_err-of_found-in-Float.ensures.borrowed)
 
 pub returns-in-Bool-clause-reads : goal.returns-in-Bool-clause-reads
 returns-in-Bool-clause-reads g c =

@@ -1,16 +1,16 @@
 use Rattle.std.specs.Str.{chars}
 use Rattle.rust_literals.proofs.LitLemmas.{on_ok}
-use Rattle.rust_literals.proofs.HeldLemmas.{no_number_plain, no_number_refused, memory_refused}
+use Rattle.rust_literals.proofs.HeldLemmas.{no_number_plain, no_number_rejected, memory_rejected}
 use Rattle.rust_literals.proofs.number.Number.from_token.Goals as goal
 
-pub returns-in-Err-clause-lent : goal.returns-in-Err-clause-lent
-returns-in-Err-clause-lent g c =
+pub returns-in-Err-clause-borrowed : goal.returns-in-Err-clause-borrowed
+returns-in-Err-clause-borrowed g c =
     no_number_plain g.K.NumberKind.KIND c.args.token.text c.in-Err.kind (rw c.text.ensures at c.in-Err.ensures.err)
 
 pub returns-in-Err-clause-err : goal.returns-in-Err-clause-err
 returns-in-Err-clause-err g c = (
   c.span.ensures,
-  no_number_refused g.K.NumberKind.KIND (chars c.args.token.text) c.in-Err.kind
+  no_number_rejected g.K.NumberKind.KIND (chars c.args.token.text) c.in-Err.kind
       (rw c.text.ensures at c.in-Err.ensures.err),
 )
 
@@ -22,5 +22,5 @@ returns-in-Ok-clause-reads g c = on_ok c.of_found.result _ c.of_found.ensures.nu
 
 pub returns-in-Ok-clause-err : goal.returns-in-Ok-clause-err
 returns-in-Ok-clause-err g c =
-    memory_refused g.K.NumberKind.KIND (chars c.args.token.text) c.args.token.span c.of_found.result
+    memory_rejected g.K.NumberKind.KIND (chars c.args.token.text) c.args.token.span c.of_found.result
     c.of_found.ensures.memory c.of_found.ensures.number

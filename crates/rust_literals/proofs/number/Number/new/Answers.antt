@@ -1,6 +1,6 @@
 use Rattle.rl_text.proofs.Common.{ap, chars, refl, ◌∙◌}
 use Rattle.rl_tokens.specs.Errors.{memory_at}
-use Rattle.rust_literals.proofs.HeldLemmas.{found_number, wants_memory, no_number_refused}
+use Rattle.rust_literals.proofs.HeldLemmas.{found_number, wants_memory, no_number_rejected}
 use Rattle.rust_literals.proofs.number.Number.new.Goals as goal
 
 pub returns-in-Err-from_text-clause-err : goal.returns-in-Err-from_text-clause-err
@@ -14,7 +14,7 @@ returns-in-Err-from_text-clause-err g c =
 pub returns-in-Err-clause-err : goal.returns-in-Err-clause-err
 returns-in-Err-clause-err g c = (
   refl,
-  no_number_refused g.K.NumberKind.KIND (chars c.args.repr.now) c.in-Err.kind
+  no_number_rejected g.K.NumberKind.KIND (chars c.args.repr.now) c.in-Err.kind
       c.in-Err.ensures.err,
 )
 

@@ -10,8 +10,8 @@ use crate::rattle_std::str::FromStr;
 
 /// A number type's error in its own words, reported at a span; an allocation failure for the words
 /// is reported there too.
-fn reported<F: Display, B: Allocator>(alloc: B, fault: &F, span: Span) -> Error<B> {
-    match format!(in alloc; "{fault}") {
+fn reported<F: Display, B: Allocator>(alloc: B, error: &F, span: Span) -> Error<B> {
+    match format!(in alloc; "{error}") {
         Ok(words) => Error {
             span,
             kind: ErrorKind::Number(words),
@@ -33,7 +33,7 @@ impl<K: NumberKind, A: Allocator> Number<K, A> {
         N::Err: Display + Drop, {
         match N::from_str(self.base10_digits()) {
             Ok(number) => Ok(number),
-            Err(fault) => Err(reported(alloc, &fault, self.span())),
+            Err(error) => Err(reported(alloc, &error, self.span())),
         }
     }
 }

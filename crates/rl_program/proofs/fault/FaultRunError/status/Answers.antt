@@ -1,5 +1,0 @@
-use Rattle.std.proofs.Common.{rules}
-use Rattle.rl_program.proofs.fault.FaultRunError.status.Goals as goal
-
-pub returns-in_default : goal.returns-in_default
-returns-in_default g c = search rules steps 300000
