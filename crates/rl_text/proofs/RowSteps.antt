@@ -1,4 +1,4 @@
--- One character more of a run, by the loops that go over it.
+-- One character more of a row, by the loops that go over it.
 use Rattle.rl_text.proofs.Common.{◌≡◌, ℕ, Bool, true, cond, List, ◌∷◌, sym, ◌∙◌, ap}
 use Rattle.rl_text.specs.Classes.{after_run}
 

@@ -13,7 +13,7 @@ returns-then-this-ne0 g c =
     (joined _ _ _ v (zip2_splat {Y = ℕ} bit_or v 16 32 long) (splat_is v 16 97 long)))
     (joined (λ a b. cond (leb a b) 255 0) _ _ v (splat_is v 16 10 long) (zip2_splat {Y = ℕ} _ v 16 48 long)))
     (zip2_splat {Y = ℕ} _ v 16 95 long)) refl
-    ∙ ap (λ b. mask_l (map (ends_run (not b)) v)) (sym (ne_eqb g.run.WORD 0 c.if-this-ne0.true))
+    ∙ ap (λ b. mask_l (map (ends_run (not b)) v)) (sym (ne_eqb g.row.WORD 0 c.if-this-ne0.true))
 
 pub returns-else-this-ne0 : goal.returns-else-this-ne0
 returns-else-this-ne0 g c =
@@ -22,4 +22,4 @@ returns-else-this-ne0 g c =
     masked_as (ends_run false) c.args.bytes.now c.args.at 16 _ c.requires (omega arith) c.type_inv.bytes
     (joined _ _ _ v (joined (λ a b. cond (leb a b) 255 0) _ _ v (splat_is v 16 5 long)
     (zip2_splat {Y = ℕ} _ v 16 9 long)) (zip2_splat {Y = ℕ} _ v 16 32 long)) refl
-    ∙ ap (λ b. mask_l (map (ends_run (not b)) v)) (sym (eq-eqb g.run.WORD 0 c.if-this-ne0.false))
+    ∙ ap (λ b. mask_l (map (ends_run (not b)) v)) (sym (eq-eqb g.row.WORD 0 c.if-this-ne0.false))

@@ -7,12 +7,12 @@ use Rattle.rl_text.proofs.lanes.run_end.Goals as goal
 pub returns-then-found-ne0 : goal.returns-then-found-ne0
 returns-then-found-ne0 g c =
     let found = c.ends_among-found in
-    let run = run_stops _ (is_held (said g.run.WORD)) (ends_opposite (said g.run.WORD)) c.args.bytes.now c.loop-at.at 16
+    let run = run_stops _ (is_held (said g.row.WORD)) (ends_opposite (said g.row.WORD)) c.args.bytes.now c.loop-at.at 16
     (omega arith) (omega arith) (omega (arith, found.ensures)) ∙ ap (count_trailing_zeros 64) (sym found.ensures) in
     omega (arith, run, c.loop-at.invariant.run)
 
 pub loop-at-preserved : goal.loop-at-preserved
 loop-at-preserved g c =
-    let run = run_through _ (is_held (said g.run.WORD)) (ends_opposite (said g.run.WORD)) c.args.bytes.now c.loop-at.at
+    let run = run_through _ (is_held (said g.row.WORD)) (ends_opposite (said g.row.WORD)) c.args.bytes.now c.loop-at.at
     16 (omega arith) (omega (arith, c.ends_among-found.ensures)) in
     record { run = omega (arith, run, c.loop-at.invariant.run); in_range = omega arith }

@@ -5,8 +5,8 @@ use Rattle.rl_text.proofs.lanes.run_end_slowly.Given as goal
 
 abbrev pub invariant-loop-at : goal.invariant-loop-at
 invariant-loop-at g l = record {
-  run : l.from + prefix_len (is_held (said g.run.WORD)) (drop l.from l.bytes)
-      ≡ l.at + prefix_len (is_held (said g.run.WORD)) (drop l.at l.bytes);
+  run : l.from + prefix_len (is_held (said g.row.WORD)) (drop l.from l.bytes)
+      ≡ l.at + prefix_len (is_held (said g.row.WORD)) (drop l.at l.bytes);
   in_range : l.at ≤ length l.bytes;
 }
 

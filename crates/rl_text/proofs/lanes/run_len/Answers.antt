@@ -7,6 +7,6 @@ use Rattle.rl_text.proofs.lanes.run_len.Goals as goal
 pub returns-then-found-ne0 : goal.returns-then-found-ne0
 returns-then-found-ne0 g c =
     let found = c.ends_among-found in
-    let run = run_stops _ (is_held (said g.run.WORD)) (ends_opposite (said g.run.WORD)) c.args.bytes.now 0 16
+    let run = run_stops _ (is_held (said g.row.WORD)) (ends_opposite (said g.row.WORD)) c.args.bytes.now 0 16
     (omega arith) (omega arith) (omega (arith, found.ensures)) ∙ ap (count_trailing_zeros 64) (sym found.ensures) in
     omega (arith, run)

@@ -6,13 +6,13 @@ use Rattle.rl_text.proofs.scan.stop_by.Goals as goal
 pub returns-then-found-ne0 : goal.returns-then-found-ne0
 returns-then-found-ne0 g c =
     let found = c.stops_among-found in
-    let run = run_stops _ (goes_on (said g.run.HIGH) c.args.marks) (stops_opposite (said g.run.HIGH) c.args.marks)
-    c.args.bytes.now c.loop-at.at g.run.N (omega arith) (omega arith) (omega (arith, found.ensures))
+    let run = run_stops _ (goes_on (said g.row.HIGH) c.args.marks) (stops_opposite (said g.row.HIGH) c.args.marks)
+    c.args.bytes.now c.loop-at.at g.row.N (omega arith) (omega arith) (omega (arith, found.ensures))
     ∙ ap (count_trailing_zeros 64) (sym found.ensures) in
     omega (arith, run, c.loop-at.invariant.run)
 
 pub loop-at-preserved : goal.loop-at-preserved
 loop-at-preserved g c =
-    let run = run_through _ (goes_on (said g.run.HIGH) c.args.marks) (stops_opposite (said g.run.HIGH) c.args.marks)
-    c.args.bytes.now c.loop-at.at g.run.N (omega arith) (omega (arith, c.stops_among-found.ensures)) in
+    let run = run_through _ (goes_on (said g.row.HIGH) c.args.marks) (stops_opposite (said g.row.HIGH) c.args.marks)
+    c.args.bytes.now c.loop-at.at g.row.N (omega arith) (omega (arith, c.stops_among-found.ensures)) in
     record { run = omega (arith, run, c.loop-at.invariant.run); in_range = omega arith }

@@ -5,8 +5,8 @@ use Rattle.rl_text.proofs.scan.stop_slowly.Given as goal
 
 abbrev pub invariant-loop-at : goal.invariant-loop-at
 invariant-loop-at g l = record {
-  run : l.from + prefix_len (goes_on (said g.run.HIGH) l.marks) (drop l.from l.bytes)
-      ≡ l.at + prefix_len (goes_on (said g.run.HIGH) l.marks) (drop l.at l.bytes);
+  run : l.from + prefix_len (goes_on (said g.row.HIGH) l.marks) (drop l.from l.bytes)
+      ≡ l.at + prefix_len (goes_on (said g.row.HIGH) l.marks) (drop l.at l.bytes);
   in_range : l.at ≤ length l.bytes;
 }
 
