@@ -348,12 +348,12 @@ dot_float t x d f v s is_d each_f e no_exponent =
 pub record IsPower (e : List ℕ) : Type 0 where
   pub letter : ℕ
   pub sign : List ℕ
-  pub row : List ℕ
+  pub run : List ℕ
   pub is_letter : is_exponent_letter letter ≡ true
   pub is_sign : (sign ≡ []) ⊎ ((sign ≡ 43 ∷ []) ⊎ (sign ≡ 45 ∷ []))
-  pub each : list_all (is_run_part (is_digit Decimal)) row ≡ true
-  pub some : list_any is_ascii_digit row ≡ true
-  pub text_is : e ≡ letter ∷ (sign ++ row)
+  pub each : list_all (is_run_part (is_digit Decimal)) run ≡ true
+  pub some : list_any is_ascii_digit run ≡ true
+  pub text_is : e ≡ letter ∷ (sign ++ run)
 
 power_of : (e : List ℕ) → IsStrictExponent e → IsPower e
 power_of e s = record { letter = s.letter; sign = s.sign; run = s.run; is_letter = s.is_letter; is_sign = s.is_sign; each = digits_part s.run s.each; some = s.some; text_is = s.text }

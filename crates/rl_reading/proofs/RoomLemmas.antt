@@ -30,7 +30,7 @@ row_room kind text rest v bytes row are ut ur =
 -- so many bytes stand in the buffer, those of the units that were passed, and the rest has room after them
 pub record IsFilled (kind : Kind) (text rest out : List ℕ) (at : ℕ) : Type 0 where
   pub value : List ℕ
-  pub row : BeginsRun kind (chars text) value (chars rest)
+  pub run : BeginsRun kind (chars text) value (chars rest)
   pub bytes : take at out ≡ in_bytes kind value
   pub room : at + length rest ≤ length text
 

@@ -31,7 +31,7 @@ pub record UnitInFront (kind : Kind) (t v r : List ℕ) : Type 0 where
   pub text_is : t ≡ unit_text unit ++ r
   pub value_is : v ≡ unit_value kind unit
   pub others : List QuotedUnit
-  pub row : IsUnitRun kind r others
+  pub run : IsUnitRun kind r others
 
 pub row_front : (kind : Kind) (t : List ℕ) (us : List QuotedUnit) (p : List ℕ × List ℕ) → IsUnitRun kind t us
     → unit_at kind t ≡ Some p → UnitInFront kind t p.0 p.1
