@@ -127,21 +127,10 @@ pub fn default_style() -> Style
     ensures { result ≡ default_settings }
 {
     Style {
-        hex_digits: None,
-        underscores: false,
-        leading_zeros: false,
-        suffix_separator: None,
-        digit_groups: None,
         float_zero: true,
         exponent_letter: Some(Case::Lower),
-        exponent_plus: false,
-        escape_digits: None,
-        code_digits: false,
-        ascii_escapes: false,
-        named_escapes: false,
         quote_escapes: true,
         raw_hashes: true,
-        raw: false,
-        hidden: false,
+        ..Style::KEEP
     }
 }

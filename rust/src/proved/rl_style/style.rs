@@ -31,7 +31,8 @@ pub struct DigitGroups {
     pub least: usize,
 }
 
-/// How literals are written anew: each field is a rule by itself. With `None` and `false` it changes nothing.
+/// How literals are written anew: each field is a rule by itself. With `None` and `false`, as in [`Style::KEEP`], it changes
+/// nothing.
 #[derive(Clone, Copy)]
 pub struct Style {
     /// The case of an integer's digits after `0x`.
@@ -76,4 +77,26 @@ pub struct Style {
     /// what turns the direction of text or has no width, as `\u{202e}`. A raw string that holds one is then one with escapes, with
     /// the same exception.
     pub hidden: bool,
+}
+
+impl Style {
+    /// Changes nothing.
+    pub const KEEP: Style = Style {
+        hex_digits: None,
+        underscores: false,
+        leading_zeros: false,
+        suffix_separator: None,
+        digit_groups: None,
+        float_zero: false,
+        exponent_letter: None,
+        exponent_plus: false,
+        escape_digits: None,
+        code_digits: false,
+        ascii_escapes: false,
+        named_escapes: false,
+        quote_escapes: false,
+        raw_hashes: false,
+        raw: false,
+        hidden: false,
+    };
 }

@@ -103,21 +103,10 @@ pub fn style_of(text: &str) -> Result<Style, StyleError> {
 /// exponents, and a zero after a dot at a float's end.
 pub fn default_style() -> Style {
     Style {
-        hex_digits: None,
-        underscores: false,
-        leading_zeros: false,
-        suffix_separator: None,
-        digit_groups: None,
         float_zero: true,
         exponent_letter: Some(Case::Lower),
-        exponent_plus: false,
-        escape_digits: None,
-        code_digits: false,
-        ascii_escapes: false,
-        named_escapes: false,
         quote_escapes: true,
         raw_hashes: true,
-        raw: false,
-        hidden: false,
+        ..Style::KEEP
     }
 }
