@@ -5,9 +5,9 @@ import sys
 from measure import build, counts
 
 OURS = (
-    'package', 'shape', 'lent', 'value', 'literal', 'segments', 'tokens', 'lex', 'read', 'attr', 'source', 'next_literal', 'rl_scan')
+    'package', 'shape', 'lent', 'value', 'literal', 'segments', 'tokens', 'lex', 'read', 'attr', 'source', 'next_literal', 'restylables', 'rl_scan')
 COLOURS = {True: '#2f6db3', False: '#d98a2b'}
-OF_SOURCES = ('source', 'next_literal', 'rl_scan')
+OF_SOURCES = ('source', 'next_literal', 'restylables', 'rl_scan')
 BESIDE = (
     (('package', 'shape', 'lent', 'value', 'literal'), ('litrs, lent', 'litrs', 'syn')),
     (('tokens', 'lex', 'read', 'attr'),

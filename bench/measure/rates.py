@@ -16,6 +16,7 @@ Rate = collections.namedtuple('Rate', 'bytes seconds')
 WORKS = {
     'source': 'the cursor `Sources`: cuts off every token',
     'next_literal': 'the cursor `Sources::next_literal`: cuts off each literal',
+    'restylables': 'the cursor `Restylables`: each literal, and whether it stands in a macro call',
     'package': 'the package, `source`: cuts off each literal and reads it',
     'rl_scan': 'the program: reads each literal and prints its line',
     "rustc's lexer": 'cuts off every token, white space and comments too (of `rust-src`)',

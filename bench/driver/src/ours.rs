@@ -21,6 +21,7 @@ extern "C" {
     fn rl_bench_source(bytes: *const u8, len: usize, ends: *const usize, count: usize) -> u64;
     fn rl_bench_next_literal(bytes: *const u8, len: usize, ends: *const usize, count: usize)
         -> u64;
+    fn rl_bench_restylables(bytes: *const u8, len: usize, ends: *const usize, count: usize) -> u64;
     fn rl_bench_lex(b: *const u8, n: usize, e: *const usize, m: usize, sum: &mut u64) -> bool;
     fn rl_bench_read(b: *const u8, n: usize, e: *const usize, m: usize, sum: &mut u64) -> bool;
     fn rl_bench_attr(b: *const u8, n: usize, e: *const usize, m: usize, sum: &mut u64) -> bool;
@@ -86,6 +87,10 @@ pub fn next_literal(corpus: &Corpus) -> u64 {
     call_certain(rl_bench_next_literal, corpus)
 }
 
+pub fn restylables(corpus: &Corpus) -> u64 {
+    call_certain(rl_bench_restylables, corpus)
+}
+
 pub fn lex(corpus: &Corpus) -> u64 {
     call(rl_bench_lex, corpus)
 }
@@ -122,6 +127,7 @@ const OF_ATTRIBUTES: &[Work] = &[
 const OF_SOURCES: &[Work] = &[
     ours("source", Sum::Cuts, source),
     ours("next_literal", Sum::SourceLiterals, next_literal),
+    ours("restylables", Sum::Restylables, restylables),
 ];
 
 const OF_HOSTILE: &[Work] = &[

@@ -18,6 +18,7 @@ pub enum Sum {
     Literals,
     Attributes,
     SourceLiterals,
+    Restylables,
     RustTokens,
     Bytes,
 }

@@ -20,7 +20,7 @@ use crate::lent::ByLent;
 use crate::lists::{ByAttributes, ByList, ByTrees};
 use crate::literals::ByLiteral;
 use crate::segments::BySegments;
-use crate::sources::{BySourceLiterals, BySources};
+use crate::sources::{ByRestylables, BySourceLiterals, BySources};
 use crate::sums::sum;
 use crate::tokens::ByTokens;
 use crate::value_refs::ByValueRef;
@@ -111,6 +111,12 @@ pub extern "C" fn rl_bench_source(alloc: Global, corpus: &[u8], ends: &[usize]) 
 #[unsafe(no_mangle)]
 pub extern "C" fn rl_bench_next_literal(alloc: Global, corpus: &[u8], ends: &[usize]) -> u64 {
     certain(sum::<BySourceLiterals>(alloc, corpus, ends))
+}
+
+/// How many literals of the texts as whole sources may be written anew outside of macro calls. It takes no memory.
+#[unsafe(no_mangle)]
+pub extern "C" fn rl_bench_restylables(alloc: Global, corpus: &[u8], ends: &[usize]) -> u64 {
+    certain(sum::<ByRestylables>(alloc, corpus, ends))
 }
 
 /// Puts into `total` how many trees the texts are cut into, a group counted as one; a text that has

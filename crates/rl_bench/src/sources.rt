@@ -1,6 +1,7 @@
-//! How many tokens whole sources are cut into, and how many literals stand in them.
+//! How many tokens whole sources are cut into, and how many literals stand in them, those in macro calls apart.
 
 use crate::sums::Weigh;
+use rl_style::Restylables;
 use rl_tokens::Sources;
 use std::alloc::Global;
 use std::convert::Infallible;
@@ -44,5 +45,28 @@ impl Weigh for BySourceLiterals {
 
     fn weigh(_alloc: Global, text: &str) -> Result<u64, Infallible> {
         Ok(literal_count(text))
+    }
+}
+
+/// How many literals of the source may be written anew outside of macro calls, fields aside.
+fn restylable_count(text: &str) -> u64 {
+    let mut literals = Restylables::new(text);
+    let mut count = 0_u64;
+    while let Some(literal) = literals.next() {
+        if !literal.is_field && !literal.in_macro {
+            count = count.wrapping_add(1);
+        }
+    }
+    count
+}
+
+/// By the number of literals of a source that may be written anew.
+pub(crate) struct ByRestylables;
+
+impl Weigh for ByRestylables {
+    type Error = Infallible;
+
+    fn weigh(_alloc: Global, text: &str) -> Result<u64, Infallible> {
+        Ok(restylable_count(text))
     }
 }
