@@ -11,7 +11,7 @@ pub loop-literal-preserved : goal.loop-literal-preserved
 loop-literal-preserved g c =
     let has = c.loop-literal.invariant.has in
     let returned = c.in-Ok-Some.ensures.returns c.args.text.now 0 has.list has.returned in
-    let next = subst (λ (f : Option (Lit g.run.A.Denot)). ReturnsNext c.args.text.now 0 has.list (Ok f) c.next.new.self)
+    let next = subst (λ (f : Option (Lit g.row.A.Denot)). ReturnsNext c.args.text.now 0 has.list (Ok f) c.next.new.self)
     c.in-Ok-Some.field-0-is returned in
     record { has = first_more c.args.text.now c.loop-literal.literals c.next.new.self c.loop-literal.lines c.with_line-lines.result c.in-Ok-Some.literal has next c.with_line-lines.ensures }
 
@@ -19,7 +19,7 @@ pub returns-in-Ok-None-clause-lines : goal.returns-in-Ok-None-clause-lines
 returns-in-Ok-None-clause-lines g c =
     let has = c.loop-literal.invariant.has in
     let returned = c.in-Ok-None.ensures.returns c.args.text.now 0 has.list has.returned in
-    let ended = subst (λ (f : Option (Lit g.run.A.Denot)). ReturnsNext c.args.text.now 0 has.list (Ok f)
+    let ended = subst (λ (f : Option (Lit g.row.A.Denot)). ReturnsNext c.args.text.now 0 has.list (Ok f)
     c.next.new.self) c.in-Ok-None.field-0-is returned in
     (answers c.args.text.now has.list c.loop-literal.lines c.ok_or.result ended.0 has.lines_are
     c.ok_or.ensures.value).lines
@@ -28,7 +28,7 @@ pub returns-in-Ok-None-clause-rejection : goal.returns-in-Ok-None-clause-rejecti
 returns-in-Ok-None-clause-rejection g c =
     let has = c.loop-literal.invariant.has in
     let returned = c.in-Ok-None.ensures.returns c.args.text.now 0 has.list has.returned in
-    let ended = subst (λ (f : Option (Lit g.run.A.Denot)). ReturnsNext c.args.text.now 0 has.list (Ok f)
+    let ended = subst (λ (f : Option (Lit g.row.A.Denot)). ReturnsNext c.args.text.now 0 has.list (Ok f)
     c.next.new.self) c.in-Ok-None.field-0-is returned in
     (answers c.args.text.now has.list c.loop-literal.lines c.ok_or.result ended.0 has.lines_are
     c.ok_or.ensures.value).rejection

@@ -37,7 +37,7 @@ returns-in-End-clause-scans g c =
 pub returns-in-Error-clause-fails : goal.returns-in-Error-clause-fails
 returns-in-Error-clause-fails g c =
     let before = c.loop-step.invariant in
-    writes_up_to g.run.A.Denot c.args.options c.args.text.now (string_bytes c.gather.new.out) c.loop-step.tokens
+    writes_up_to g.row.A.Denot c.args.options c.args.text.now (string_bytes c.gather.new.out) c.loop-step.tokens
     c.gather.new.tokens c.gather.new.places c.in-Error.place c.in-Error.kind c.loop-step.any c.is_any-any.result _ _
     _
     before.text_is before.written (rw c.in-Error.is at c.in-Ok.ensures) (IsUtf8-string_bytes c.gather.new.out)

@@ -9,5 +9,5 @@ use Rattle.rl_tokens.proofs.token.+relocate.Goals as goal
 
 pub Group::relocate-returns : goal.Group::relocate-returns
 Group::relocate-returns g t c =
-    relocated_parts c.args.table.now c.args.self.now (roll-Group g.run.A.Denot
+    relocated_parts c.args.table.now c.args.self.now (roll-Group g.row.A.Denot
     (record { delimiter = c.set_span.new.self.delimiter; stream = c.relocate.new.self; span = c.set_span.new.self.span })) c.set_span.ensures.delimiter (c.set_span.ensures.span ∙ c.looked_up.ensures ∙ ap (λ (s : Span). looked_up c.args.table.now s) c.span-span.ensures) (c.relocate.ensures ∙ ap (λ s. map (relocated c.args.table.now) (stream_view s)) c.set_span.ensures.stream)

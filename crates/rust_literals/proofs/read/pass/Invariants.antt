@@ -7,7 +7,7 @@ use Rattle.rust_literals.proofs.read.pass.Given as goal
 
 abbrev pub invariant-loop : goal.invariant-loop
 invariant-loop g l = record {
-  leads : (passed : List (Lit g.run.A.Denot)) (rest : List Tree) → length passed ≡ l.count
+  leads : (passed : List (Lit g.row.A.Denot)) (rest : List Tree) → length passed ≡ l.count
       → ReadsLiterals (trees_in l.initial.input) passed rest → ReadsLiterals (trees_in l.input) (drop l.counter passed)
       rest;
   scope : scope_of l.input ≡ scope_of l.initial.input;

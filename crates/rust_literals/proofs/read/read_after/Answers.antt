@@ -6,7 +6,7 @@ use Rattle.rust_literals.proofs.read.read_after.Given as given
 use Rattle.rust_literals.proofs.read.read_after.Goals as goal
 
 -- after them the list is empty
-none_more : (g : given.Over) (c : goal.After-read_from g) (first : List (Lit g.run.A.Denot))
+none_more : (g : given.Over) (c : goal.After-read_from g) (first : List (Lit g.row.A.Denot))
     → AreFirst (chars c.args.text.now) c.args.file c.args.count first
     → AreFirst (chars c.args.text.now) c.args.file c.args.count (first ++ c.new.result.items)
 none_more g c first are =

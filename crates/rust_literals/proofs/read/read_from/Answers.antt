@@ -15,7 +15,7 @@ returns-in_err-stream-clause-rejected g c =
     let p = err_from_is_err_and c.from_residual.result c.from_residual.ensures.1 in
     λ gone first. rw (p.1, p.2) (inl c.in_err-stream.ensures.rejected)
 
-led : (g : given.Over) (c : goal.After-drop-stream g) (gone : List (Lit g.run.A.Denot))
+led : (g : given.Over) (c : goal.After-drop-stream g) (gone : List (Lit g.row.A.Denot))
     → AreFirst (chars c.args.text.now) c.args.file c.args.count (gone ++ c.args.list.items)
     → ReadsLiterals (stream_view c.in_ok-stream.stream) (gone ++ c.args.list.items) (trees_in c.pass.new.input)
 led g c gone first =

@@ -7,7 +7,7 @@ use Rattle.rust_literals.proofs.read.read_on.Given as goal
 
 abbrev pub invariant-loop-alloc : goal.invariant-loop-alloc
 invariant-loop-alloc g l = record {
-  leads : (all : List Tree) (gone : List (Lit g.run.A.Denot))
+  leads : (all : List Tree) (gone : List (Lit g.row.A.Denot))
       → ReadsLiterals all (gone ++ l.initial.list.items) (trees_in l.initial.input)
       → ReadsLiterals all (gone ++ l.list.items) (trees_in l.input);
   scope : scope_of l.input ≡ scope_of l.initial.input;

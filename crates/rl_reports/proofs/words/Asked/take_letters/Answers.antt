@@ -6,7 +6,7 @@ use Rattle.rl_reports.proofs.words.Asked.take_letters.Goals as goal
 pub loop-c-init : goal.loop-c-init
 loop-c-init g c = record {
   utf8 = c.utf8.letters;
-  left = letters_begin g.run.A.Denot c.args.has_colors c.args.word.now (wishes_in c.args.self.now) c.args.letters.now
+  left = letters_begin g.row.A.Denot c.args.has_colors c.args.word.now (wishes_in c.args.self.now) c.args.letters.now
       c.args.self.now.next c.requires;
 }
 
@@ -14,14 +14,14 @@ pub split_char-requires-text-text : goal.split_char-requires-text-text
 split_char-requires-text-text g c κs = c.loop-c.invariant.utf8
 
 pub returns-in_default-letter_of-clause-rejected : goal.returns-in_default-letter_of-clause-rejected
-returns-in_default-letter_of-clause-rejected g c = inr (letter_unknown g.run.A.Denot c.args.has_colors
+returns-in_default-letter_of-clause-rejected g c = inr (letter_unknown g.row.A.Denot c.args.has_colors
     c.args.word.now (wishes_in c.args.self.now) c.args.letters.now (wishes_in c.loop-c.self) c.loop-c.self.next
     c.loop-c.rest.now c.in-Some.after.now c.in-Some.c c.in_ok-unknown_letter.field-0 c.in-Some.ensures.bytes
     c.in_default-letter_of.ensures.unknown c.loop-c.invariant.left c.in_ok-unknown_letter.ensures)
 
 pub returns-in-Some-operand_in-clause-letters : goal.returns-in-Some-operand_in-clause-letters
 returns-in-Some-operand_in-clause-letters g c = all_ok c.take_joined.result (λ may taken any. letter_and_text
-    g.run.A.Denot c.args.has_colors c.args.word.now (wishes_in c.args.self.now) c.args.letters.now
+    g.row.A.Denot c.args.has_colors c.args.word.now (wishes_in c.args.self.now) c.args.letters.now
     (wishes_in c.loop-c.self) (wishes_in c.take_joined.new.self) c.loop-c.self.next c.take_joined.new.self.next
     c.loop-c.rest.now c.in-Some.after.now c.in-Some.c c.in-Some-letter_of.flag c.in-Some-operand_in.operand
     c.in-Some.ensures.bytes c.in-Some-letter_of.ensures.known c.in-Some-operand_in.ensures.some.0
@@ -30,14 +30,14 @@ returns-in-Some-operand_in-clause-letters g c = all_ok c.take_joined.result (λ 
 
 pub returns-in-Some-operand_in-clause-rejected : goal.returns-in-Some-operand_in-clause-rejected
 returns-in-Some-operand_in-clause-rejected g c = other_err c.take_joined.result (λ error rejected. inr (text_rejected
-    g.run.A.Denot c.args.has_colors c.args.word.now (wishes_in c.args.self.now) c.args.letters.now
+    g.row.A.Denot c.args.has_colors c.args.word.now (wishes_in c.args.self.now) c.args.letters.now
     (wishes_in c.loop-c.self) c.loop-c.self.next c.loop-c.rest.now c.in-Some.after.now c.in-Some.c
     c.in-Some-letter_of.flag c.in-Some-operand_in.operand error c.in-Some.ensures.bytes
     c.in-Some-letter_of.ensures.known c.in-Some-operand_in.ensures.some.0 c.loop-c.invariant.left rejected))
     c.take_joined.ensures.rejected
 
 pub returns-in-Err-clause-rejected : goal.returns-in-Err-clause-rejected
-returns-in-Err-clause-rejected g c = inr (letter_rejected g.run.A.Denot c.args.has_colors c.args.word.now
+returns-in-Err-clause-rejected g c = inr (letter_rejected g.row.A.Denot c.args.has_colors c.args.word.now
     (wishes_in c.args.self.now) c.args.letters.now (wishes_in c.loop-c.self) c.loop-c.self.next c.loop-c.rest.now
     c.in-Some.after.now c.in-Some.c c.in-Some-letter_of.flag c.in-Err.error c.in-Some.ensures.bytes
     c.in-Some-letter_of.ensures.known c.loop-c.invariant.left c.in-Err.ensures.rejected)
@@ -45,7 +45,7 @@ returns-in-Err-clause-rejected g c = inr (letter_rejected g.run.A.Denot c.args.h
 pub loop-c-preserved : goal.loop-c-preserved
 loop-c-preserved g c = record {
   utf8 = c.in-Some.ensures.following.is_text;
-  left = letter_taken g.run.A.Denot c.args.has_colors c.args.word.now (wishes_in c.args.self.now)
+  left = letter_taken g.row.A.Denot c.args.has_colors c.args.word.now (wishes_in c.args.self.now)
       c.args.letters.now (wishes_in c.loop-c.self) (wishes_in c.take_flag.new.self) c.loop-c.self.next
       c.take_flag.new.self.next c.loop-c.rest.now c.in-Some.after.now c.in-Some.c c.in-Some-letter_of.flag
       c.in-Some.ensures.bytes c.in-Some-letter_of.ensures.known c.in_default-operand_in.ensures.none
@@ -53,6 +53,6 @@ loop-c-preserved g c = record {
 }
 
 pub returns-clause-letters : goal.returns-clause-letters
-returns-clause-letters g c = letters_end g.run.A.Denot c.args.has_colors c.args.word.now
+returns-clause-letters g c = letters_end g.row.A.Denot c.args.has_colors c.args.word.now
     (wishes_in c.args.self.now) c.args.letters.now (wishes_in c.loop-c.self) c.loop-c.self.next c.loop-c.rest.now
     c.in_default.ensures.bytes c.loop-c.invariant.left

@@ -7,7 +7,7 @@ use Rattle.rl_reports.proofs.words.Asked.take_letters.Given as goal
 abbrev pub invariant-loop-c : goal.invariant-loop-c
 invariant-loop-c g l = record {
   utf8 : IsUtf8 l.rest;
-  left : AreLeft g.run.A.Denot l.has_colors l.word (wishes_in l.initial.self) l.letters (wishes_in l.self)
+  left : AreLeft g.row.A.Denot l.has_colors l.word (wishes_in l.initial.self) l.letters (wishes_in l.self)
       l.self.next l.rest;
 }
 

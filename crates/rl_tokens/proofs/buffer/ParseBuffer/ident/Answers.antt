@@ -18,7 +18,7 @@ returns-in-Ident-clause-onward g c = stays_tail _ _ (tree_view c.in_ok-first.fir
 pub returns-in-Ident-clause-taken : goal.returns-in-Ident-clause-taken
 returns-in-Ident-clause-taken g c =
     first_taken c.args.self.now.trees.now c.in_ok-first.rest.now c.in_ok-first.first.now _ c.in_ok-first.ensures.cases.0
-    (ap tree_view c.in-Ident.is ∙ tree_view-ident g.run.A.Denot c.in-Ident.ident)
+    (ap tree_view c.in-Ident.is ∙ tree_view-ident g.row.A.Denot c.in-Ident.ident)
 
 pub returns-in_err-first-clause-other : goal.returns-in_err-first-clause-other
 returns-in_err-first-clause-other g c = grind (arith, common_steps)

@@ -18,7 +18,7 @@ returns-in-Literal-clause-onward g c = stays_tail _ _ (tree_view c.in_ok-first.f
 pub returns-in-Literal-clause-taken : goal.returns-in-Literal-clause-taken
 returns-in-Literal-clause-taken g c =
     first_taken c.args.self.now.trees.now c.in_ok-first.rest.now c.in_ok-first.first.now _ c.in_ok-first.ensures.cases.0
-    (ap tree_view c.in-Literal.is ∙ tree_view-literal g.run.A.Denot c.in-Literal.literal)
+    (ap tree_view c.in-Literal.is ∙ tree_view-literal g.row.A.Denot c.in-Literal.literal)
 
 pub returns-in_err-first-clause-other : goal.returns-in_err-first-clause-other
 returns-in_err-first-clause-other g c = grind (arith, common_steps)

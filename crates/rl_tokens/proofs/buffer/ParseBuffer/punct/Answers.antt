@@ -18,7 +18,7 @@ returns-in-Punct-clause-onward g c = stays_tail _ _ (tree_view c.in_ok-first.fir
 pub returns-in-Punct-clause-taken : goal.returns-in-Punct-clause-taken
 returns-in-Punct-clause-taken g c =
     first_taken c.args.self.now.trees.now c.in_ok-first.rest.now c.in_ok-first.first.now _ c.in_ok-first.ensures.cases.0
-    (ap tree_view c.in-Punct.is ∙ tree_view-punct g.run.A.Denot c.in-Punct.punct)
+    (ap tree_view c.in-Punct.is ∙ tree_view-punct g.row.A.Denot c.in-Punct.punct)
 
 pub returns-in_err-first-clause-other : goal.returns-in_err-first-clause-other
 returns-in_err-first-clause-other g c = grind (arith, common_steps)
