@@ -2,9 +2,10 @@
 
 use crate::error::ListError;
 use crate::rl_style::{may_restyle, Restylable, Restylables};
-use crate::style::{rewrite_after, Style};
+use crate::style::{rewrite_after, rules_after, Style};
 use alloc::borrow::Cow;
 use alloc::string::String;
+use alloc::vec::Vec;
 use core::fmt;
 use core::iter::FusedIterator;
 use core::ops::Range;
@@ -14,6 +15,7 @@ use core::ops::Range;
 pub struct Edit {
     range: Range<usize>,
     text: String,
+    rules: Vec<&'static str>,
 }
 
 impl Edit {
@@ -25,6 +27,21 @@ impl Edit {
     /// Its text in the style.
     pub fn text(&self) -> &str {
         &self.text
+    }
+
+    /// The names of the rules that by themselves write it otherwise, in the order of the setters of [`Style`].
+    ///
+    /// ```
+    /// use navyspindle::{restyle, Case, Style};
+    ///
+    /// let style = Style::new().hex_digits(Case::Lower).drop_underscores(true).float_zero(true);
+    /// let edits: Vec<_> = restyle("[0xA_B, 1.]", style).collect::<Result<_, _>>()?;
+    /// assert_eq!(edits[0].rules(), ["hex_digits", "drop_underscores"]);
+    /// assert_eq!(edits[1].rules(), ["float_zero"]);
+    /// # Ok::<(), navyspindle::ListError>(())
+    /// ```
+    pub fn rules(&self) -> &[&'static str] {
+        &self.rules
     }
 }
 
@@ -44,7 +61,7 @@ pub struct Restyles<'t> {
 /// every source in which each character belongs to a token and each quote holds one character, as in all that rustc takes. These stay as
 /// they are: literals that Rust rejects, strings that hold a CR, numbers after one dot, which may be fields (`t.0`), and all
 /// of a source that begins with an interpreter's line (`#!`, and not `#![`). A macro sees how a literal is written, by `stringify!`, by
-/// an arm of `macro_rules!` that names one, and by `concat!` of floats: to leave what is in macros alone, pass over their edits.
+/// an arm of `macro_rules!` that names one, and by `concat!` of floats: to leave what is in macros alone, say [`Restyles::skip_macros`].
 ///
 /// ```
 /// use navyspindle::{restyle, Case, Style};
@@ -107,10 +124,12 @@ impl<'t> Restyles<'t> {
 
 /// The edit that brings a literal into the style; `None` where it stays as it is.
 fn edit_of(style: Style, source: &str, literal: Restylable<'_>) -> Option<Edit> {
-    match rewrite_after(&source[..literal.token.lo], literal.token.text, style) {
+    let (before, old) = (&source[..literal.token.lo], literal.token.text);
+    match rewrite_after(before, old, style) {
         Ok(Cow::Owned(text)) => Some(Edit {
             range: literal.token.lo..literal.token.hi,
             text,
+            rules: rules_after(before, old, style),
         }),
         _ => None,
     }

@@ -1,7 +1,7 @@
 //! Whole sources in a style.
 #![cfg(all(feature = "sources", feature = "style"))]
 
-use navyspindle::{restyle, source, Case, DigitGroups, Edit, Lit, Style};
+use navyspindle::{restyle, source, Case, DigitGroups, Edit, Lit, Separator, Style};
 use std::borrow::Cow;
 
 const STYLE: Style = Style::new()
@@ -239,4 +239,56 @@ fn raw_strings_stay_after_hashes_and_dots() {
     for text in ["1.r\"a\"", "#r\"a\"", "##r#\"a\"#", "x.r\"\u{202e}\""] {
         assert_eq!(whole(text), text);
     }
+}
+
+/// The names of the rules by which each literal of a text is written anew.
+fn rules(text: &str, style: Style) -> Vec<Vec<&'static str>> {
+    let edits = restyle(text, style).map(|edit| edit.unwrap().rules().to_vec());
+    edits.collect()
+}
+
+#[test]
+fn each_rule_is_named_as_its_setter() {
+    let new = Style::new();
+    let threes = DigitGroups::new().decimal(3);
+    for (name, style, text) in [
+        ("hex_digits", new.hex_digits(Case::Lower), "0xA"),
+        ("drop_underscores", new.drop_underscores(true), "1_0"),
+        ("drop_leading_zeros", new.drop_leading_zeros(true), "01"),
+        (
+            "suffix_separator",
+            new.suffix_separator(Separator::Underscore),
+            "1u8",
+        ),
+        ("digit_groups", new.digit_groups(threes), "1000"),
+        ("float_zero", new.float_zero(true), "1."),
+        ("exponent_letter", new.exponent_letter(Case::Lower), "1E5"),
+        ("drop_exponent_plus", new.drop_exponent_plus(true), "1e+5"),
+        ("escape_digits", new.escape_digits(Case::Lower), "b'\\xFF'"),
+        (
+            "fewest_escape_digits",
+            new.fewest_escape_digits(true),
+            "'\\u{0e9}'",
+        ),
+        (
+            "drop_ascii_escapes",
+            new.drop_ascii_escapes(true),
+            "'\\x41'",
+        ),
+        ("named_escapes", new.named_escapes(true), "'\\x0a'"),
+        ("drop_quote_escapes", new.drop_quote_escapes(true), "'\\\"'"),
+        ("fewest_hashes", new.fewest_hashes(true), "r#\"\"#"),
+        ("drop_raw", new.drop_raw(true), "r\"\""),
+        ("escape_hidden", new.escape_hidden(true), "\"\u{202e}\""),
+    ] {
+        assert_eq!(rules(text, style), [[name]], "{text}");
+    }
+}
+
+#[test]
+fn rules_are_those_of_the_place() {
+    let style = Style::new().fewest_hashes(true).drop_raw(true);
+    assert_eq!(rules("r#\"a\"#", style), [["fewest_hashes", "drop_raw"]]);
+    assert_eq!(rules("#r#\"a\"#", style), [["fewest_hashes"]]);
+    assert!(rules("#r\"a\" 0xF", style).is_empty());
 }

@@ -30,6 +30,7 @@ pub mod WholeSource
 pub mod Unraws
 pub mod UnrawCuts
 pub mod OneAnswer
+pub mod Changed
 pub mod NoRule
 pub mod QuotedLexemes
 pub mod Lexings

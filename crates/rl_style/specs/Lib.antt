@@ -7,3 +7,4 @@ pub mod Restyled
 pub mod Calls
 pub mod Mirrors
 pub mod Restylable
+pub mod Rules

@@ -14,10 +14,12 @@ mod numbers;
 mod raw;
 mod restylable;
 mod rewrite;
+mod rules;
 mod style;
 mod whole;
 
 pub use crate::restylable::{Restylable, Restylables};
 pub use crate::rewrite::rewrite_into;
+pub use crate::rules::{Rule, all_rules, changes};
 pub use crate::style::{Case, DigitGroups, Separator, Style};
 pub use crate::whole::may_restyle;

@@ -13,10 +13,12 @@ mod numbers;
 mod raw;
 mod restylable;
 mod rewrite;
+mod rules;
 mod style;
 mod whole;
 
 pub use crate::rl_style::restylable::{Restylable, Restylables};
 pub use crate::rl_style::rewrite::rewrite_into;
+pub use crate::rl_style::rules::{Rule, all_rules, changes};
 pub use crate::rl_style::style::{Case, DigitGroups, Separator, Style};
 pub use crate::rl_style::whole::may_restyle;
