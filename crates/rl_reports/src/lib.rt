@@ -5,6 +5,7 @@ mod clash;
 mod command;
 mod ending;
 mod flags;
+mod help;
 mod listed;
 mod meant;
 mod report;
@@ -16,7 +17,8 @@ mod visits;
 mod words;
 
 pub use crate::command::{Command, Console, Macros, Output, PlaceForm, Restyling, Wish};
-pub use crate::ending::{CallError, HELP, VERSION, call, out_of_memory};
+pub use crate::ending::{CallError, call, out_of_memory};
+pub use crate::help::{HELP, VERSION};
 pub use crate::report::Report;
 pub use crate::runs::{RunStop, Tally, run};
 pub use crate::visits::report_of;

@@ -5,6 +5,7 @@ mod clash;
 mod command;
 mod ending;
 mod flags;
+mod help;
 mod listed;
 mod meant;
 mod report;
@@ -16,7 +17,8 @@ mod visits;
 mod words;
 
 pub use crate::rl_reports::command::{Command, Console, Macros, Output, PlaceForm, Restyling, Wish};
-pub use crate::rl_reports::ending::{CallError, HELP, VERSION, call, out_of_memory};
+pub use crate::rl_reports::ending::{CallError, call, out_of_memory};
+pub use crate::rl_reports::help::{HELP, VERSION};
 pub use crate::rl_reports::report::Report;
 pub use crate::rl_reports::runs::{RunStop, Tally, run};
 pub use crate::rl_reports::visits::report_of;
