@@ -13,6 +13,8 @@ use Rattle.rl_files.specs.Walks.{path_error_message}
 use Rattle.rl_files.specs.declared.tree.PathError.{PathError}
 use Rattle.rl_files.specs.declared.tree.PathError.TheVariants.{NotUtf8, OutOfMemory}
 use Rattle.rl_lexer.specs.declared.lex_error.LexKind.{LexKind}
+use Rattle.rl_types.specs.declared.before.Edition.{Edition}
+use Rattle.rl_types.specs.declared.before.Edition.TheVariants.{E2021}
 use Rattle.rl_reports.specs.declared.command.Command.{Command}
 use Rattle.rl_reports.specs.declared.command.PlaceForm.{PlaceForm}
 use Rattle.rl_reports.specs.declared.command.PlaceForm.TheVariants as form
@@ -42,6 +44,11 @@ abbrev pub is_by_line : PlaceForm → List ℕ → Bool
 is_by_line form.Usual path = not (is_input path)
 is_by_line form.Bytes path = false
 is_by_line form.Lines path = true
+
+-- the edition by which words before quotes are reserved; where nothing is said, 2021
+abbrev pub edition_read : Option Edition → Edition
+edition_read None = E2021
+edition_read (Some edition) = edition
 
 -- whether what is bad is asked for
 abbrev pub is_bad : Shown → Bool
@@ -104,7 +111,7 @@ pub record IsOptionsFor (command : Command) (path : List ℕ) (options : Options
   pub by_line : options.by_line ≡ is_by_line command.places path
   pub rejects_strays : options.rejects_strays ≡ command.rejects_strays
   pub any_suffix : options.any_suffix ≡ command.any_suffix
-  pub edition : options.edition ≡ command.edition
+  pub edition : options.edition ≡ edition_read command.edition
   pub explains : options.explains ≡ is_bad command.shown
   pub before : IsPathIn (is_json command.form) path options.path
 

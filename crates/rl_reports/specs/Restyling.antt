@@ -1,5 +1,5 @@
 -- What is reported of a source whose literals are written anew. Texts are lists of characters, what is printed lists of bytes.
-use Rattle.std.specs.Prelude.{◌≡◌, ◌≢◌, ◌⊎◌, ℕ, ◌==◌, Bool, true, false, not, List, [], ◌∷◌, length, map, string_bytes, encode_utf8_all, Option, Some}
+use Rattle.std.specs.Prelude.{◌≡◌, ◌≢◌, ◌⊎◌, ℕ, ◌==◌, Bool, true, false, not, List, [], ◌∷◌, length, map, string_bytes, encode_utf8_all, Option, Some, None}
 use denote.Ref.{Bor}
 use Rattle.std.specs.declared.result.Result.TheVariants.{Ok}
 use Rattle.std.specs.Str.{chars, IsUtf8}
@@ -9,13 +9,15 @@ use Rattle.rl_fixes.specs.Changes.{AreChangeLines}
 use Rattle.rl_fixes.specs.Diffs.{diff}
 use Rattle.rl_fixes.specs.Outcomes.{AreRejections, IsJudging, IsRestyledAs}
 use Rattle.rl_output.specs.declared.form.Form.{Form}
+use Rattle.rl_restyled.specs.declared.edit.Macros.{Macros}
+use Rattle.rl_restyled.specs.declared.edit.Macros.TheVariants.{Skip}
 use Rattle.rl_sources.specs.declared.options.Options.{Options}
 use Rattle.rl_reports.specs.declared.command.Command.{Command}
 use Rattle.rl_reports.specs.declared.command.Output.{Output}
 use Rattle.rl_reports.specs.declared.command.Output.TheVariants as output
 use Rattle.rl_reports.specs.declared.command.Restyling.{Restyling}
 use Rattle.rl_reports.specs.declared.command.Restyling.TheVariants.{Fix, Check, Diff}
-use Rattle.rl_reports.specs.Reports.{Findings, IsErrorReport, IsPathIn, IsShownPath, is_by_line, is_input, printed_of}
+use Rattle.rl_reports.specs.Reports.{Findings, IsErrorReport, IsPathIn, IsShownPath, edition_read, is_by_line, is_input, printed_of}
 
 -- Only this is printed, on standard output, and this is handed on.
 pub record PrintsAlone (out : List ℕ) (found : Bool) (handed : List Replacement) (printed : Findings) : Type 0 where
@@ -25,6 +27,11 @@ pub record PrintsAlone (out : List ℕ) (found : Bool) (handed : List Replacemen
   pub count_is : printed.count ≡ 0
   pub found_is : printed.found ≡ found
   pub handed_is : printed.handed ≡ handed
+
+-- which literals in calls of macros are written anew; where nothing is said, none
+abbrev pub macros_read : Option Macros → Macros
+macros_read None = Skip
+macros_read (Some macros) = macros
 
 -- the bytes of a line for each edit
 abbrev pub AreChangeBytes : Options → Form → List ℕ → List (ℕ × ℕ × List ℕ) → List ℕ → Type 0
@@ -99,8 +106,8 @@ abbrev pub IsRestyledReport : Restyling → Command → List ℕ → List ℕ �
 IsRestyledReport restyling command path text printed =
     (options : Options) × (shown named : Option (Bor (List ℕ))) × (lines : List ℕ)
     × IsShownPath path shown × IsPathIn command.nul_after_paths path named
-    × IsJudging command.edition (is_by_line command.places path) shown options × AreRejections options text lines
+    × IsJudging (edition_read command.edition) (is_by_line command.places path) shown options × AreRejections options text lines
     × ((lines ≢ []) × PrintsRejections lines printed
     ⊎ ((lines ≡ []) × ((new : List ℕ) × (edits : List (ℕ × ℕ × List ℕ)) × IsUtf8 new
-    × IsRestyledAs command.rules command.macros (chars text) (chars new) edits
+    × IsRestyledAs command.rules (macros_read command.macros) (chars text) (chars new) edits
     × IsChanged restyling command options path named text new edits printed)))

@@ -1,7 +1,7 @@
 //! Whether what the words ask for goes together.
 
 ghost use Rattle.std.specs.Prelude.{◌≡◌, ◌↔◌, ℕ, List, [], IfNone, IfSome, IsTrue, MatchBool};
-ghost use Rattle.rl_reports.specs.Words.{GoTogether, HasTextKind, IsClash, MayHold, PrintTogether, RestyleTogether, lists_files as lists, picks_literals as picks, says_printed, has_needless_style as needless_style, restyles_and_prints as with_printing, spells_lines as spells, prints_no_objects as no_objects, sums_lines as sums, wanted_of, wishes_of};
+ghost use Rattle.rl_reports.specs.Words.{GoTogether, HasTextKind, IsClash, JudgeTogether, MayHold, PrintTogether, RestyleTogether, lists_files as lists, picks_literals as picks, says_printed, has_needless_edition as needless_edition, has_needless_macros as needless_macros, has_needless_style as needless_style, has_needless_suffix as needless_suffix, wants_bad as bad_wanted, restyles_and_prints as with_printing, spells_lines as spells, prints_no_objects as no_objects, sums_lines as sums, wanted_of, wishes_of};
 
 use crate::command::{Command, Output, Wish};
 use crate::report::asks_context;
@@ -93,6 +93,40 @@ fn has_needless_style(command: Command<'_>) -> bool
     }
 }
 
+/// Whether it is said which literals in calls of macros are written anew, and none are.
+fn has_needless_macros(command: Command<'_>) -> bool
+    ensures { result ≡ needless_macros (wishes_of command.entry [] [] [] [] []) }
+{
+    match (command.restyle, command.macros) {
+        (None, Some(_)) => true,
+        (Some(_), Some(_)) | (_, None) => false,
+    }
+}
+
+/// Whether what is bad is wanted.
+fn wants_bad(shown: Shown<'_>) -> bool
+    ensures { result ≡ bad_wanted (wanted_of shown.entry) }
+{
+    matches!(shown, Shown::Bad)
+}
+
+/// Whether any suffix may stand, and it isn't asked what is bad.
+fn has_needless_suffix(command: Command<'_>) -> bool
+    ensures { result ≡ needless_suffix (wishes_of command.entry [] [] [] [] []) }
+{
+    command.any_suffix && !wants_bad(command.shown)
+}
+
+/// Whether an edition is named, and neither is it asked what is bad, nor are literals written anew.
+fn has_needless_edition(command: Command<'_>) -> bool
+    ensures { result ≡ needless_edition (wishes_of command.entry [] [] [] [] []) }
+{
+    match (command.edition, command.restyle) {
+        (Some(_), None) => !wants_bad(command.shown),
+        (Some(_), Some(_)) | (None, _) => false,
+    }
+}
+
 /// What doesn't go together of what is asked for of literals that are written anew.
 fn restyling_clash<A: Allocator>(command: Command<'_>) -> Option<WordError<A>>
     ensures some { IfSome result (λ error. (finds extensions excludes lists paths : List (List ℕ))
@@ -105,6 +139,25 @@ fn restyling_clash<A: Allocator>(command: Command<'_>) -> Option<WordError<A>>
     }
     if has_needless_style(command) {
         return Some(WordError::StyleAlone);
+    }
+    if has_needless_macros(command) {
+        return Some(WordError::MacrosAlone);
+    }
+    None
+}
+
+/// What doesn't go together of what is asked for of what Rust rejects.
+fn judging_clash<A: Allocator>(command: Command<'_>) -> Option<WordError<A>>
+    ensures some { IfSome result (λ error. (finds extensions excludes lists paths : List (List ℕ))
+        → IsClash (wishes_of command.entry finds extensions excludes lists paths) error) }
+    ensures none { IfNone result ((finds extensions excludes lists paths : List (List ℕ))
+        → JudgeTogether (wishes_of command.entry finds extensions excludes lists paths)) }
+{
+    if has_needless_suffix(command) {
+        return Some(WordError::SuffixAlone);
+    }
+    if has_needless_edition(command) {
+        return Some(WordError::EditionAlone);
     }
     None
 }
@@ -139,6 +192,9 @@ pub(crate) fn clash_of<A: Allocator>(command: Command<'_>) -> Option<WordError<A
         return Some(error);
     }
     if let Some(error) = restyling_clash(command) {
+        return Some(error);
+    }
+    if let Some(error) = judging_clash(command) {
         return Some(error);
     }
     None

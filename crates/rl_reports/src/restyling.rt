@@ -6,15 +6,16 @@ ghost use Rattle.rl_restyled.specs.Edits.{edit_told};
 ghost use Rattle.rl_restyled.specs.Places.{StandIn};
 ghost use Rattle.rl_reports.specs.Reports.{in_report};
 ghost use Rattle.rl_reports.specs.Visits.{ReportsAs};
-ghost use Rattle.rl_reports.specs.Restyling.{AreChangeBytes, IsChanged, IsChecked, IsCompared, IsFixed, IsReplaced, IsRestyledReport, PrintsAlone, PrintsRejections, fixed_output as output_of_fixed};
+ghost use Rattle.rl_reports.specs.Restyling.{AreChangeBytes, IsChanged, IsChecked, IsCompared, IsFixed, IsReplaced, IsRestyledReport, PrintsAlone, PrintsRejections, fixed_output as output_of_fixed, macros_read};
 
 use crate::command::{Command, Output, Restyling};
 use crate::report::{
-    Report, is_by_line, is_input, path_before, path_in, report_error, visible_text, written,
+    Report, edition_for, is_by_line, is_input, path_before, path_in, report_error, visible_text,
+    written,
 };
 use rl_files::Replace;
 use rl_fixes::{Outcome, judging, push_changes, push_diff, written_anew};
-use rl_restyled::Restyled;
+use rl_restyled::{Macros, Restyled};
 use rl_sources::Options;
 use std::alloc::{AllocError, Allocator};
 
@@ -216,6 +217,16 @@ fn report_rejected<A: Allocator + Copy>(alloc: A, lines: Vec<u8, A>) -> Report<A
     }
 }
 
+/// Which literals in calls of macros are written anew: none, where that isn't said.
+fn macros_for(command: Command<'_>) -> Macros
+    ensures { result ≡ macros_read command.entry.macros }
+{
+    match command.macros {
+        Some(macros) => macros,
+        None => Macros::Skip,
+    }
+}
+
 /// What is reported of a source in a style: what Rust rejects of it, else what is new.
 pub(crate) fn report_restyled<A: Allocator + Copy, F: Replace>(
     alloc: A,
@@ -232,8 +243,12 @@ pub(crate) fn report_restyled<A: Allocator + Copy, F: Replace>(
     let shown = visible_text(alloc, path)?;
     let before = path_before(path, shown.as_str());
     let named = path_in(command.nul_after_paths, path, before);
-    let options = judging(command.edition, is_by_line(command.places, path), before);
-    match written_anew(alloc, options, command.rules, command.macros, text)? {
+    let options = judging(
+        edition_for(command),
+        is_by_line(command.places, path),
+        before,
+    );
+    match written_anew(alloc, options, command.rules, macros_for(command), text)? {
         Outcome::Rejected(lines) => Ok(report_rejected(alloc, lines)),
         Outcome::Restyled(restyled) => report_change(
             alloc, command, restyling, options, files, path, named, text, restyled,

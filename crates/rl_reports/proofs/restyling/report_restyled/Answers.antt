@@ -8,7 +8,7 @@ use Rattle.rl_reports.proofs.restyling.report_restyled.Goals as goal
 
 pub returns-in-Rejected-clause-reports : goal.returns-in-Rejected-clause-reports
 returns-in-Rejected-clause-reports g c =
-    let outcome = rw c.in-Rejected.is at c.in_ok-lines.ensures in (
+    let outcome = rw c.in-Rejected.is at (rw c.macros_for.ensures at c.in_ok-lines.ensures) in (
       [],
       (
         c.judging-options.result,

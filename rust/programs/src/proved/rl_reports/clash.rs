@@ -71,6 +71,32 @@ fn has_needless_style(command: Command<'_>) -> bool {
     }
 }
 
+/// Whether it is said which literals in calls of macros are written anew, and none are.
+fn has_needless_macros(command: Command<'_>) -> bool {
+    match (command.restyle, command.macros) {
+        (None, Some(_)) => true,
+        (Some(_), Some(_)) | (_, None) => false,
+    }
+}
+
+/// Whether what is bad is wanted.
+fn wants_bad(shown: Shown<'_>) -> bool {
+    matches!(shown, Shown::Bad)
+}
+
+/// Whether any suffix may stand, and it isn't asked what is bad.
+fn has_needless_suffix(command: Command<'_>) -> bool {
+    command.any_suffix && !wants_bad(command.shown)
+}
+
+/// Whether an edition is named, and neither is it asked what is bad, nor are literals written anew.
+fn has_needless_edition(command: Command<'_>) -> bool {
+    match (command.edition, command.restyle) {
+        (Some(_), None) => !wants_bad(command.shown),
+        (Some(_), Some(_)) | (None, _) => false,
+    }
+}
+
 /// What doesn't go together of what is asked for of literals that are written anew.
 fn restyling_clash<A: Allocator>(command: Command<'_>) -> Option<WordError<A>> {
     if restyles_and_prints(command) {
@@ -78,6 +104,20 @@ fn restyling_clash<A: Allocator>(command: Command<'_>) -> Option<WordError<A>> {
     }
     if has_needless_style(command) {
         return Some(WordError::StyleAlone);
+    }
+    if has_needless_macros(command) {
+        return Some(WordError::MacrosAlone);
+    }
+    None
+}
+
+/// What doesn't go together of what is asked for of what Rust rejects.
+fn judging_clash<A: Allocator>(command: Command<'_>) -> Option<WordError<A>> {
+    if has_needless_suffix(command) {
+        return Some(WordError::SuffixAlone);
+    }
+    if has_needless_edition(command) {
+        return Some(WordError::EditionAlone);
     }
     None
 }
@@ -102,6 +142,9 @@ pub(crate) fn clash_of<A: Allocator>(command: Command<'_>) -> Option<WordError<A
         return Some(error);
     }
     if let Some(error) = restyling_clash(command) {
+        return Some(error);
+    }
+    if let Some(error) = judging_clash(command) {
         return Some(error);
     }
     None

@@ -6,7 +6,7 @@ use crate::rl_reports::command::{Command, Output, PlaceForm};
 use crate::rl_reports::stats::asked_count;
 use crate::rl_files::{PathError, push_visible};
 use crate::rl_sources::{
-    Context, Form, Options, Paint, Place, ScanError, Shown, is_json, push_painted,
+    Context, Edition, Form, Options, Paint, Place, ScanError, Shown, is_json, push_painted,
     push_source_error, scan,
 };
 use crate::rl_tokens::{LexKind, LineColumn};
@@ -50,6 +50,14 @@ pub(crate) fn is_by_line(form: PlaceForm, path: &str) -> bool {
         PlaceForm::Usual => !is_input(path),
         PlaceForm::Bytes => false,
         PlaceForm::Lines => true,
+    }
+}
+
+/// The edition; 2021, where none is said.
+pub(crate) fn edition_for(command: Command<'_>) -> Edition {
+    match command.edition {
+        Some(edition) => edition,
+        None => Edition::E2021,
     }
 }
 
@@ -115,7 +123,7 @@ fn options_for<'a>(command: Command<'a>, path: &'a str, shown: Option<&'a str>) 
         by_line: is_by_line(command.places, path),
         rejects_strays: command.rejects_strays,
         any_suffix: command.any_suffix,
-        edition: command.edition,
+        edition: edition_for(command),
         explains: is_bad(command.shown),
         path: path_in(is_json(command.form), path, shown),
     }

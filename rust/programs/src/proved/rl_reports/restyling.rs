@@ -4,11 +4,12 @@
 use crate::rattle_std::prelude::{String, Vec};
 use crate::rl_reports::command::{Command, Output, Restyling};
 use crate::rl_reports::report::{
-    Report, is_by_line, is_input, path_before, path_in, report_error, visible_text, written,
+    Report, edition_for, is_by_line, is_input, path_before, path_in, report_error, visible_text,
+    written,
 };
 use crate::rl_files::Replace;
 use crate::rl_fixes::{Outcome, judging, push_changes, push_diff, written_anew};
-use crate::rl_restyled::Restyled;
+use crate::rl_restyled::{Macros, Restyled};
 use crate::rl_sources::Options;
 use crate::rattle_std::alloc::{AllocError, Allocator};
 
@@ -177,6 +178,14 @@ fn report_rejected<A: Allocator + Copy>(alloc: A, lines: Vec<u8, A>) -> Report<A
     }
 }
 
+/// Which literals in calls of macros are written anew: none, where that isn't said.
+fn macros_for(command: Command<'_>) -> Macros {
+    match command.macros {
+        Some(macros) => macros,
+        None => Macros::Skip,
+    }
+}
+
 /// What is reported of a source in a style: what Rust rejects of it, else what is new.
 pub(crate) fn report_restyled<A: Allocator + Copy, F: Replace>(
     alloc: A,
@@ -189,8 +198,12 @@ pub(crate) fn report_restyled<A: Allocator + Copy, F: Replace>(
     let shown = visible_text(alloc, path)?;
     let before = path_before(path, shown.as_str());
     let named = path_in(command.nul_after_paths, path, before);
-    let options = judging(command.edition, is_by_line(command.places, path), before);
-    match written_anew(alloc, options, command.rules, command.macros, text)? {
+    let options = judging(
+        edition_for(command),
+        is_by_line(command.places, path),
+        before,
+    );
+    match written_anew(alloc, options, command.rules, macros_for(command), text)? {
         Outcome::Rejected(lines) => Ok(report_rejected(alloc, lines)),
         Outcome::Restyled(restyled) => report_change(
             alloc, command, restyling, options, files, path, named, text, restyled,
