@@ -12,14 +12,14 @@ use crate::command::{Command, Console, Restyling, Wish};
 use crate::help::{HELP, VERSION};
 use crate::listed::push_all_listed;
 use crate::report::visible_text;
-use crate::rules::{RulesError, rules_in};
+use crate::rules::{LineError, RulesError, rules_in};
 use crate::runs::{RunStop, Tally, run};
 use crate::words::{Asked, WordError, asked_by};
 use rl_files::{PathError, Replace, Selection, Tree, Walk, WalkError};
 use rl_program::{Ending, RunError, WriteError, write_bytes};
 use rl_sources::Shown;
 use rl_style::Style;
-use rl_styles::{StyleError, default_style};
+use rl_styles::default_style;
 use std::alloc::{AllocError, Allocator, Global};
 use std::fmt;
 use std::io::Write;
@@ -36,7 +36,7 @@ pub enum CallError<A: Allocator = Global> {
     /// A file can't be read that names paths, or that has the rules of a style.
     List(String<A>, PathError),
     /// What a file holds are no rules of a style.
-    Style(String<A>, StyleError),
+    Style(String<A>, LineError<A>),
     /// There was no file to read in what the paths name.
     NoFile,
     /// A write failed.
@@ -65,9 +65,7 @@ impl<A: Allocator> fmt::Display for CallError<A> {
             CallError::Word(error) => write!(f, "rl_scan: {error}"),
             CallError::Walk(error) => write!(f, "rl_scan: {error}"),
             CallError::List(file, why) => write!(f, "rl_scan: {file}: {why}"),
-            CallError::Style(file, error) => {
-                write!(f, "rl_scan: {file}: {} at byte {}", error.kind, error.lo)
-            }
+            CallError::Style(file, error) => write!(f, "rl_scan: {file}:{error}"),
             CallError::NoFile => write!(f, "rl_scan: there was no file to read"),
             CallError::Write => write!(f, "rl_scan: write failed"),
         }
@@ -377,7 +375,11 @@ fn scan_asked<A: Allocator + Copy, T: Tree, W: Write, E: Write, F: Replace>(
 }
 
 /// How a call ends where the file holds no rules of a style.
-fn style_error<A: Allocator + Copy>(alloc: A, file: &str, error: StyleError) -> Ending<CallError<A>>
+fn style_error<A: Allocator + Copy>(
+    alloc: A,
+    file: &str,
+    error: LineError<A>,
+) -> Ending<CallError<A>>
     ensures { IsStyleError file.now error result }
 {
     match visible_text(alloc, file) {
@@ -387,7 +389,11 @@ fn style_error<A: Allocator + Copy>(alloc: A, file: &str, error: StyleError) -> 
 }
 
 /// How a call ends where the rules of a style can't be had.
-fn rules_error<A: Allocator + Copy>(alloc: A, file: &str, error: RulesError) -> Ending<CallError<A>>
+fn rules_error<A: Allocator + Copy>(
+    alloc: A,
+    file: &str,
+    error: RulesError<A>,
+) -> Ending<CallError<A>>
     ensures { IsRulesError file.now error result }
 {
     match error {

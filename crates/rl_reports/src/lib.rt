@@ -20,6 +20,7 @@ pub use crate::command::{Command, Console, Macros, Output, PlaceForm, Restyling,
 pub use crate::ending::{CallError, call, out_of_memory};
 pub use crate::help::{HELP, VERSION};
 pub use crate::report::Report;
+pub use crate::rules::LineError;
 pub use crate::runs::{RunStop, Tally, run};
 pub use crate::visits::report_of;
 pub use crate::words::WordError;

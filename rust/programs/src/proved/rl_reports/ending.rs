@@ -7,14 +7,14 @@ use crate::rl_reports::command::{Command, Console, Restyling, Wish};
 use crate::rl_reports::help::{HELP, VERSION};
 use crate::rl_reports::listed::push_all_listed;
 use crate::rl_reports::report::visible_text;
-use crate::rl_reports::rules::{RulesError, rules_in};
+use crate::rl_reports::rules::{LineError, RulesError, rules_in};
 use crate::rl_reports::runs::{RunStop, Tally, run};
 use crate::rl_reports::words::{Asked, WordError, asked_by};
 use crate::rl_files::{PathError, Replace, Selection, Tree, Walk, WalkError};
 use crate::rl_program::{Ending, RunError, WriteError, write_bytes};
 use crate::rl_sources::Shown;
 use crate::rl_style::Style;
-use crate::rl_styles::{StyleError, default_style};
+use crate::rl_styles::default_style;
 use crate::rattle_std::alloc::{AllocError, Allocator, Global};
 use crate::rattle_std::fmt;
 use crate::rattle_std::io::Write;
@@ -30,7 +30,7 @@ pub enum CallError<A: Allocator = Global> {
     /// A file can't be read that names paths, or that has the rules of a style.
     List(String<A>, PathError),
     /// What a file holds are no rules of a style.
-    Style(String<A>, StyleError),
+    Style(String<A>, LineError<A>),
     /// There was no file to read in what the paths name.
     NoFile,
     /// A write failed.
@@ -50,9 +50,7 @@ impl<A: Allocator> fmt::Display for CallError<A> {
             CallError::Word(error) => write!(f, "rl_scan: {error}"),
             CallError::Walk(error) => write!(f, "rl_scan: {error}"),
             CallError::List(file, why) => write!(f, "rl_scan: {file}: {why}"),
-            CallError::Style(file, error) => {
-                write!(f, "rl_scan: {file}: {} at byte {}", error.kind, error.lo)
-            }
+            CallError::Style(file, error) => write!(f, "rl_scan: {file}:{error}"),
             CallError::NoFile => write!(f, "rl_scan: there was no file to read"),
             CallError::Write => write!(f, "rl_scan: write failed"),
         }
@@ -297,7 +295,11 @@ fn scan_asked<A: Allocator + Copy, T: Tree, W: Write, E: Write, F: Replace>(
 }
 
 /// How a call ends where the file holds no rules of a style.
-fn style_error<A: Allocator + Copy>(alloc: A, file: &str, error: StyleError) -> Ending<CallError<A>> {
+fn style_error<A: Allocator + Copy>(
+    alloc: A,
+    file: &str,
+    error: LineError<A>,
+) -> Ending<CallError<A>> {
     match visible_text(alloc, file) {
         Ok(shown) => Ending::Failed(CallError::Style(shown, error)),
         Err(_) => Ending::Failed(CallError::Walk(WalkError::OutOfMemory)),
@@ -305,7 +307,11 @@ fn style_error<A: Allocator + Copy>(alloc: A, file: &str, error: StyleError) -> 
 }
 
 /// How a call ends where the rules of a style can't be had.
-fn rules_error<A: Allocator + Copy>(alloc: A, file: &str, error: RulesError) -> Ending<CallError<A>> {
+fn rules_error<A: Allocator + Copy>(
+    alloc: A,
+    file: &str,
+    error: RulesError<A>,
+) -> Ending<CallError<A>> {
     match error {
         RulesError::Unread(why) => list_error(alloc, file, why),
         RulesError::Style(error) => style_error(alloc, file, error),

@@ -20,6 +20,7 @@ pub use crate::rl_reports::command::{Command, Console, Macros, Output, PlaceForm
 pub use crate::rl_reports::ending::{CallError, call, out_of_memory};
 pub use crate::rl_reports::help::{HELP, VERSION};
 pub use crate::rl_reports::report::Report;
+pub use crate::rl_reports::rules::LineError;
 pub use crate::rl_reports::runs::{RunStop, Tally, run};
 pub use crate::rl_reports::visits::report_of;
 pub use crate::rl_reports::words::WordError;
