@@ -169,11 +169,12 @@ listed_of _ nul form path = path_line nul form path
 abbrev pub HandsOn : Option (List Replacement) → Option (List Replacement) → List Replacement → Type 0
 HandsOn old new handed = new ≡ option_map (λ before. before ++ handed) old
 
--- What is written on standard output and on standard error, what is handed on to be written in place of files, whether a text
--- was read, whether something was found, and how many findings there are, where that is asked for.
+-- What is written on standard output and on standard error, whether an error is among that, what is handed on to be written in
+-- place of files, whether a text was read, whether something was found, and how many findings there are, where that is asked for.
 pub record Findings : Type 0 where
   pub out : List ℕ
   pub errors : List ℕ
+  pub has_error : Bool
   pub handed : List Replacement
   pub read : Bool
   pub found : Bool
@@ -184,6 +185,7 @@ abbrev pub with_handed : {A : Type 0} → List Replacement → Report A → Find
 with_handed handed report = record {
   out = report.out.items;
   errors = report.errors.items;
+  has_error = report.has_error;
   handed = handed;
   read = report.read;
   found = report.found;
@@ -213,6 +215,7 @@ pub record IsReportOf (command : Command) (options : Options) (path : Option (Bo
   pub out : printed.out
       ≡ printed_of command.output command.nul_after_paths options.form path lines
   pub errors : printed.errors ≡ error
+  pub has_error : printed.has_error ≡ not (length error == 0)
   pub handed : printed.handed ≡ []
   pub read : printed.read ≡ true
   pub found : printed.found ≡ not (length lines == 0)
@@ -232,6 +235,7 @@ pub record IsListReport (command : Command) (path : List ℕ) (printed : Finding
   pub named_is : IsPathIn command.nul_after_paths path named
   pub out : printed.out ≡ listed_of command.output command.nul_after_paths command.form named
   pub errors : printed.errors ≡ []
+  pub has_error : printed.has_error ≡ false
   pub handed : printed.handed ≡ []
   pub read : printed.read ≡ false
   pub found : printed.found ≡ true
@@ -240,6 +244,7 @@ pub record IsListReport (command : Command) (path : List ℕ) (printed : Finding
 -- Of a path that can't be read one line is reported.
 pub record IsErrorReport (path : List ℕ) (why : PathError) (printed : Findings) : Type 0 where
   pub out : printed.out ≡ []
+  pub has_error : printed.has_error ≡ true
   pub handed : printed.handed ≡ []
   pub read : printed.read ≡ false
   pub found : printed.found ≡ false

@@ -92,7 +92,7 @@ pub struct Command<'a> {
     pub selection: Selection<'a>,
     /// The files that name more paths, in order.
     pub files_from: &'a [&'a str],
-    /// Whether it is told of each file that it can't be read to its end.
+    /// Whether it is told of each file that it can't be read to its end, or is left alone.
     pub tells_errors: bool,
     /// Whether it is told after all how much was read and found.
     pub tells_stats: bool,

@@ -70,7 +70,8 @@ How it is printed:
                        the path of each file that has lines
   -Z, --null           of -c, -l and --files: NUL after the path
   -q, --quiet          nothing
-      --no-messages    no line for a file that can't be read to its end
+      --no-messages    no line for a file that can't be read to its end, or is
+                       left alone
       --stats          after all, how many files were read and how many have
                        findings, how many findings there are, and how many
                        files had an error

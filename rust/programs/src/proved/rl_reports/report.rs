@@ -18,6 +18,8 @@ pub struct Report<A: Allocator = Global> {
     pub out: Vec<u8, A>,
     /// On standard error.
     pub errors: Vec<u8, A>,
+    /// Whether an error is among that, and no warning alone.
+    pub has_error: bool,
     /// Whether a text was read.
     pub read: bool,
     /// Whether something was found.
@@ -251,7 +253,8 @@ pub(crate) fn report_text<A: Allocator + Copy>(
     let before = path_before(path, shown.as_str());
     let options = options_for(command, path, before);
     let scanned = scan_text(alloc, options, text)?;
-    let errors = error_line(alloc, options.by_line, before, scanned.error)?;
+    let errors = error_line(alloc, options.by_line, before, scanned.error)?.into_bytes();
+    let has_error = !errors.is_empty();
     let asked = command.tells_stats;
     let count = asked_count(alloc, asked, options, text, scanned.lines.as_slice())?;
     let found = !scanned.lines.is_empty();
@@ -261,7 +264,8 @@ pub(crate) fn report_text<A: Allocator + Copy>(
     let out = written(alloc, command.output, nul, options.form, named, lines)?;
     Ok(Report {
         out,
-        errors: errors.into_bytes(),
+        errors,
+        has_error,
         read: true,
         found,
         count,
@@ -280,6 +284,7 @@ pub(crate) fn report_error<A: Allocator + Copy>(
     Ok(Report {
         out: Vec::new(alloc),
         errors: errors.into_bytes(),
+        has_error: true,
         read: false,
         found: false,
         count: 0,
@@ -313,6 +318,7 @@ pub(crate) fn report_listed<A: Allocator + Copy>(
     Ok(Report {
         out: line.into_bytes(),
         errors: Vec::new(alloc),
+        has_error: false,
         read: false,
         found: true,
         count: 0,

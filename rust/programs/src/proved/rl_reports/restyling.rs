@@ -7,7 +7,7 @@ use crate::rl_reports::report::{
     Report, edition_for, is_by_line, is_input, path_before, path_in, report_error, visible_text,
     written,
 };
-use crate::rl_files::Replace;
+use crate::rl_files::{Replace, push_visible};
 use crate::rl_fixes::{Outcome, judging, push_changes, push_diff, written_anew};
 use crate::rl_restyled::{Macros, Restyled};
 use crate::rl_sources::Options;
@@ -18,6 +18,7 @@ fn report_out<A: Allocator + Copy>(alloc: A, out: Vec<u8, A>, found: bool) -> Re
     Report {
         out,
         errors: Vec::new(alloc),
+        has_error: false,
         read: true,
         found,
         count: 0,
@@ -172,6 +173,7 @@ fn report_rejected<A: Allocator + Copy>(alloc: A, lines: Vec<u8, A>) -> Report<A
     Report {
         out: Vec::new(alloc),
         errors: lines,
+        has_error: true,
         read: true,
         found: false,
         count: 0,
@@ -186,7 +188,36 @@ fn macros_for(command: Command<'_>) -> Macros {
     }
 }
 
-/// What is reported of a source in a style: what Rust rejects of it, else what is new.
+/// What is printed of a text that is left alone: of standard input that is written anew the text.
+fn text_left<'t>(restyling: Restyling, path: &str, text: &'t str) -> &'t str {
+    match restyling {
+        Restyling::Fix if is_input(path) => text,
+        _ => "",
+    }
+}
+
+/// What is reported of a text that is left alone, since it begins as an interpreter's line does: a warning.
+fn report_script<A: Allocator + Copy>(
+    alloc: A,
+    restyling: Restyling,
+    path: &str,
+    text: &str,
+) -> Result<Report<A>, AllocError> {
+    let mut warning = String::from_str(alloc, "rl_scan: ")?;
+    push_visible(&mut warning, path)?;
+    writeln!(&mut warning, ": left alone: its first line begins with #!")?;
+    let out = String::from_str(alloc, text_left(restyling, path, text))?;
+    Ok(Report {
+        out: out.into_bytes(),
+        errors: warning.into_bytes(),
+        has_error: false,
+        read: true,
+        found: false,
+        count: 0,
+    })
+}
+
+/// What is reported of a source in a style: what Rust rejects of it, else a warning where it is left alone, else what is new.
 pub(crate) fn report_restyled<A: Allocator + Copy, F: Replace>(
     alloc: A,
     command: Command<'_>,
@@ -205,6 +236,7 @@ pub(crate) fn report_restyled<A: Allocator + Copy, F: Replace>(
     );
     match written_anew(alloc, options, command.rules, macros_for(command), text)? {
         Outcome::Rejected(lines) => Ok(report_rejected(alloc, lines)),
+        Outcome::Script => report_script(alloc, restyling, path, text),
         Outcome::Restyled(restyled) => report_change(
             alloc, command, restyling, options, files, path, named, text, restyled,
         ),
