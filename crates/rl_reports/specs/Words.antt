@@ -40,7 +40,7 @@ use Rattle.rl_reports.specs.declared.flags.When.{When}
 use Rattle.rl_reports.specs.declared.flags.When.TheVariants.{Auto, Always, Never}
 use Rattle.rl_reports.specs.declared.words.Asked.{Asked}
 use Rattle.rl_reports.specs.declared.words.WordError.{WordError}
-use Rattle.rl_reports.specs.declared.words.WordError.TheVariants.{Memory, UnknownOption, UnknownLetter, NoValue, UnknownKind, NoKinds, TwoChoices, NoText, EmptyText, BadAndFind, TextlessKinds, ObjectsOfPaths, StatsOfPaths, TwoRestylings, RestylesAlone, StyleAlone, MacrosAlone, SuffixAlone, EditionAlone, NoStyle, NoMacros, UnknownMacros, NoColor, UnknownColor, NoExtension, NoPattern, EmptyPattern, OtherPattern, NoList, NoEdition, UnknownEdition, NoFormat, UnknownFormat, NoCount, UnknownCount}
+use Rattle.rl_reports.specs.declared.words.WordError.TheVariants.{Memory, UnknownOption, UnknownLetter, NoValue, UnknownKind, NoKinds, TwoChoices, NoText, EmptyText, BadAndFind, TextlessKinds, ObjectsOfPaths, StatsOfPaths, TwoRestylings, RestylesAlone, SumsOfCheck, StyleAlone, MacrosAlone, SuffixAlone, EditionAlone, NoStyle, NoMacros, UnknownMacros, NoColor, UnknownColor, NoExtension, NoPattern, EmptyPattern, OtherPattern, NoList, NoEdition, UnknownEdition, NoFormat, UnknownFormat, NoCount, UnknownCount}
 use Rattle.rl_sources.specs.Options.{Names, words_of}
 use Rattle.rl_reports.specs.Meant.{IsMeant, option_part}
 
@@ -380,11 +380,22 @@ spells_lines Source form = true
 abbrev pub says_printed : Wishes → Bool
 says_printed w =
     picks_literals w.wanted w.searches || spells_lines w.spelling w.form
-    || (is_some w.around || is_some w.before || is_some w.after) || prints_no_objects w.wish w.output || w.tells_stats
+    || (is_some w.around || is_some w.before || is_some w.after) || lists_files w.wish || w.tells_stats
 
 -- literals are written anew, and it is said what is printed
 abbrev pub restyles_and_prints : Wishes → Bool
 restyles_and_prints w = is_some w.restyle && says_printed w
+
+-- of what is written anew there are no sums: `--check` alone has them
+abbrev pub has_no_sums : Option Restyling → Bool
+has_no_sums None = false
+has_no_sums (Some restyling.Fix) = true
+has_no_sums (Some restyling.Check) = false
+has_no_sums (Some restyling.Diff) = true
+
+-- sums are asked for of what has none
+abbrev pub restyles_and_sums : Wishes → Bool
+restyles_and_sums w = sums_lines w.output && has_no_sums w.restyle
 
 -- a style is named, and no literals are written anew
 abbrev pub has_needless_style : Wishes → Bool
@@ -397,7 +408,8 @@ has_needless_macros w = is_some w.macros && not (is_some w.restyle)
 -- none of these is so
 abbrev pub RestyleTogether : Wishes → Type 0
 RestyleTogether w =
-    (restyles_and_prints w ≡ false) × (has_needless_style w ≡ false) × (has_needless_macros w ≡ false)
+    (restyles_and_prints w ≡ false) × (restyles_and_sums w ≡ false) × (has_needless_style w ≡ false)
+    × (has_needless_macros w ≡ false)
 
 -- what is bad is wanted
 abbrev pub wants_bad : Wanted → Bool
@@ -435,6 +447,7 @@ IsClash w TextlessKinds = IsTrue w.searches × (MayHold w.wanted → ⊥)
 IsClash w ObjectsOfPaths = (has_extents w.form && prints_no_objects w.wish w.output) ≡ true
 IsClash w StatsOfPaths = (w.tells_stats && lists_files w.wish) ≡ true
 IsClash w RestylesAlone = restyles_and_prints w ≡ true
+IsClash w SumsOfCheck = restyles_and_sums w ≡ true
 IsClash w StyleAlone = has_needless_style w ≡ true
 IsClash w MacrosAlone = has_needless_macros w ≡ true
 IsClash w SuffixAlone = has_needless_suffix w ≡ true
@@ -654,7 +667,9 @@ word_message ObjectsOfPaths =
 word_message StatsOfPaths = codes "--stats can't be used with --files, which reads none"
 word_message TwoRestylings = codes "--fix, --check and --diff: one of them, once"
 word_message RestylesAlone =
-    codes "--fix, --check and --diff can't be used with what says what is printed: --bad, --hidden, --only, -e, -c, -l, --files, --text, --json, --format, -C, -B, -A, --stats"
+    codes "--fix, --check and --diff can't be used with what says what is printed: --bad, --hidden, --only, -e, --files, --text, --json, --format, -C, -B, -A, --stats"
+word_message SumsOfCheck =
+    codes "-c, --count, -l, --files-with-matches go with --check, and not with --fix or --diff"
 word_message StyleAlone = codes "--style goes with --fix, --check or --diff"
 word_message MacrosAlone = codes "--macros goes with --fix, --check or --diff"
 word_message SuffixAlone = codes "--any-suffix goes with --bad"

@@ -1,9 +1,9 @@
 //! Whether what the words ask for goes together.
 
 ghost use Rattle.std.specs.Prelude.{◌≡◌, ◌↔◌, ℕ, List, [], IfNone, IfSome, IsTrue, MatchBool};
-ghost use Rattle.rl_reports.specs.Words.{GoTogether, HasTextKind, IsClash, JudgeTogether, MayHold, PrintTogether, RestyleTogether, lists_files as lists, picks_literals as picks, says_printed, has_needless_edition as needless_edition, has_needless_macros as needless_macros, has_needless_style as needless_style, has_needless_suffix as needless_suffix, wants_bad as bad_wanted, restyles_and_prints as with_printing, spells_lines as spells, prints_no_objects as no_objects, sums_lines as sums, wanted_of, wishes_of};
+ghost use Rattle.rl_reports.specs.Words.{GoTogether, HasTextKind, IsClash, JudgeTogether, MayHold, PrintTogether, RestyleTogether, lists_files as lists, picks_literals as picks, says_printed, has_needless_edition as needless_edition, has_needless_macros as needless_macros, has_needless_style as needless_style, has_needless_suffix as needless_suffix, wants_bad as bad_wanted, has_no_sums as no_sums, restyles_and_prints as with_printing, restyles_and_sums as with_sums, spells_lines as spells, prints_no_objects as no_objects, sums_lines as sums, wanted_of, wishes_of};
 
-use crate::command::{Command, Output, Wish};
+use crate::command::{Command, Output, Restyling, Wish};
 use crate::report::asks_context;
 use crate::words::WordError;
 use rl_output::has_extents;
@@ -72,8 +72,22 @@ fn says_what_is_printed(command: Command<'_>) -> bool
     picks_literals(command)
         || spells_lines(command)
         || asks_context(command)
-        || prints_no_objects(command)
+        || lists_files(command.wish)
         || command.tells_stats
+}
+
+/// Whether literals are written anew, and there are no sums of that: `--check` alone has them.
+fn has_no_sums(restyle: Option<Restyling>) -> bool
+    ensures { result ≡ no_sums restyle }
+{
+    matches!(restyle, Some(Restyling::Fix | Restyling::Diff))
+}
+
+/// Whether sums are asked for of what has none.
+fn restyles_and_sums(command: Command<'_>) -> bool
+    ensures { result ≡ with_sums (wishes_of command.entry [] [] [] [] []) }
+{
+    sums_lines(command.output) && has_no_sums(command.restyle)
 }
 
 /// Whether literals are written anew, and it is said what is printed.
@@ -136,6 +150,9 @@ fn restyling_clash<A: Allocator>(command: Command<'_>) -> Option<WordError<A>>
 {
     if restyles_and_prints(command) {
         return Some(WordError::RestylesAlone);
+    }
+    if restyles_and_sums(command) {
+        return Some(WordError::SumsOfCheck);
     }
     if has_needless_style(command) {
         return Some(WordError::StyleAlone);

@@ -31,7 +31,8 @@ What is printed: every literal; or one of --bad, --hidden, --only; or --find
 Literals written anew, in place of that: one of --fix, --check, --diff
       --fix            writes files whose literals the style writes otherwise,
                        and prints how many; prints standard input anew
-      --check          prints what would change
+      --check          prints what would change; with -l in which files, with -c
+                       how many literals of each
       --diff           the same, as a unified diff
       --style FILE     the rules in FILE; else no needless escapes of quotes, no
                        needless hashes, 1.0 for 1., and 1e5 for 1E5

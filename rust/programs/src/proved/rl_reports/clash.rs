@@ -1,7 +1,7 @@
 // Rendered from crates/rl_reports/src/clash.rt by tools/render, which erases contracts: change that file, and render anew.
 //! Whether what the words ask for goes together.
 
-use crate::rl_reports::command::{Command, Output, Wish};
+use crate::rl_reports::command::{Command, Output, Restyling, Wish};
 use crate::rl_reports::report::asks_context;
 use crate::rl_reports::words::WordError;
 use crate::rl_output::has_extents;
@@ -54,8 +54,18 @@ fn says_what_is_printed(command: Command<'_>) -> bool {
     picks_literals(command)
         || spells_lines(command)
         || asks_context(command)
-        || prints_no_objects(command)
+        || lists_files(command.wish)
         || command.tells_stats
+}
+
+/// Whether literals are written anew, and there are no sums of that: `--check` alone has them.
+fn has_no_sums(restyle: Option<Restyling>) -> bool {
+    matches!(restyle, Some(Restyling::Fix | Restyling::Diff))
+}
+
+/// Whether sums are asked for of what has none.
+fn restyles_and_sums(command: Command<'_>) -> bool {
+    sums_lines(command.output) && has_no_sums(command.restyle)
 }
 
 /// Whether literals are written anew, and it is said what is printed.
@@ -101,6 +111,9 @@ fn has_needless_edition(command: Command<'_>) -> bool {
 fn restyling_clash<A: Allocator>(command: Command<'_>) -> Option<WordError<A>> {
     if restyles_and_prints(command) {
         return Some(WordError::RestylesAlone);
+    }
+    if restyles_and_sums(command) {
+        return Some(WordError::SumsOfCheck);
     }
     if has_needless_style(command) {
         return Some(WordError::StyleAlone);

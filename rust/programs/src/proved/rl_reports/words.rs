@@ -50,6 +50,8 @@ pub enum WordError<A: Allocator = Global> {
     TwoRestylings,
     /// Literals are written anew, and it is said what is printed.
     RestylesAlone,
+    /// Literals are written anew, and paths or counts are asked for, which `--check` alone prints.
+    SumsOfCheck,
     /// The rules of a style are named, and no literals are written anew.
     StyleAlone,
     /// It is said which literals in calls of macros are written anew, and none are.
@@ -142,7 +144,11 @@ impl<A: Allocator> fmt::Display for WordError<A> {
             }
             WordError::RestylesAlone => write!(
                 f,
-                "--fix, --check and --diff can't be used with what says what is printed: --bad, --hidden, --only, -e, -c, -l, --files, --text, --json, --format, -C, -B, -A, --stats"
+                "--fix, --check and --diff can't be used with what says what is printed: --bad, --hidden, --only, -e, --files, --text, --json, --format, -C, -B, -A, --stats"
+            ),
+            WordError::SumsOfCheck => write!(
+                f,
+                "-c, --count, -l, --files-with-matches go with --check, and not with --fix or --diff"
             ),
             WordError::StyleAlone => { write!(f, "--style goes with --fix, --check or --diff") }
             WordError::MacrosAlone => { write!(f, "--macros goes with --fix, --check or --diff") }
@@ -564,7 +570,7 @@ fn first_command<'a>(has_colors: bool) -> Command<'a> {
 ///
 /// The first word that can't be asked for; or at the end what the last option takes is missing, as by `NoKinds`, or what is asked
 /// for doesn't go together: `TextlessKinds`, `ObjectsOfPaths`, `StatsOfPaths`,
-/// `RestylesAlone`, `StyleAlone`, `MacrosAlone`, `SuffixAlone`, `EditionAlone`.
+/// `RestylesAlone`, `SumsOfCheck`, `StyleAlone`, `MacrosAlone`, `SuffixAlone`, `EditionAlone`.
 pub(crate) fn asked_by<A: Allocator + Copy>(
     alloc: A,
     has_colors: bool,
