@@ -169,8 +169,9 @@ listed_of _ nul form path = path_line nul form path
 abbrev pub HandsOn : Option (List Replacement) → Option (List Replacement) → List Replacement → Type 0
 HandsOn old new handed = new ≡ option_map (λ before. before ++ handed) old
 
--- What is written on standard output and on standard error, whether an error is among that, what is handed on to be written in
--- place of files, whether a text was read, whether something was found, and how many findings there are, where that is asked for.
+-- What is written on standard output and on standard error, whether an error is among that, what is handed on to be
+-- written in place of files, whether a text was read, whether something was found, and how many findings there are,
+-- where that is asked for.
 pub record Findings : Type 0 where
   pub out : List ℕ
   pub errors : List ℕ

@@ -111,7 +111,8 @@ text_left Fix path text = cond (is_input path) text []
 text_left Check path text = []
 text_left Diff path text = []
 
--- What is reported of a text that is left alone, since it begins as an interpreter's line does: a warning, which is no error.
+-- What is reported of a text that is left alone, since it begins as an interpreter's line does: a warning, which is no
+-- error.
 pub record IsScriptReport (restyling : Restyling) (path text : List ℕ) (printed : Findings) : Type 0 where
   pub out : printed.out ≡ text_left restyling path text
   pub has_error : printed.has_error ≡ false
@@ -127,9 +128,11 @@ abbrev pub IsRestyledReport : Restyling → Command → List ℕ → List ℕ �
 IsRestyledReport restyling command path text printed =
     (options : Options) × (shown named : Option (Bor (List ℕ))) × (lines : List ℕ)
     × IsShownPath path shown × IsPathIn command.nul_after_paths path named
-    × IsJudging (edition_read command.edition) (is_by_line command.places path) shown options × AreRejections options text lines
+    × IsJudging (edition_read command.edition) (is_by_line command.places path) shown options
+    × AreRejections options text lines
     × ((lines ≢ []) × PrintsRejections lines printed
     ⊎ ((lines ≡ []) × IsFalse (begins_with_code (chars text)) × IsScriptReport restyling path text printed)
-    ⊎ ((lines ≡ []) × IsTrue (begins_with_code (chars text)) × ((new : List ℕ) × (edits : List (ℕ × ℕ × List ℕ)) × IsUtf8 new
+    ⊎ ((lines ≡ []) × IsTrue (begins_with_code (chars text))
+    × ((new : List ℕ) × (edits : List (ℕ × ℕ × List ℕ)) × IsUtf8 new
     × IsRestyledAs command.rules (macros_read command.macros) (chars text) (chars new) edits
     × IsChanged restyling command options path named text new edits printed)))

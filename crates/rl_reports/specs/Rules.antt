@@ -33,13 +33,18 @@ IsShownName (Some name) (Some shown) = chars (string_bytes shown) ≡ visible (c
 IsShownName None (Some shown) = ⊥
 IsShownName (Some name) None = ⊥
 
+-- the first rule that the name may stand for, where one stands there
+abbrev pub IsNearName : Option (Bor (List ℕ)) → Option (Bor (List ℕ)) → Type 0
+IsNearName None meant = meant ≡ None
+IsNearName (Some name) meant = IsNearest rule_list name.now meant
+
 -- the rule that was likely meant by the name, where none has it
 abbrev pub IsRuleMeant : StyleErrorKind → Option (Bor (List ℕ)) → Option (Bor (List ℕ)) → Type 0
-IsRuleMeant Unknown (Some name) meant = IsNearest rule_list name.now meant
-IsRuleMeant _ _ meant = meant ≡ None
+IsRuleMeant Unknown name meant = IsNearName name meant
+IsRuleMeant _ name meant = meant ≡ None
 
--- What is told of the error of a text: the line where what is wrong begins, the entry's name, what is wrong, and the rule that was
--- likely meant.
+-- What is told of the error of a text: the line where what is wrong begins, the entry's name, what is wrong, and the
+-- rule that was likely meant.
 pub record TellsError {A : Type 0} (text : List ℕ) (error : StyleError) (told : LineError A) : Type 0 where
   pub line_is : told.line ≡ line_of text error.lo
   pub name_is : IsShownName error.name told.name

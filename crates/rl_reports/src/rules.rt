@@ -2,7 +2,7 @@
 
 ghost use Rattle.std.specs.Prelude.{◌≡◌, IfErr, IfOk, IfSome};
 ghost use Rattle.rl_styles.specs.Styles.{RejectsStyle, SaysStyle};
-ghost use Rattle.rl_reports.specs.Rules.{HasNoRules, HasRules, IsNoStyle, IsRuleMeant, IsShownName, TellsError, line_of};
+ghost use Rattle.rl_reports.specs.Rules.{HasNoRules, HasRules, IsNearName, IsNoStyle, IsRuleMeant, IsShownName, TellsError, line_of};
 
 use crate::meant::near_rule;
 use crate::report::{count_lines, visible_text};
@@ -62,12 +62,22 @@ fn line_at(text: &str, at: usize) -> usize
     count_lines(before) + 1
 }
 
+/// The first rule that a name may stand for, where one stands there.
+fn near_name(name: Option<&str>) -> Option<&'static str>
+    ensures { IsNearName name.entry result }
+{
+    match name {
+        Some(name) => near_rule(name),
+        None => None,
+    }
+}
+
 /// The rule that was likely meant by the name of an entry, where none has it.
 fn rule_meant(error: StyleError<'_>) -> Option<&'static str>
     ensures { IsRuleMeant error.entry.kind error.entry.name result }
 {
-    match (error.kind, error.name) {
-        (StyleErrorKind::Unknown, Some(name)) => near_rule(name),
+    match error.kind {
+        StyleErrorKind::Unknown => near_name(error.name),
         _ => None,
     }
 }

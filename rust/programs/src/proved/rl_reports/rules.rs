@@ -50,10 +50,18 @@ fn line_at(text: &str, at: usize) -> usize {
     count_lines(before) + 1
 }
 
+/// The first rule that a name may stand for, where one stands there.
+fn near_name(name: Option<&str>) -> Option<&'static str> {
+    match name {
+        Some(name) => near_rule(name),
+        None => None,
+    }
+}
+
 /// The rule that was likely meant by the name of an entry, where none has it.
 fn rule_meant(error: StyleError<'_>) -> Option<&'static str> {
-    match (error.kind, error.name) {
-        (StyleErrorKind::Unknown, Some(name)) => near_rule(name),
+    match error.kind {
+        StyleErrorKind::Unknown => near_name(error.name),
         _ => None,
     }
 }
