@@ -87,6 +87,17 @@ def nothing_to_change(folder):
 
 
 @case
+def a_script_is_left_alone(folder):
+    text = b"#!/bin/x\n" + OLD
+    path = write(folder / "a.rs", text)
+    expect_run(run(path), 0, "left alone")
+    expect_files(folder, a_rs=text)
+    done = subprocess.run([PROGRAM, "--fix"], input=text, capture_output=True, timeout=60, check=False)
+    expect_run((done.returncode, done.stderr.decode()), 0, "left alone")
+    expect(done.stdout == text, "another text")
+
+
+@case
 def twice(folder):
     path = write(folder / "a.rs")
     expect_run(run(path), 0)

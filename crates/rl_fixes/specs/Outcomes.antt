@@ -1,5 +1,5 @@
 -- A source that is written anew, unless Rust rejects something of it.
-use Rattle.std.specs.Prelude.{◌≡◌, ◌≢◌, ◌⊎◌, ℕ, Bool, true, false, List, [], map, string_bytes, Option, Some, None}
+use Rattle.std.specs.Prelude.{◌≡◌, ◌≢◌, ◌⊎◌, ℕ, Bool, true, false, List, [], map, string_bytes, Option, Some, None, IsFalse, IsTrue}
 use denote.Ref.{Bor}
 use Rattle.std.specs.Str.{chars}
 use Rattle.rl_output.specs.declared.form.Form.TheVariants.{Plain}
@@ -10,6 +10,7 @@ use Rattle.rl_restyled.specs.declared.edit.RestyleError.TheVariants.{Memory}
 use Rattle.rl_sources.specs.Scans.{Scans}
 use Rattle.rl_sources.specs.declared.options.Options.{Options}
 use Rattle.rl_sources.specs.declared.options.Shown.TheVariants.{Bad}
+use Rattle.rl_style.specs.Recut.{begins_with_code}
 use Rattle.rl_style.specs.declared.style.Style.{Style}
 use Rattle.rl_types.specs.declared.before.Edition.{Edition}
 use Rattle.rl_fixes.specs.declared.outcome.Outcome.{Outcome}
@@ -33,7 +34,7 @@ pub record IsJudging (edition : Edition) (by_line : Bool) (path : Option (Bor (L
 abbrev pub AreRejections : Options → List ℕ → List ℕ → Type 0
 AreRejections options text lines = (any : Bool) × Scans options (chars text) (Some []) (Some lines) any
 
--- nothing of the text can be written anew: it begins as with an interpreter's line, or isn't cut to its end
+-- nothing of the text can be written anew: it begins as an interpreter's line does, or isn't cut to its end
 abbrev pub IsLeftAlone : List ℕ → Type 0
 IsLeftAlone text = (e : RestyleError) × (e ≢ Memory) × IsRestyleError text e
 
@@ -46,6 +47,8 @@ IsRestyledAs style macros text new edits =
 abbrev pub IsOutcome : {A : Type 0} → Options → Style → Macros → List ℕ → Outcome A → Type 0
 IsOutcome options style macros text (outcome.Rejected lines) =
     AreRejections options text lines.items × (lines.items ≢ [])
+IsOutcome options style macros text outcome.Script =
+    AreRejections options text [] × IsFalse (begins_with_code (chars text))
 IsOutcome options style macros text (outcome.Restyled r) =
-    AreRejections options text []
+    AreRejections options text [] × IsTrue (begins_with_code (chars text))
     × IsRestyledAs style macros (chars text) (chars (string_bytes r.text)) (map edit_told r.edits.items)

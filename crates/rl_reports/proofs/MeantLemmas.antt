@@ -1,19 +1,19 @@
--- The option that a word was likely meant to be.
+-- The option, or the rule of a style, that a word was likely meant to be.
 use Rattle.std.proofs.Common.{Bool, Bor, List, Option, Some, None, ℕ, false, refl, true, ◌++◌, ◌∷◌, ◌≡◌}
 use Rattle.std.specs.Prelude.{MatchOption}
 use Rattle.std.specs.List.{All}
 use Rattle.rl_sources.specs.Options.{words_of}
-use Rattle.rl_reports.specs.Meant.{IsNearest, is_near, option_list}
+use Rattle.rl_reports.specs.Meant.{IsNearest, is_near}
 
 is_true : (b : Bool) → (b ≡ false → ⊥) → b ≡ true
 is_true true h = refl
 is_true false h = absurd (h refl)
 
 -- the first that isn't far is near
-pub first_near : (word : List ℕ) (r : Option (Bor (List ℕ)))
-    → MatchOption r (All (λ option. is_near word option ≡ false) (words_of option_list))
-    (λ x. (before after : List (List ℕ)) × (words_of option_list ≡ before ++ x.now ∷ after)
-    × All (λ option. is_near word option ≡ false) before × (is_near word x.now ≡ false → ⊥)) → IsNearest word r
-first_near word None all = all
-first_near word (Some x) (before, after, cut, far, near) =
+pub first_near : (list word : List ℕ) (r : Option (Bor (List ℕ)))
+    → MatchOption r (All (λ other. is_near word other ≡ false) (words_of list))
+    (λ x. (before after : List (List ℕ)) × (words_of list ≡ before ++ x.now ∷ after)
+    × All (λ other. is_near word other ≡ false) before × (is_near word x.now ≡ false → ⊥)) → IsNearest list word r
+first_near list word None all = all
+first_near list word (Some x) (before, after, cut, far, near) =
     (before, after, cut, far, is_true (is_near word x.now) near)

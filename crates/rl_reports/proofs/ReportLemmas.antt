@@ -44,22 +44,37 @@ message_ascii ReadOnly = low_text (path_error_message ReadOnly) refl
 message_ascii ReadFailed = low_text (path_error_message ReadFailed) refl
 message_ascii WriteFailed = low_text (path_error_message WriteFailed) refl
 
--- the line of a path that can't be read
+-- a line of a path
+pub line_reported : (path after a b line : List ℕ) → IsAscii after → IsUtf8 b → a ≡ codes "rl_scan: "
+    → chars b ≡ chars a ++ visible (chars path) → line ≡ b ++ after
+    → chars line ≡ codes "rl_scan: " ++ (visible (chars path) ++ after)
+line_reported path after a b line ascii utf8 first shown written =
+    let begun : chars a ≡ codes "rl_scan: " = ap chars first ∙ chars-IsAscii (codes "rl_scan: ")
+    (low_text (codes "rl_scan: ") refl) in
+    pushed b line after utf8 written ∙ ap (λ (z : List ℕ). chars b ++ z) (chars-IsAscii after ascii)
+    ∙ ap (λ (z : List ℕ). z ++ after) (shown ∙ ap (λ (z : List ℕ). z ++ visible (chars path)) begun)
+    ∙ append_assoc (codes "rl_scan: ") (visible (chars path)) after
+
+-- that of a text that is left alone
+pub script_reported : (path a b line : List ℕ) → IsUtf8 b → a ≡ codes "rl_scan: "
+    → chars b ≡ chars a ++ visible (chars path) → line ≡ b ++ codes ": left alone: its first line begins with #!\n"
+    → chars line
+    ≡ codes "rl_scan: " ++ (visible (chars path) ++ codes ": left alone: its first line begins with #!\n")
+script_reported path a b line utf8 first shown written = line_reported path
+    (codes ": left alone: its first line begins with #!\n") a b line
+    (low_text (codes ": left alone: its first line begins with #!\n") refl) utf8 first shown written
+
+-- that of a path that can't be read
 pub error_reported : (path : List ℕ) (why : PathError) (a b errors : List ℕ) → IsUtf8 b → a ≡ codes "rl_scan: "
     → chars b
     ≡ chars a ++ visible (chars path) → errors ≡ b ++ (codes ": " ++ (path_error_message why ++ codes "\n"))
     → chars errors ≡ codes "rl_scan: " ++ (visible (chars path)
     ++ (codes ": " ++ (path_error_message why ++ codes "\n")))
-error_reported path why a b errors utf8 first shown written =
-    let after : List ℕ = codes ": " ++ (path_error_message why ++ codes "\n") in
-    let ascii : IsAscii after = IsAscii-append (codes ": ") (path_error_message why ++ codes "\n")
-    (low_text (codes ": ") refl) (IsAscii-append (path_error_message why) (codes "\n") (message_ascii why)
-    (low_text (codes "\n") refl)) in
-    let begun : chars a ≡ codes "rl_scan: " = ap chars first ∙ chars-IsAscii (codes "rl_scan: ")
-    (low_text (codes "rl_scan: ") refl) in
-    pushed b errors after utf8 written ∙ ap (λ (z : List ℕ). chars b ++ z) (chars-IsAscii after ascii)
-    ∙ ap (λ (z : List ℕ). z ++ after) (shown ∙ ap (λ (z : List ℕ). z ++ visible (chars path)) begun)
-    ∙ append_assoc (codes "rl_scan: ") (visible (chars path)) after
+error_reported path why a b errors utf8 first shown written = line_reported path
+    (codes ": " ++ (path_error_message why ++ codes "\n")) a b errors
+    (IsAscii-append (codes ": ") (path_error_message why ++ codes "\n") (low_text (codes ": ") refl)
+    (IsAscii-append (path_error_message why) (codes "\n") (message_ascii why) (low_text (codes "\n") refl)))
+    utf8 first shown written
 
 -- lines without context
 pub bare_lines : (options : Options) (text lines : List ℕ) → options.context ≡ None

@@ -28,6 +28,7 @@ pub prints_handing : {A : Type 0} (out : List ℕ) (r : Replacement) (p : Report
 prints_handing out r p prints = record {
   out_is = prints.out_is;
   errors_are = prints.errors_are;
+  has_error_is = prints.has_error_is;
   read_is = prints.read_is;
   count_is = prints.count_is;
   found_is = prints.found_is;

@@ -1,5 +1,7 @@
 -- The rules of a style, in a file.
-use Rattle.rl_text.proofs.Common.{IsUtf8, List, None, Option, Some, inl, inr, ℕ, ◌≡◌, ◌⊎◌}
+use Rattle.rl_text.proofs.Common.{IsUtf8, List, None, Option, Some, ap, inl, inr, length, min, take, ℕ, ◌+◌, ◌≡◌, ◌≤◌, ◌⊎◌}
+use Rattle.std.proofs.lemmas.List.{take_min}
+use Rattle.std.proofs.lemmas.List.Sums.{count_by-le-length}
 use Rattle.std.specs.Prelude.{IfErr, IfOk, IfSome, Ok, Err}
 use Rattle.std.specs.declared.result.Result.{Result}
 use Rattle.rl_files.specs.Trees.{World}
@@ -9,11 +11,19 @@ use Rattle.rl_style.specs.declared.style.Style.{Style}
 use Rattle.rl_styles.specs.Styles.{SaysStyle}
 use Rattle.rl_reports.specs.declared.rules.RulesError.{RulesError}
 use Rattle.rl_reports.specs.declared.rules.RulesError.TheVariants as rules
-use Rattle.rl_reports.specs.Reports.{IsNotUtf8, IsReadError}
-use Rattle.rl_reports.specs.Rules.{HasNoRules, HasRules, IsNoStyle}
+use Rattle.rl_reports.specs.Reports.{IsNotUtf8, IsReadError, line_count}
+use Rattle.rl_reports.specs.Rules.{HasNoRules, HasRules, IsNoStyle, line_of}
+
+-- a line is counted over what stands before
+pub line_is : (text : List ℕ) (at : ℕ) → line_count (take (min at (length text)) text) + 1 ≡ line_of text at
+line_is text at = ap (λ front. line_count front + 1) (take_min at text)
+
+-- there are no more lines than bytes
+pub lines_within : (bytes : List ℕ) → line_count bytes ≤ length bytes
+lines_within bytes = count_by-le-length _ bytes
 
 -- a text says them
-pub has_rules : (holds : Option World) (file bytes : List ℕ) (r : Result Style RulesError)
+pub has_rules : {A : Type 0} (holds : Option World) (file bytes : List ℕ) (r : Result Style (RulesError A))
     → IfSome holds (λ w. w.bytes file ≡ Ok bytes) → IsUtf8 bytes → IfOk r (SaysStyle bytes)
     → IfOk r (λ style. IfSome holds (λ w. HasRules w file style))
 has_rules holds file bytes (Err e) found utf8 says = tt
@@ -21,25 +31,25 @@ has_rules None file bytes (Ok style) found utf8 says = tt
 has_rules (Some w) file bytes (Ok style) found utf8 says = (bytes, found, utf8, says)
 
 -- or doesn't
-pub has_none : (holds : Option World) (file bytes : List ℕ) (r : Result Style RulesError)
+pub has_none : {A : Type 0} (holds : Option World) (file bytes : List ℕ) (r : Result Style (RulesError A))
     → IfSome holds (λ w. w.bytes file ≡ Ok bytes) → IsUtf8 bytes → IfErr r (IsNoStyle bytes)
     → IfErr r (λ e. IfSome holds (λ w. HasNoRules w file e))
 has_none holds file bytes (Ok style) found utf8 is = tt
 has_none None file bytes (Err e) found utf8 is = tt
-has_none (Some w) file bytes (Err (rules.Unread why)) found utf8 never = absurd never
+has_none (Some w) file bytes (Err (rules.Unread why)) found utf8 memory = inl memory
 has_none (Some w) file bytes (Err (rules.Style error)) found utf8 is = (bytes, found, utf8, is)
 
 -- there is none
-pub is_unread : (holds : Option World) (file : List ℕ) (why : PathError)
+pub is_unread : {A : Type 0} (holds : Option World) (file : List ℕ) (why : PathError)
     → (why ≡ OutOfMemory) ⊎ IfSome holds (λ w. w.bytes file ≡ Err why)
-    → IfSome holds (λ w. HasNoRules w file (rules.Unread why))
+    → IfSome holds (λ w. HasNoRules {A = A} w file (rules.Unread why))
 is_unread None file why unread = tt
 is_unread (Some w) file why (inl memory) = inl memory
 is_unread (Some w) file why (inr unread) = inr (inl unread)
 
 -- it is no text
-pub is_no_text : (holds : Option World) (file bytes : List ℕ) (why : PathError)
+pub is_no_text : {A : Type 0} (holds : Option World) (file bytes : List ℕ) (why : PathError)
     → IfSome holds (λ w. w.bytes file ≡ Ok bytes) → IsNotUtf8 bytes why
-    → IfSome holds (λ w. HasNoRules w file (rules.Unread why))
+    → IfSome holds (λ w. HasNoRules {A = A} w file (rules.Unread why))
 is_no_text None file bytes why found no_text = tt
 is_no_text (Some w) file bytes why found no_text = inr (inr (bytes, found, no_text))

@@ -1,6 +1,5 @@
 -- How a call of the program ends.
 use Rattle.std.specs.Prelude.{◌≡◌, ◌⊎◌, ℕ, ◌==◌, Bool, true, false, cond, not, ◌&&◌, List, [], ◌∷◌, ◌++◌, length, codes, String, string_bytes, Option, Some, None, IfSome, ⊤}
-use Rattle.std.specs.Fmt.{decimal}
 use Rattle.std.specs.Str.{chars}
 use Rattle.std.specs.Io.KnownBytes.{Appends, Keeps}
 use Rattle.rl_files.specs.Trees.{World, string_texts}
@@ -23,11 +22,11 @@ use Rattle.rl_reports.specs.declared.words.WordError.{WordError}
 use Rattle.rl_reports.specs.declared.ending.CallError.{CallError}
 use Rattle.rl_reports.specs.declared.ending.CallError.TheVariants.{NoArguments, Word, Walk, List as NoList, Style as NoStyle, NoFile, Write}
 use Rattle.rl_style.specs.declared.style.Style.{Style}
-use Rattle.rl_styles.specs.Styles.{default_settings, style_error_words}
-use Rattle.rl_styles.specs.declared.style_error.StyleError.{StyleError}
+use Rattle.rl_styles.specs.Styles.{default_settings}
+use Rattle.rl_reports.specs.declared.rules.LineError.{LineError}
 use Rattle.rl_reports.specs.declared.rules.RulesError.{RulesError}
 use Rattle.rl_reports.specs.declared.rules.RulesError.TheVariants as rules
-use Rattle.rl_reports.specs.Rules.{HasNoRules, HasRules}
+use Rattle.rl_reports.specs.Rules.{HasNoRules, HasRules, line_error_words}
 use Rattle.rl_reports.specs.Listed.{AreWithAllListed, IsFirstUnread}
 use Rattle.rl_reports.specs.Runs.{Streams, WritesWalk, WritesFront, asked_status}
 use Rattle.rl_reports.specs.Words.{Wishes, wishes_of, Asks, AreRejected, word_message}
@@ -39,8 +38,7 @@ call_error_line (Word error) = codes "rl_scan: " ++ word_message error
 call_error_line (Walk error) = codes "rl_scan: " ++ walk_error_message error
 call_error_line (NoList file why) = codes "rl_scan: " ++ (string_bytes file ++ (codes ": " ++ path_error_message why))
 call_error_line (NoStyle file error) =
-    codes "rl_scan: " ++ (string_bytes file ++ (codes ": " ++ (style_error_words error.kind ++ (codes " at byte "
-    ++ decimal error.lo))))
+    codes "rl_scan: " ++ (string_bytes file ++ (codes ":" ++ line_error_words error))
 call_error_line NoFile = codes "rl_scan: there was no file to read"
 call_error_line Write = codes "rl_scan: write failed"
 
@@ -189,23 +187,23 @@ EndsScan wishes rules is_terminal holds streams ending =
     × EndsFrom wishes.files_from command is_terminal holds wishes.paths streams ending
 
 -- the error names the file, and what is wrong with the rules that it holds; or memory ran out for that
-abbrev pub IsStyleError : {B : Type 0} → List ℕ → StyleError → Ending (CallError B) → Type 0
+abbrev pub IsStyleError : {B : Type 0} → List ℕ → LineError B → Ending (CallError B) → Type 0
 IsStyleError file error (Failed (NoStyle said other)) =
     (chars (string_bytes said) ≡ visible (chars file)) × (other ≡ error)
 IsStyleError file error (Failed (Walk reason)) = reason ≡ OutOfMemory
 IsStyleError file error _ = ⊥
 
-abbrev pub IsRulesError : {B : Type 0} → List ℕ → RulesError → Ending (CallError B) → Type 0
+abbrev pub IsRulesError : {B : Type 0} → List ℕ → RulesError B → Ending (CallError B) → Type 0
 IsRulesError file (rules.Unread why) ending = IsListError file why ending
 IsRulesError file (rules.Style error) ending = IsStyleError file error ending
 
 -- how a call ends that scans: by the usual rules; or by those of a file, where nothing is written if it has none
 abbrev pub EndsStyled : {B : Type 0} → Option (List ℕ) → Wishes → Bool → Option World → Streams → Ending (CallError B)
     → Type 0
-EndsStyled None wishes is_terminal holds streams ending =
+EndsStyled {B} None wishes is_terminal holds streams ending =
     EndsScan wishes default_settings is_terminal holds streams ending
-EndsStyled (Some file) wishes is_terminal holds streams ending =
-    (WritesNothing streams × ((error : RulesError) × IfSome holds (λ w. HasNoRules w file error)
+EndsStyled {B} (Some file) wishes is_terminal holds streams ending =
+    (WritesNothing streams × ((error : RulesError B) × IfSome holds (λ w. HasNoRules w file error)
     × IsRulesError file error ending))
     ⊎ ((style : Style) × IfSome holds (λ w. HasRules w file style)
     × EndsScan wishes style is_terminal holds streams ending)

@@ -13,6 +13,8 @@ use Rattle.rl_files.specs.Walks.{path_error_message}
 use Rattle.rl_files.specs.declared.tree.PathError.{PathError}
 use Rattle.rl_files.specs.declared.tree.PathError.TheVariants.{NotUtf8, OutOfMemory}
 use Rattle.rl_lexer.specs.declared.lex_error.LexKind.{LexKind}
+use Rattle.rl_types.specs.declared.before.Edition.{Edition}
+use Rattle.rl_types.specs.declared.before.Edition.TheVariants.{E2021}
 use Rattle.rl_reports.specs.declared.command.Command.{Command}
 use Rattle.rl_reports.specs.declared.command.PlaceForm.{PlaceForm}
 use Rattle.rl_reports.specs.declared.command.PlaceForm.TheVariants as form
@@ -42,6 +44,11 @@ abbrev pub is_by_line : PlaceForm → List ℕ → Bool
 is_by_line form.Usual path = not (is_input path)
 is_by_line form.Bytes path = false
 is_by_line form.Lines path = true
+
+-- the edition by which words before quotes are reserved; where nothing is said, 2021
+abbrev pub edition_read : Option Edition → Edition
+edition_read None = E2021
+edition_read (Some edition) = edition
 
 -- whether what is bad is asked for
 abbrev pub is_bad : Shown → Bool
@@ -104,7 +111,7 @@ pub record IsOptionsFor (command : Command) (path : List ℕ) (options : Options
   pub by_line : options.by_line ≡ is_by_line command.places path
   pub rejects_strays : options.rejects_strays ≡ command.rejects_strays
   pub any_suffix : options.any_suffix ≡ command.any_suffix
-  pub edition : options.edition ≡ command.edition
+  pub edition : options.edition ≡ edition_read command.edition
   pub explains : options.explains ≡ is_bad command.shown
   pub before : IsPathIn (is_json command.form) path options.path
 
@@ -162,11 +169,13 @@ listed_of _ nul form path = path_line nul form path
 abbrev pub HandsOn : Option (List Replacement) → Option (List Replacement) → List Replacement → Type 0
 HandsOn old new handed = new ≡ option_map (λ before. before ++ handed) old
 
--- What is written on standard output and on standard error, what is handed on to be written in place of files, whether a text
--- was read, whether something was found, and how many findings there are, where that is asked for.
+-- What is written on standard output and on standard error, whether an error is among that, what is handed on to be
+-- written in place of files, whether a text was read, whether something was found, and how many findings there are,
+-- where that is asked for.
 pub record Findings : Type 0 where
   pub out : List ℕ
   pub errors : List ℕ
+  pub has_error : Bool
   pub handed : List Replacement
   pub read : Bool
   pub found : Bool
@@ -177,6 +186,7 @@ abbrev pub with_handed : {A : Type 0} → List Replacement → Report A → Find
 with_handed handed report = record {
   out = report.out.items;
   errors = report.errors.items;
+  has_error = report.has_error;
   handed = handed;
   read = report.read;
   found = report.found;
@@ -206,6 +216,7 @@ pub record IsReportOf (command : Command) (options : Options) (path : Option (Bo
   pub out : printed.out
       ≡ printed_of command.output command.nul_after_paths options.form path lines
   pub errors : printed.errors ≡ error
+  pub has_error : printed.has_error ≡ not (length error == 0)
   pub handed : printed.handed ≡ []
   pub read : printed.read ≡ true
   pub found : printed.found ≡ not (length lines == 0)
@@ -225,6 +236,7 @@ pub record IsListReport (command : Command) (path : List ℕ) (printed : Finding
   pub named_is : IsPathIn command.nul_after_paths path named
   pub out : printed.out ≡ listed_of command.output command.nul_after_paths command.form named
   pub errors : printed.errors ≡ []
+  pub has_error : printed.has_error ≡ false
   pub handed : printed.handed ≡ []
   pub read : printed.read ≡ false
   pub found : printed.found ≡ true
@@ -233,6 +245,7 @@ pub record IsListReport (command : Command) (path : List ℕ) (printed : Finding
 -- Of a path that can't be read one line is reported.
 pub record IsErrorReport (path : List ℕ) (why : PathError) (printed : Findings) : Type 0 where
   pub out : printed.out ≡ []
+  pub has_error : printed.has_error ≡ true
   pub handed : printed.handed ≡ []
   pub read : printed.read ≡ false
   pub found : printed.found ≡ false

@@ -1,30 +1,40 @@
 -- What is reported of a source whose literals are written anew. Texts are lists of characters, what is printed lists of bytes.
-use Rattle.std.specs.Prelude.{◌≡◌, ◌≢◌, ◌⊎◌, ℕ, ◌==◌, Bool, true, false, not, List, [], ◌∷◌, length, map, string_bytes, encode_utf8_all, Option, Some}
+use Rattle.std.specs.Prelude.{◌≡◌, ◌≢◌, ◌⊎◌, ℕ, ◌==◌, Bool, true, false, cond, not, List, [], ◌∷◌, ◌++◌, codes, length, encode_utf8_all, Option, Some, None, IsFalse, IsTrue}
 use denote.Ref.{Bor}
 use Rattle.std.specs.declared.result.Result.TheVariants.{Ok}
 use Rattle.std.specs.Str.{chars, IsUtf8}
 use Rattle.rl_files.specs.Replacements.{Replacement, replacing}
+use Rattle.rl_files.specs.Visible.{visible}
 use Rattle.rl_files.specs.declared.tree.PathError.{PathError}
 use Rattle.rl_fixes.specs.Changes.{AreChangeLines}
 use Rattle.rl_fixes.specs.Diffs.{diff}
 use Rattle.rl_fixes.specs.Outcomes.{AreRejections, IsJudging, IsRestyledAs}
 use Rattle.rl_output.specs.declared.form.Form.{Form}
+use Rattle.rl_restyled.specs.declared.edit.Macros.{Macros}
+use Rattle.rl_restyled.specs.declared.edit.Macros.TheVariants.{Skip}
 use Rattle.rl_sources.specs.declared.options.Options.{Options}
+use Rattle.rl_style.specs.Recut.{begins_with_code}
 use Rattle.rl_reports.specs.declared.command.Command.{Command}
 use Rattle.rl_reports.specs.declared.command.Output.{Output}
 use Rattle.rl_reports.specs.declared.command.Output.TheVariants as output
 use Rattle.rl_reports.specs.declared.command.Restyling.{Restyling}
 use Rattle.rl_reports.specs.declared.command.Restyling.TheVariants.{Fix, Check, Diff}
-use Rattle.rl_reports.specs.Reports.{Findings, IsErrorReport, IsPathIn, IsShownPath, is_by_line, is_input, printed_of}
+use Rattle.rl_reports.specs.Reports.{Findings, IsErrorReport, IsPathIn, IsShownPath, edition_read, is_by_line, is_input, printed_of}
 
 -- Only this is printed, on standard output, and this is handed on.
 pub record PrintsAlone (out : List ℕ) (found : Bool) (handed : List Replacement) (printed : Findings) : Type 0 where
   pub out_is : printed.out ≡ out
   pub errors_are : printed.errors ≡ []
+  pub has_error_is : printed.has_error ≡ false
   pub read_is : printed.read ≡ true
   pub count_is : printed.count ≡ 0
   pub found_is : printed.found ≡ found
   pub handed_is : printed.handed ≡ handed
+
+-- which literals in calls of macros are written anew; where nothing is said, none
+abbrev pub macros_read : Option Macros → Macros
+macros_read None = Skip
+macros_read (Some macros) = macros
 
 -- the bytes of a line for each edit
 abbrev pub AreChangeBytes : Options → Form → List ℕ → List (ℕ × ℕ × List ℕ) → List ℕ → Type 0
@@ -89,18 +99,40 @@ IsChanged Fix command options path named text new edits printed =
 pub record PrintsRejections (lines : List ℕ) (printed : Findings) : Type 0 where
   pub out_is : printed.out ≡ []
   pub errors_are : printed.errors ≡ lines
+  pub has_error_is : printed.has_error ≡ true
   pub read_is : printed.read ≡ true
   pub count_is : printed.count ≡ 0
   pub found_is : printed.found ≡ false
   pub handed_is : printed.handed ≡ []
 
--- What is reported of a text: what Rust rejects of it; or where that is nothing what is new in the style.
+-- what is printed of a text that is left alone: of standard input that is written anew the text
+abbrev pub text_left : Restyling → List ℕ → List ℕ → List ℕ
+text_left Fix path text = cond (is_input path) text []
+text_left Check path text = []
+text_left Diff path text = []
+
+-- What is reported of a text that is left alone, since it begins as an interpreter's line does: a warning, which is no
+-- error.
+pub record IsScriptReport (restyling : Restyling) (path text : List ℕ) (printed : Findings) : Type 0 where
+  pub out : printed.out ≡ text_left restyling path text
+  pub has_error : printed.has_error ≡ false
+  pub handed : printed.handed ≡ []
+  pub read : printed.read ≡ true
+  pub found : printed.found ≡ false
+  pub count : printed.count ≡ 0
+  pub errors : chars printed.errors
+      ≡ codes "rl_scan: " ++ (visible (chars path) ++ codes ": left alone: its first line begins with #!\n")
+
+-- What is reported of a text: what Rust rejects of it; or where that is nothing a warning, or what is new in the style.
 abbrev pub IsRestyledReport : Restyling → Command → List ℕ → List ℕ → Findings → Type 0
 IsRestyledReport restyling command path text printed =
     (options : Options) × (shown named : Option (Bor (List ℕ))) × (lines : List ℕ)
     × IsShownPath path shown × IsPathIn command.nul_after_paths path named
-    × IsJudging command.edition (is_by_line command.places path) shown options × AreRejections options text lines
+    × IsJudging (edition_read command.edition) (is_by_line command.places path) shown options
+    × AreRejections options text lines
     × ((lines ≢ []) × PrintsRejections lines printed
-    ⊎ ((lines ≡ []) × ((new : List ℕ) × (edits : List (ℕ × ℕ × List ℕ)) × IsUtf8 new
-    × IsRestyledAs command.rules command.macros (chars text) (chars new) edits
+    ⊎ ((lines ≡ []) × IsFalse (begins_with_code (chars text)) × IsScriptReport restyling path text printed)
+    ⊎ ((lines ≡ []) × IsTrue (begins_with_code (chars text))
+    × ((new : List ℕ) × (edits : List (ℕ × ℕ × List ℕ)) × IsUtf8 new
+    × IsRestyledAs command.rules (macros_read command.macros) (chars text) (chars new) edits
     × IsChanged restyling command options path named text new edits printed)))

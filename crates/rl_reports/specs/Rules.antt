@@ -1,25 +1,75 @@
--- The rules of a style, in a file. Texts are lists of bytes.
-use Rattle.std.specs.Prelude.{◌≡◌, ℕ, List}
+-- The rules of a style, in a file, and what is told where it says none. Texts are lists of bytes.
+use Rattle.std.specs.Prelude.{◌≡◌, ℕ, ◌+◌, ⊤, List, ◌++◌, codes, take, String, string_bytes, Option, Some, None}
+use denote.Ref.{Bor}
 use Rattle.std.specs.declared.result.Result.TheVariants.{Ok}
-use Rattle.std.specs.Str.{IsUtf8}
+use Rattle.std.specs.Fmt.{decimal}
+use Rattle.std.specs.Str.{IsUtf8, chars}
 use Rattle.rl_files.specs.Trees.{World}
+use Rattle.rl_files.specs.Visible.{visible}
+use Rattle.rl_files.specs.declared.tree.PathError.TheVariants.{OutOfMemory}
 use Rattle.rl_style.specs.declared.style.Style.{Style}
-use Rattle.rl_styles.specs.Styles.{RejectsStyle, SaysStyle}
+use Rattle.rl_styles.specs.Styles.{RejectsStyle, SaysStyle, style_error_words}
+use Rattle.rl_styles.specs.declared.style_error.StyleError.{StyleError}
+use Rattle.rl_styles.specs.declared.style_error.StyleErrorKind.{StyleErrorKind}
+use Rattle.rl_styles.specs.declared.style_error.StyleErrorKind.TheVariants.{Unknown}
+use Rattle.rl_reports.specs.declared.rules.LineError.{LineError}
 use Rattle.rl_reports.specs.declared.rules.RulesError.{RulesError}
 use Rattle.rl_reports.specs.declared.rules.RulesError.TheVariants as rules
-use Rattle.rl_reports.specs.Reports.{IsReadError}
+use Rattle.rl_reports.specs.Meant.{IsNearest, rule_list}
+use Rattle.rl_reports.specs.Reports.{IsReadError, line_count}
 
 -- the file says these rules
 abbrev pub HasRules : World → List ℕ → Style → Type 0
 HasRules w file style = (text : List ℕ) × (w.bytes file ≡ Ok text) × IsUtf8 text × SaysStyle text style
 
--- this is wrong with a text that is no style
-abbrev pub IsNoStyle : List ℕ → RulesError → Type 0
-IsNoStyle text (rules.Unread why) = ⊥
-IsNoStyle text (rules.Style error) = RejectsStyle text error
+-- the line, from 1, in which a byte of a text stands
+abbrev pub line_of : List ℕ → ℕ → ℕ
+line_of text at = line_count (take at text) + 1
+
+-- the name as it is printed, where one stands there
+abbrev pub IsShownName : {A : Type 0} → Option (Bor (List ℕ)) → Option (String A) → Type 0
+IsShownName None None = ⊤
+IsShownName (Some name) (Some shown) = chars (string_bytes shown) ≡ visible (chars name.now)
+IsShownName None (Some shown) = ⊥
+IsShownName (Some name) None = ⊥
+
+-- the first rule that the name may stand for, where one stands there
+abbrev pub IsNearName : Option (Bor (List ℕ)) → Option (Bor (List ℕ)) → Type 0
+IsNearName None meant = meant ≡ None
+IsNearName (Some name) meant = IsNearest rule_list name.now meant
+
+-- the rule that was likely meant by the name, where none has it
+abbrev pub IsRuleMeant : StyleErrorKind → Option (Bor (List ℕ)) → Option (Bor (List ℕ)) → Type 0
+IsRuleMeant Unknown name meant = IsNearName name meant
+IsRuleMeant _ name meant = meant ≡ None
+
+-- What is told of the error of a text: the line where what is wrong begins, the entry's name, what is wrong, and the
+-- rule that was likely meant.
+pub record TellsError {A : Type 0} (text : List ℕ) (error : StyleError) (told : LineError A) : Type 0 where
+  pub line_is : told.line ≡ line_of text error.lo
+  pub name_is : IsShownName error.name told.name
+  pub kind_is : told.kind ≡ error.kind
+  pub meant_is : IsRuleMeant error.kind error.name told.meant
+
+-- what is told, in words
+abbrev pub told_words : {A : Type 0} → ℕ → StyleErrorKind → Option (String A) → Option (Bor (List ℕ)) → List ℕ
+told_words line kind None meant = decimal line ++ (codes ": " ++ style_error_words kind)
+told_words line kind (Some name) None =
+    decimal line ++ (codes ": " ++ (string_bytes name ++ (codes ": " ++ style_error_words kind)))
+told_words line kind (Some name) (Some meant) =
+    decimal line ++ (codes ": " ++ (string_bytes name ++ (codes ": " ++ (style_error_words kind
+    ++ (codes "; did you mean '" ++ (meant.now ++ codes "'?"))))))
+
+abbrev pub line_error_words : {A : Type 0} → LineError A → List ℕ
+line_error_words e = told_words e.line e.kind e.name e.meant
+
+-- this is wrong with a text that is no style; or memory ran out for what is told of it
+abbrev pub IsNoStyle : {A : Type 0} → List ℕ → RulesError A → Type 0
+IsNoStyle text (rules.Unread why) = why ≡ OutOfMemory
+IsNoStyle text (rules.Style told) = (error : StyleError) × RejectsStyle text error × TellsError text error told
 
 -- why it says none: it can't be read, or what it holds is no style
-abbrev pub HasNoRules : World → List ℕ → RulesError → Type 0
+abbrev pub HasNoRules : {A : Type 0} → World → List ℕ → RulesError A → Type 0
 HasNoRules w file (rules.Unread why) = IsReadError w file why
-HasNoRules w file (rules.Style error) =
-    (text : List ℕ) × (w.bytes file ≡ Ok text) × IsUtf8 text × IsNoStyle text (rules.Style error)
+HasNoRules w file (rules.Style told) =
+    (text : List ℕ) × (w.bytes file ≡ Ok text) × IsUtf8 text × IsNoStyle text (rules.Style told)

@@ -81,7 +81,7 @@ totals_of one = record {
   read = one_if one.read;
   with_findings = one_if one.found;
   findings = one.count;
-  with_errors = one_if (not (length one.errors == 0));
+  with_errors = one_if one.has_error;
 }
 
 abbrev pub both_of : Totals → Totals → Totals

@@ -40,7 +40,7 @@ use Rattle.rl_reports.specs.declared.flags.When.{When}
 use Rattle.rl_reports.specs.declared.flags.When.TheVariants.{Auto, Always, Never}
 use Rattle.rl_reports.specs.declared.words.Asked.{Asked}
 use Rattle.rl_reports.specs.declared.words.WordError.{WordError}
-use Rattle.rl_reports.specs.declared.words.WordError.TheVariants.{Memory, UnknownOption, UnknownLetter, NoValue, UnknownKind, NoKinds, TwoChoices, NoText, EmptyText, BadAndFind, TextlessKinds, ObjectsOfPaths, StatsOfPaths, TwoRestylings, RestylesAlone, StyleAlone, NoStyle, NoMacros, UnknownMacros, NoColor, UnknownColor, NoExtension, NoPattern, EmptyPattern, OtherPattern, NoList, NoEdition, UnknownEdition, NoFormat, UnknownFormat, NoCount, UnknownCount}
+use Rattle.rl_reports.specs.declared.words.WordError.TheVariants.{Memory, UnknownOption, UnknownLetter, NoValue, UnknownKind, NoKinds, TwoChoices, NoText, EmptyText, BadAndFind, TextlessKinds, ObjectsOfPaths, StatsOfPaths, TwoRestylings, RestylesAlone, SumsOfCheck, StyleAlone, MacrosAlone, SuffixAlone, EditionAlone, NoStyle, NoMacros, UnknownMacros, NoColor, UnknownColor, NoExtension, NoPattern, EmptyPattern, OtherPattern, NoList, NoEdition, UnknownEdition, NoFormat, UnknownFormat, NoCount, UnknownCount}
 use Rattle.rl_sources.specs.Options.{Names, words_of}
 use Rattle.rl_reports.specs.Meant.{IsMeant, option_part}
 
@@ -246,7 +246,7 @@ pub record Wishes : Type 0 where
   pub nul_after_paths : Bool
   pub rejects_strays : Bool
   pub any_suffix : Bool
-  pub edition : AnyEdition
+  pub edition : Option AnyEdition
   pub around : Option ℕ
   pub before : Option ℕ
   pub after : Option ℕ
@@ -257,7 +257,7 @@ pub record Wishes : Type 0 where
   pub tells_stats : Bool
   pub restyle : Option Restyling
   pub style : Option (List ℕ)
-  pub macros : AnyMacros
+  pub macros : Option AnyMacros
   pub extensions : List (List ℕ)
   pub excludes : List (List ℕ)
   pub files_from : List (List ℕ)
@@ -277,7 +277,7 @@ first_wishes has_colors = record {
   nul_after_paths = false;
   rejects_strays = false;
   any_suffix = false;
-  edition = E2021;
+  edition = None;
   around = None;
   before = None;
   after = None;
@@ -288,7 +288,7 @@ first_wishes has_colors = record {
   tells_stats = false;
   restyle = None;
   style = None;
-  macros = macros.Skip;
+  macros = None;
   extensions = [];
   excludes = [];
   files_from = [];
@@ -380,19 +380,55 @@ spells_lines Source form = true
 abbrev pub says_printed : Wishes → Bool
 says_printed w =
     picks_literals w.wanted w.searches || spells_lines w.spelling w.form
-    || (is_some w.around || is_some w.before || is_some w.after) || prints_no_objects w.wish w.output || w.tells_stats
+    || (is_some w.around || is_some w.before || is_some w.after) || lists_files w.wish || w.tells_stats
 
 -- literals are written anew, and it is said what is printed
 abbrev pub restyles_and_prints : Wishes → Bool
 restyles_and_prints w = is_some w.restyle && says_printed w
 
+-- of what is written anew there are no sums: `--check` alone has them
+abbrev pub has_no_sums : Option Restyling → Bool
+has_no_sums None = false
+has_no_sums (Some restyling.Fix) = true
+has_no_sums (Some restyling.Check) = false
+has_no_sums (Some restyling.Diff) = true
+
+-- sums are asked for of what has none
+abbrev pub restyles_and_sums : Wishes → Bool
+restyles_and_sums w = sums_lines w.output && has_no_sums w.restyle
+
 -- a style is named, and no literals are written anew
 abbrev pub has_needless_style : Wishes → Bool
 has_needless_style w = is_some w.style && not (is_some w.restyle)
 
--- neither is so
+-- it is said which literals in calls of macros are written anew, and none are
+abbrev pub has_needless_macros : Wishes → Bool
+has_needless_macros w = is_some w.macros && not (is_some w.restyle)
+
+-- none of these is so
 abbrev pub RestyleTogether : Wishes → Type 0
-RestyleTogether w = (restyles_and_prints w ≡ false) × (has_needless_style w ≡ false)
+RestyleTogether w =
+    (restyles_and_prints w ≡ false) × (restyles_and_sums w ≡ false) × (has_needless_style w ≡ false)
+    × (has_needless_macros w ≡ false)
+
+-- what is bad is wanted
+abbrev pub wants_bad : Wanted → Bool
+wants_bad AllWanted = false
+wants_bad (OnlyWanted list) = false
+wants_bad BadWanted = true
+wants_bad HiddenWanted = false
+
+-- any suffix may stand, and what is bad isn't wanted
+abbrev pub has_needless_suffix : Wishes → Bool
+has_needless_suffix w = w.any_suffix && not (wants_bad w.wanted)
+
+-- an edition is named, and neither is what is bad wanted, nor are literals written anew
+abbrev pub has_needless_edition : Wishes → Bool
+has_needless_edition w = is_some w.edition && not (is_some w.restyle) && not (wants_bad w.wanted)
+
+-- neither is so
+abbrev pub JudgeTogether : Wishes → Type 0
+JudgeTogether w = (has_needless_suffix w ≡ false) × (has_needless_edition w ≡ false)
 
 -- a text is looked for only where literals that are wanted may hold it, objects and annotations are wanted only of
 -- lines, and how much was found only where files are read
@@ -403,7 +439,7 @@ PrintTogether w =
 
 -- what is asked for goes together
 abbrev pub GoTogether : Wishes → Type 0
-GoTogether w = PrintTogether w × RestyleTogether w
+GoTogether w = PrintTogether w × RestyleTogether w × JudgeTogether w
 
 -- why it doesn't
 abbrev pub IsClash : {A : Type 0} → Wishes → WordError A → Type 0
@@ -411,7 +447,11 @@ IsClash w TextlessKinds = IsTrue w.searches × (MayHold w.wanted → ⊥)
 IsClash w ObjectsOfPaths = (has_extents w.form && prints_no_objects w.wish w.output) ≡ true
 IsClash w StatsOfPaths = (w.tells_stats && lists_files w.wish) ≡ true
 IsClash w RestylesAlone = restyles_and_prints w ≡ true
+IsClash w SumsOfCheck = restyles_and_sums w ≡ true
 IsClash w StyleAlone = has_needless_style w ≡ true
+IsClash w MacrosAlone = has_needless_macros w ≡ true
+IsClash w SuffixAlone = has_needless_suffix w ≡ true
+IsClash w EditionAlone = has_needless_edition w ≡ true
 IsClash w _ = ⊥
 
 -- only one option may say which literals are wanted
@@ -541,7 +581,7 @@ IsTaken has_colors takes.Pattern old text new =
     (text ≢ []) × (has_other_mark text ≡ false) × (new ≡ with_pattern text old)
 IsTaken has_colors takes.List old text new = new ≡ with_list text old
 IsTaken has_colors takes.Edition old word new =
-    (edition : AnyEdition) × (word ≡ edition_word edition) × (new ≡ record old { edition = edition })
+    (edition : AnyEdition) × (word ≡ edition_word edition) × (new ≡ record old { edition = Some edition })
 IsTaken has_colors takes.Format old word new =
     (format : AnyFormat) × (word ≡ format_word format)
     × (new ≡ record old { form = formatted has_colors old.form format })
@@ -553,7 +593,7 @@ IsTaken has_colors takes.After old word new =
     (count : ℕ) × IsCountWord word count × (new ≡ record old { after = Some count })
 IsTaken has_colors takes.Style old file new = new ≡ record old { style = Some file }
 IsTaken has_colors takes.Macros old word new =
-    (macros : AnyMacros) × (word ≡ macros_word macros) × (new ≡ record old { macros = macros })
+    (macros : AnyMacros) × (word ≡ macros_word macros) × (new ≡ record old { macros = Some macros })
 
 -- With these letters, one after another, so much is asked for, and such a word may stand next: what an option
 -- takes stands after its letter, or is the next word.
@@ -627,8 +667,13 @@ word_message ObjectsOfPaths =
 word_message StatsOfPaths = codes "--stats can't be used with --files, which reads none"
 word_message TwoRestylings = codes "--fix, --check and --diff: one of them, once"
 word_message RestylesAlone =
-    codes "--fix, --check and --diff can't be used with what says what is printed: --bad, --hidden, --only, -e, -c, -l, --files, --text, --json, --format, -C, -B, -A, --stats"
-word_message StyleAlone = codes "--style goes with one of --fix, --check, --diff"
+    codes "--fix, --check and --diff can't be used with what says what is printed: --bad, --hidden, --only, -e, --files, --text, --json, --format, -C, -B, -A, --stats"
+word_message SumsOfCheck =
+    codes "-c, --count, -l, --files-with-matches go with --check, and not with --fix or --diff"
+word_message StyleAlone = codes "--style goes with --fix, --check or --diff"
+word_message MacrosAlone = codes "--macros goes with --fix, --check or --diff"
+word_message SuffixAlone = codes "--any-suffix goes with --bad"
+word_message EditionAlone = codes "--edition goes with --bad, --fix, --check or --diff"
 word_message NoStyle = codes "--style: which file? as in --style style.txt"
 word_message NoMacros = codes "--macros: which? one of skip, all"
 word_message (UnknownMacros word) = codes "unknown macros '" ++ (string_bytes word ++ codes "': one of skip, all")

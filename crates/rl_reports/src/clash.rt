@@ -1,9 +1,9 @@
 //! Whether what the words ask for goes together.
 
 ghost use Rattle.std.specs.Prelude.{◌≡◌, ◌↔◌, ℕ, List, [], IfNone, IfSome, IsTrue, MatchBool};
-ghost use Rattle.rl_reports.specs.Words.{GoTogether, HasTextKind, IsClash, MayHold, PrintTogether, RestyleTogether, lists_files as lists, picks_literals as picks, says_printed, has_needless_style as needless_style, restyles_and_prints as with_printing, spells_lines as spells, prints_no_objects as no_objects, sums_lines as sums, wanted_of, wishes_of};
+ghost use Rattle.rl_reports.specs.Words.{GoTogether, HasTextKind, IsClash, JudgeTogether, MayHold, PrintTogether, RestyleTogether, lists_files as lists, picks_literals as picks, says_printed, has_needless_edition as needless_edition, has_needless_macros as needless_macros, has_needless_style as needless_style, has_needless_suffix as needless_suffix, wants_bad as bad_wanted, has_no_sums as no_sums, restyles_and_prints as with_printing, restyles_and_sums as with_sums, spells_lines as spells, prints_no_objects as no_objects, sums_lines as sums, wanted_of, wishes_of};
 
-use crate::command::{Command, Output, Wish};
+use crate::command::{Command, Output, Restyling, Wish};
 use crate::report::asks_context;
 use crate::words::WordError;
 use rl_output::has_extents;
@@ -72,8 +72,22 @@ fn says_what_is_printed(command: Command<'_>) -> bool
     picks_literals(command)
         || spells_lines(command)
         || asks_context(command)
-        || prints_no_objects(command)
+        || lists_files(command.wish)
         || command.tells_stats
+}
+
+/// Whether literals are written anew, and there are no sums of that: `--check` alone has them.
+fn has_no_sums(restyle: Option<Restyling>) -> bool
+    ensures { result ≡ no_sums restyle }
+{
+    matches!(restyle, Some(Restyling::Fix | Restyling::Diff))
+}
+
+/// Whether sums are asked for of what has none.
+fn restyles_and_sums(command: Command<'_>) -> bool
+    ensures { result ≡ with_sums (wishes_of command.entry [] [] [] [] []) }
+{
+    sums_lines(command.output) && has_no_sums(command.restyle)
 }
 
 /// Whether literals are written anew, and it is said what is printed.
@@ -93,6 +107,40 @@ fn has_needless_style(command: Command<'_>) -> bool
     }
 }
 
+/// Whether it is said which literals in calls of macros are written anew, and none are.
+fn has_needless_macros(command: Command<'_>) -> bool
+    ensures { result ≡ needless_macros (wishes_of command.entry [] [] [] [] []) }
+{
+    match (command.restyle, command.macros) {
+        (None, Some(_)) => true,
+        (Some(_), Some(_)) | (_, None) => false,
+    }
+}
+
+/// Whether what is bad is wanted.
+fn wants_bad(shown: Shown<'_>) -> bool
+    ensures { result ≡ bad_wanted (wanted_of shown.entry) }
+{
+    matches!(shown, Shown::Bad)
+}
+
+/// Whether any suffix may stand, and it isn't asked what is bad.
+fn has_needless_suffix(command: Command<'_>) -> bool
+    ensures { result ≡ needless_suffix (wishes_of command.entry [] [] [] [] []) }
+{
+    command.any_suffix && !wants_bad(command.shown)
+}
+
+/// Whether an edition is named, and neither is it asked what is bad, nor are literals written anew.
+fn has_needless_edition(command: Command<'_>) -> bool
+    ensures { result ≡ needless_edition (wishes_of command.entry [] [] [] [] []) }
+{
+    match (command.edition, command.restyle) {
+        (Some(_), None) => !wants_bad(command.shown),
+        (Some(_), Some(_)) | (None, _) => false,
+    }
+}
+
 /// What doesn't go together of what is asked for of literals that are written anew.
 fn restyling_clash<A: Allocator>(command: Command<'_>) -> Option<WordError<A>>
     ensures some { IfSome result (λ error. (finds extensions excludes lists paths : List (List ℕ))
@@ -103,8 +151,30 @@ fn restyling_clash<A: Allocator>(command: Command<'_>) -> Option<WordError<A>>
     if restyles_and_prints(command) {
         return Some(WordError::RestylesAlone);
     }
+    if restyles_and_sums(command) {
+        return Some(WordError::SumsOfCheck);
+    }
     if has_needless_style(command) {
         return Some(WordError::StyleAlone);
+    }
+    if has_needless_macros(command) {
+        return Some(WordError::MacrosAlone);
+    }
+    None
+}
+
+/// What doesn't go together of what is asked for of what Rust rejects.
+fn judging_clash<A: Allocator>(command: Command<'_>) -> Option<WordError<A>>
+    ensures some { IfSome result (λ error. (finds extensions excludes lists paths : List (List ℕ))
+        → IsClash (wishes_of command.entry finds extensions excludes lists paths) error) }
+    ensures none { IfNone result ((finds extensions excludes lists paths : List (List ℕ))
+        → JudgeTogether (wishes_of command.entry finds extensions excludes lists paths)) }
+{
+    if has_needless_suffix(command) {
+        return Some(WordError::SuffixAlone);
+    }
+    if has_needless_edition(command) {
+        return Some(WordError::EditionAlone);
     }
     None
 }
@@ -139,6 +209,9 @@ pub(crate) fn clash_of<A: Allocator>(command: Command<'_>) -> Option<WordError<A
         return Some(error);
     }
     if let Some(error) = restyling_clash(command) {
+        return Some(error);
+    }
+    if let Some(error) = judging_clash(command) {
         return Some(error);
     }
     None

@@ -80,8 +80,8 @@ pub struct Command<'a> {
     pub rejects_strays: bool,
     /// Whether a literal may have any suffix and any value, as where a macro takes it.
     pub any_suffix: bool,
-    /// The edition, by which a word or hashes right before a quote are reserved.
-    pub edition: Edition,
+    /// The edition, by which a word or hashes right before a quote are reserved, where one is said.
+    pub edition: Option<Edition>,
     /// How many lines of the source are shown before and after that of a place, where that is said.
     pub around: Option<usize>,
     /// How many are shown before it, where that is said.
@@ -92,7 +92,7 @@ pub struct Command<'a> {
     pub selection: Selection<'a>,
     /// The files that name more paths, in order.
     pub files_from: &'a [&'a str],
-    /// Whether it is told of each file that it can't be read to its end.
+    /// Whether it is told of each file that it can't be read to its end, or is left alone.
     pub tells_errors: bool,
     /// Whether it is told after all how much was read and found.
     pub tells_stats: bool,
@@ -102,8 +102,8 @@ pub struct Command<'a> {
     pub style: Option<&'a str>,
     /// The rules of the style.
     pub rules: Style,
-    /// Which literals in calls of macros are written anew.
-    pub macros: Macros,
+    /// Which literals in calls of macros are written anew, where that is said.
+    pub macros: Option<Macros>,
 }
 
 /// What a call knows of where it runs.

@@ -2,39 +2,133 @@
 
 ghost use Rattle.std.specs.Prelude.{◌≡◌, IfErr, IfOk, IfSome};
 ghost use Rattle.rl_styles.specs.Styles.{RejectsStyle, SaysStyle};
-ghost use Rattle.rl_reports.specs.Rules.{HasNoRules, HasRules, IsNoStyle};
+ghost use Rattle.rl_reports.specs.Rules.{HasNoRules, HasRules, IsNearName, IsNoStyle, IsRuleMeant, IsShownName, TellsError, line_of};
 
+use crate::meant::near_rule;
+use crate::report::{count_lines, visible_text};
 use rl_files::{PathError, Tree};
 use rl_style::Style;
-use rl_styles::{StyleError, style_of};
-use std::alloc::Allocator;
+use rl_styles::{StyleError, StyleErrorKind, style_of};
+use std::alloc::{AllocError, Allocator, Global};
+use std::fmt;
+
+/// What is wrong in a line of a file that says no style.
+#[derive(Drop)]
+pub struct LineError<A: Allocator = Global> {
+    /// The line, from 1.
+    pub line: usize,
+    /// The name of the entry, as it is printed, where one stands there.
+    pub name: Option<String<A>>,
+    /// What is wrong.
+    pub kind: StyleErrorKind,
+    /// The rule that was likely meant, where none has the name.
+    pub meant: Option<&'static str>,
+}
+
+impl<A: Allocator> fmt::Display for LineError<A> {
+    ghost use Rattle.std.specs.Prelude.{Some};
+    ghost use Rattle.rl_reports.specs.Rules.{line_error_words};
+
+    ghost output = { λ error. Some (line_error_words error) };
+
+    fn fmt<W: fmt::Write>(&self, f: &mut fmt::Formatter<W>) -> fmt::Result {
+        match (&self.name, self.meant) {
+            (None, _) => write!(f, "{}: {}", self.line, self.kind),
+            (Some(name), None) => write!(f, "{}: {name}: {}", self.line, self.kind),
+            (Some(name), Some(meant)) => write!(
+                f,
+                "{}: {name}: {}; did you mean '{meant}'?",
+                self.line, self.kind
+            ),
+        }
+    }
+}
 
 /// Why the rules of a style can't be had.
-#[derive(Clone, Copy)]
-pub(crate) enum RulesError {
+#[derive(Drop)]
+pub(crate) enum RulesError<A: Allocator = Global> {
     /// The file can't be read.
     Unread(PathError),
     /// What it holds is no style.
-    Style(StyleError),
+    Style(LineError<A>),
+}
+
+/// The line, from 1, in which a byte of a text stands.
+#[tactic(auto, using(crate::proofs::RulesLemmas::line_is, crate::proofs::RulesLemmas::lines_within))]
+fn line_at(text: &str, at: usize) -> usize
+    ensures { result ≡ line_of text.now at }
+{
+    let before = &text.as_bytes()[..at.min(text.len())];
+    count_lines(before) + 1
+}
+
+/// The first rule that a name may stand for, where one stands there.
+fn near_name(name: Option<&str>) -> Option<&'static str>
+    ensures { IsNearName name.entry result }
+{
+    match name {
+        Some(name) => near_rule(name),
+        None => None,
+    }
+}
+
+/// The rule that was likely meant by the name of an entry, where none has it.
+fn rule_meant(error: StyleError<'_>) -> Option<&'static str>
+    ensures { IsRuleMeant error.entry.kind error.entry.name result }
+{
+    match error.kind {
+        StyleErrorKind::Unknown => near_name(error.name),
+        _ => None,
+    }
+}
+
+/// A name as it is printed, where one stands there.
+fn shown_name<A: Allocator>(alloc: A, name: Option<&str>) -> Result<Option<String<A>>, AllocError>
+    ensures { IfOk result (IsShownName name.entry) }
+{
+    match name {
+        Some(name) => Ok(Some(visible_text(alloc, name)?)),
+        None => Ok(None),
+    }
+}
+
+/// What is told of the error of a text that says no style.
+fn told_error<A: Allocator>(
+    alloc: A,
+    text: &str,
+    error: StyleError<'_>,
+) -> Result<LineError<A>, AllocError>
+    ensures { IfOk result (TellsError text.now error.entry) }
+{
+    let name = shown_name(alloc, error.name)?;
+    Ok(LineError {
+        line: line_at(text, error.lo),
+        name,
+        kind: error.kind,
+        meant: rule_meant(error),
+    })
 }
 
 /// The rules that a text says.
-fn rules_of(text: &str) -> Result<Style, RulesError>
+fn rules_of<A: Allocator>(alloc: A, text: &str) -> Result<Style, RulesError<A>>
     ensures rules { IfOk result (SaysStyle text.now) }
     ensures error { IfErr result (IsNoStyle text.now) }
 {
     match style_of(text) {
         Ok(rules) => Ok(rules),
-        Err(error) => Err(RulesError::Style(error)),
+        Err(error) => match told_error(alloc, text, error) {
+            Ok(error) => Err(RulesError::Style(error)),
+            Err(_) => Err(RulesError::Unread(PathError::OutOfMemory)),
+        },
     }
 }
 
 /// The rules that a file says.
-pub(crate) fn rules_in<A: Allocator, T: Tree>(
+pub(crate) fn rules_in<A: Allocator + Copy, T: Tree>(
     alloc: A,
     tree: &T,
     file: &str,
-) -> Result<Style, RulesError>
+) -> Result<Style, RulesError<A>>
     ensures rules { IfOk result (λ rules. IfSome (T.holds tree.now) (λ w. HasRules w file.now rules)) }
     ensures error { IfErr result (λ e. IfSome (T.holds tree.now) (λ w. HasNoRules w file.now e)) }
 {
@@ -43,7 +137,7 @@ pub(crate) fn rules_in<A: Allocator, T: Tree>(
         Err(why) => return Err(RulesError::Unread(why)),
     };
     match std::str::from_utf8(bytes.as_slice()) {
-        Ok(text) => rules_of(text),
+        Ok(text) => rules_of(alloc, text),
         Err(error) => Err(RulesError::Unread(PathError::NotUtf8(error.valid_up_to()))),
     }
 }

@@ -64,7 +64,7 @@ impl Tally {
             read: one_if(report.read),
             with_findings: one_if(report.found),
             findings: report.count as u64,
-            with_errors: one_if(!report.errors.is_empty()),
+            with_errors: one_if(report.has_error),
         }
     }
 

@@ -150,8 +150,17 @@ fn text_at(path: &str) -> Option<&'static str> {
         "fix/full.rs" | "fix/other.rs" => Some("1.\n"),
         "fix/none.rs" => Some("1.0 \"it's\"\n"),
         "fix/script.rs" => Some("#!/bin/x\n1.\n"),
+        "fix/space.rs" => Some("\u{feff}#! [allow(x)]\n1.\n"),
+        "fix/attr.rs" => Some("\u{feff}#![allow(x)]\n1.\n"),
+        "fix/badscript.rs" => Some("#!/bin/x\n0b12\n"),
         "style" => Some("// raw strings\ndrop_raw = true\n"),
         "badstyle" => Some("drop_raw = true\nhex = 1\n"),
+        "style/near" => Some("// rules\n\ndrop_rwa = true\n"),
+        "style/far" => Some("quotes = 1"),
+        "style/value" => Some("float_zero = true, hex_digits = \"Lower\"\n"),
+        "style/twice" => Some("drop_raw = true\r\ndrop_raw = true\r\n"),
+        "style/mark" => Some("\n/*\n*/ drop_raw true\n"),
+        "style/number" => Some("drop_raw = true\n1 = true\n"),
         _ => None,
     }
 }

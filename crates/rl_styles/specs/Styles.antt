@@ -1,5 +1,6 @@
 -- The style that a configuration says, and what is wrong with one that says none.
 use Rattle.std.specs.Prelude.{◌≡◌, ◌≢◌, ◌⊎◌, ℕ, ⊤, ◌==◌, Bool, true, false, ◌&&◌, List, [], ◌∷◌, codes, Option, Some, None, if◌then◌else◌}
+use denote.Ref.{Bor}
 use Rattle.std.specs.Str.{chars}
 use Rattle.rl_lexer.specs.Cursors.{CursorState}
 use Rattle.rl_lexer.specs.Skipping.{Skipped}
@@ -137,9 +138,14 @@ pub record SaysStyle (text : List ℕ) (style : Style) : Type 0 where
 
 -- ---- what is wrong
 
--- the error has this kind and the place of a name
+-- the error has this kind, and the text and the place of a name
 abbrev pub IsAtName : StyleErrorKind → DottedName → StyleError → Type 0
-IsAtName kind name e = (e.kind ≡ kind) × (e.lo ≡ name.lo) × (e.hi ≡ name.hi)
+IsAtName kind name e = (e.kind ≡ kind) × (e.name ≡ Some name.text) × (e.lo ≡ name.lo) × (e.hi ≡ name.hi)
+
+-- the text of a name, where one stands there
+abbrev pub name_text : Option DottedName → Option (Bor (List ℕ))
+name_text None = None
+name_text (Some name) = Some name.text
 
 -- where a literal begins, with its minus
 abbrev pub literal_lo : NextLiteral → ℕ
@@ -165,6 +171,7 @@ pub record IsUnexpected (before : List Setting) (entry : NextEntry) (e : StyleEr
   pub is_new : value_in before rule ≡ None
   pub no_value : value_of (expected_of rule) entry.value ≡ None
   pub kind : e.kind ≡ Expected (expected_of rule)
+  pub name : e.name ≡ Some entry.name.text
   pub lo : e.lo ≡ literal_lo entry.value
   pub hi : e.hi ≡ entry.value.token.hi
 
@@ -186,7 +193,8 @@ RepeatsRule before (Some name) e = IsRepeated before name e
 -- No entry stands here: a name stood before, or else the error of what stands there is this.
 abbrev pub RejectsRest : List Setting → EntryRejection → StyleError → Type 0
 RejectsRest before r e = RepeatsRule before r.name e
-    ⊎ (IsNewName before r.name × (e.kind ≡ Syntax r.error.kind) × (e.lo ≡ r.error.lo) × (e.hi ≡ r.error.hi))
+    ⊎ (IsNewName before r.name × (e.kind ≡ Syntax r.error.kind) × (e.name ≡ name_text r.name)
+    × (e.lo ≡ r.error.lo) × (e.hi ≡ r.error.hi))
 
 -- what is wrong stands here, where these settings stand before
 abbrev pub IsWrongAt : List Setting → CursorState → StyleError → Type 0

@@ -35,9 +35,11 @@ pub enum StyleErrorKind {
 
 /// What is wrong with a configuration, and where.
 #[derive(Clone, Copy, PartialEq, Eq, Debug)]
-pub struct StyleError {
+pub struct StyleError<'t> {
     /// What is wrong.
     pub kind: StyleErrorKind,
+    /// The name of the entry, where one stands there.
+    pub name: Option<&'t str>,
     /// The byte where it begins.
     pub lo: usize,
     /// The byte after it.

@@ -2,7 +2,7 @@
 
 ghost use Rattle.std.specs.Prelude.{◌≡◌, ◌∷◌, List, IfOk, IfErr, OnOk, MatchBool};
 ghost use Rattle.rl_styles.specs.Held.{AreOf, NamesSet, value_at};
-ghost use Rattle.rl_styles.specs.Styles.{Setting, SetsRule, RejectsEntry, RejectsRest, SaysStyle, RejectsStyle, default_settings, literal_lo, IsAtName};
+ghost use Rattle.rl_styles.specs.Styles.{Setting, SetsRule, RejectsEntry, RejectsRest, SaysStyle, RejectsStyle, default_settings, literal_lo, name_text, IsAtName};
 ghost use Rattle.rl_styles.specs.Values.{IsOfText};
 
 use crate::rule::{expected_of, rule_of};
@@ -15,11 +15,12 @@ use rl_settings::{DottedName, EntryRejection, EntryStep, NextEntry, entry_step};
 use rl_style::{Case, Style};
 
 /// The error of this kind at a name.
-fn at_name(kind: StyleErrorKind, name: DottedName<'_>) -> StyleError
+fn at_name(kind: StyleErrorKind, name: DottedName<'_>) -> StyleError<'_>
     ensures { IsAtName kind name.entry result }
 {
     StyleError {
         kind,
+        name: Some(name.text),
         lo: name.lo,
         hi: name.hi,
     }
@@ -36,7 +37,7 @@ fn lo_of(literal: &NextLiteral<'_>) -> usize
 }
 
 /// Sets the rule of an entry.
-fn set_entry(values: &mut Values, entry: &NextEntry<'_>) -> Result<(), StyleError>
+fn set_entry<'t>(values: &mut Values, entry: &NextEntry<'t>) -> Result<(), StyleError<'t>>
     requires { IsOfText entry.now.value }
     ensures sets { OnOk result ((before : List Setting) → AreOf before values.old
         → (s : Setting) × SetsRule before entry.now s × AreOf (s ∷ before) values.new) }
@@ -53,6 +54,7 @@ fn set_entry(values: &mut Values, entry: &NextEntry<'_>) -> Result<(), StyleErro
     let Some(value) = value_of(expected, &entry.value) else {
         return Err(StyleError {
             kind: StyleErrorKind::Expected(expected),
+            name: Some(entry.name.text),
             lo: lo_of(&entry.value),
             hi: entry.value.token.hi,
         });
@@ -72,8 +74,18 @@ fn is_set(values: &Values, name: &str) -> bool
     }
 }
 
+/// The text of a name, where one stands there.
+fn text_of(name: Option<DottedName<'_>>) -> Option<&str>
+    ensures { result ≡ name_text name.entry }
+{
+    match name {
+        Some(name) => Some(name.text),
+        None => None,
+    }
+}
+
 /// The error where no entry stands.
-fn rejection_error(values: &Values, rejection: EntryRejection<'_>) -> StyleError
+fn rejection_error<'t>(values: &Values, rejection: EntryRejection<'t>) -> StyleError<'t>
     ensures { (before : List Setting) → AreOf before values.now → RejectsRest before rejection.entry result }
 {
     if let Some(name) = rejection.name {
@@ -83,6 +95,7 @@ fn rejection_error(values: &Values, rejection: EntryRejection<'_>) -> StyleError
     }
     StyleError {
         kind: StyleErrorKind::Syntax(rejection.error.kind),
+        name: text_of(rejection.name),
         lo: rejection.error.lo,
         hi: rejection.error.hi,
     }
@@ -103,7 +116,7 @@ fn rejection_error(values: &Values, rejection: EntryRejection<'_>) -> StyleError
 ///
 /// The first of these, from left to right: what is no entry; a name that no rule has, or that stood before; what a rule can't be set
 /// to.
-pub fn style_of(text: &str) -> Result<Style, StyleError>
+pub fn style_of(text: &str) -> Result<Style, StyleError<'_>>
     ensures says { IfOk result (SaysStyle text.now) }
     ensures rejects { IfErr result (RejectsStyle text.now) }
 {

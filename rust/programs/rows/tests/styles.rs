@@ -133,6 +133,26 @@ fn errors_that_are_expected() {
 }
 
 #[test]
+fn names_of_errors() {
+    for (text, name) in [
+        ("drop_row = true", Some("drop_row")),
+        ("drop_raw . a = true", None),
+        ("drop_raw.a = true", Some("drop_raw.a")),
+        ("drop_raw = true\ndrop_raw = 1", Some("drop_raw")),
+        ("hex_digits = /* */ -1", Some("hex_digits")),
+        ("drop_raw true", Some("drop_raw")),
+        ("drop_raw = true float_zero = true", Some("drop_raw")),
+        ("= true", None),
+    ] {
+        assert_eq!(
+            style_of(text).err().map(|error| error.name),
+            Some(name),
+            "{text}"
+        );
+    }
+}
+
+#[test]
 fn what_is_on_by_default() {
     let expected = Style::new()
         .drop_quote_escapes(true)

@@ -4,4 +4,5 @@ pub returns-clause-none : goal.returns-clause-none
 returns-clause-none g c = λ finds extensions excludes lists paths. (
   c.in_default.ensures.none finds extensions excludes lists paths,
   c.in_default-restyling_clash.ensures.none finds extensions excludes lists paths,
+  c.in_default-judging_clash.ensures.none finds extensions excludes lists paths,
 )

@@ -5,6 +5,7 @@ use Rattle.rl_reports.proofs.report.report_error.Goals as goal
 pub returns : goal.returns
 returns g c = record {
   out = c.new.ensures.items;
+  has_error = refl;
   handed = refl;
   read = refl;
   found = refl;

@@ -9,8 +9,15 @@ returns c = elim c.match-rejection.branch [
     new_name before c.args.values.now c.args.rejection.name w.in-Some.name are
         w.in-Some.is w.if-is_set.ensures,
     refl,
+    c.text_of.ensures,
     refl,
     refl,
   )
-  | in_default w ↦ λ before are. inr (no_name before c.args.rejection.name w.in_default.is, refl, refl, refl)
+  | in_default w ↦ λ before are. inr (
+    no_name before c.args.rejection.name w.in_default.is,
+    refl,
+    c.text_of.ensures,
+    refl,
+    refl,
+  )
 ]

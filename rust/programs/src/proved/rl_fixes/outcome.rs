@@ -5,13 +5,15 @@ use crate::rattle_std::prelude::{String, Vec};
 use crate::rl_output::Form;
 use crate::rl_restyled::{Macros, RestyleError, Restyled, restyle};
 use crate::rl_sources::{Edition, Matching, Options, Shown, Spelling, scan};
-use crate::rl_style::Style;
+use crate::rl_style::{Style, may_restyle};
 use crate::rattle_std::alloc::{AllocError, Allocator, Global};
 
 /// What becomes of a source.
 pub enum Outcome<A: Allocator = Global> {
     /// Rust rejects it: a line for each reason.
     Rejected(Vec<u8, A>),
+    /// It is left alone: it begins with `#!` and not with `#![`, as an interpreter's line does.
+    Script,
     /// What it is in the style, and what is new in it.
     Restyled(Restyled<A>),
 }
@@ -68,8 +70,7 @@ fn restyled<A: Allocator + Copy>(
     }
 }
 
-/// What becomes of a source: it is written anew, unless Rust rejects something of it. One that begins with an interpreter's line stays
-/// as it is.
+/// What becomes of a source: it is written anew, unless Rust rejects something of it, or it begins as an interpreter's line does.
 ///
 /// # Errors
 ///
@@ -84,6 +85,9 @@ pub fn written_anew<A: Allocator + Copy>(
     let lines = rejections(alloc, options, text)?;
     if !lines.is_empty() {
         return Ok(Outcome::Rejected(lines));
+    }
+    if !may_restyle(text) {
+        return Ok(Outcome::Script);
     }
     Ok(Outcome::Restyled(restyled(alloc, style, macros, text)?))
 }

@@ -1,7 +1,7 @@
 // Rendered from crates/rl_reports/src/clash.rt by tools/render, which erases contracts: change that file, and render anew.
 //! Whether what the words ask for goes together.
 
-use crate::rl_reports::command::{Command, Output, Wish};
+use crate::rl_reports::command::{Command, Output, Restyling, Wish};
 use crate::rl_reports::report::asks_context;
 use crate::rl_reports::words::WordError;
 use crate::rl_output::has_extents;
@@ -54,8 +54,18 @@ fn says_what_is_printed(command: Command<'_>) -> bool {
     picks_literals(command)
         || spells_lines(command)
         || asks_context(command)
-        || prints_no_objects(command)
+        || lists_files(command.wish)
         || command.tells_stats
+}
+
+/// Whether literals are written anew, and there are no sums of that: `--check` alone has them.
+fn has_no_sums(restyle: Option<Restyling>) -> bool {
+    matches!(restyle, Some(Restyling::Fix | Restyling::Diff))
+}
+
+/// Whether sums are asked for of what has none.
+fn restyles_and_sums(command: Command<'_>) -> bool {
+    sums_lines(command.output) && has_no_sums(command.restyle)
 }
 
 /// Whether literals are written anew, and it is said what is printed.
@@ -71,13 +81,56 @@ fn has_needless_style(command: Command<'_>) -> bool {
     }
 }
 
+/// Whether it is said which literals in calls of macros are written anew, and none are.
+fn has_needless_macros(command: Command<'_>) -> bool {
+    match (command.restyle, command.macros) {
+        (None, Some(_)) => true,
+        (Some(_), Some(_)) | (_, None) => false,
+    }
+}
+
+/// Whether what is bad is wanted.
+fn wants_bad(shown: Shown<'_>) -> bool {
+    matches!(shown, Shown::Bad)
+}
+
+/// Whether any suffix may stand, and it isn't asked what is bad.
+fn has_needless_suffix(command: Command<'_>) -> bool {
+    command.any_suffix && !wants_bad(command.shown)
+}
+
+/// Whether an edition is named, and neither is it asked what is bad, nor are literals written anew.
+fn has_needless_edition(command: Command<'_>) -> bool {
+    match (command.edition, command.restyle) {
+        (Some(_), None) => !wants_bad(command.shown),
+        (Some(_), Some(_)) | (None, _) => false,
+    }
+}
+
 /// What doesn't go together of what is asked for of literals that are written anew.
 fn restyling_clash<A: Allocator>(command: Command<'_>) -> Option<WordError<A>> {
     if restyles_and_prints(command) {
         return Some(WordError::RestylesAlone);
     }
+    if restyles_and_sums(command) {
+        return Some(WordError::SumsOfCheck);
+    }
     if has_needless_style(command) {
         return Some(WordError::StyleAlone);
+    }
+    if has_needless_macros(command) {
+        return Some(WordError::MacrosAlone);
+    }
+    None
+}
+
+/// What doesn't go together of what is asked for of what Rust rejects.
+fn judging_clash<A: Allocator>(command: Command<'_>) -> Option<WordError<A>> {
+    if has_needless_suffix(command) {
+        return Some(WordError::SuffixAlone);
+    }
+    if has_needless_edition(command) {
+        return Some(WordError::EditionAlone);
     }
     None
 }
@@ -102,6 +155,9 @@ pub(crate) fn clash_of<A: Allocator>(command: Command<'_>) -> Option<WordError<A
         return Some(error);
     }
     if let Some(error) = restyling_clash(command) {
+        return Some(error);
+    }
+    if let Some(error) = judging_clash(command) {
         return Some(error);
     }
     None

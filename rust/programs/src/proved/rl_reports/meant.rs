@@ -1,9 +1,13 @@
 // Rendered from crates/rl_reports/src/meant.rt by tools/render, which erases contracts: change that file, and render anew.
-//! Which option a word was likely meant to be.
+//! Which option, or rule of a style, a word was likely meant to be.
 
 /// The options; commas separate them.
 const OPTIONS: &str =
     "--bad,--hidden,--only,--find,--ignore-case,--word,--no-stray,--any-suffix,--edition,--all,--extension,--exclude,--files-from,--no-messages,--bytes,--lines,--text,--json,--format,--context,--before-context,--after-context,--color,--count,--files-with-matches,--null,--quiet,--files,--stats,--fix,--check,--diff,--style,--macros,--help,--version";
+
+/// The rules of a style; commas separate them.
+const RULES: &str =
+    "hex_digits,drop_underscores,drop_leading_zeros,suffix_separator,binary_groups,octal_groups,decimal_groups,hexadecimal_groups,least_grouped,float_zero,exponent_letter,drop_exponent_plus,escape_digits,fewest_escape_digits,drop_ascii_escapes,named_escapes,drop_quote_escapes,fewest_hashes,drop_raw,escape_hidden";
 
 /// Whether two letters at the front changed places.
 fn is_swapped(said: &[u8], meant: &[u8]) -> bool {
@@ -42,9 +46,9 @@ fn is_slip(said: &[u8], meant: &[u8]) -> bool {
     slips_here(said, meant)
 }
 
-/// Whether a word may stand for an option: one slip makes it of that, or that begins with it.
-fn is_near(word: &str, option: &str) -> bool {
-    is_slip(word.as_bytes(), option.as_bytes()) || option.as_bytes().starts_with(word.as_bytes())
+/// Whether a word may stand for another: one slip makes it of that, or that begins with it.
+fn is_near(word: &str, meant: &str) -> bool {
+    is_slip(word.as_bytes(), meant.as_bytes()) || meant.as_bytes().starts_with(word.as_bytes())
 }
 
 /// What stands in a word before the first `=`.
@@ -55,12 +59,17 @@ pub(crate) fn option_part(word: &str) -> &str {
     }
 }
 
-/// The first option that a word may stand for.
-fn near_option(word: &str) -> Option<&'static str> {
-    OPTIONS.split(',').find(|option| is_near(word, option))
+/// The first word of a list that another may stand for; commas separate the words.
+fn nearest(list: &'static str, word: &str) -> Option<&'static str> {
+    list.split(',').find(|meant| is_near(word, meant))
 }
 
 /// The first option that a word may stand for, or what stands in it before the first `=`.
 pub(crate) fn meant_by(word: &str) -> Option<&'static str> {
-    near_option(option_part(word))
+    nearest(OPTIONS, option_part(word))
+}
+
+/// The first rule of a style that a name may stand for.
+pub(crate) fn near_rule(name: &str) -> Option<&'static str> {
+    nearest(RULES, name)
 }

@@ -6,7 +6,7 @@ use crate::rl_reports::command::{Command, Output, PlaceForm};
 use crate::rl_reports::stats::asked_count;
 use crate::rl_files::{PathError, push_visible};
 use crate::rl_sources::{
-    Context, Form, Options, Paint, Place, ScanError, Shown, is_json, push_painted,
+    Context, Edition, Form, Options, Paint, Place, ScanError, Shown, is_json, push_painted,
     push_source_error, scan,
 };
 use crate::rl_tokens::{LexKind, LineColumn};
@@ -18,6 +18,8 @@ pub struct Report<A: Allocator = Global> {
     pub out: Vec<u8, A>,
     /// On standard error.
     pub errors: Vec<u8, A>,
+    /// Whether an error is among that, and no warning alone.
+    pub has_error: bool,
     /// Whether a text was read.
     pub read: bool,
     /// Whether something was found.
@@ -50,6 +52,14 @@ pub(crate) fn is_by_line(form: PlaceForm, path: &str) -> bool {
         PlaceForm::Usual => !is_input(path),
         PlaceForm::Bytes => false,
         PlaceForm::Lines => true,
+    }
+}
+
+/// The edition; 2021, where none is said.
+pub(crate) fn edition_for(command: Command<'_>) -> Edition {
+    match command.edition {
+        Some(edition) => edition,
+        None => Edition::E2021,
     }
 }
 
@@ -115,7 +125,7 @@ fn options_for<'a>(command: Command<'a>, path: &'a str, shown: Option<&'a str>) 
         by_line: is_by_line(command.places, path),
         rejects_strays: command.rejects_strays,
         any_suffix: command.any_suffix,
-        edition: command.edition,
+        edition: edition_for(command),
         explains: is_bad(command.shown),
         path: path_in(is_json(command.form), path, shown),
     }
@@ -243,7 +253,8 @@ pub(crate) fn report_text<A: Allocator + Copy>(
     let before = path_before(path, shown.as_str());
     let options = options_for(command, path, before);
     let scanned = scan_text(alloc, options, text)?;
-    let errors = error_line(alloc, options.by_line, before, scanned.error)?;
+    let errors = error_line(alloc, options.by_line, before, scanned.error)?.into_bytes();
+    let has_error = !errors.is_empty();
     let asked = command.tells_stats;
     let count = asked_count(alloc, asked, options, text, scanned.lines.as_slice())?;
     let found = !scanned.lines.is_empty();
@@ -253,7 +264,8 @@ pub(crate) fn report_text<A: Allocator + Copy>(
     let out = written(alloc, command.output, nul, options.form, named, lines)?;
     Ok(Report {
         out,
-        errors: errors.into_bytes(),
+        errors,
+        has_error,
         read: true,
         found,
         count,
@@ -272,6 +284,7 @@ pub(crate) fn report_error<A: Allocator + Copy>(
     Ok(Report {
         out: Vec::new(alloc),
         errors: errors.into_bytes(),
+        has_error: true,
         read: false,
         found: false,
         count: 0,
@@ -305,6 +318,7 @@ pub(crate) fn report_listed<A: Allocator + Copy>(
     Ok(Report {
         out: line.into_bytes(),
         errors: Vec::new(alloc),
+        has_error: false,
         read: false,
         found: true,
         count: 0,

@@ -4,11 +4,12 @@
 use crate::rattle_std::prelude::{String, Vec};
 use crate::rl_reports::command::{Command, Output, Restyling};
 use crate::rl_reports::report::{
-    Report, is_by_line, is_input, path_before, path_in, report_error, visible_text, written,
+    Report, edition_for, is_by_line, is_input, path_before, path_in, report_error, visible_text,
+    written,
 };
-use crate::rl_files::Replace;
+use crate::rl_files::{Replace, push_visible};
 use crate::rl_fixes::{Outcome, judging, push_changes, push_diff, written_anew};
-use crate::rl_restyled::Restyled;
+use crate::rl_restyled::{Macros, Restyled};
 use crate::rl_sources::Options;
 use crate::rattle_std::alloc::{AllocError, Allocator};
 
@@ -17,6 +18,7 @@ fn report_out<A: Allocator + Copy>(alloc: A, out: Vec<u8, A>, found: bool) -> Re
     Report {
         out,
         errors: Vec::new(alloc),
+        has_error: false,
         read: true,
         found,
         count: 0,
@@ -171,13 +173,51 @@ fn report_rejected<A: Allocator + Copy>(alloc: A, lines: Vec<u8, A>) -> Report<A
     Report {
         out: Vec::new(alloc),
         errors: lines,
+        has_error: true,
         read: true,
         found: false,
         count: 0,
     }
 }
 
-/// What is reported of a source in a style: what Rust rejects of it, else what is new.
+/// Which literals in calls of macros are written anew: none, where that isn't said.
+fn macros_for(command: Command<'_>) -> Macros {
+    match command.macros {
+        Some(macros) => macros,
+        None => Macros::Skip,
+    }
+}
+
+/// What is printed of a text that is left alone: of standard input that is written anew the text.
+fn text_left<'t>(restyling: Restyling, path: &str, text: &'t str) -> &'t str {
+    match restyling {
+        Restyling::Fix if is_input(path) => text,
+        _ => "",
+    }
+}
+
+/// What is reported of a text that is left alone, since it begins as an interpreter's line does: a warning.
+fn report_script<A: Allocator + Copy>(
+    alloc: A,
+    restyling: Restyling,
+    path: &str,
+    text: &str,
+) -> Result<Report<A>, AllocError> {
+    let mut warning = String::from_str(alloc, "rl_scan: ")?;
+    push_visible(&mut warning, path)?;
+    writeln!(&mut warning, ": left alone: its first line begins with #!")?;
+    let out = String::from_str(alloc, text_left(restyling, path, text))?;
+    Ok(Report {
+        out: out.into_bytes(),
+        errors: warning.into_bytes(),
+        has_error: false,
+        read: true,
+        found: false,
+        count: 0,
+    })
+}
+
+/// What is reported of a source in a style: what Rust rejects of it, else a warning where it is left alone, else what is new.
 pub(crate) fn report_restyled<A: Allocator + Copy, F: Replace>(
     alloc: A,
     command: Command<'_>,
@@ -189,9 +229,14 @@ pub(crate) fn report_restyled<A: Allocator + Copy, F: Replace>(
     let shown = visible_text(alloc, path)?;
     let before = path_before(path, shown.as_str());
     let named = path_in(command.nul_after_paths, path, before);
-    let options = judging(command.edition, is_by_line(command.places, path), before);
-    match written_anew(alloc, options, command.rules, command.macros, text)? {
+    let options = judging(
+        edition_for(command),
+        is_by_line(command.places, path),
+        before,
+    );
+    match written_anew(alloc, options, command.rules, macros_for(command), text)? {
         Outcome::Rejected(lines) => Ok(report_rejected(alloc, lines)),
+        Outcome::Script => report_script(alloc, restyling, path, text),
         Outcome::Restyled(restyled) => report_change(
             alloc, command, restyling, options, files, path, named, text, restyled,
         ),

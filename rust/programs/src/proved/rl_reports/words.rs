@@ -3,7 +3,7 @@
 
 use crate::rattle_std::prelude::{String, Vec};
 use crate::rl_reports::clash::clash_of;
-use crate::rl_reports::command::{Command, Macros, Output, PlaceForm, Wish};
+use crate::rl_reports::command::{Command, Output, PlaceForm, Wish};
 use crate::rl_reports::flags::{
     Flag, Next, Operand, When, add_flag, after_front, count_of, edition_of, flag_of, form_in,
     form_when, format_of, has_other_mark, joined_of, letter_of, macros_of, next_after, recolored,
@@ -12,7 +12,7 @@ use crate::rl_reports::flags::{
 use crate::rl_reports::meant::{meant_by, option_part};
 use crate::rl_reports::report::visible_text;
 use crate::rl_files::Selection;
-use crate::rl_sources::{Edition, Matching, Shown, Spelling, names};
+use crate::rl_sources::{Matching, Shown, Spelling, names};
 use crate::rl_styles::default_style;
 use crate::rl_tokens::text::split_char;
 use crate::rattle_std::alloc::{AllocError, Allocator, Global};
@@ -50,8 +50,16 @@ pub enum WordError<A: Allocator = Global> {
     TwoRestylings,
     /// Literals are written anew, and it is said what is printed.
     RestylesAlone,
+    /// Literals are written anew, and paths or counts are asked for, which `--check` alone prints.
+    SumsOfCheck,
     /// The rules of a style are named, and no literals are written anew.
     StyleAlone,
+    /// It is said which literals in calls of macros are written anew, and none are.
+    MacrosAlone,
+    /// Any suffix may stand, and it isn't asked what is bad.
+    SuffixAlone,
+    /// An edition is named, and neither is it asked what is bad, nor are literals written anew.
+    EditionAlone,
     /// After `--style` no word stands.
     NoStyle,
     /// After `--macros` no word stands.
@@ -136,10 +144,17 @@ impl<A: Allocator> fmt::Display for WordError<A> {
             }
             WordError::RestylesAlone => write!(
                 f,
-                "--fix, --check and --diff can't be used with what says what is printed: --bad, --hidden, --only, -e, -c, -l, --files, --text, --json, --format, -C, -B, -A, --stats"
+                "--fix, --check and --diff can't be used with what says what is printed: --bad, --hidden, --only, -e, --files, --text, --json, --format, -C, -B, -A, --stats"
             ),
-            WordError::StyleAlone => {
-                write!(f, "--style goes with one of --fix, --check, --diff")
+            WordError::SumsOfCheck => write!(
+                f,
+                "-c, --count, -l, --files-with-matches go with --check, and not with --fix or --diff"
+            ),
+            WordError::StyleAlone => { write!(f, "--style goes with --fix, --check or --diff") }
+            WordError::MacrosAlone => { write!(f, "--macros goes with --fix, --check or --diff") }
+            WordError::SuffixAlone => write!(f, "--any-suffix goes with --bad"),
+            WordError::EditionAlone => {
+                write!(f, "--edition goes with --bad, --fix, --check or --diff")
             }
             WordError::NoStyle => write!(f, "--style: which file? as in --style style.txt"),
             WordError::NoMacros => write!(f, "--macros: which? one of skip, all"),
@@ -327,7 +342,7 @@ impl<'a, A: Allocator + Copy> Asked<'a, A> {
         let Some(edition) = edition_of(word) else {
             return Err(WordError::UnknownEdition(visible_text(alloc, word)?));
         };
-        self.command.edition = edition;
+        self.command.edition = Some(edition);
         Ok(())
     }
 
@@ -378,7 +393,7 @@ impl<'a, A: Allocator + Copy> Asked<'a, A> {
         let Some(macros) = macros_of(word) else {
             return Err(WordError::UnknownMacros(visible_text(alloc, word)?));
         };
-        self.command.macros = macros;
+        self.command.macros = Some(macros);
         Ok(())
     }
 
@@ -528,7 +543,7 @@ fn first_command<'a>(has_colors: bool) -> Command<'a> {
         nul_after_paths: false,
         rejects_strays: false,
         any_suffix: false,
-        edition: Edition::E2021,
+        edition: None,
         around: None,
         before: None,
         after: None,
@@ -545,7 +560,7 @@ fn first_command<'a>(has_colors: bool) -> Command<'a> {
         restyle: None,
         style: None,
         rules: default_style(),
-        macros: Macros::Skip,
+        macros: None,
     }
 }
 
@@ -555,7 +570,7 @@ fn first_command<'a>(has_colors: bool) -> Command<'a> {
 ///
 /// The first word that can't be asked for; or at the end what the last option takes is missing, as by `NoKinds`, or what is asked
 /// for doesn't go together: `TextlessKinds`, `ObjectsOfPaths`, `StatsOfPaths`,
-/// `RestylesAlone`, `StyleAlone`.
+/// `RestylesAlone`, `SumsOfCheck`, `StyleAlone`, `MacrosAlone`, `SuffixAlone`, `EditionAlone`.
 pub(crate) fn asked_by<A: Allocator + Copy>(
     alloc: A,
     has_colors: bool,

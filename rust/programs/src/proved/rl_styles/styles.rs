@@ -11,9 +11,10 @@ use crate::rl_settings::{DottedName, EntryRejection, EntryStep, NextEntry, entry
 use crate::rl_style::{Case, Style};
 
 /// The error of this kind at a name.
-fn at_name(kind: StyleErrorKind, name: DottedName<'_>) -> StyleError {
+fn at_name(kind: StyleErrorKind, name: DottedName<'_>) -> StyleError<'_> {
     StyleError {
         kind,
+        name: Some(name.text),
         lo: name.lo,
         hi: name.hi,
     }
@@ -28,7 +29,7 @@ fn lo_of(literal: &NextLiteral<'_>) -> usize {
 }
 
 /// Sets the rule of an entry.
-fn set_entry(values: &mut Values, entry: &NextEntry<'_>) -> Result<(), StyleError> {
+fn set_entry<'t>(values: &mut Values, entry: &NextEntry<'t>) -> Result<(), StyleError<'t>> {
     let Some(rule) = rule_of(entry.name.text) else {
         return Err(at_name(StyleErrorKind::Unknown, entry.name));
     };
@@ -39,6 +40,7 @@ fn set_entry(values: &mut Values, entry: &NextEntry<'_>) -> Result<(), StyleErro
     let Some(value) = value_of(expected, &entry.value) else {
         return Err(StyleError {
             kind: StyleErrorKind::Expected(expected),
+            name: Some(entry.name.text),
             lo: lo_of(&entry.value),
             hi: entry.value.token.hi,
         });
@@ -55,8 +57,16 @@ fn is_set(values: &Values, name: &str) -> bool {
     }
 }
 
+/// The text of a name, where one stands there.
+fn text_of(name: Option<DottedName<'_>>) -> Option<&str> {
+    match name {
+        Some(name) => Some(name.text),
+        None => None,
+    }
+}
+
 /// The error where no entry stands.
-fn rejection_error(values: &Values, rejection: EntryRejection<'_>) -> StyleError {
+fn rejection_error<'t>(values: &Values, rejection: EntryRejection<'t>) -> StyleError<'t> {
     if let Some(name) = rejection.name {
         if is_set(values, name.text) {
             return at_name(StyleErrorKind::Repeated, name);
@@ -64,6 +74,7 @@ fn rejection_error(values: &Values, rejection: EntryRejection<'_>) -> StyleError
     }
     StyleError {
         kind: StyleErrorKind::Syntax(rejection.error.kind),
+        name: text_of(rejection.name),
         lo: rejection.error.lo,
         hi: rejection.error.hi,
     }
@@ -84,7 +95,7 @@ fn rejection_error(values: &Values, rejection: EntryRejection<'_>) -> StyleError
 ///
 /// The first of these, from left to right: what is no entry; a name that no rule has, or that stood before; what a rule can't be set
 /// to.
-pub fn style_of(text: &str) -> Result<Style, StyleError> {
+pub fn style_of(text: &str) -> Result<Style, StyleError<'_>> {
     let mut tokens = Tokens::new(text);
     let mut values = Values::new();
     loop {

@@ -2,14 +2,15 @@ use Rattle.std.proofs.Common.{false, lit<, rules, tests, ◌≡◌}
 use Rattle.std.proofs.lemmas.Iterator.{first_from_find}
 use Rattle.std.proofs.lemmas.Iterator.Splits.{YieldsList-from_str_split}
 use Rattle.rl_sources.specs.Options.{words_of}
-use Rattle.rl_reports.specs.Meant.{is_near, option_list}
+use Rattle.rl_reports.specs.Meant.{is_near}
 use Rattle.rl_sources.proofs.OptionLemmas.{first_failing}
 use Rattle.rl_reports.proofs.MeantLemmas.{first_near}
-use Rattle.rl_reports.proofs.meant.near_option.Goals as goal
+use Rattle.rl_reports.proofs.meant.nearest.Goals as goal
 
 pub returns : goal.returns
-returns c = first_near c.args.word.now c.find.result
-    (first_failing (λ option. is_near c.args.word.now option ≡ false) c.find.result (words_of option_list) (first_from_find _ _ _
+returns c = first_near c.args.list.now c.args.word.now c.find.result
+    (first_failing (λ other. is_near c.args.word.now other ≡ false) c.find.result (words_of c.args.list.now)
+    (first_from_find _ _ _
     (λ x. is_near c.args.word.now x ≡ false → ⊥) (λ x. is_near c.args.word.now x ≡ false) c.find.ensures.ran
-    (YieldsList-from_str_split 44 option_list (lit< tt) c.split.ensures.text c.split.ensures.has_more
+    (YieldsList-from_str_split 44 c.args.list.now (lit< tt) c.split.ensures.text c.split.ensures.has_more
     c.split.ensures.pattern) (λ x q k. search (rules, tests)) (λ x q k. search (rules, tests))))
