@@ -8,7 +8,7 @@ from measure import text
 Aim = collections.namedtuple('Aim', 'work beside most but')
 AIMS = (
     Aim('shape', 'litrs', 0.6, {'short strings': 0.85, 'floats': 0.85, 'characters': None}),
-    Aim('lent', 'litrs, lent', 1, {'characters': None}),
+    Aim('borrowed', 'litrs, borrowed', 1, {'characters': None}),
     Aim('value', 'litrs', 1.5, {'characters': None}),
     Aim('literal', 'syn', 1 / 3,
         {'floats': 0.5, 'strings of escapes': 0.5, 'characters': None}),

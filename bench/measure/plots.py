@@ -5,11 +5,11 @@ import sys
 from measure import build, counts
 
 OURS = (
-    'package', 'shape', 'lent', 'value', 'literal', 'segments', 'tokens', 'lex', 'read', 'attr', 'source', 'next_literal', 'restylables', 'rl_scan')
+    'package', 'shape', 'borrowed', 'value', 'literal', 'segments', 'tokens', 'lex', 'read', 'attr', 'source', 'next_literal', 'restylables', 'rl_scan')
 COLOURS = {True: '#2f6db3', False: '#d98a2b'}
 OF_SOURCES = ('source', 'next_literal', 'restylables', 'rl_scan')
 BESIDE = (
-    (('package', 'shape', 'lent', 'value', 'literal'), ('litrs, lent', 'litrs', 'syn')),
+    (('package', 'shape', 'borrowed', 'value', 'literal'), ('litrs, borrowed', 'litrs', 'syn')),
     (('tokens', 'lex', 'read', 'attr'),
      ("rustc's lexer", 'proc-macro2', 'proc-macro2 and syn', 'UTF-8')),
 )

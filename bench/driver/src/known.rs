@@ -56,7 +56,7 @@ fn check_characters() -> Result<(), String> {
     // 5 + 1, 5 + 6 + 1, 4 + 2, 5 + 4
     wanted("shape", ours::shape(&corpus), 33)?;
     // 5 + 1, 5 + 2 + 1, 4 + 1, 5 + 4
-    wanted("lent", ours::lent(&corpus), 28)?;
+    wanted("borrowed", ours::borrowed(&corpus), 28)?;
     // 1, 2, 1, 4
     wanted("segments", ours::segments(&corpus), 8)?;
     wanted("value", ours::value(&corpus), 28)?;
@@ -102,7 +102,7 @@ fn check_literals() -> Result<(), String> {
     wanted("literal", ours::literal(&corpus), 23)?;
     wanted("value_ref", ours::value_ref(&corpus), 23)?;
     // 1 + 2 + 1, 6 + 255 + 2, 8
-    wanted("lent", ours::lent(&corpus), 275)?;
+    wanted("borrowed", ours::borrowed(&corpus), 275)?;
     // 1, 1, 1, 5, 1
     wanted("tokens", ours::tokens(&corpus), 9)?;
     // 1, 1, 1, 3, none, 1

@@ -80,8 +80,8 @@ pub fn litrs_value(corpus: &Corpus) -> u64 {
     litrs_sum(corpus, Numbers::Digits)
 }
 
-/// By what is lent: an integer's value, and a float's numeral as it stands.
-pub fn litrs_lent(corpus: &Corpus) -> u64 {
+/// By what is borrowed: an integer's value, and a float's numeral as it stands.
+pub fn litrs_borrowed(corpus: &Corpus) -> u64 {
     litrs_sum(corpus, Numbers::AsTheyStand)
 }
 

@@ -16,7 +16,7 @@ extern "C" {
     fn rl_bench_literal(b: *const u8, n: usize, e: *const usize, m: usize, sum: &mut u64) -> bool;
     fn rl_bench_value_ref(b: *const u8, n: usize, e: *const usize, m: usize, sum: &mut u64)
         -> bool;
-    fn rl_bench_lent(b: *const u8, n: usize, e: *const usize, m: usize, sum: &mut u64) -> bool;
+    fn rl_bench_borrowed(b: *const u8, n: usize, e: *const usize, m: usize, sum: &mut u64) -> bool;
     fn rl_bench_tokens(bytes: *const u8, len: usize, ends: *const usize, count: usize) -> u64;
     fn rl_bench_source(bytes: *const u8, len: usize, ends: *const usize, count: usize) -> u64;
     fn rl_bench_next_literal(bytes: *const u8, len: usize, ends: *const usize, count: usize)
@@ -67,8 +67,8 @@ pub fn literal(corpus: &Corpus) -> u64 {
     call(rl_bench_literal, corpus)
 }
 
-pub fn lent(corpus: &Corpus) -> u64 {
-    call(rl_bench_lent, corpus)
+pub fn borrowed(corpus: &Corpus) -> u64 {
+    call(rl_bench_borrowed, corpus)
 }
 
 pub fn value_ref(corpus: &Corpus) -> u64 {
@@ -105,7 +105,7 @@ pub fn attr(corpus: &Corpus) -> u64 {
 
 const OF_LITERALS: &[Work] = &[
     ours("shape", Sum::Shapes, shape),
-    ours("lent", Sum::Lents, lent),
+    ours("borrowed", Sum::Borrows, borrowed),
     ours("segments", Sum::Segments, segments),
     ours("value", Sum::Values, value),
     ours("literal", Sum::Values, literal),
@@ -132,7 +132,7 @@ const OF_SOURCES: &[Work] = &[
 
 const OF_HOSTILE: &[Work] = &[
     ours("shape", Sum::Shapes, shape),
-    ours("lent", Sum::Lents, lent),
+    ours("borrowed", Sum::Borrows, borrowed),
     ours("literal", Sum::Values, literal),
     ours("source", Sum::Cuts, source),
     ours("tokens", Sum::Trees, tokens),

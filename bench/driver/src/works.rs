@@ -10,7 +10,7 @@ use crate::{others, package};
 #[derive(Clone, Copy, PartialEq, Eq)]
 pub enum Sum {
     Shapes,
-    Lents,
+    Borrows,
     Segments,
     Values,
     Trees,
@@ -53,7 +53,7 @@ const fn other(name: &'static str, sum: Sum, run: fn(&Corpus) -> u64) -> Work {
 
 /// The works of texts that are a literal each, those of crates/rl_bench aside.
 const OF_LITERALS: &[Work] = &[
-    other("litrs, lent", Sum::Lents, others::litrs_lent),
+    other("litrs, borrowed", Sum::Borrows, others::litrs_borrowed),
     ours("package", Sum::Values, package::value),
     other("litrs", Sum::Values, others::litrs_value),
     #[cfg(feature = "oracle")]

@@ -5,7 +5,7 @@
 //! end, or is no UTF-8, is skipped.
 #![tactic(auto)]
 
-mod lent;
+mod borrowed;
 mod lists;
 mod literals;
 mod segments;
@@ -16,7 +16,7 @@ mod value_refs;
 mod values;
 mod weights;
 
-use crate::lent::ByLent;
+use crate::borrowed::ByBorrowed;
 use crate::lists::{ByAttributes, ByList, ByTrees};
 use crate::literals::ByLiteral;
 use crate::segments::BySegments;
@@ -60,13 +60,13 @@ pub extern "C" fn rl_bench_value(
 /// numeral for a float, the length of its contents for any other. Nothing that stands in the text
 /// is copied. False where an allocation failed; `total` stays then.
 #[unsafe(no_mangle)]
-pub extern "C" fn rl_bench_lent(
+pub extern "C" fn rl_bench_borrowed(
     alloc: Global,
     corpus: &[u8],
     ends: &[usize],
     total: &mut u64,
 ) -> bool {
-    put(sum::<ByLent>(alloc, corpus, ends), total)
+    put(sum::<ByBorrowed>(alloc, corpus, ends), total)
 }
 
 /// Puts into `total` the sum of the values of the texts, as [`rl_bench_value`] does, by way of

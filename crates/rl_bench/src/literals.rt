@@ -87,7 +87,7 @@ pub(crate) trait Weighed {
     fn weight(&self, alloc: Global) -> Result<u64, AllocError>;
 
     /// The same, of values that are borrowed where they can be.
-    fn lent_weight(&self, alloc: Global) -> Result<u64, AllocError>;
+    fn borrowed_weight(&self, alloc: Global) -> Result<u64, AllocError>;
 }
 
 impl Weighed for Lit {
@@ -95,7 +95,7 @@ impl Weighed for Lit {
         literal_weight(alloc, self)
     }
 
-    fn lent_weight(&self, alloc: Global) -> Result<u64, AllocError> {
+    fn borrowed_weight(&self, alloc: Global) -> Result<u64, AllocError> {
         value_ref_weight(alloc, self)
     }
 }

@@ -30,12 +30,12 @@ pub(crate) fn value_ref_weight(alloc: Global, literal: &Lit) -> Result<u64, Allo
 }
 
 /// The weight of what was made, of values that are borrowed where they can be.
-fn lent_weight_of<T: Weighed + Drop>(
+fn borrowed_weight_of<T: Weighed + Drop>(
     alloc: Global,
     made: Result<T, AllocError>,
 ) -> Result<u64, AllocError> {
     match made {
-        Ok(value) => value.lent_weight(alloc),
+        Ok(value) => value.borrowed_weight(alloc),
         Err(error) => Err(error),
     }
 }
@@ -47,6 +47,6 @@ impl Weigh for ByValueRef {
     type Error = AllocError;
 
     fn weigh(alloc: Global, text: &str) -> Result<u64, AllocError> {
-        lent_weight_of(alloc, literal_of(alloc, text))
+        borrowed_weight_of(alloc, literal_of(alloc, text))
     }
 }

@@ -104,7 +104,7 @@ fn rejection_error<'t>(values: &Values, rejection: EntryRejection<'t>) -> StyleE
 /// The style that a configuration says: entries `name = literal`, each on a line or before a comma, as
 /// [`rl_settings::entry_step`] takes them. Each name is that of a rule, and stands once. A rule that isn't named changes nothing.
 ///
-/// The names are those of the fields of [`Style`], in the imperative: `hex_digits`, `exponent_letter` and `escape_digits` are
+/// Each name is that of a field of [`Style`], or says what its rule does: `hex_digits`, `exponent_letter` and `escape_digits` are
 /// `"lower"` or `"upper"`, `suffix_separator` is `""` or `"_"`, each as it stands between the quotes; `binary_groups`, `octal_groups`,
 /// `decimal_groups`, `hexadecimal_groups` and `least_grouped` are integers; `drop_underscores`, `drop_leading_zeros`, `float_zero`,
 /// `drop_exponent_plus`, `fewest_escape_digits`, `drop_ascii_escapes`, `named_escapes`, `drop_quote_escapes`, `fewest_hashes`,

@@ -6,7 +6,7 @@ pub const HELP: &str = "usage: rl_scan [OPTIONS] [PATH..]
 Prints the literals of Rust sources, or what is wrong with them.
 
 A PATH is a file, or a directory: then all *.rs below it are read, in the order
-of their names, without hidden directories and the `target` of a package; links
+of their paths, without hidden directories and the `target` of a package; links
 in it aren't followed. `-` is standard input, as is no PATH, unless input is a
 terminal: then it is `.`.
 
