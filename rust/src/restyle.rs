@@ -1,10 +1,11 @@
 //! Whole sources whose literals are written anew in another style.
 
 use crate::error::ListError;
-use crate::rl_style::{may_restyle, Restylable, Restylables};
-use crate::style::{rewrite_after, rules_after, Style};
+use crate::rl_style::{all_rules, changes, may_restyle, Restylable, Restylables};
+use crate::style::{rewrite_after, Style};
 use alloc::borrow::Cow;
 use alloc::string::String;
+use alloc::vec;
 use alloc::vec::Vec;
 use core::fmt;
 use core::iter::FusedIterator;
@@ -120,6 +121,17 @@ impl<'t> Restyles<'t> {
         text.push_str(&whole[at..]);
         Ok(Cow::Owned(text))
     }
+}
+
+/// The names of the rules of the style that by themselves write the literal otherwise, which stands after this text.
+fn rules_after(before: &str, text: &str, style: Style) -> Vec<&'static str> {
+    let (style, mut room) = (style.proved(), vec![0; 4 * text.len() + 1]);
+    let mut is_of = |rule| matches!(changes(before, text, style.only(rule), &mut room), Ok(true));
+    let rules = all_rules().iter().copied();
+    rules
+        .filter(|rule| is_of(*rule))
+        .map(|rule| rule.name())
+        .collect()
 }
 
 /// The edit that brings a literal into the style; `None` where it stays as it is.

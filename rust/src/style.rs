@@ -2,11 +2,10 @@
 //! the same suffix; but `1.` may become `1.0`.
 
 use crate::parse_error::ParseError;
-use crate::rl_style::{self, all_rules, changes, rewrite_into};
+use crate::rl_style::{self, rewrite_into};
 use alloc::borrow::Cow;
 use alloc::string::String;
 use alloc::vec;
-use alloc::vec::Vec;
 
 /// Letters in lower or in upper case.
 ///
@@ -568,7 +567,7 @@ impl Style {
         }
     }
 
-    fn proved(self) -> rl_style::Style {
+    pub(crate) fn proved(self) -> rl_style::Style {
         rl_style::Style {
             hex_digits: self.hex_digits.map(Case::proved),
             underscores: self.underscores,
@@ -651,15 +650,4 @@ pub fn rewrite_after<'t>(
     room.shrink_to_fit();
     let written = String::from_utf8(room);
     Ok(Cow::Owned(written.expect("literals are UTF-8")))
-}
-
-/// The names of the rules of the style that by themselves write the literal otherwise, which stands after this text.
-pub(crate) fn rules_after(before: &str, text: &str, style: Style) -> Vec<&'static str> {
-    let (style, mut room) = (style.proved(), vec![0; 4 * text.len() + 1]);
-    let mut is_of = |rule| matches!(changes(before, text, style.only(rule), &mut room), Ok(true));
-    let rules = all_rules().iter().copied();
-    rules
-        .filter(|rule| is_of(*rule))
-        .map(|rule| rule.name())
-        .collect()
 }
