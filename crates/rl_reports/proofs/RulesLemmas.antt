@@ -40,16 +40,16 @@ has_none (Some w) file bytes (Err (rules.Unread why)) found utf8 memory = inl me
 has_none (Some w) file bytes (Err (rules.Style error)) found utf8 is = (bytes, found, utf8, is)
 
 -- there is none
-pub is_unread : (A : Type 0) (holds : Option World) (file : List ℕ) (why : PathError)
+pub is_unread : (holds : Option World) (file : List ℕ) (why : PathError)
     → (why ≡ OutOfMemory) ⊎ IfSome holds (λ w. w.bytes file ≡ Err why)
-    → IfSome holds (λ w. HasNoRules {A = A} w file (rules.Unread why))
-is_unread A None file why unread = tt
-is_unread A (Some w) file why (inl memory) = inl memory
-is_unread A (Some w) file why (inr unread) = inr (inl unread)
+    → IfSome holds (λ w. IsReadError w file why)
+is_unread None file why unread = tt
+is_unread (Some w) file why (inl memory) = inl memory
+is_unread (Some w) file why (inr unread) = inr (inl unread)
 
 -- it is no text
-pub is_no_text : (A : Type 0) (holds : Option World) (file bytes : List ℕ) (why : PathError)
+pub is_no_text : (holds : Option World) (file bytes : List ℕ) (why : PathError)
     → IfSome holds (λ w. w.bytes file ≡ Ok bytes) → IsNotUtf8 bytes why
-    → IfSome holds (λ w. HasNoRules {A = A} w file (rules.Unread why))
-is_no_text A None file bytes why found no_text = tt
-is_no_text A (Some w) file bytes why found no_text = inr (inr (bytes, found, no_text))
+    → IfSome holds (λ w. IsReadError w file why)
+is_no_text None file bytes why found no_text = tt
+is_no_text (Some w) file bytes why found no_text = inr (inr (bytes, found, no_text))

@@ -15,5 +15,5 @@ returns-in-Ok-from_utf8-clause-error g c = has_none (g.T.Tree.holds c.args.tree.
 pub returns-clause-error : goal.returns-clause-error
 returns-clause-error g c =
     let no_text = rw c.as_slice.ensures.value at c.in-Err-from_utf8.ensures.cases in
-    is_no_text _ (g.T.Tree.holds c.args.tree.now) c.args.file.now c.in-Ok.bytes.items _ c.in-Ok.ensures
+    is_no_text (g.T.Tree.holds c.args.tree.now) c.args.file.now c.in-Ok.bytes.items _ c.in-Ok.ensures
     (c.valid_up_to.result, refl, no_text.0, rw c.valid_up_to.ensures no_text.1)
