@@ -12,20 +12,9 @@ use std::path::Path;
 const RULES: Rules = Rules {
     hex_digits: Some(Case::Lower),
     underscores: true,
-    leading_zeros: false,
-    suffix_separator: None,
-    digit_groups: None,
-    float_zero: false,
-    exponent_letter: None,
-    exponent_plus: false,
-    escape_digits: None,
-    code_digits: false,
-    ascii_escapes: false,
-    named_escapes: false,
     quote_escapes: true,
     raw_hashes: true,
-    raw: false,
-    hidden: false,
+    ..Rules::KEEP
 };
 
 /// An edit: its places, and the new text.
