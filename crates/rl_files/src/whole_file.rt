@@ -36,6 +36,16 @@ fn write_error_of(kind: ErrorKind) -> PathError
     }
 }
 
+/// Why no new file can be made beside another.
+fn create_error_of(kind: ErrorKind) -> PathError
+    ensures { result ≢ PathError.PermissionDenied }
+{
+    match write_error_of(kind) {
+        PathError::PermissionDenied => PathError::DirectoryDenied,
+        why => why,
+    }
+}
+
 /// The path of the new file beside this one, of this number.
 fn path_beside<A: Allocator>(alloc: A, path: &str, number: u32) -> Result<String<A>, AllocError>
     ensures { IfOk result (λ path_of_new. string_bytes path_of_new ≡ beside path.now number) }
@@ -74,7 +84,7 @@ fn open_beside<A: Allocator + Copy, R: Files>(
         {
             Ok(file) => return Ok((file, beside)),
             Err(e) if e.kind() == ErrorKind::AlreadyExists => {}
-            Err(e) => return Err(write_error_of(e.kind())),
+            Err(e) => return Err(create_error_of(e.kind())),
         }
     }
     Err(PathError::WriteFailed)

@@ -3,7 +3,7 @@ use Rattle.std.specs.Prelude.{◌≡◌, ◌≢◌, ◌⊎◌, ℕ, Bool, true, 
 use denote.Ref.{Bor}
 use Rattle.std.specs.Str.{chars}
 use Rattle.rl_output.specs.declared.form.Form.TheVariants.{Plain}
-use Rattle.rl_restyled.specs.Edits.{IsRestyleError, Restyles, edit_told}
+use Rattle.rl_restyled.specs.Edits.{IsRestyleError, Restyles, edit_in}
 use Rattle.rl_restyled.specs.declared.edit.Macros.{Macros}
 use Rattle.rl_restyled.specs.declared.edit.RestyleError.{RestyleError}
 use Rattle.rl_restyled.specs.declared.edit.RestyleError.TheVariants.{Memory}
@@ -51,4 +51,4 @@ IsOutcome options style macros text outcome.Script =
     AreRejections options text [] × IsFalse (begins_with_code (chars text))
 IsOutcome options style macros text (outcome.Restyled r) =
     AreRejections options text [] × IsTrue (begins_with_code (chars text))
-    × IsRestyledAs style macros (chars text) (chars (string_bytes r.text)) (map edit_told r.edits.items)
+    × IsRestyledAs style macros (chars text) (chars (string_bytes r.text)) (map edit_in r.edits.items)

@@ -3,7 +3,7 @@
 ghost use Rattle.std.specs.Prelude.{◌≡◌, List, ℕ, map, string_bytes, OnOk};
 ghost use Rattle.std.specs.Str.{chars};
 ghost use Rattle.rl_lines.specs.Lines.{Appends};
-ghost use Rattle.rl_restyled.specs.Edits.{edit_told};
+ghost use Rattle.rl_restyled.specs.Edits.{edit_in};
 ghost use Rattle.rl_restyled.specs.Places.{StandIn, StandsBetween};
 ghost use Rattle.rl_fixes.specs.Changes.{AreChangeLines, IsChangeLine};
 
@@ -24,7 +24,7 @@ fn push_edit<'t, A: Allocator, B: Allocator>(
 ) -> Result<(), AllocError>
     requires places { places.old ≡ text.now }
     requires stands { (old : List ℕ) × StandsBetween (chars text.now) edit.now.lo edit.now.hi old }
-    ensures line { OnOk result (Appends (IsChangeLine options.now form (chars text.now) (edit_told edit.now))
+    ensures line { OnOk result (Appends (IsChangeLine options.now form (chars text.now) (edit_in edit.now))
         (chars (string_bytes out.old)) (chars (string_bytes out.new))) }
     ensures same { places.new ≡ places.old }
 {
@@ -46,8 +46,8 @@ pub fn push_changes<A: Allocator, B: Allocator>(
     text: &str,
     edits: &[Edit<B>],
 ) -> Result<(), AllocError>
-    requires { StandIn (chars text.now) (map edit_told edits.now) }
-    ensures { OnOk result (Appends (AreChangeLines options.entry form (chars text.now) (map edit_told edits.now))
+    requires { StandIn (chars text.now) (map edit_in edits.now) }
+    ensures { OnOk result (Appends (AreChangeLines options.entry form (chars text.now) (map edit_in edits.now))
         (chars (string_bytes out.old)) (chars (string_bytes out.new))) }
 {
     let mut places = Places::new(text);

@@ -2,7 +2,7 @@
 
 ghost use Rattle.std.specs.Prelude.{◌≡◌, [], map, string_bytes, IfOk};
 ghost use Rattle.std.specs.Str.{chars};
-ghost use Rattle.rl_restyled.specs.Edits.{edit_told};
+ghost use Rattle.rl_restyled.specs.Edits.{edit_in};
 ghost use Rattle.rl_fixes.specs.Outcomes.{AreRejections, IsJudging, IsOutcome, IsRestyledAs};
 
 use rl_output::Form;
@@ -69,7 +69,7 @@ fn restyled<A: Allocator + Copy>(
     text: &str,
 ) -> Result<Restyled<A>, AllocError>
     ensures { IfOk result (λ r. IsRestyledAs style macros (chars text.now) (chars (string_bytes r.text))
-        (map edit_told r.edits.items)) }
+        (map edit_in r.edits.items)) }
 {
     match restyle(alloc, style, macros, text) {
         Ok(restyled) => Ok(restyled),

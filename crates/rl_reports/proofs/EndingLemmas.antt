@@ -25,7 +25,7 @@ use Rattle.rl_reports.specs.Visits.{nothing}
 use Rattle.rl_reports.specs.Runs.{Streams, WritesFront}
 use Rattle.rl_reports.proofs.Handing.{hands_none, written_on}
 use Rattle.rl_reports.proofs.RunLemmas.{not_empty}
-use Rattle.rl_reports.specs.Words.{Wishes, style_of, wishes_of}
+use Rattle.rl_reports.specs.Wishes.{Wishes, style_of, wishes_of}
 use Rattle.rl_reports.specs.Endings.{AskForWishes, EndsText, EndsWish, EndsAsked, EndsAsScan, EndsFrom, EndsListed, EndsPaths, EndsScan, EndsStyled, paths_read, IsCommandFor, IsSelecting}
 
 -- what wasn't written to is kept

@@ -10,7 +10,9 @@ use Rattle.rl_reports.specs.declared.flags.Operand.TheVariants as takes
 use Rattle.rl_reports.specs.declared.flags.Next.{Next}
 use Rattle.rl_reports.specs.declared.flags.Next.TheVariants as next
 use Rattle.rl_reports.specs.declared.words.WordError.{WordError}
-use Rattle.rl_reports.specs.Words.{Wishes, AreLetters, AreRejectedLetters, IsAdded, IsLetter, IsRejectedFlag, IsRejectedJoined, IsTaken, LastLetter, LaterLetter, Letter, LetterAndText, MayStand, NamesLetter, NoLetters, RejectedLetter, RejectedText, StrangeLetter, next_after, taken_by}
+use Rattle.rl_reports.specs.Flags.{IsLetter, taken_by}
+use Rattle.rl_reports.specs.Wishes.{Wishes}
+use Rattle.rl_reports.specs.Words.{AreLetters, AreRejectedLetters, IsAdded, IsRejectedFlag, IsRejectedJoined, IsTaken, LastLetter, LaterLetter, Letter, LetterAndText, MayStand, NamesLetter, NoLetters, RejectedLetter, RejectedText, StrangeLetter, next_after}
 
 -- letters are of ASCII
 letter_low : (flag : Flag) (c : ℕ) → IsLetter flag c → c < 128

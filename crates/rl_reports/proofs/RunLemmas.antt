@@ -31,7 +31,7 @@ pub record Ran (command : Command) (w : World) (old new : List Spot) (streams : 
   pub written : IsWritten command streams totals tally
 
 told_nothing : (command : Command) → shown_errors command [] ≡ []
-told_nothing command = go command.tells_errors
+told_nothing command = go command.prints_errors
   where
     go : (t : Bool) → cond {A = List ℕ} t [] [] ≡ []
     go true = refl
@@ -96,7 +96,7 @@ reports_more command w (v ∷ vs) visit done one (first, others, is_first, are, 
 -- both are told together
 told_both : (command : Command) (a b : List ℕ) → shown_errors command a ++ shown_errors command b
     ≡ shown_errors command (a ++ b)
-told_both command a b = go command.tells_errors
+told_both command a b = go command.prints_errors
   where
     go : (t : Bool) → cond t a [] ++ cond t b [] ≡ cond t (a ++ b) []
     go true = refl

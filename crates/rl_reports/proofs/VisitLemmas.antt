@@ -11,7 +11,7 @@ use Rattle.rl_reports.specs.declared.command.Command.{Command}
 use Rattle.rl_reports.specs.declared.report.Report.{Report}
 use Rattle.rl_reports.specs.Reports.{Findings, IsErrorReport, IsListReport, IsNotUtf8, in_report}
 use Rattle.rl_reports.specs.Visits.{IsBytesReport, IsReadReport, IsReport, IsWantedReport, ReportsAs}
-use Rattle.rl_reports.specs.Words.{lists_files}
+use Rattle.rl_reports.specs.Clashes.{lists_files}
 use Rattle.rl_reports.proofs.Handing.{hands_none}
 
 -- it is reported so, and nothing was handed on

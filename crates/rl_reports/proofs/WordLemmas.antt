@@ -8,7 +8,9 @@ use Rattle.rl_reports.specs.declared.flags.Operand.{Operand}
 use Rattle.rl_reports.specs.declared.flags.Operand.TheVariants.{Kinds, Text, Color, Extension, Pattern, List as Names, Edition, Format, Around, Before, After, Style, Macros}
 use Rattle.rl_reports.specs.declared.words.WordError.{WordError}
 use Rattle.rl_reports.specs.Endings.{AskForWishes, CannotAsk}
-use Rattle.rl_reports.specs.Words.{Wishes, IsCountWord, joined_word, IsStep, AreSteps, AskSoFar, Asks, IsRejectedWord, AreRejected}
+use Rattle.rl_reports.specs.Flags.{IsCountWord, joined_word}
+use Rattle.rl_reports.specs.Wishes.{Wishes}
+use Rattle.rl_reports.specs.Words.{IsStep, AreSteps, AskSoFar, Asks, IsRejectedWord, AreRejected}
 
 -- ---- what stands after a front of a word: each takes the clause of `strip_prefix`
 

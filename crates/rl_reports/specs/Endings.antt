@@ -29,7 +29,8 @@ use Rattle.rl_reports.specs.declared.rules.RulesError.TheVariants as rules
 use Rattle.rl_reports.specs.Rules.{HasNoRules, HasRules, line_error_words}
 use Rattle.rl_reports.specs.Listed.{AreWithAllListed, IsFirstUnread}
 use Rattle.rl_reports.specs.Runs.{Streams, WritesWalk, WritesFront, asked_status}
-use Rattle.rl_reports.specs.Words.{Wishes, wishes_of, Asks, AreRejected, word_message}
+use Rattle.rl_reports.specs.Wishes.{Wishes, wishes_of}
+use Rattle.rl_reports.specs.Words.{Asks, AreRejected, word_message}
 
 -- the line of an error
 abbrev pub call_error_line : {A : Type 0} → CallError A → List ℕ

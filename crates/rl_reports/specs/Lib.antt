@@ -1,4 +1,7 @@
 pub mod Meant
+pub mod Flags
+pub mod Wishes
+pub mod Clashes
 pub mod Words
 pub mod Reports
 pub mod Restyling

@@ -1,9 +1,10 @@
 -- The paths that a file names. All are lists of bytes.
 use Rattle.std.specs.Prelude.{◌≡◌, ◌⊎◌, ℕ, ◌==◌, cond, List, [], ◌∷◌, ◌++◌, length}
 use Rattle.std.specs.List.{flat_map, list_any, slice_split}
-use Rattle.std.specs.Str.{IsUtf8}
+use Rattle.std.specs.Str.{IsUtf8, chars}
 use Rattle.std.specs.declared.result.Result.TheVariants.{Ok}
 use Rattle.rl_files.specs.Trees.{World}
+use Rattle.rl_lexer.specs.Sources.{without_mark}
 use Rattle.rl_files.specs.declared.tree.PathError.{PathError}
 use Rattle.rl_reports.specs.Reports.{IsReadError}
 
@@ -19,10 +20,15 @@ listed_name name = cond (length name == 0) [] (name ∷ [])
 abbrev pub names_listed : List ℕ → List (List ℕ)
 names_listed list = flat_map listed_name (slice_split (λ b. b == separator_of list) list)
 
--- all paths: those before, and the names in a file, which is a text
+-- a text without a byte order mark at its front
+abbrev pub IsUnmarked : List ℕ → List ℕ → Type 0
+IsUnmarked text rest = IsUtf8 rest × (chars rest ≡ without_mark (chars text))
+
+-- all paths: those before, and the names in a file, which is a text; a byte order mark may stand at its front
 abbrev pub AreWithListed : World → List ℕ → List (List ℕ) → List (List ℕ) → Type 0
 AreWithListed w file paths all =
-    (bytes : List ℕ) × (w.bytes file ≡ Ok bytes) × IsUtf8 bytes × (all ≡ paths ++ names_listed bytes)
+    (text list : List ℕ) × (w.bytes file ≡ Ok text) × IsUtf8 text × IsUnmarked text list
+    × (all ≡ paths ++ names_listed list)
 
 -- all paths: those before, and the names in these files, one file after another
 abbrev pub AreWithAllListed : World → List (List ℕ) → List (List ℕ) → List (List ℕ) → Type 0

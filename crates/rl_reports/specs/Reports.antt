@@ -228,7 +228,7 @@ IsTextReport command path text printed =
     × IsOptionsFor command path options × IsShownPath path shown × IsPathIn command.nul_after_paths path named
     × IsScannedAs options text lines error
     × IsReportOf command options named lines (encode_utf8_all (error_text options.by_line shown error)) printed
-    × IsAskedCount command.tells_stats options text lines printed.count
+    × IsAskedCount command.prints_stats options text lines printed.count
 
 -- What is reported of a file that is listed: its path.
 pub record IsListReport (command : Command) (path : List ℕ) (printed : Findings) : Type 0 where

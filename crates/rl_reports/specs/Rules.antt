@@ -1,4 +1,4 @@
--- The rules of a style, in a file, and what is told where it says none. Texts are lists of bytes.
+-- The rules of a style, in a file, and the error where it says none. Texts are lists of bytes.
 use Rattle.std.specs.Prelude.{◌≡◌, ℕ, ◌+◌, ⊤, List, ◌++◌, codes, take, String, string_bytes, Option, Some, None}
 use denote.Ref.{Bor}
 use Rattle.std.specs.declared.result.Result.TheVariants.{Ok}
@@ -15,12 +15,14 @@ use Rattle.rl_styles.specs.declared.style_error.StyleErrorKind.TheVariants.{Unkn
 use Rattle.rl_reports.specs.declared.rules.LineError.{LineError}
 use Rattle.rl_reports.specs.declared.rules.RulesError.{RulesError}
 use Rattle.rl_reports.specs.declared.rules.RulesError.TheVariants as rules
+use Rattle.rl_reports.specs.Listed.{IsUnmarked}
 use Rattle.rl_reports.specs.Meant.{IsNearest, rule_list}
 use Rattle.rl_reports.specs.Reports.{IsReadError, line_count}
 
--- the file says these rules
+-- the file says these rules, after a byte order mark or none
 abbrev pub HasRules : World → List ℕ → Style → Type 0
-HasRules w file style = (text : List ℕ) × (w.bytes file ≡ Ok text) × IsUtf8 text × SaysStyle text style
+HasRules w file style =
+    (text said : List ℕ) × (w.bytes file ≡ Ok text) × IsUtf8 text × IsUnmarked text said × SaysStyle said style
 
 -- the line, from 1, in which a byte of a text stands
 abbrev pub line_of : List ℕ → ℕ → ℕ
@@ -43,33 +45,34 @@ abbrev pub IsRuleMeant : StyleErrorKind → Option (Bor (List ℕ)) → Option (
 IsRuleMeant Unknown name meant = IsNearName name meant
 IsRuleMeant _ name meant = meant ≡ None
 
--- What is told of the error of a text: the line where what is wrong begins, the entry's name, what is wrong, and the
+-- The error of a text, as it is reported: the line where what is wrong begins, the entry's name, what is wrong, and the
 -- rule that was likely meant.
-pub record TellsError {A : Type 0} (text : List ℕ) (error : StyleError) (told : LineError A) : Type 0 where
-  pub line_is : told.line ≡ line_of text error.lo
-  pub name_is : IsShownName error.name told.name
-  pub kind_is : told.kind ≡ error.kind
-  pub meant_is : IsRuleMeant error.kind error.name told.meant
+pub record IsLineError {A : Type 0} (text : List ℕ) (error : StyleError) (reported : LineError A) : Type 0 where
+  pub line_is : reported.line ≡ line_of text error.lo
+  pub name_is : IsShownName error.name reported.name
+  pub kind_is : reported.kind ≡ error.kind
+  pub meant_is : IsRuleMeant error.kind error.name reported.meant
 
--- what is told, in words
-abbrev pub told_words : {A : Type 0} → ℕ → StyleErrorKind → Option (String A) → Option (Bor (List ℕ)) → List ℕ
-told_words line kind None meant = decimal line ++ (codes ": " ++ style_error_words kind)
-told_words line kind (Some name) None =
+-- the error, in words
+abbrev pub line_words : {A : Type 0} → ℕ → StyleErrorKind → Option (String A) → Option (Bor (List ℕ)) → List ℕ
+line_words line kind None meant = decimal line ++ (codes ": " ++ style_error_words kind)
+line_words line kind (Some name) None =
     decimal line ++ (codes ": " ++ (string_bytes name ++ (codes ": " ++ style_error_words kind)))
-told_words line kind (Some name) (Some meant) =
+line_words line kind (Some name) (Some meant) =
     decimal line ++ (codes ": " ++ (string_bytes name ++ (codes ": " ++ (style_error_words kind
     ++ (codes "; did you mean '" ++ (meant.now ++ codes "'?"))))))
 
 abbrev pub line_error_words : {A : Type 0} → LineError A → List ℕ
-line_error_words e = told_words e.line e.kind e.name e.meant
+line_error_words e = line_words e.line e.kind e.name e.meant
 
--- this is wrong with a text that is no style; or memory ran out for what is told of it
+-- this is wrong with a text that is no style; or memory ran out for the error
 abbrev pub IsNoStyle : {A : Type 0} → List ℕ → RulesError A → Type 0
 IsNoStyle text (rules.Unread why) = why ≡ OutOfMemory
-IsNoStyle text (rules.Style told) = (error : StyleError) × RejectsStyle text error × TellsError text error told
+IsNoStyle text (rules.Style reported) = (error : StyleError) × RejectsStyle text error × IsLineError text error reported
 
 -- why it says none: it can't be read, or what it holds is no style
 abbrev pub HasNoRules : {A : Type 0} → World → List ℕ → RulesError A → Type 0
 HasNoRules w file (rules.Unread why) = IsReadError w file why
-HasNoRules w file (rules.Style told) =
-    (text : List ℕ) × (w.bytes file ≡ Ok text) × IsUtf8 text × IsNoStyle text (rules.Style told)
+HasNoRules w file (rules.Style reported) =
+    (text said : List ℕ) × (w.bytes file ≡ Ok text) × IsUtf8 text × IsUnmarked text said
+    × IsNoStyle said (rules.Style reported)

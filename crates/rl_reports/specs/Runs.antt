@@ -15,7 +15,7 @@ use Rattle.rl_reports.specs.declared.runs.Tally.{Tally}
 use Rattle.rl_reports.specs.Reports.{Findings, HandsOn, is_alarm}
 use Rattle.rl_reports.specs.Visits.{AreReports, IsReport, Totals, totals_of}
 use Rattle.rl_reports.specs.Stats.{tally_of, shown_stats}
-use Rattle.rl_reports.specs.Words.{lists_files}
+use Rattle.rl_reports.specs.Clashes.{lists_files}
 
 -- The bytes that two writers held before and hold now, standard output and standard error; and what was handed on before and
 -- now, to be written in place of files.
@@ -27,9 +27,9 @@ pub record Streams : Type 0 where
   pub handed_old : Option (List Replacement)
   pub handed_new : Option (List Replacement)
 
--- what is told of errors: nothing, where that isn't wanted
+-- what is printed of errors: nothing, where that isn't wanted
 abbrev pub shown_errors : Command → List ℕ → List ℕ
-shown_errors command errors = cond command.tells_errors errors []
+shown_errors command errors = cond command.prints_errors errors []
 
 -- All of this was written and handed on, and it is returned how much that is.
 pub record IsWritten (command : Command) (streams : Streams) (totals : Totals) (tally : Tally) : Type 0 where
@@ -59,11 +59,11 @@ WritesReports command w spots streams tally =
     (visits : List Visited) × (totals : Totals) × Visits command.selection w spots visits
     × AreReports command w visits totals × IsWritten command streams totals tally
 
--- so much was written on standard output before what is told of how much was read and found
+-- so much was written on standard output before what is printed of how much was read and found
 abbrev pub up_to : Option (List ℕ) → Streams → Streams
 up_to middle streams = record streams { out_new = middle }
 
--- after that it is told how much was read and found, where that is asked for
+-- after that it is printed how much was read and found, where that is asked for
 abbrev pub WritesWalk : Command → World → List Spot → Streams → Tally → Type 0
 WritesWalk command w spots streams tally =
     (middle : Option (List ℕ)) × WritesReports command w spots (up_to middle streams) tally
@@ -90,7 +90,7 @@ WritesFirst command w spots streams =
     (visits others : List Visited) × (totals : Totals) × Visits command.selection w spots (visits ++ others)
     × AreReports command w visits totals × WritesBeginning command streams totals
 
--- What was written where the run ended early: this, or all that is reported, and a beginning of what is told of how much
+-- What was written where the run ended early: this, or all that is reported, and a beginning of what is printed of how much
 -- was read and found.
 abbrev pub WritesFront : Command → World → List Spot → Streams → Type 0
 WritesFront command w spots streams =

@@ -1,4 +1,4 @@
--- What is told of how much was read and found.
+-- What is printed of how much was read and found.
 use Rattle.std.specs.Prelude.{ℕ, cond, List, [], ◌++◌, codes}
 use Rattle.std.specs.Fmt.{decimal}
 use Rattle.std.specs.Io.Iter.{u64_saturate}
@@ -36,6 +36,6 @@ stats_object tally =
 abbrev pub stats_text : Form → Tally → List ℕ
 stats_text form tally = cond (is_json form) (stats_object tally) (stats_lines tally)
 
--- what is told: nothing, where that isn't asked for
+-- what is printed: nothing, where that isn't asked for
 abbrev pub shown_stats : Command → Tally → List ℕ
-shown_stats command tally = cond command.tells_stats (stats_text command.form tally) []
+shown_stats command tally = cond command.prints_stats (stats_text command.form tally) []

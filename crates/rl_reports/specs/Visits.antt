@@ -11,7 +11,7 @@ use Rattle.rl_reports.specs.declared.command.Restyling.{Restyling}
 use Rattle.rl_reports.specs.declared.report.Report.{Report}
 use Rattle.rl_reports.specs.Reports.{Findings, HandsOn, IsErrorReport, IsListReport, IsNotUtf8, IsReadError, IsTextReport, with_handed}
 use Rattle.rl_reports.specs.Restyling.{IsRestyledReport}
-use Rattle.rl_reports.specs.Words.{lists_files}
+use Rattle.rl_reports.specs.Clashes.{lists_files}
 
 -- what is reported of a text, whose literals may be written anew
 abbrev pub IsWantedReport : Option Restyling → Command → List ℕ → List ℕ → Findings → Type 0

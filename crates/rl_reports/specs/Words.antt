@@ -1,458 +1,29 @@
--- What the words of a command line ask for. Words are lists of bytes.
-use Rattle.std.specs.Prelude.{◌≡◌, ◌≢◌, ◌⊎◌, ℕ, ◌==◌, Bool, true, false, cond, not, ◌||◌, ◌&&◌, List, [], ◌∷◌, ◌++◌, codes, encode_utf8, string_bytes, IsTrue, ⊤, Option, Some, None, is_some, ◌<◌, ◌^◌}
-use Prim.Native.Char.{code}
-use denote.Ref.{Bor}
-use Rattle.std.specs.List.{All, Any, list_any, starts_with}
-use Rattle.std.specs.Str.{chars, bytes_eq}
-use Rattle.std.specs.Str.Parse.{IsNumeral, digits_value, without_leading_plus}
-use Rattle.rl_files.specs.Globs.{borrowed_texts}
-use Rattle.rl_files.specs.Trees.{string_texts}
+-- What the words of a command line ask for, or what is wrong with them. Words are lists of bytes.
+use Rattle.std.specs.Prelude.{◌≡◌, ◌≢◌, ◌⊎◌, ℕ, Bool, true, false, not, List, [], ◌∷◌, ◌++◌, codes, encode_utf8, string_bytes, ⊤, Some, None}
+use Rattle.std.specs.Str.{chars}
 use Rattle.rl_files.specs.Visible.{visible}
-use Rattle.rl_reports.specs.declared.command.Wish.{Wish}
 use Rattle.rl_reports.specs.declared.command.Wish.TheVariants as wish
-use Rattle.rl_reports.specs.declared.command.PlaceForm.{PlaceForm}
 use Rattle.rl_reports.specs.declared.command.PlaceForm.TheVariants as form
-use Rattle.rl_reports.specs.declared.command.Output.{Output}
 use Rattle.rl_reports.specs.declared.command.Output.TheVariants as output
-use Rattle.rl_reports.specs.declared.command.Command.{Command}
-use Rattle.rl_reports.specs.declared.command.Restyling.{Restyling}
 use Rattle.rl_reports.specs.declared.command.Restyling.TheVariants as restyling
 use Rattle.rl_restyled.specs.declared.edit.Macros.{Macros as AnyMacros}
-use Rattle.rl_restyled.specs.declared.edit.Macros.TheVariants as macros
-use Rattle.rl_output.specs.Forms.{has_extents}
-use Rattle.rl_output.specs.declared.form.Form.{Form}
 use Rattle.rl_output.specs.declared.form.Form.TheVariants as written
-use Rattle.rl_sources.specs.declared.options.Shown.{Shown}
-use Rattle.rl_sources.specs.declared.options.Spelling.{Spelling}
-use Rattle.rl_sources.specs.declared.options.Spelling.TheVariants.{Value, Source}
-use Rattle.rl_sources.specs.declared.options.Shown.TheVariants as shown
+use Rattle.rl_sources.specs.declared.options.Spelling.TheVariants.{Source}
 use Rattle.rl_reports.specs.declared.flags.Flag.{Flag}
 use Rattle.rl_reports.specs.declared.flags.Flag.TheVariants.{Bad, Hidden, Only, Find, IgnoreCase, WholeWords, Text, Json, Format, Context, Before, After, Color, Bytes, Lines, NoStray, AnySuffix, Edition, AllDirectories, Extension, Exclude, FilesFrom, NoMessages, Count, FilesWithMatches, Nul, Quiet, Files, Stats, Fix, Check, Diff, Style, Macros, Help, Version, Paths}
 use Rattle.rl_reports.specs.declared.flags.Format.{Format as AnyFormat}
-use Rattle.rl_reports.specs.declared.flags.Format.TheVariants as format
 use Rattle.rl_types.specs.declared.before.Edition.{Edition as AnyEdition}
-use Rattle.rl_types.specs.declared.before.Edition.TheVariants.{E2015, E2018, E2021, E2024}
 use Rattle.rl_reports.specs.declared.flags.Operand.{Operand}
 use Rattle.rl_reports.specs.declared.flags.Operand.TheVariants as takes
 use Rattle.rl_reports.specs.declared.flags.Next.{Next}
 use Rattle.rl_reports.specs.declared.flags.Next.TheVariants as next
 use Rattle.rl_reports.specs.declared.flags.When.{When}
-use Rattle.rl_reports.specs.declared.flags.When.TheVariants.{Auto, Always, Never}
-use Rattle.rl_reports.specs.declared.words.Asked.{Asked}
 use Rattle.rl_reports.specs.declared.words.WordError.{WordError}
-use Rattle.rl_reports.specs.declared.words.WordError.TheVariants.{Memory, UnknownOption, UnknownLetter, NoValue, UnknownKind, NoKinds, TwoChoices, NoText, EmptyText, BadAndFind, TextlessKinds, ObjectsOfPaths, StatsOfPaths, TwoRestylings, RestylesAlone, SumsOfCheck, StyleAlone, MacrosAlone, SuffixAlone, EditionAlone, NoStyle, NoMacros, UnknownMacros, NoColor, UnknownColor, NoExtension, NoPattern, EmptyPattern, OtherPattern, NoList, NoEdition, UnknownEdition, NoFormat, UnknownFormat, NoCount, UnknownCount}
-use Rattle.rl_sources.specs.Options.{Names, words_of}
+use Rattle.rl_reports.specs.declared.words.WordError.TheVariants.{Memory, UnknownOption, UnknownLetter, NoValue, UnknownKind, NoKinds, TwoChoices, NoText, EmptyText, BadAndFind, TextlessKinds, ObjectsOfPaths, StatsOfPaths, TwoRestylings, RestylesAlone, SumsOfCheck, StyleAlone, MacrosAlone, SuffixAlone, EditionAlone, NoStyle, NoMacros, UnknownMacros, NoColor, UnknownColor, NoExtension, NoPattern, EmptyPattern, OtherPattern, UselessPattern, UnknownExtension, NoList, NoEdition, UnknownEdition, NoFormat, UnknownFormat, NoCount, UnknownCount}
 use Rattle.rl_reports.specs.Meant.{IsMeant, option_part}
-
--- the word of an option
-abbrev pub IsOptionWord : Flag → List ℕ → Type 0
-IsOptionWord Bad word = word ≡ codes "--bad"
-IsOptionWord Hidden word = word ≡ codes "--hidden"
-IsOptionWord Only word = word ≡ codes "--only"
-IsOptionWord Find word = word ≡ codes "--find"
-IsOptionWord IgnoreCase word = word ≡ codes "--ignore-case"
-IsOptionWord WholeWords word = word ≡ codes "--word"
-IsOptionWord Text word = word ≡ codes "--text"
-IsOptionWord Json word = word ≡ codes "--json"
-IsOptionWord Format word = word ≡ codes "--format"
-IsOptionWord Context word = word ≡ codes "--context"
-IsOptionWord Before word = word ≡ codes "--before-context"
-IsOptionWord After word = word ≡ codes "--after-context"
-IsOptionWord Color word = word ≡ codes "--color"
-IsOptionWord Bytes word = word ≡ codes "--bytes"
-IsOptionWord Lines word = word ≡ codes "--lines"
-IsOptionWord NoStray word = word ≡ codes "--no-stray"
-IsOptionWord AnySuffix word = word ≡ codes "--any-suffix"
-IsOptionWord Edition word = word ≡ codes "--edition"
-IsOptionWord AllDirectories word = word ≡ codes "--all"
-IsOptionWord Extension word = word ≡ codes "--extension"
-IsOptionWord Exclude word = word ≡ codes "--exclude"
-IsOptionWord FilesFrom word = word ≡ codes "--files-from"
-IsOptionWord NoMessages word = word ≡ codes "--no-messages"
-IsOptionWord Count word = word ≡ codes "--count"
-IsOptionWord FilesWithMatches word = word ≡ codes "--files-with-matches"
-IsOptionWord Nul word = word ≡ codes "--null"
-IsOptionWord Quiet word = word ≡ codes "--quiet"
-IsOptionWord Files word = word ≡ codes "--files"
-IsOptionWord Stats word = word ≡ codes "--stats"
-IsOptionWord Fix word = word ≡ codes "--fix"
-IsOptionWord Check word = word ≡ codes "--check"
-IsOptionWord Diff word = word ≡ codes "--diff"
-IsOptionWord Style word = word ≡ codes "--style"
-IsOptionWord Macros word = word ≡ codes "--macros"
-IsOptionWord Help word = word ≡ codes "--help"
-IsOptionWord Version word = word ≡ codes "--version"
-IsOptionWord Paths word = word ≡ codes "--"
-
--- the letter of an option, which stands after a dash
-abbrev pub IsLetter : Flag → ℕ → Type 0
-IsLetter Find c = c ≡ code "e"
-IsLetter IgnoreCase c = c ≡ code "i"
-IsLetter WholeWords c = c ≡ code "w"
-IsLetter Count c = c ≡ code "c"
-IsLetter FilesWithMatches c = c ≡ code "l"
-IsLetter Nul c = c ≡ code "Z"
-IsLetter Context c = c ≡ code "C"
-IsLetter Before c = c ≡ code "B"
-IsLetter After c = c ≡ code "A"
-IsLetter Quiet c = c ≡ code "q"
-IsLetter Help c = c ≡ code "h"
-IsLetter Version c = c ≡ code "V"
-IsLetter _ c = ⊥
-
--- an option and, after `=`, what it takes, in one word
-abbrev pub joined_word : Operand → List ℕ → List ℕ
-joined_word takes.Kinds text = codes "--only=" ++ text
-joined_word takes.Text text = codes "--find=" ++ text
-joined_word takes.Color text = codes "--color=" ++ text
-joined_word takes.Extension text = codes "--extension=" ++ text
-joined_word takes.Pattern text = codes "--exclude=" ++ text
-joined_word takes.List text = codes "--files-from=" ++ text
-joined_word takes.Edition text = codes "--edition=" ++ text
-joined_word takes.Format text = codes "--format=" ++ text
-joined_word takes.Around text = codes "--context=" ++ text
-joined_word takes.Before text = codes "--before-context=" ++ text
-joined_word takes.After text = codes "--after-context=" ++ text
-joined_word takes.Style text = codes "--style=" ++ text
-joined_word takes.Macros text = codes "--macros=" ++ text
-
--- the option that takes it
-abbrev pub taken_by : Operand → Flag
-taken_by takes.Kinds = Only
-taken_by takes.Text = Find
-taken_by takes.Color = Color
-taken_by takes.Extension = Extension
-taken_by takes.Pattern = Exclude
-taken_by takes.List = FilesFrom
-taken_by takes.Edition = Edition
-taken_by takes.Format = Format
-taken_by takes.Around = Context
-taken_by takes.Before = Before
-taken_by takes.After = After
-taken_by takes.Style = Style
-taken_by takes.Macros = Macros
-
--- the word that says when lines have colours
-abbrev pub color_word : When → List ℕ
-color_word Auto = codes "auto"
-color_word Always = codes "always"
-color_word Never = codes "never"
-
--- how lines are written that have colours then: where nothing is said of them, as output takes them
-abbrev pub colored_form : Bool → When → Form
-colored_form has_colors Auto = cond has_colors written.Colored written.Plain
-colored_form has_colors Always = written.Colored
-colored_form has_colors Never = written.Plain
-
--- how lines are written by a later word; objects of JSON and annotations stay so
-abbrev pub recolored : Form → Form → Form
-recolored written.Json later = written.Json
-recolored written.Github later = written.Github
-recolored written.Plain later = later
-recolored written.Colored later = later
-
--- the word of an edition
-abbrev pub edition_word : AnyEdition → List ℕ
-edition_word E2015 = codes "2015"
-edition_word E2018 = codes "2018"
-edition_word E2021 = codes "2021"
-edition_word E2024 = codes "2024"
-
--- the word that says how lines are written
-abbrev pub format_word : AnyFormat → List ℕ
-format_word format.Text = codes "text"
-format_word format.Json = codes "json"
-format_word format.Github = codes "github"
-
--- how lines are written in it: as text, those that are written so stay as they are
-abbrev pub formatted : Bool → Form → AnyFormat → Form
-formatted has_colors form format.Json = written.Json
-formatted has_colors form format.Github = written.Github
-formatted has_colors written.Json format.Text = colored_form has_colors Auto
-formatted has_colors written.Github format.Text = colored_form has_colors Auto
-formatted has_colors written.Plain format.Text = written.Plain
-formatted has_colors written.Colored format.Text = written.Colored
-
--- the word that says which literals in calls of macros are written anew
-abbrev pub macros_word : AnyMacros → List ℕ
-macros_word macros.Skip = codes "skip"
-macros_word macros.All = codes "all"
-
--- the word is a number in base ten that fits into 64 bits; a plus may stand before it
-pub record IsCountWord (word : List ℕ) (count : ℕ) : Type 0 where
-  pub numeral : IsNumeral 10 (without_leading_plus word)
-  pub fits : count < 2 ^ 64
-  pub count_is : count ≡ digits_value 10 (without_leading_plus word)
-
--- a pattern of paths has a mark that has another meaning in gitignore: `[` or `\`, or `!` at its front
-abbrev pub has_other_mark : List ℕ → Bool
-has_other_mark pattern =
-    starts_with ◌==◌ pattern (codes "!") || list_any (λ b. b == code "[") pattern
-    || list_any (λ b. b == code "\\") pattern
-
--- what an option takes is a number of lines
-abbrev pub IsSide : Operand → Type 0
-IsSide takes.Around = ⊤
-IsSide takes.Before = ⊤
-IsSide takes.After = ⊤
-IsSide _ = ⊥
-
--- the kinds of literals, and `Verbatim` for those without a reading
-abbrev pub kind_list : List ℕ
-kind_list = codes "Str,ByteStr,CStr,Byte,Char,Int,Float,Bool,Verbatim"
-
--- one of them, in any case of its letters
-abbrev pub IsKindWord : List ℕ → Type 0
-IsKindWord word = Names kind_list word
-
--- each word of a list is one; commas separate the words
-abbrev pub AreKindWords : List ℕ → Type 0
-AreKindWords list = All IsKindWord (words_of list)
-
--- the first word of a list that is none of them
-abbrev pub IsUnknownKind : List ℕ → List ℕ → Type 0
-IsUnknownKind list word =
-    (before after : List (List ℕ)) × (words_of list ≡ before ++ word ∷ after) × All IsKindWord before
-    × (IsKindWord word → ⊥)
-
--- `-`, and what doesn't begin with a dash
-abbrev pub is_path_word : List ℕ → Bool
-is_path_word word = bytes_eq word (codes "-") || not (starts_with ◌==◌ word (codes "-"))
-
--- which literals are wanted: all, those of a list's kinds, those that are bad, those that hold what hides
--- text
-pub data Wanted : Type 0 where
-  AllWanted : Wanted
-  OnlyWanted : (list : List ℕ) → Wanted
-  BadWanted : Wanted
-  HiddenWanted : Wanted
-
-abbrev pub wanted_of : Shown → Wanted
-wanted_of shown.All = AllWanted
-wanted_of (shown.Only list) = OnlyWanted list.now
-wanted_of shown.Bad = BadWanted
-wanted_of shown.Hidden = HiddenWanted
-
--- what a command line asks for
-pub record Wishes : Type 0 where
-  pub wish : Wish
-  pub wanted : Wanted
-  pub searches : Bool
-  pub finds : List (List ℕ)
-  pub ignores_case : Bool
-  pub whole_words : Bool
-  pub places : PlaceForm
-  pub output : Output
-  pub nul_after_paths : Bool
-  pub rejects_strays : Bool
-  pub any_suffix : Bool
-  pub edition : Option AnyEdition
-  pub around : Option ℕ
-  pub before : Option ℕ
-  pub after : Option ℕ
-  pub spelling : Spelling
-  pub form : Form
-  pub all_directories : Bool
-  pub tells_errors : Bool
-  pub tells_stats : Bool
-  pub restyle : Option Restyling
-  pub style : Option (List ℕ)
-  pub macros : Option AnyMacros
-  pub extensions : List (List ℕ)
-  pub excludes : List (List ℕ)
-  pub files_from : List (List ℕ)
-  pub paths : List (List ℕ)
-
--- what is asked for where nothing is said
-abbrev pub first_wishes : Bool → Wishes
-first_wishes has_colors = record {
-  wish = wish.Scan;
-  wanted = AllWanted;
-  searches = false;
-  finds = [];
-  ignores_case = false;
-  whole_words = false;
-  places = form.Usual;
-  output = output.Lines;
-  nul_after_paths = false;
-  rejects_strays = false;
-  any_suffix = false;
-  edition = None;
-  around = None;
-  before = None;
-  after = None;
-  spelling = Value;
-  form = colored_form has_colors Auto;
-  all_directories = false;
-  tells_errors = true;
-  tells_stats = false;
-  restyle = None;
-  style = None;
-  macros = None;
-  extensions = [];
-  excludes = [];
-  files_from = [];
-  paths = [];
-}
-
--- the file with the rules of a style
-abbrev pub style_of : Option (Bor (List ℕ)) → Option (List ℕ)
-style_of None = None
-style_of (Some file) = Some file.now
-
--- what the code holds
-abbrev pub wishes_of : Command → List (List ℕ) → List (List ℕ) → List (List ℕ) → List (List ℕ) → List (List ℕ) → Wishes
-wishes_of command finds extensions excludes lists paths = record {
-  wish = command.wish;
-  wanted = wanted_of command.shown;
-  searches = command.searches;
-  finds = finds;
-  ignores_case = command.matching.ignores_case;
-  whole_words = command.matching.whole_words;
-  places = command.places;
-  output = command.output;
-  nul_after_paths = command.nul_after_paths;
-  rejects_strays = command.rejects_strays;
-  any_suffix = command.any_suffix;
-  edition = command.edition;
-  around = command.around;
-  before = command.before;
-  after = command.after;
-  spelling = command.spelling;
-  form = command.form;
-  all_directories = command.selection.all;
-  tells_errors = command.tells_errors;
-  tells_stats = command.tells_stats;
-  restyle = command.restyle;
-  style = style_of command.style;
-  macros = command.macros;
-  extensions = extensions;
-  excludes = excludes;
-  files_from = lists;
-  paths = paths;
-}
-
-abbrev pub wishes_in : {A : Type 0} → Asked A → Wishes
-wishes_in asked = wishes_of asked.command (borrowed_texts asked.finds.items) (borrowed_texts asked.extensions.items)
-    (borrowed_texts asked.excludes.items) (borrowed_texts asked.lists.items) (string_texts asked.paths.items)
-
--- the kinds whose contents may hold a text
-abbrev pub text_kind_list : List ℕ
-text_kind_list = codes "Str,ByteStr,CStr,Byte,Char"
-
--- a word of the list is one of them
-abbrev pub HasTextKind : List ℕ → Type 0
-HasTextKind list = Any (λ word. Names text_kind_list word) (words_of list)
-
--- literals that are wanted may hold a text
-abbrev pub MayHold : Wanted → Type 0
-MayHold AllWanted = ⊤
-MayHold (OnlyWanted list) = HasTextKind list
-MayHold BadWanted = ⊤
-MayHold HiddenWanted = ⊤
-
--- paths are printed in place of lines, or how many lines there are
-abbrev pub lists_files : Wish → Bool
-lists_files wish.Files = true
-lists_files _ = false
-
-abbrev pub sums_lines : Output → Bool
-sums_lines output.Lines = false
-sums_lines output.Count = true
-sums_lines output.Path = true
-sums_lines output.Nothing = false
-
-abbrev pub prints_no_objects : Wish → Output → Bool
-prints_no_objects wish output = lists_files wish || sums_lines output
-
--- it is said which literals are printed, and how lines are
-abbrev pub picks_literals : Wanted → Bool → Bool
-picks_literals AllWanted searches = searches
-picks_literals (OnlyWanted list) searches = true
-picks_literals BadWanted searches = true
-picks_literals HiddenWanted searches = true
-
-abbrev pub spells_lines : Spelling → Form → Bool
-spells_lines Value form = has_extents form
-spells_lines Source form = true
-
--- it is said what is printed
-abbrev pub says_printed : Wishes → Bool
-says_printed w =
-    picks_literals w.wanted w.searches || spells_lines w.spelling w.form
-    || (is_some w.around || is_some w.before || is_some w.after) || lists_files w.wish || w.tells_stats
-
--- literals are written anew, and it is said what is printed
-abbrev pub restyles_and_prints : Wishes → Bool
-restyles_and_prints w = is_some w.restyle && says_printed w
-
--- of what is written anew there are no sums: `--check` alone has them
-abbrev pub has_no_sums : Option Restyling → Bool
-has_no_sums None = false
-has_no_sums (Some restyling.Fix) = true
-has_no_sums (Some restyling.Check) = false
-has_no_sums (Some restyling.Diff) = true
-
--- sums are asked for of what has none
-abbrev pub restyles_and_sums : Wishes → Bool
-restyles_and_sums w = sums_lines w.output && has_no_sums w.restyle
-
--- a style is named, and no literals are written anew
-abbrev pub has_needless_style : Wishes → Bool
-has_needless_style w = is_some w.style && not (is_some w.restyle)
-
--- it is said which literals in calls of macros are written anew, and none are
-abbrev pub has_needless_macros : Wishes → Bool
-has_needless_macros w = is_some w.macros && not (is_some w.restyle)
-
--- none of these is so
-abbrev pub RestyleTogether : Wishes → Type 0
-RestyleTogether w =
-    (restyles_and_prints w ≡ false) × (restyles_and_sums w ≡ false) × (has_needless_style w ≡ false)
-    × (has_needless_macros w ≡ false)
-
--- what is bad is wanted
-abbrev pub wants_bad : Wanted → Bool
-wants_bad AllWanted = false
-wants_bad (OnlyWanted list) = false
-wants_bad BadWanted = true
-wants_bad HiddenWanted = false
-
--- any suffix may stand, and what is bad isn't wanted
-abbrev pub has_needless_suffix : Wishes → Bool
-has_needless_suffix w = w.any_suffix && not (wants_bad w.wanted)
-
--- an edition is named, and neither is what is bad wanted, nor are literals written anew
-abbrev pub has_needless_edition : Wishes → Bool
-has_needless_edition w = is_some w.edition && not (is_some w.restyle) && not (wants_bad w.wanted)
-
--- neither is so
-abbrev pub JudgeTogether : Wishes → Type 0
-JudgeTogether w = (has_needless_suffix w ≡ false) × (has_needless_edition w ≡ false)
-
--- a text is looked for only where literals that are wanted may hold it, objects and annotations are wanted only of
--- lines, and how much was found only where files are read
-abbrev pub PrintTogether : Wishes → Type 0
-PrintTogether w =
-    (IsTrue w.searches → MayHold w.wanted) × ((has_extents w.form && prints_no_objects w.wish w.output) ≡ false)
-    × ((w.tells_stats && lists_files w.wish) ≡ false)
-
--- what is asked for goes together
-abbrev pub GoTogether : Wishes → Type 0
-GoTogether w = PrintTogether w × RestyleTogether w × JudgeTogether w
-
--- why it doesn't
-abbrev pub IsClash : {A : Type 0} → Wishes → WordError A → Type 0
-IsClash w TextlessKinds = IsTrue w.searches × (MayHold w.wanted → ⊥)
-IsClash w ObjectsOfPaths = (has_extents w.form && prints_no_objects w.wish w.output) ≡ true
-IsClash w StatsOfPaths = (w.tells_stats && lists_files w.wish) ≡ true
-IsClash w RestylesAlone = restyles_and_prints w ≡ true
-IsClash w SumsOfCheck = restyles_and_sums w ≡ true
-IsClash w StyleAlone = has_needless_style w ≡ true
-IsClash w MacrosAlone = has_needless_macros w ≡ true
-IsClash w SuffixAlone = has_needless_suffix w ≡ true
-IsClash w EditionAlone = has_needless_edition w ≡ true
-IsClash w _ = ⊥
+use Rattle.rl_reports.specs.Flags.{AreKindWords, IsCountWord, IsLetter, IsOptionWord, IsSide, IsUnknownKind, color_word, colored_form, edition_word, format_word, formatted, has_other_mark, is_more_than_extension, matches_nothing, is_path_word, joined_word, macros_word, recolored, taken_by}
+use Rattle.rl_reports.specs.Wishes.{AllWanted, BadWanted, HiddenWanted, OnlyWanted, Wishes, first_wishes}
+use Rattle.rl_reports.specs.Clashes.{GoTogether, IsClash}
 
 -- only one option may say which literals are wanted
 abbrev pub IsAllowed : Flag → Wishes → Type 0
@@ -502,13 +73,13 @@ with_flag AllDirectories w = record w { all_directories = true }
 with_flag Extension w = w
 with_flag Exclude w = w
 with_flag FilesFrom w = w
-with_flag NoMessages w = record w { tells_errors = false }
+with_flag NoMessages w = record w { prints_errors = false }
 with_flag Count w = record w { output = output.Count }
 with_flag FilesWithMatches w = record w { output = output.Path }
 with_flag Nul w = record w { nul_after_paths = true }
 with_flag Quiet w = record w { output = output.Nothing }
 with_flag Files w = record w { wish = wish.Files }
-with_flag Stats w = record w { tells_stats = true }
+with_flag Stats w = record w { prints_stats = true }
 with_flag Fix w = record w { restyle = Some restyling.Fix }
 with_flag Check w = record w { restyle = Some restyling.Check }
 with_flag Diff w = record w { restyle = Some restyling.Diff }
@@ -576,9 +147,10 @@ IsTaken has_colors takes.Color old word new =
     (when : When) × (word ≡ color_word when)
     × (new ≡ record old { form = recolored old.form (colored_form has_colors when) })
 IsTaken has_colors takes.Extension old text new =
-    (extension : List ℕ) × IsWithoutDot text extension × (new ≡ with_extension extension old)
+    (extension : List ℕ) × (is_more_than_extension text ≡ false) × IsWithoutDot text extension
+    × (new ≡ with_extension extension old)
 IsTaken has_colors takes.Pattern old text new =
-    (text ≢ []) × (has_other_mark text ≡ false) × (new ≡ with_pattern text old)
+    (text ≢ []) × (has_other_mark text ≡ false) × (matches_nothing text ≡ false) × (new ≡ with_pattern text old)
 IsTaken has_colors takes.List old text new = new ≡ with_list text old
 IsTaken has_colors takes.Edition old word new =
     (edition : AnyEdition) × (word ≡ edition_word edition) × (new ≡ record old { edition = Some edition })
@@ -686,6 +258,10 @@ word_message EmptyPattern = codes "--exclude: an empty pattern matches nothing"
 word_message (OtherPattern word) =
     codes "unknown pattern '" ++ (string_bytes word
     ++ codes "': --exclude takes *, ?, ** and /, but no [, no \\ and no ! at its front")
+word_message (UselessPattern word) =
+    codes "--exclude: '" ++ (string_bytes word ++ codes "' matches nothing: it takes what stands below a PATH, as src or /src")
+word_message (UnknownExtension word) =
+    codes "'" ++ (string_bytes word ++ codes "' is no extension: as in --extension rs --extension rs.in")
 word_message NoList = codes "--files-from: which file? as in --files-from list"
 word_message NoEdition = codes "--edition: which? one of 2015, 2018, 2021, 2024"
 word_message (UnknownEdition word) =
@@ -714,6 +290,11 @@ IsRejectedText operand text EmptyText = (operand ≡ takes.Text) × (text ≡ []
 IsRejectedText operand text EmptyPattern = (operand ≡ takes.Pattern) × (text ≡ [])
 IsRejectedText operand text (OtherPattern said) =
     (operand ≡ takes.Pattern) × (has_other_mark text ≡ true) × (chars (string_bytes said) ≡ visible (chars text))
+IsRejectedText operand text (UselessPattern said) =
+    (operand ≡ takes.Pattern) × (matches_nothing text ≡ true) × (chars (string_bytes said) ≡ visible (chars text))
+IsRejectedText operand text (UnknownExtension said) =
+    (operand ≡ takes.Extension) × (is_more_than_extension text ≡ true)
+    × (chars (string_bytes said) ≡ visible (chars text))
 IsRejectedText operand text (UnknownColor said) =
     (operand ≡ takes.Color) × ((when : When) → text ≢ color_word when)
     × (chars (string_bytes said) ≡ visible (chars text))

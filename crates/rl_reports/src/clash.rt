@@ -1,7 +1,8 @@
 //! Whether what the words ask for goes together.
 
 ghost use Rattle.std.specs.Prelude.{◌≡◌, ◌↔◌, ℕ, List, [], IfNone, IfSome, IsTrue, MatchBool};
-ghost use Rattle.rl_reports.specs.Words.{GoTogether, HasTextKind, IsClash, JudgeTogether, MayHold, PrintTogether, RestyleTogether, lists_files as lists, picks_literals as picks, says_printed, has_needless_edition as needless_edition, has_needless_macros as needless_macros, has_needless_style as needless_style, has_needless_suffix as needless_suffix, wants_bad as bad_wanted, has_no_sums as no_sums, restyles_and_prints as with_printing, restyles_and_sums as with_sums, spells_lines as spells, prints_no_objects as no_objects, sums_lines as sums, wanted_of, wishes_of};
+ghost use Rattle.rl_reports.specs.Wishes.{wanted_of, wishes_of};
+ghost use Rattle.rl_reports.specs.Clashes.{GoTogether, HasTextKind, IsClash, JudgeTogether, MayHold, PrintTogether, RestyleTogether, lists_files as lists, picks_literals as picks, says_printed, has_needless_edition as needless_edition, has_needless_macros as needless_macros, has_needless_style as needless_style, has_needless_suffix as needless_suffix, wants_bad as bad_wanted, has_no_sums as no_sums, restyles_and_prints as with_printing, restyles_and_sums as with_sums, spells_lines as spells, prints_no_objects as no_objects, sums_lines as sums};
 
 use crate::command::{Command, Output, Restyling, Wish};
 use crate::report::asks_context;
@@ -73,7 +74,7 @@ fn says_what_is_printed(command: Command<'_>) -> bool
         || spells_lines(command)
         || asks_context(command)
         || lists_files(command.wish)
-        || command.tells_stats
+        || command.prints_stats
 }
 
 /// Whether literals are written anew, and there are no sums of that: `--check` alone has them.
@@ -192,7 +193,7 @@ fn printing_clash<A: Allocator>(command: Command<'_>) -> Option<WordError<A>>
     if has_extents(command.form) && prints_no_objects(command) {
         return Some(WordError::ObjectsOfPaths);
     }
-    if command.tells_stats && lists_files(command.wish) {
+    if command.prints_stats && lists_files(command.wish) {
         return Some(WordError::StatsOfPaths);
     }
     None

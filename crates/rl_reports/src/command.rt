@@ -92,10 +92,10 @@ pub struct Command<'a> {
     pub selection: Selection<'a>,
     /// The files that name more paths, in order.
     pub files_from: &'a [&'a str],
-    /// Whether it is told of each file that it can't be read to its end, or is left alone.
-    pub tells_errors: bool,
-    /// Whether it is told after all how much was read and found.
-    pub tells_stats: bool,
+    /// Whether it is printed of each file that it can't be read to its end, or is left alone.
+    pub prints_errors: bool,
+    /// Whether it is printed after all how much was read and found.
+    pub prints_stats: bool,
     /// What is done with literals that a style writes otherwise, where that is asked for in place of what is printed.
     pub restyle: Option<Restyling>,
     /// The file with the rules of the style, where one is named.

@@ -5,7 +5,7 @@ ghost use Rattle.rl_files.specs.Globs.{borrowed_texts};
 ghost use Rattle.rl_files.specs.Trees.{string_texts};
 ghost use Rattle.rl_reports.specs.Endings.{extensions_read, finds_no_file, paths_read, EndsAsScan, EndsAsked, EndsListed, EndsPaths, EndsRun, EndsScan, EndsStyled, EndsText, EndsWithoutMemory, IsCutShort, IsListError, IsRulesError, IsSelecting, IsStyleError, IsUnwritten};
 ghost use Rattle.rl_reports.specs.Runs.{asked_status};
-ghost use Rattle.rl_reports.specs.Words.{style_of, wishes_in};
+ghost use Rattle.rl_reports.specs.Wishes.{style_of, wishes_in};
 
 use crate::clash::lists_files;
 use crate::command::{Command, Console, Restyling, Wish};
@@ -311,8 +311,8 @@ fn selecting<'a>(
             excludes,
         },
         files_from: lists,
-        tells_errors: command.tells_errors,
-        tells_stats: command.tells_stats,
+        prints_errors: command.prints_errors,
+        prints_stats: command.prints_stats,
         restyle: command.restyle,
         style: command.style,
         rules,

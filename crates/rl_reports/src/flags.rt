@@ -7,7 +7,9 @@ ghost use Rattle.rl_reports.specs.declared.flags.Format.{Format as AnyFormat};
 ghost use Rattle.rl_types.specs.declared.before.Edition.{Edition as AnyEdition};
 ghost use Rattle.rl_reports.specs.declared.flags.Operand.{Operand};
 ghost use Rattle.rl_reports.specs.declared.flags.When.{When};
-ghost use Rattle.rl_reports.specs.Words.{IsCountWord, IsLetter, IsOptionWord, joined_word, taken_by as flag_before, color_word, wishes_of, IsAllowed, GoesWithFind, MayStand, RestylesOnce, macros_word, IsRejectedFlag, with_flag as flagged, next_after as follows, colored_form, recolored as with_colors, edition_word, format_word, formatted, has_other_mark as other_mark};
+ghost use Rattle.rl_reports.specs.Flags.{IsCountWord, IsLetter, IsOptionWord, joined_word, taken_by as flag_before, color_word, macros_word, colored_form, recolored as with_colors, edition_word, format_word, formatted, has_other_mark as other_mark, is_more_than_extension, matches_nothing as is_useless};
+ghost use Rattle.rl_reports.specs.Wishes.{wishes_of};
+ghost use Rattle.rl_reports.specs.Words.{IsAllowed, GoesWithFind, MayStand, RestylesOnce, IsRejectedFlag, with_flag as flagged, next_after as follows};
 
 use crate::command::{Command, Macros, Output, PlaceForm, Restyling, Wish};
 use crate::words::WordError;
@@ -290,11 +292,11 @@ fn with_flag(command: Command<'_>, flag: Flag) -> Option<Command<'_>>
         (Flag::Context | Flag::Before | Flag::After, _) => Some(command),
         (Flag::Style | Flag::Macros, _) => Some(command),
         (Flag::NoMessages, _) => Some(Command {
-            tells_errors: false,
+            prints_errors: false,
             ..command
         }),
         (Flag::Stats, _) => Some(Command {
-            tells_stats: true,
+            prints_stats: true,
             ..command
         }),
         (Flag::Fix, _) => Some(Command {
@@ -552,6 +554,22 @@ pub(crate) fn has_other_mark(pattern: &str) -> bool
 {
     let bytes = pattern.as_bytes();
     bytes.starts_with(b"!".as_slice()) || bytes.contains(&b'[') || bytes.contains(&b'\\')
+}
+
+/// Whether a pattern matches no path below a directory: `./` or `../` stands at its front, or it is a slash alone.
+pub(crate) fn matches_nothing(pattern: &str) -> bool
+    ensures { result ≡ is_useless pattern.now }
+{
+    let bytes = pattern.as_bytes();
+    bytes.starts_with(b"./".as_slice()) || bytes.starts_with(b"../".as_slice()) || pattern == "/"
+}
+
+/// Whether a word is more than an extension: a list, a pattern or a path.
+pub(crate) fn has_more_than_extension(word: &str) -> bool
+    ensures { result ≡ is_more_than_extension word.now }
+{
+    let bytes = word.as_bytes();
+    bytes.contains(&b',') || bytes.contains(&b'*') || bytes.contains(&b'/')
 }
 
 /// How lines are written in this format: as text, lines that are written so stay as they are.

@@ -8,6 +8,7 @@ ghost use Rattle.rl_reports.specs.Listed.{AreWithAllListed, AreWithListed, IsFir
 ghost use Rattle.rl_reports.specs.Reports.{IsReadError};
 
 use rl_files::{PathError, Tree};
+use rl_lexer::without_mark;
 use std::alloc::{AllocError, Allocator};
 
 /// A file that can't be read, and why.
@@ -67,7 +68,7 @@ fn push_parts<A: Allocator + Copy>(
     Ok(())
 }
 
-/// Appends the names in a file.
+/// Appends the names in a file, after a byte order mark or none.
 ///
 /// # Errors
 ///
@@ -87,7 +88,7 @@ fn push_listed<A: Allocator + Copy, T: Tree>(
         Err(why) => return Err(why),
     };
     let list = match std::str::from_utf8(bytes.as_slice()) {
-        Ok(list) => list,
+        Ok(text) => without_mark(text),
         Err(error) => return Err(PathError::NotUtf8(error.valid_up_to())),
     };
     match push_parts(alloc, paths, list, separator(list)) {

@@ -309,7 +309,7 @@ pub(crate) fn report_text<A: Allocator + Copy>(
     let scanned = scan_text(alloc, options, text)?;
     let errors = error_line(alloc, options.by_line, before, scanned.error)?.into_bytes();
     let has_error = !errors.is_empty();
-    let asked = command.tells_stats;
+    let asked = command.prints_stats;
     let count = asked_count(alloc, asked, options, text, scanned.lines.as_slice())?;
     let found = !scanned.lines.is_empty();
     let nul = command.nul_after_paths;

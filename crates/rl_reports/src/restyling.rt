@@ -2,7 +2,7 @@
 
 ghost use Rattle.std.specs.Prelude.{◌≡◌, [], OnErr, IfOk, map, string_bytes};
 ghost use Rattle.std.specs.Str.{chars};
-ghost use Rattle.rl_restyled.specs.Edits.{edit_told};
+ghost use Rattle.rl_restyled.specs.Edits.{edit_in};
 ghost use Rattle.rl_restyled.specs.Places.{StandIn};
 ghost use Rattle.rl_reports.specs.Reports.{in_report};
 ghost use Rattle.rl_reports.specs.Visits.{ReportsAs};
@@ -41,9 +41,9 @@ fn change_lines<A: Allocator + Copy>(
     text: &str,
     restyled: &Restyled<A>,
 ) -> Result<Vec<u8, A>, AllocError>
-    requires { StandIn (chars text.now) (map edit_told restyled.now.edits.items) }
+    requires { StandIn (chars text.now) (map edit_in restyled.now.edits.items) }
     ensures { IfOk result (λ lines. AreChangeBytes options.entry command.entry.form (chars text.now)
-        (map edit_told restyled.now.edits.items) lines.items) }
+        (map edit_in restyled.now.edits.items) lines.items) }
 {
     let mut lines = String::new(alloc);
     push_changes(
@@ -65,9 +65,9 @@ fn report_checked<A: Allocator + Copy>(
     text: &str,
     restyled: &Restyled<A>,
 ) -> Result<Report<A>, AllocError>
-    requires { StandIn (chars text.now) (map edit_told restyled.now.edits.items) }
+    requires { StandIn (chars text.now) (map edit_in restyled.now.edits.items) }
     ensures { IfOk result (λ r. IsChecked command.entry options.entry path.entry (chars text.now)
-        (map edit_told restyled.now.edits.items) (in_report r)) }
+        (map edit_in restyled.now.edits.items) (in_report r)) }
 {
     let lines = change_lines(alloc, command, options, text, restyled)?;
     let out = written(
@@ -148,9 +148,9 @@ fn report_fixed<A: Allocator + Copy, F: Replace>(
     text: &str,
     restyled: Restyled<A>,
 ) -> Result<Report<A>, AllocError>
-    requires { StandIn (chars text.now) (map edit_told restyled.edits.items) }
+    requires { StandIn (chars text.now) (map edit_in restyled.edits.items) }
     ensures reports { IfOk result (λ r. ReportsAs (IsFixed command.entry options.entry path.now named.entry text.now
-        (string_bytes restyled.text) (map edit_told restyled.edits.items))
+        (string_bytes restyled.text) (map edit_in restyled.edits.items))
         r (F.handed files.old) (F.handed files.new)) }
     ensures kept { OnErr result (F.handed files.new ≡ F.handed files.old) }
 {
@@ -185,9 +185,9 @@ fn report_change<A: Allocator + Copy, F: Replace>(
     text: &str,
     restyled: Restyled<A>,
 ) -> Result<Report<A>, AllocError>
-    requires { StandIn (chars text.now) (map edit_told restyled.edits.items) }
+    requires { StandIn (chars text.now) (map edit_in restyled.edits.items) }
     ensures reports { IfOk result (λ r. ReportsAs (IsChanged restyling command.entry options.entry path.now named.entry
-        text.now (string_bytes restyled.text) (map edit_told restyled.edits.items))
+        text.now (string_bytes restyled.text) (map edit_in restyled.edits.items))
         r (F.handed files.old) (F.handed files.new)) }
     ensures kept { OnErr result (F.handed files.new ≡ F.handed files.old) }
 {

@@ -2,11 +2,12 @@
 
 ghost use Rattle.std.specs.Prelude.{◌≡◌, IfErr, IfOk, IfSome};
 ghost use Rattle.rl_styles.specs.Styles.{RejectsStyle, SaysStyle};
-ghost use Rattle.rl_reports.specs.Rules.{HasNoRules, HasRules, IsNearName, IsNoStyle, IsRuleMeant, IsShownName, TellsError, line_of};
+ghost use Rattle.rl_reports.specs.Rules.{HasNoRules, HasRules, IsNearName, IsNoStyle, IsRuleMeant, IsShownName, IsLineError, line_of};
 
 use crate::meant::near_rule;
 use crate::report::{count_lines, visible_text};
 use rl_files::{PathError, Tree};
+use rl_lexer::without_mark;
 use rl_style::Style;
 use rl_styles::{StyleError, StyleErrorKind, style_of};
 use std::alloc::{AllocError, Allocator, Global};
@@ -92,13 +93,13 @@ fn shown_name<A: Allocator>(alloc: A, name: Option<&str>) -> Result<Option<Strin
     }
 }
 
-/// What is told of the error of a text that says no style.
-fn told_error<A: Allocator>(
+/// The error of a text that says no style, as it is reported.
+fn line_error<A: Allocator>(
     alloc: A,
     text: &str,
     error: StyleError<'_>,
 ) -> Result<LineError<A>, AllocError>
-    ensures { IfOk result (TellsError text.now error.entry) }
+    ensures { IfOk result (IsLineError text.now error.entry) }
 {
     let name = shown_name(alloc, error.name)?;
     Ok(LineError {
@@ -116,14 +117,14 @@ fn rules_of<A: Allocator>(alloc: A, text: &str) -> Result<Style, RulesError<A>>
 {
     match style_of(text) {
         Ok(rules) => Ok(rules),
-        Err(error) => match told_error(alloc, text, error) {
+        Err(error) => match line_error(alloc, text, error) {
             Ok(error) => Err(RulesError::Style(error)),
             Err(_) => Err(RulesError::Unread(PathError::OutOfMemory)),
         },
     }
 }
 
-/// The rules that a file says.
+/// The rules that a file says, after a byte order mark or none.
 pub(crate) fn rules_in<A: Allocator + Copy, T: Tree>(
     alloc: A,
     tree: &T,
@@ -137,7 +138,7 @@ pub(crate) fn rules_in<A: Allocator + Copy, T: Tree>(
         Err(why) => return Err(RulesError::Unread(why)),
     };
     match std::str::from_utf8(bytes.as_slice()) {
-        Ok(text) => rules_of(alloc, text),
+        Ok(text) => rules_of(alloc, without_mark(text)),
         Err(error) => Err(RulesError::Unread(PathError::NotUtf8(error.valid_up_to()))),
     }
 }

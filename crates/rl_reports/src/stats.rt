@@ -1,4 +1,4 @@
-//! How many findings there are, and what is told of how much was read and found.
+//! How many findings there are, and what is printed of how much was read and found.
 
 ghost use Rattle.std.specs.Prelude.{◌≡◌, ◌++◌, IfOk, OnErr, OnOk, string_bytes};
 ghost use Rattle.std.specs.Io.KnownBytes.{Appends};
@@ -59,7 +59,7 @@ fn push_lines<A: Allocator>(out: &mut String<A>, tally: Tally) -> Result<(), All
     let (with_findings, with_errors) = (tally.with_findings, tally.with_errors);
     writeln!(
         out,
-        "{read} files\n{with_findings} files with findings\n{findings} findings\n{with_errors} files with an error"
+        "files: {read}\nfiles with findings: {with_findings}\nfindings: {findings}\nfiles with an error: {with_errors}"
     )
 }
 
@@ -75,7 +75,7 @@ fn push_object<A: Allocator>(out: &mut String<A>, tally: Tally) -> Result<(), Al
     )
 }
 
-/// Appends what is told of how much was read and found.
+/// Appends what is printed of how much was read and found.
 fn push_stats<A: Allocator>(out: &mut String<A>, form: Form, tally: Tally) -> Result<(), AllocError>
     ensures { OnOk result (string_bytes out.new ≡ string_bytes out.old ++ stats_text form tally) }
 {
@@ -99,7 +99,7 @@ pub(crate) fn write_stats<A: Allocator + Copy, W: Write>(
         (AppendsBeginning (W.contents out.old) (W.contents out.new) (shown_stats command.entry tally)) }
 {
     let mut text = String::new(alloc);
-    if command.tells_stats {
+    if command.prints_stats {
         match push_stats(&mut text, command.form, tally) {
             Ok(()) => {}
             Err(_) => return Err(RunStop::Walk(WalkError::OutOfMemory)),

@@ -19,7 +19,7 @@ use Rattle.rl_style.specs.declared.restylable.Restylable.{Restylable}
 use Rattle.rl_style.specs.declared.style.Style.{Style}
 use Rattle.rl_style.proofs.Places.{same_place}
 use Rattle.rl_restyled.specs.Places.{StandsBetween}
-use Rattle.rl_restyled.specs.Edits.{IsEditOf, IsRestyleError, IsRewritten, IsTextOf, Restyles, Seen, cut_bytes, edit_told, is_chosen, nothing_seen, placed_edits, seen_after}
+use Rattle.rl_restyled.specs.Edits.{IsEditOf, IsRestyleError, IsRewritten, IsTextOf, Restyles, Seen, cut_bytes, edit_in, is_chosen, nothing_seen, placed_edits, seen_after}
 use Rattle.rl_restyled.specs.Mirrors.{IsDraft, IsNextIn, seen_all, seen_of}
 use Rattle.rl_restyled.specs.declared.edit.Macros.{Macros}
 use Rattle.rl_restyled.specs.declared.edit.Restyled.{Restyled}
@@ -460,9 +460,9 @@ pub finished_whole : {A E : Type 0} (style : Style) (macros : Macros) (text : Li
     → IsTrue (begins_with_code (chars text)) → IsDraft style macros (chars text) s at out edits → s.tokens.rest ≡ []
     → IfOk r (λ x. (rest : List ℕ) → StandsBetween (chars text) at (length text) rest
     → chars (string_bytes x.text) ≡ out ++ rest)
-    → IfOk r (λ x. map edit_told x.edits.items ≡ edits)
-    → IfOk r (λ x. Restyles style macros (chars text) (chars (string_bytes x.text)) (map edit_told x.edits.items))
+    → IfOk r (λ x. map edit_in x.edits.items ≡ edits)
+    → IfOk r (λ x. Restyles style macros (chars text) (chars (string_bytes x.text)) (map edit_in x.edits.items))
 finished_whole style macros text s at out edits (Ok x) u code d none text_is told_is =
-    all_restyled style macros text s at out (chars (string_bytes x.text)) edits (map edit_told x.edits.items) u code d
+    all_restyled style macros text s at out (chars (string_bytes x.text)) edits (map edit_in x.edits.items) u code d
     none text_is told_is
 finished_whole style macros text s at out edits (Err e) u code d none text_is told_is = tt

@@ -104,8 +104,8 @@ IsRestyleError t Memory = ⊤
 
 -- ---- what the code tells
 
-abbrev pub edit_told : {A : Type 0} → Edit A → ℕ × ℕ × List ℕ
-edit_told edit = (edit.lo, edit.hi, chars (string_bytes edit.text))
+abbrev pub edit_in : {A : Type 0} → Edit A → ℕ × ℕ × List ℕ
+edit_in edit = (edit.lo, edit.hi, chars (string_bytes edit.text))
 
 abbrev pub text_in : {A : Type 0} → Option (String A) → Option (List ℕ)
 text_in new = option_map (λ s. chars (string_bytes s)) new

@@ -4,7 +4,7 @@ ghost use Rattle.std.specs.Prelude.{◌≡◌, ◌++◌, ◌∷◌, ℕ, List, [
 ghost use Rattle.std.specs.Str.{chars};
 ghost use Rattle.rl_style.specs.Restylable.{GivesLiteral, RestylableState};
 ghost use Rattle.rl_restyled.specs.Places.{StandsBetween};
-ghost use Rattle.rl_restyled.specs.Edits.{edit_told};
+ghost use Rattle.rl_restyled.specs.Edits.{edit_in};
 ghost use Rattle.rl_restyled.specs.Mirrors.{IsDraft, IsNextIn};
 
 use crate::edit::{Edit, Macros};
@@ -34,7 +34,7 @@ fn put<A: Allocator>(
         → chars (string_bytes draft.new.text)
         ≡ chars (string_bytes draft.old.text) ++ (middle ++ chars (string_bytes new))) }
     ensures at { OnOk result (draft.new.at ≡ literal.entry.token.hi) }
-    ensures edits { OnOk result (map edit_told draft.new.edits.items ≡ map edit_told draft.old.edits.items
+    ensures edits { OnOk result (map edit_in draft.new.edits.items ≡ map edit_in draft.old.edits.items
         ++ ((literal.entry.token.lo, literal.entry.token.hi, chars (string_bytes new)) ∷ [])) }
 {
     draft
@@ -60,13 +60,13 @@ pub(crate) fn put_literal<A: Allocator + Copy>(
     draft: &mut Draft<A>,
 ) -> Result<(), AllocError>
     requires { IsNextIn style macros (chars source.now) literal draft.old.at
-        (chars (string_bytes draft.old.text)) (map edit_told draft.old.edits.items) }
+        (chars (string_bytes draft.old.text)) (map edit_in draft.old.edits.items) }
     ensures { OnOk result ((old new : RestylableState)
         → IsDraft style macros (chars source.now) old draft.old.at
-        (chars (string_bytes draft.old.text)) (map edit_told draft.old.edits.items)
+        (chars (string_bytes draft.old.text)) (map edit_in draft.old.edits.items)
         → GivesLiteral old literal.entry new
         → IsDraft style macros (chars source.now) new draft.new.at
-        (chars (string_bytes draft.new.text)) (map edit_told draft.new.edits.items)) }
+        (chars (string_bytes draft.new.text)) (map edit_in draft.new.edits.items)) }
 {
     let new = text_of(alloc, style, macros, source, literal)?;
     match new {

@@ -2,7 +2,7 @@
 
 ghost use Rattle.std.specs.Prelude.{◌≡◌, ◌++◌, List, ℕ, length, map, string_bytes, IfErr, IfOk};
 ghost use Rattle.std.specs.Str.{chars};
-ghost use Rattle.rl_restyled.specs.Edits.{IsRestyleError, Restyles, edit_told};
+ghost use Rattle.rl_restyled.specs.Edits.{IsRestyleError, Restyles, edit_in};
 ghost use Rattle.rl_restyled.specs.Places.{StandsBetween};
 ghost use Rattle.rl_restyled.specs.declared.edit.RestyleError.TheVariants.{Memory};
 
@@ -18,7 +18,7 @@ fn finished<A: Allocator>(source: &str, draft: Draft<A>) -> Result<Restyled<A>, 
     ensures text { IfOk result (λ r. (rest : List ℕ)
         → StandsBetween (chars source.now) draft.at (length source.now) rest
         → chars (string_bytes r.text) ≡ chars (string_bytes draft.text) ++ rest) }
-    ensures edits { IfOk result (λ r. map edit_told r.edits.items ≡ map edit_told draft.edits.items) }
+    ensures edits { IfOk result (λ r. map edit_in r.edits.items ≡ map edit_in draft.edits.items) }
     ensures error { IfErr result (λ e. e ≡ Memory) }
 {
     let mut text = draft.text;
@@ -46,7 +46,7 @@ pub fn restyle<A: Allocator + Copy>(
     text: &str,
 ) -> Result<Restyled<A>, RestyleError>
     ensures restyled { IfOk result (λ r. Restyles style macros (chars text.now) (chars (string_bytes r.text))
-        (map edit_told r.edits.items)) }
+        (map edit_in r.edits.items)) }
     ensures error { IfErr result (IsRestyleError (chars text.now)) }
 {
     if !may_restyle(text) {

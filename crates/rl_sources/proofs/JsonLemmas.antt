@@ -1,6 +1,6 @@
 -- Objects of JSON, piece by piece.
-use Rattle.rl_text.proofs.Common.{◌≡◌, ◌==◌, ◌⊎◌, ℕ, suc, true, false, List, [], ◌∷◌, ◌++◌, refl, sym, ap, subst, ◌∙◌, inl, inr, length, lit<, rules, append_assoc, append-nil, IsAscii, IsUtf8, chars, chars-nil, chars_from_encodes, codes, encode_utf8, encodes-chars}
-use Rattle.std.specs.Prelude.{encode_utf8_all}
+use Rattle.rl_text.proofs.Common.{◌≡◌, ◌==◌, ◌⊎◌, ◌<◌, ◌≤◌, ℕ, suc, Bool, true, false, List, [], ◌∷◌, ◌++◌, refl, sym, ap, subst, ◌∙◌, arith, inl, inr, length, lit<, nat_tests, rules, append_assoc, append-nil, IsAscii, IsUtf8, chars, chars-nil, chars_from_encodes, codes, encode_utf8, encodes-chars}
+use Rattle.std.specs.Prelude.{cond, encode_utf8_all, nat_lt}
 use Rattle.std.proofs.lemmas.Bool.{false≢true}
 use Rattle.std.specs.Fmt.{decimal}
 use Rattle.std.proofs.lemmas.Grind.{flat_map-append}
@@ -19,7 +19,7 @@ use Rattle.rl_reading.specs.NumberShapes.{AreDigits}
 use Rattle.rl_lines.proofs.PrintLemmas.{truth_chars}
 use Rattle.rl_lines.specs.Lines.{Appends, kind_label}
 use Rattle.rl_sources.specs.Held.{AreContentsOf}
-use Rattle.rl_sources.specs.Json.{more_numbers, number_array, json_value, literal_members, piece_member, IsJsonLiteral, IsJsonValueOf}
+use Rattle.rl_sources.specs.Json.{more_numbers, number_array, json_value, literal_members, flawed_text_member, piece_member, IsJsonLiteral, IsJsonValueOf}
 use Rattle.rl_output.specs.Members.{string_member}
 use Rattle.rl_output.specs.JsonStrings.{json_string}
 use Rattle.rl_sources.proofs.ReasonLemmas.{error_id_low, id_low, lex_low, reason_low}
@@ -174,3 +174,24 @@ some_piece piece old new some utf8 e = go (chars piece) refl
         absurd (false≢true (sym some ∙ ap (λ (z : List ℕ). length z == 0) empty))
     go (c ∷ cs) is = e ∙ ap (λ (z : List ℕ). old ++ string_member (codes "piece") z) is
         ∙ ap (λ (z : List ℕ). old ++ piece_member z) (sym is)
+
+-- ---- the text of a literal in which something is wrong
+
+-- how long it is, its bytes say
+member_by_bytes : (text : List ℕ) (is : Bool) → IsUtf8 text → nat_lt 1024 (length text) ≡ is
+    → flawed_text_member (chars text) ≡ cond is (codes ",\"text\":null") (string_member (codes "text") (chars text))
+member_by_bytes text is utf8 e =
+    ap (λ b. cond b (codes ",\"text\":null") (string_member (codes "text") (chars text)))
+    (ap (λ t. nat_lt 1024 (length t)) (encodes-chars text utf8) ∙ e)
+
+pub text_left_out : (text old new : List ℕ) → IsUtf8 text → 1024 < length text → new ≡ old ++ codes ",\"text\":null"
+    → new ≡ old ++ flawed_text_member (chars text)
+text_left_out text old new utf8 long now =
+    let is : nat_lt 1024 (length text) ≡ true = grind (arith, nat_tests) in
+    now ∙ ap (◌++◌ old) (sym (member_by_bytes text true utf8 is))
+
+pub text_shown : (text old new : List ℕ) → IsUtf8 text → length text ≤ 1024
+    → new ≡ old ++ string_member (codes "text") (chars text) → new ≡ old ++ flawed_text_member (chars text)
+text_shown text old new utf8 short now =
+    let is : nat_lt 1024 (length text) ≡ false = grind (arith, nat_tests) in
+    now ∙ ap (◌++◌ old) (sym (member_by_bytes text false utf8 is))

@@ -1,5 +1,5 @@
 -- What is printed of a source as JSON: an object a line. All are lists of characters.
-use Rattle.std.specs.Prelude.{◌≡◌, ◌⊎◌, ℕ, List, [], ◌∷◌, ◌++◌, codes}
+use Rattle.std.specs.Prelude.{◌≡◌, ◌⊎◌, ℕ, List, [], ◌∷◌, ◌++◌, codes, cond, nat_lt}
 use Rattle.std.specs.Fmt.{decimal}
 use Rattle.std.specs.List.{flat_map}
 use Rattle.rl_forms.specs.declared.kind.Kind.{Kind}
@@ -7,6 +7,7 @@ use Rattle.rl_forms.specs.Reading.{Contents, Characters, Bytes, Digits, Truth, t
 use Rattle.rl_lexer.specs.LexErrors.{lex_message}
 use Rattle.rl_lexer.specs.declared.lex_error.LexKind.{LexKind}
 use Rattle.rl_lines.specs.Lines.{kind_label}
+use Rattle.rl_text.specs.Texts.{byte_len}
 use Rattle.rl_sources.specs.Findings.{reason_id, reason_message}
 use Rattle.rl_sources.specs.declared.finding.Reason.{Reason}
 use Rattle.rl_output.specs.ErrorIds.{error_id}
@@ -48,12 +49,16 @@ abbrev pub IsJsonValueOf : Kind → List ℕ → List ℕ → Type 0
 IsJsonValueOf kind text value =
     (contents : Contents) × HasContents kind text contents × (value ≡ json_value contents)
 
--- the members of a finding, and the object's end: the literal's text, what is wrong, by a name that stays and in words,
--- and the
--- piece that is shown, which is empty where there is none
+-- the member of the text of a literal in which something is wrong: none is shown of more than 1,024 bytes
+abbrev pub flawed_text_member : List ℕ → List ℕ
+flawed_text_member text =
+    cond (nat_lt 1024 (byte_len text)) (codes ",\"text\":null") (string_member (codes "text") text)
+
+-- The members of a finding, and the object's end: the literal's text, what is wrong, by a name that stays and in words,
+-- and the piece that is shown, which is empty where there is none.
 abbrev pub finding_members : List ℕ → Reason → List ℕ → List ℕ
 finding_members text reason piece =
-    string_member (codes "text") text ++ (string_member (codes "id") (reason_id reason)
+    flawed_text_member text ++ (string_member (codes "id") (reason_id reason)
     ++ (string_member (codes "error") (reason_message reason)
     ++ (string_member (codes "piece") piece ++ codes "}\n")))
 

@@ -9,7 +9,7 @@ ghost use Rattle.rl_forms.specs.Reading.{HasNoReading, truth_text};
 ghost use Rattle.rl_lines.specs.Lines.{Appends};
 ghost use Rattle.rl_reading.specs.Founds.{IsFound};
 ghost use Rattle.rl_output.specs.Members.{string_member};
-ghost use Rattle.rl_sources.specs.Json.{more_numbers, number_array, IsJsonLiteral, IsJsonValueOf, finding_members, error_members, piece_member};
+ghost use Rattle.rl_sources.specs.Json.{more_numbers, number_array, IsJsonLiteral, IsJsonValueOf, finding_members, flawed_text_member, error_members, piece_member};
 
 use crate::finding::Reason;
 use crate::held::{byte_contents, bytes_contents};
@@ -20,6 +20,9 @@ use rl_output::{id_of, push_ascii, push_json_string, push_member};
 use rl_reading::Found;
 use rl_tokens::LexKind;
 use std::alloc::{AllocError, Allocator};
+
+/// The text of a literal in which something is wrong isn't printed where it has more bytes.
+const MOST_BYTES: usize = 1024;
 
 /// Appends numbers, each after a comma.
 fn push_more_numbers<A: Allocator>(out: &mut String<A>, numbers: &[u8]) -> Result<(), AllocError>
@@ -230,6 +233,18 @@ pub(crate) fn push_json_literal<A: Allocator>(
     }
 }
 
+/// Appends the member of the text of a literal in which something is wrong: `null`, where it is longer than this. So what is
+/// printed of a literal with many flaws doesn't grow as the square.
+fn push_flawed_text<A: Allocator>(out: &mut String<A>, text: &str) -> Result<(), AllocError>
+    ensures { OnOk result (chars (string_bytes out.new)
+        ≡ chars (string_bytes out.old) ++ flawed_text_member (chars text.now)) }
+{
+    if text.len() > MOST_BYTES {
+        return push_ascii(out, ",\"text\":null");
+    }
+    push_member(out, "text", text)
+}
+
 /// Appends the members of a finding: the literal's text, what is wrong, by a name that stays and in words, and the piece that is
 /// shown, and the end of its object.
 pub(crate) fn push_json_finding<A: Allocator>(
@@ -241,7 +256,7 @@ pub(crate) fn push_json_finding<A: Allocator>(
     ensures { OnOk result (chars (string_bytes out.new) ≡ chars (string_bytes out.old)
         ++ finding_members (chars text.now) reason (chars piece.now)) }
 {
-    push_member(out, "text", text)?;
+    push_flawed_text(out, text)?;
     push_member(out, "id", reason.id())?;
     push_member(out, "error", reason.words())?;
     push_member(out, "piece", piece)?;

@@ -1,15 +1,15 @@
 use Rattle.rl_text.proofs.Common.{◌≡◌, length, map}
 use Rattle.std.specs.Str.{chars}
 use Rattle.std.specs.Prelude.{string_bytes}
-use Rattle.rl_restyled.specs.Edits.{edit_told}
+use Rattle.rl_restyled.specs.Edits.{edit_in}
 use Rattle.rl_restyled.specs.Places.{StandIn}
 use Rattle.rl_fixes.proofs.ChangeLemmas.{Told}
 use Rattle.rl_fixes.proofs.changes.push_changes.Given as goal
 
 abbrev pub invariant-loop-edit : goal.invariant-loop-edit
 invariant-loop-edit g l =
-    (l.places ≡ l.text) × StandIn (chars l.text) (map edit_told l.rest)
-    × Told l.options l.form (chars l.text) (map edit_told l.edits) (map edit_told l.rest)
+    (l.places ≡ l.text) × StandIn (chars l.text) (map edit_in l.rest)
+    × Told l.options l.form (chars l.text) (map edit_in l.edits) (map edit_in l.rest)
     (chars (string_bytes l.initial.out)) (chars (string_bytes l.out))
 
 abbrev pub decreases-loop-edit : goal.decreases-loop-edit

@@ -1,5 +1,5 @@
 use Rattle.rl_text.proofs.Common.{refl}
-use Rattle.rl_reports.specs.Words.{wishes_in}
+use Rattle.rl_reports.specs.Wishes.{wishes_in}
 use Rattle.rl_reports.proofs.EndingLemmas.{call_asked, keeps_same}
 use Rattle.rl_reports.proofs.WordLemmas.{ask_for, cannot_ask}
 use Rattle.rl_reports.proofs.ending.call.Goals as goal

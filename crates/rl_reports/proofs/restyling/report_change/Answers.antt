@@ -1,5 +1,5 @@
 use Rattle.rl_text.proofs.Common.{chars, map, refl, string_bytes}
-use Rattle.rl_restyled.specs.Edits.{edit_told}
+use Rattle.rl_restyled.specs.Edits.{edit_in}
 use Rattle.rl_reports.specs.Restyling.{IsChecked, IsCompared}
 use Rattle.rl_reports.proofs.VisitLemmas.{unhanded}
 use Rattle.rl_reports.proofs.restyling.report_change.Goals as goal
@@ -7,7 +7,7 @@ use Rattle.rl_reports.proofs.restyling.report_change.Goals as goal
 pub returns-in-Check-clause-reports : goal.returns-in-Check-clause-reports
 returns-in-Check-clause-reports g c = rw c.in-Check.is (unhanded
     (IsChecked c.args.command c.args.options c.args.named (chars c.args.text.now)
-    (map edit_told c.args.restyled.edits.items)) c.report_checked.result (g.F.Replace.handed c.args.files.now)
+    (map edit_in c.args.restyled.edits.items)) c.report_checked.result (g.F.Replace.handed c.args.files.now)
     (g.F.Replace.handed c.args.files.now) refl c.report_checked.ensures)
 
 pub returns-in-Diff-clause-reports : goal.returns-in-Diff-clause-reports

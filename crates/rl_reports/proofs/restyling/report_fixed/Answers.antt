@@ -1,5 +1,5 @@
 use Rattle.rl_text.proofs.Common.{chars, inl, inr, length-map, map, refl, string_bytes, sym, [], ◌∙◌}
-use Rattle.rl_restyled.specs.Edits.{edit_told}
+use Rattle.rl_restyled.specs.Edits.{edit_in}
 use Rattle.rl_reports.specs.Restyling.{IsFixed, IsReplaced}
 use Rattle.rl_reports.proofs.Handing.{hands_none}
 use Rattle.rl_reports.proofs.VisitLemmas.{reports_as}
@@ -17,7 +17,7 @@ returns-then-is_empty-clause-reports g c = (
   [],
   inr (inl (
     sym c.is_input.ensures ∙ c.if-is_input.false,
-    rw (length-map c.args.restyled.edits.items edit_told)
+    rw (length-map c.args.restyled.edits.items edit_in)
         (rw c.as_slice.ensures.value at (sym c.is_empty.ensures ∙ c.if-is_empty.true)),
     rw c.new.ensures.items at c.report_out-then-is_empty.ensures,
   )),
@@ -28,10 +28,10 @@ pub returns-clause-reports : goal.returns-clause-reports
 returns-clause-reports g c = reports_as
     (IsReplaced c.args.path.now c.args.text.now (string_bytes c.args.restyled.text) c.in_ok-out.out.items)
     (IsFixed c.args.command c.args.options c.args.path.now c.args.named c.args.text.now
-    (string_bytes c.args.restyled.text) (map edit_told c.args.restyled.edits.items)) c.report_replaced.result _ _
+    (string_bytes c.args.restyled.text) (map edit_in c.args.restyled.edits.items)) c.report_replaced.result _ _
     (λ f is. inr (inr (
       sym c.is_input.ensures ∙ c.if-is_input.false,
-      rw (length-map c.args.restyled.edits.items edit_told)
+      rw (length-map c.args.restyled.edits.items edit_in)
           (rw c.as_slice.ensures.value at (sym c.is_empty.ensures ∙ c.if-is_empty.false)),
       (
         c.in_ok-out.out.items,

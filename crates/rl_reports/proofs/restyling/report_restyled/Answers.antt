@@ -1,5 +1,5 @@
 use Rattle.rl_text.proofs.Common.{IsUtf8-string_bytes, chars, inl, inr, map, refl, string_bytes, []}
-use Rattle.rl_restyled.specs.Edits.{edit_told}
+use Rattle.rl_restyled.specs.Edits.{edit_in}
 use Rattle.rl_reports.specs.Restyling.{IsChanged, IsRestyledReport, IsScriptReport, macros_read}
 use Rattle.rl_reports.proofs.Handing.{hands_none}
 use Rattle.rl_reports.proofs.RestyleLemmas.{stand_in}
@@ -44,14 +44,14 @@ returns-in-Script-clause-reports g c =
 
 pub report_change-requires : goal.report_change-requires
 report_change-requires g c = stand_in c.args.command.rules (macros_read c.args.command.macros) (chars c.args.text.now)
-    (chars (string_bytes c.in-Restyled.restyled.text)) (map edit_told c.in-Restyled.restyled.edits.items)
+    (chars (string_bytes c.in-Restyled.restyled.text)) (map edit_in c.in-Restyled.restyled.edits.items)
     ((rw (c.macros_for.ensures, c.in-Restyled.is) at c.in_ok-lines.ensures).2)
 
 pub returns-clause-reports : goal.returns-clause-reports
 returns-clause-reports g c =
     let outcome = rw (c.macros_for.ensures, c.in-Restyled.is) at c.in_ok-lines.ensures in reports_as
     (IsChanged c.args.restyling c.args.command c.judging-options.result c.args.path.now c.path_in-named.result
-    c.args.text.now (string_bytes c.in-Restyled.restyled.text) (map edit_told c.in-Restyled.restyled.edits.items))
+    c.args.text.now (string_bytes c.in-Restyled.restyled.text) (map edit_in c.in-Restyled.restyled.edits.items))
     (IsRestyledReport c.args.restyling c.args.command c.args.path.now c.args.text.now) c.report_change.result _ _
     (λ f is. (
       c.judging-options.result,
@@ -67,7 +67,7 @@ returns-clause-reports g c =
         outcome.1,
         (
           string_bytes c.in-Restyled.restyled.text,
-          map edit_told c.in-Restyled.restyled.edits.items,
+          map edit_in c.in-Restyled.restyled.edits.items,
           IsUtf8-string_bytes c.in-Restyled.restyled.text,
           outcome.2,
           is,

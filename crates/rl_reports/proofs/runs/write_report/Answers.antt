@@ -11,4 +11,4 @@ pub returns-in-Err-write_bytes-2-clause-front : goal.returns-in-Err-write_bytes-
 returns-in-Err-write_bytes-2-clause-front g c = err_failed c.args.command (g.T.Tree.holds c.args.tree.now)
     (visited c.args.visit.now) c.in-Ok.report _ _ _ _ _ _ c.in-Ok.ensures.reports
     (rw c.as_slice.ensures.value at c.in-Ok-write_bytes.ensures.all)
-    (rw (c.told_errors.ensures, c.as_slice-2.ensures.value) at c.in-Err-write_bytes-2.ensures.beginning)
+    (rw (c.printed_errors.ensures, c.as_slice-2.ensures.value) at c.in-Err-write_bytes-2.ensures.beginning)

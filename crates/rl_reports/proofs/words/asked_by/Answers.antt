@@ -2,7 +2,8 @@ use Rattle.rl_text.proofs.Common.{arith, inl, inr, map, string_bytes, subst}
 use Rattle.rl_files.specs.Globs.{borrowed_texts}
 use Rattle.rl_files.specs.Trees.{string_texts}
 use Rattle.rl_reports.specs.declared.flags.Next.{Next}
-use Rattle.rl_reports.specs.Words.{AskSoFar, wishes_in}
+use Rattle.rl_reports.specs.Wishes.{wishes_in}
+use Rattle.rl_reports.specs.Words.{AskSoFar}
 use Rattle.rl_reports.proofs.WordLemmas.{all_taken, word_taken, word_rejected}
 use Rattle.rl_reports.proofs.words.asked_by.Goals as goal
 

@@ -1,5 +1,6 @@
 use Rattle.std.proofs.Common.{map, string_bytes, take}
-use Rattle.rl_reports.specs.Words.{AskSoFar, wishes_in}
+use Rattle.rl_reports.specs.Wishes.{wishes_in}
+use Rattle.rl_reports.specs.Words.{AskSoFar}
 use Rattle.rl_reports.proofs.words.asked_by.Given as goal
 
 abbrev pub invariant-loop-word : goal.invariant-loop-word

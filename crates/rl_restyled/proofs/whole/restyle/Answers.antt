@@ -1,5 +1,5 @@
 use Rattle.rl_text.proofs.Common.{◌++◌, ◌∙◌, ap, chars, chars-nil, map, refl, string_bytes, sym}
-use Rattle.rl_restyled.specs.Edits.{edit_told}
+use Rattle.rl_restyled.specs.Edits.{edit_in}
 use Rattle.rl_restyled.proofs.Drafts.{draft_start, finished_whole, last_piece, none_left, source_error, to_none}
 use Rattle.rl_restyled.proofs.whole.restyle.Goals as goal
 
@@ -7,8 +7,8 @@ pub loop-literal-init : goal.loop-literal-init
 loop-literal-init g c =
     let start = c.new-literals.ensures in
     draft_start c.args.style c.args.macros c.args.text.now c.new-literals.result 0 (chars (string_bytes c.new.result))
-    (map edit_told c.new-2.result.items) start.text start.following start.begun start.no_dots start.end start.no_call refl
-    (ap chars c.new.ensures.bytes ∙ chars-nil) (ap (map edit_told) c.new-2.ensures.items)
+    (map edit_in c.new-2.result.items) start.text start.following start.begun start.no_dots start.end start.no_call refl
+    (ap chars c.new.ensures.bytes ∙ chars-nil) (ap (map edit_in) c.new-2.ensures.items)
 
 pub loop-literal-preserved : goal.loop-literal-preserved
 loop-literal-preserved g c = c.in-Ok.ensures c.loop-literal.literals c.next.new.self c.loop-literal.invariant
@@ -18,7 +18,7 @@ pub finished-requires : goal.finished-requires
 finished-requires g c =
     let draft = c.loop-literal.draft in
     let out = chars (string_bytes draft.text) in
-    let edits = map edit_told draft.edits.items in
+    let edits = map edit_in draft.edits.items in
     let text = c.args.text.now in
     let end = to_none c.args.style c.args.macros (chars text) draft.at out edits c.loop-literal.invariant
     c.in_default.ensures.none in
@@ -29,7 +29,7 @@ pub returns-in-Some-error-clause-error : goal.returns-in-Some-error-clause-error
 returns-in-Some-error-clause-error g c =
     let draft = c.loop-literal.draft in
     let out = chars (string_bytes draft.text) in
-    let edits = map edit_told draft.edits.items in
+    let edits = map edit_in draft.edits.items in
     let text = c.args.text.now in
     let end = to_none c.args.style c.args.macros (chars text) draft.at out edits c.loop-literal.invariant
     c.in_default.ensures.none in
@@ -40,7 +40,7 @@ pub returns-in-None-clause-restyled : goal.returns-in-None-clause-restyled
 returns-in-None-clause-restyled g c =
     let draft = c.loop-literal.draft in
     let out = chars (string_bytes draft.text) in
-    let edits = map edit_told draft.edits.items in
+    let edits = map edit_in draft.edits.items in
     let text = c.args.text.now in
     let end = to_none c.args.style c.args.macros (chars text) draft.at out edits c.loop-literal.invariant
     c.in_default.ensures.none in

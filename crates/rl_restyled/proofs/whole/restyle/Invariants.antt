@@ -1,12 +1,12 @@
 use Rattle.rl_text.proofs.Common.{chars, length, map, string_bytes}
-use Rattle.rl_restyled.specs.Edits.{edit_told}
+use Rattle.rl_restyled.specs.Edits.{edit_in}
 use Rattle.rl_restyled.specs.Mirrors.{IsDraft}
 use Rattle.rl_restyled.proofs.whole.restyle.Given as goal
 
 -- the literals so far were gone through
 abbrev pub invariant-loop-literal : goal.invariant-loop-literal
 invariant-loop-literal g l = IsDraft l.style l.macros (chars l.text) l.literals l.draft.at
-    (chars (string_bytes l.draft.text)) (map edit_told l.draft.edits.items)
+    (chars (string_bytes l.draft.text)) (map edit_in l.draft.edits.items)
 
 abbrev pub decreases-loop-literal : goal.decreases-loop-literal
 decreases-loop-literal g l = length l.literals.tokens.rest

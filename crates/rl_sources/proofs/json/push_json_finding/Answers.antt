@@ -1,5 +1,6 @@
 use Rattle.rl_text.proofs.Common.{chars, codes, on_ok_weaker, ◌≡◌}
 use Rattle.rl_sources.specs.Findings.{reason_id, reason_message}
+use Rattle.rl_sources.specs.Json.{flawed_text_member}
 use Rattle.rl_output.specs.Members.{string_member}
 use Rattle.rl_sources.proofs.JsonLemmas.{reason_id_is, reason_words_are}
 use Rattle.rl_output.proofs.Pieces.{five_parts}
@@ -11,8 +12,8 @@ returns g c =
     let says : chars c.words.result.now ≡ reason_message c.args.reason = reason_words_are c.args.reason _
     c.words.ensures in
     on_ok_weaker c.push_ascii.result (λ last. five_parts _ _ _ _ _ _
-    (string_member (codes "text") (chars c.args.text.now)) (string_member (codes "id") (reason_id c.args.reason))
+    (flawed_text_member (chars c.args.text.now)) (string_member (codes "id") (reason_id c.args.reason))
     (string_member (codes "error") (reason_message c.args.reason))
     (string_member (codes "piece") (chars c.args.piece.now))
-    (codes "}\n") c.in_ok-push_member.ensures (rw named at c.in_ok-push_member-2.ensures)
-    (rw says at c.in_ok-push_member-3.ensures) c.in_ok-push_member-4.ensures last) c.push_ascii.ensures
+    (codes "}\n") c.in_ok-push_flawed_text.ensures (rw named at c.in_ok-push_member.ensures)
+    (rw says at c.in_ok-push_member-2.ensures) c.in_ok-push_member-3.ensures last) c.push_ascii.ensures

@@ -34,6 +34,8 @@ pub enum PathError {
     NoRoom,
     /// Nothing can be written where it lies.
     ReadOnly,
+    /// There is no leave to write in its directory.
+    DirectoryDenied,
     /// Another failure of the system, as it was read.
     ReadFailed,
     /// Another failure of the system, as its new bytes were written.
@@ -56,6 +58,7 @@ impl fmt::Display for PathError {
             PathError::Changed => write!(f, "changed since it was read"),
             PathError::NoRoom => write!(f, "no space left"),
             PathError::ReadOnly => write!(f, "read-only file system"),
+            PathError::DirectoryDenied => write!(f, "no permission to write in its directory"),
             PathError::ReadFailed => write!(f, "read failed"),
             PathError::WriteFailed => write!(f, "write failed"),
         }

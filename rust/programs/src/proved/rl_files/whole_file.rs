@@ -32,6 +32,14 @@ fn write_error_of(kind: ErrorKind) -> PathError {
     }
 }
 
+/// Why no new file can be made beside another.
+fn create_error_of(kind: ErrorKind) -> PathError {
+    match write_error_of(kind) {
+        PathError::PermissionDenied => PathError::DirectoryDenied,
+        why => why,
+    }
+}
+
 /// The path of the new file beside this one, of this number.
 fn path_beside<A: Allocator>(alloc: A, path: &str, number: u32) -> Result<String<A>, AllocError> {
     format!(in alloc; "{path}.rl_scan-{number}")
@@ -68,7 +76,7 @@ fn open_beside<A: Allocator + Copy, R: Files>(
         {
             Ok(file) => return Ok((file, beside)),
             Err(e) if e.kind() == ErrorKind::AlreadyExists => {}
-            Err(e) => return Err(write_error_of(e.kind())),
+            Err(e) => return Err(create_error_of(e.kind())),
         }
     }
     Err(PathError::WriteFailed)

@@ -55,7 +55,7 @@ fn says_what_is_printed(command: Command<'_>) -> bool {
         || spells_lines(command)
         || asks_context(command)
         || lists_files(command.wish)
-        || command.tells_stats
+        || command.prints_stats
 }
 
 /// Whether literals are written anew, and there are no sums of that: `--check` alone has them.
@@ -143,7 +143,7 @@ fn printing_clash<A: Allocator>(command: Command<'_>) -> Option<WordError<A>> {
     if has_extents(command.form) && prints_no_objects(command) {
         return Some(WordError::ObjectsOfPaths);
     }
-    if command.tells_stats && lists_files(command.wish) {
+    if command.prints_stats && lists_files(command.wish) {
         return Some(WordError::StatsOfPaths);
     }
     None

@@ -260,11 +260,11 @@ fn with_flag(command: Command<'_>, flag: Flag) -> Option<Command<'_>> {
         (Flag::Context | Flag::Before | Flag::After, _) => Some(command),
         (Flag::Style | Flag::Macros, _) => Some(command),
         (Flag::NoMessages, _) => Some(Command {
-            tells_errors: false,
+            prints_errors: false,
             ..command
         }),
         (Flag::Stats, _) => Some(Command {
-            tells_stats: true,
+            prints_stats: true,
             ..command
         }),
         (Flag::Fix, _) => Some(Command {
@@ -483,6 +483,18 @@ pub(crate) fn count_of(word: &str) -> Option<usize> {
 pub(crate) fn has_other_mark(pattern: &str) -> bool {
     let bytes = pattern.as_bytes();
     bytes.starts_with(b"!".as_slice()) || bytes.contains(&b'[') || bytes.contains(&b'\\')
+}
+
+/// Whether a pattern matches no path below a directory: `./` or `../` stands at its front, or it is a slash alone.
+pub(crate) fn matches_nothing(pattern: &str) -> bool {
+    let bytes = pattern.as_bytes();
+    bytes.starts_with(b"./".as_slice()) || bytes.starts_with(b"../".as_slice()) || pattern == "/"
+}
+
+/// Whether a word is more than an extension: a list, a pattern or a path.
+pub(crate) fn has_more_than_extension(word: &str) -> bool {
+    let bytes = word.as_bytes();
+    bytes.contains(&b',') || bytes.contains(&b'*') || bytes.contains(&b'/')
 }
 
 /// How lines are written in this format: as text, lines that are written so stay as they are.

@@ -3,6 +3,7 @@
 
 use crate::rattle_std::prelude::{String, Vec};
 use crate::rl_files::{PathError, Tree};
+use crate::rl_lexer::without_mark;
 use crate::rattle_std::alloc::{AllocError, Allocator};
 
 /// A file that can't be read, and why.
@@ -51,7 +52,7 @@ fn push_parts<A: Allocator + Copy>(
     Ok(())
 }
 
-/// Appends the names in a file.
+/// Appends the names in a file, after a byte order mark or none.
 ///
 /// # Errors
 ///
@@ -67,7 +68,7 @@ fn push_listed<A: Allocator + Copy, T: Tree>(
         Err(why) => return Err(why),
     };
     let list = match crate::rattle_std::str::from_utf8(bytes.as_slice()) {
-        Ok(list) => list,
+        Ok(text) => without_mark(text),
         Err(error) => return Err(PathError::NotUtf8(error.valid_up_to())),
     };
     match push_parts(alloc, paths, list, separator(list)) {

@@ -5,6 +5,7 @@ use crate::rattle_std::prelude::{String};
 use crate::rl_reports::meant::near_rule;
 use crate::rl_reports::report::{count_lines, visible_text};
 use crate::rl_files::{PathError, Tree};
+use crate::rl_lexer::without_mark;
 use crate::rl_style::Style;
 use crate::rl_styles::{StyleError, StyleErrorKind, style_of};
 use crate::rattle_std::alloc::{AllocError, Allocator, Global};
@@ -74,8 +75,8 @@ fn shown_name<A: Allocator>(alloc: A, name: Option<&str>) -> Result<Option<Strin
     }
 }
 
-/// What is told of the error of a text that says no style.
-fn told_error<A: Allocator>(
+/// The error of a text that says no style, as it is reported.
+fn line_error<A: Allocator>(
     alloc: A,
     text: &str,
     error: StyleError<'_>,
@@ -93,14 +94,14 @@ fn told_error<A: Allocator>(
 fn rules_of<A: Allocator>(alloc: A, text: &str) -> Result<Style, RulesError<A>> {
     match style_of(text) {
         Ok(rules) => Ok(rules),
-        Err(error) => match told_error(alloc, text, error) {
+        Err(error) => match line_error(alloc, text, error) {
             Ok(error) => Err(RulesError::Style(error)),
             Err(_) => Err(RulesError::Unread(PathError::OutOfMemory)),
         },
     }
 }
 
-/// The rules that a file says.
+/// The rules that a file says, after a byte order mark or none.
 pub(crate) fn rules_in<A: Allocator + Copy, T: Tree>(
     alloc: A,
     tree: &T,
@@ -111,7 +112,7 @@ pub(crate) fn rules_in<A: Allocator + Copy, T: Tree>(
         Err(why) => return Err(RulesError::Unread(why)),
     };
     match crate::rattle_std::str::from_utf8(bytes.as_slice()) {
-        Ok(text) => rules_of(alloc, text),
+        Ok(text) => rules_of(alloc, without_mark(text)),
         Err(error) => Err(RulesError::Unread(PathError::NotUtf8(error.valid_up_to()))),
     }
 }

@@ -119,9 +119,9 @@ fn one_if(is: bool) -> u64 {
     if is { 1 } else { 0 }
 }
 
-/// What is told of errors: nothing, where that isn't wanted.
-fn told_errors<'a>(command: Command<'_>, errors: &'a [u8]) -> &'a [u8] {
-    if command.tells_errors {
+/// What is printed of errors: nothing, where that isn't wanted.
+fn printed_errors<'a>(command: Command<'_>, errors: &'a [u8]) -> &'a [u8] {
+    if command.prints_errors {
         errors
     } else {
         b"".as_slice()
@@ -146,7 +146,7 @@ fn write_report<A: Allocator + Copy, T: Tree, W: Write, E: Write, F: Replace>(
         Ok(()) => {}
         Err(error) => return Err(RunStop::Write(error)),
     }
-    match write_bytes(err, told_errors(command, report.errors.as_slice())) {
+    match write_bytes(err, printed_errors(command, report.errors.as_slice())) {
         Ok(()) => {}
         Err(error) => return Err(RunStop::Write(error)),
     }
@@ -187,7 +187,7 @@ fn write_reports<A: Allocator + Copy, T: Tree, W: Write, E: Write, F: Replace>(
 /// # Errors
 ///
 /// Where the walk ended early, or a write failed; a beginning of what is reported was written then, and where that is all, a
-/// beginning of what is told after it.
+/// beginning of what is printed after it.
 pub fn run<A: Allocator + Copy, T: Tree, W: Write, E: Write, F: Replace>(
     alloc: A,
     command: Command<'_>,

@@ -1,5 +1,5 @@
 // Rendered from crates/rl_reports/src/stats.rt by tools/render, which erases contracts: change that file, and render anew.
-//! How many findings there are, and what is told of how much was read and found.
+//! How many findings there are, and what is printed of how much was read and found.
 
 use crate::rattle_std::prelude::{String};
 use crate::rl_reports::command::Command;
@@ -49,7 +49,7 @@ fn push_lines<A: Allocator>(out: &mut String<A>, tally: Tally) -> Result<(), All
     let (with_findings, with_errors) = (tally.with_findings, tally.with_errors);
     writeln!(
         out,
-        "{read} files\n{with_findings} files with findings\n{findings} findings\n{with_errors} files with an error"
+        "files: {read}\nfiles with findings: {with_findings}\nfindings: {findings}\nfiles with an error: {with_errors}"
     )
 }
 
@@ -63,7 +63,7 @@ fn push_object<A: Allocator>(out: &mut String<A>, tally: Tally) -> Result<(), Al
     )
 }
 
-/// Appends what is told of how much was read and found.
+/// Appends what is printed of how much was read and found.
 fn push_stats<A: Allocator>(out: &mut String<A>, form: Form, tally: Tally) -> Result<(), AllocError> {
     if is_json(form) {
         push_object(out, tally)
@@ -80,7 +80,7 @@ pub(crate) fn write_stats<A: Allocator + Copy, W: Write>(
     out: &mut W,
 ) -> Result<(), RunStop> {
     let mut text = String::new(alloc);
-    if command.tells_stats {
+    if command.prints_stats {
         match push_stats(&mut text, command.form, tally) {
             Ok(()) => {}
             Err(_) => return Err(RunStop::Walk(WalkError::OutOfMemory)),

@@ -6,7 +6,7 @@ use crate::rl_reports::clash::clash_of;
 use crate::rl_reports::command::{Command, Output, PlaceForm, Wish};
 use crate::rl_reports::flags::{
     Flag, Next, Operand, When, add_flag, after_front, count_of, edition_of, flag_of, form_in,
-    form_when, format_of, has_other_mark, joined_of, letter_of, macros_of, next_after, recolored,
+    form_when, format_of, has_more_than_extension, has_other_mark, joined_of, letter_of, macros_of, matches_nothing, next_after, recolored,
     taken_by, when_of,
 };
 use crate::rl_reports::meant::{meant_by, option_part};
@@ -78,6 +78,10 @@ pub enum WordError<A: Allocator = Global> {
     EmptyPattern,
     /// After `--exclude` stands a pattern with a mark that has another meaning in gitignore.
     OtherPattern(String<A>),
+    /// After `--exclude` stands a pattern that matches no path below a directory.
+    UselessPattern(String<A>),
+    /// After `--extension` stands more than one.
+    UnknownExtension(String<A>),
     /// After `--files-from` no word stands.
     NoList,
     /// After `--edition` no word stands.
@@ -173,6 +177,14 @@ impl<A: Allocator> fmt::Display for WordError<A> {
             WordError::OtherPattern(word) => write!(
                 f,
                 "unknown pattern '{word}': --exclude takes *, ?, ** and /, but no [, no \\ and no ! at its front"
+            ),
+            WordError::UselessPattern(word) => write!(
+                f,
+                "--exclude: '{word}' matches nothing: it takes what stands below a PATH, as src or /src"
+            ),
+            WordError::UnknownExtension(word) => write!(
+                f,
+                "'{word}' is no extension: as in --extension rs --extension rs.in"
             ),
             WordError::NoList => write!(f, "--files-from: which file? as in --files-from list"),
             WordError::NoEdition => { write!(f, "--edition: which? one of 2015, 2018, 2021, 2024") }
@@ -398,7 +410,10 @@ impl<'a, A: Allocator + Copy> Asked<'a, A> {
     }
 
     /// Takes what the names of files end with.
-    fn take_extension(&mut self, text: &'a str) -> Result<(), WordError<A>> {
+    fn take_extension(&mut self, alloc: A, text: &'a str) -> Result<(), WordError<A>> {
+        if has_more_than_extension(text) {
+            return Err(WordError::UnknownExtension(visible_text(alloc, text)?));
+        }
         match self.extensions.push(without_dot(text)) {
             Ok(()) => Ok(()),
             Err(_) => Err(WordError::Memory),
@@ -412,6 +427,9 @@ impl<'a, A: Allocator + Copy> Asked<'a, A> {
         }
         if has_other_mark(pattern) {
             return Err(WordError::OtherPattern(visible_text(alloc, pattern)?));
+        }
+        if matches_nothing(pattern) {
+            return Err(WordError::UselessPattern(visible_text(alloc, pattern)?));
         }
         match self.excludes.push(pattern) {
             Ok(()) => Ok(()),
@@ -440,7 +458,7 @@ impl<'a, A: Allocator + Copy> Asked<'a, A> {
             Operand::Kinds => self.take_kinds(alloc, text),
             Operand::Text => self.take_text(text),
             Operand::Color => self.take_color(alloc, has_colors, text),
-            Operand::Extension => self.take_extension(text),
+            Operand::Extension => self.take_extension(alloc, text),
             Operand::Pattern => self.take_pattern(alloc, text),
             Operand::List => self.take_list(text),
             Operand::Edition => self.take_edition(alloc, text),
@@ -555,8 +573,8 @@ fn first_command<'a>(has_colors: bool) -> Command<'a> {
             excludes: &[],
         },
         files_from: &[],
-        tells_errors: true,
-        tells_stats: false,
+        prints_errors: true,
+        prints_stats: false,
         restyle: None,
         style: None,
         rules: default_style(),

@@ -12,6 +12,9 @@ use crate::rl_reading::Found;
 use crate::rl_tokens::LexKind;
 use crate::rattle_std::alloc::{AllocError, Allocator};
 
+/// The text of a literal in which something is wrong isn't printed where it has more bytes.
+const MOST_BYTES: usize = 1024;
+
 /// Appends numbers, each after a comma.
 fn push_more_numbers<A: Allocator>(out: &mut String<A>, numbers: &[u8]) -> Result<(), AllocError> {
     for number in numbers {
@@ -167,6 +170,15 @@ pub(crate) fn push_json_literal<A: Allocator>(
     }
 }
 
+/// Appends the member of the text of a literal in which something is wrong: `null`, where it is longer than this. So what is
+/// printed of a literal with many flaws doesn't grow as the square.
+fn push_flawed_text<A: Allocator>(out: &mut String<A>, text: &str) -> Result<(), AllocError> {
+    if text.len() > MOST_BYTES {
+        return push_ascii(out, ",\"text\":null");
+    }
+    push_member(out, "text", text)
+}
+
 /// Appends the members of a finding: the literal's text, what is wrong, by a name that stays and in words, and the piece that is
 /// shown, and the end of its object.
 pub(crate) fn push_json_finding<A: Allocator>(
@@ -175,7 +187,7 @@ pub(crate) fn push_json_finding<A: Allocator>(
     reason: Reason,
     piece: &str,
 ) -> Result<(), AllocError> {
-    push_member(out, "text", text)?;
+    push_flawed_text(out, text)?;
     push_member(out, "id", reason.id())?;
     push_member(out, "error", reason.words())?;
     push_member(out, "piece", piece)?;

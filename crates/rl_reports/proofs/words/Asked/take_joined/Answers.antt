@@ -2,7 +2,8 @@ use Rattle.rl_text.proofs.Common.{inl, subst}
 use Rattle.rl_files.specs.Globs.{borrowed_texts}
 use Rattle.rl_files.specs.Trees.{string_texts}
 use Rattle.rl_reports.specs.declared.flags.Flag.{Flag}
-use Rattle.rl_reports.specs.Words.{wishes_in, IsRejectedFlag}
+use Rattle.rl_reports.specs.Wishes.{wishes_in}
+use Rattle.rl_reports.specs.Words.{IsRejectedFlag}
 use Rattle.rl_reports.proofs.words.Asked.take_joined.Goals as goal
 
 pub returns-in-Err-clause-rejected : goal.returns-in-Err-clause-rejected

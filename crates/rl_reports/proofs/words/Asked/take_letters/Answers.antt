@@ -1,5 +1,5 @@
 use Rattle.rl_text.proofs.Common.{inr}
-use Rattle.rl_reports.specs.Words.{wishes_in}
+use Rattle.rl_reports.specs.Wishes.{wishes_in}
 use Rattle.rl_reports.proofs.LetterLemmas.{all_ok, letter_and_text, letter_rejected, letter_taken, letter_unknown, letters_begin, letters_end, other_err, text_rejected}
 use Rattle.rl_reports.proofs.words.Asked.take_letters.Goals as goal
 

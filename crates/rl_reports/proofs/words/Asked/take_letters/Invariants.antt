@@ -1,6 +1,6 @@
 use Rattle.std.proofs.Common.{length}
 use Rattle.rl_text.proofs.Common.{IsUtf8}
-use Rattle.rl_reports.specs.Words.{wishes_in}
+use Rattle.rl_reports.specs.Wishes.{wishes_in}
 use Rattle.rl_reports.proofs.LetterLemmas.{AreLeft}
 use Rattle.rl_reports.proofs.words.Asked.take_letters.Given as goal
 
