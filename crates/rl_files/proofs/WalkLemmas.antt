@@ -11,7 +11,7 @@ use Rattle.rl_files.specs.Trees.{World, string_texts}
 use Rattle.rl_files.specs.declared.walk.Selection.{Selection}
 use Rattle.rl_files.specs.declared.tree.PathError.{PathError}
 use Rattle.rl_files.specs.declared.tree.PathError.TheVariants.{NotADirectory, OutOfMemory, NameNotUtf8}
-use Rattle.rl_files.specs.Walks.{Spot, AtDirectory, AtFile, AtBadName, Visited, FileAt, ErrorAt, Visits, VisitsNothing, VisitsFile, VisitsBadName, EntersDirectory, MissesDirectory, IsGivenFile, WalksOn, VisitsFirst, VisitsNone, EntersInOrder, given_length, spots_in}
+use Rattle.rl_files.specs.Walks.{Waypoint, AtDirectory, AtFile, AtBadName, Visited, FileAt, ErrorAt, Visits, VisitsNothing, VisitsFile, VisitsBadName, EntersDirectory, MissesDirectory, IsGivenFile, WalksOn, VisitsFirst, VisitsNone, EntersInOrder, given_length, waypoints_in}
 
 -- texts in order are lists of bytes in order
 pub texts_sorted : {A : Type 0} (xs : List (String A)) → IsSorted string_cmp xs
@@ -25,9 +25,9 @@ texts_sorted {A} (x ∷ xs) h k d low high =
     rw (second, first) (h k x low short)
 
 -- names that were sorted and gone to
-pub enters : {A : Type 0} (selection : Selection) (from : ℕ) (directory : List ℕ) (names sorted : List (String A)) (old new : List Spot)
+pub enters : {A : Type 0} (selection : Selection) (from : ℕ) (directory : List ℕ) (names sorted : List (String A)) (old new : List Waypoint)
     → IsPermutation names sorted → IsSorted string_cmp sorted → new
-    ≡ spots_in selection from directory (string_texts sorted)
+    ≡ waypoints_in selection from directory (string_texts sorted)
     ++ old → EntersInOrder selection from directory (string_texts names) old new
 enters {A} selection from directory names sorted old new same inorder is = (
   string_texts sorted,
@@ -40,53 +40,53 @@ enters {A} selection from directory names sorted old new same inorder is = (
 )
 
 -- nothing is left
-pub go_none : (selection : Selection) (holds : Option World) (old mid : List Spot) → WalksOn selection holds old mid → mid ≡ [] → VisitsNone selection holds old
+pub go_none : (selection : Selection) (holds : Option World) (old mid : List Waypoint) → WalksOn selection holds old mid → mid ≡ [] → VisitsNone selection holds old
 go_none selection None old mid on is = tt
-go_none selection (Some w) old mid on is = on [] (subst (λ (z : List Spot). Visits selection w z []) (sym is) VisitsNothing)
+go_none selection (Some w) old mid on is = on [] (subst (λ (z : List Waypoint). Visits selection w z []) (sym is) VisitsNothing)
 
 -- a file is first
-pub go_file : (selection : Selection) (holds : Option World) (old mid rest : List Spot) (path : List ℕ) → WalksOn selection holds old mid → mid
+pub go_file : (selection : Selection) (holds : Option World) (old mid rest : List Waypoint) (path : List ℕ) → WalksOn selection holds old mid → mid
     ≡ AtFile path ∷ rest → VisitsFirst selection holds old (FileAt path) rest
 go_file selection None old mid rest path on is = tt
 go_file selection (Some w) old mid rest path on is = λ visited m. on (FileAt path ∷ visited)
-    (subst (λ (z : List Spot). Visits selection w z (FileAt path ∷ visited)) (sym is) (VisitsFile m))
+    (subst (λ (z : List Waypoint). Visits selection w z (FileAt path ∷ visited)) (sym is) (VisitsFile m))
 
 -- a name that is no text is first
-pub go_bad_name : (selection : Selection) (holds : Option World) (old mid rest : List Spot) (path : List ℕ) → WalksOn selection holds old mid → mid
+pub go_bad_name : (selection : Selection) (holds : Option World) (old mid rest : List Waypoint) (path : List ℕ) → WalksOn selection holds old mid → mid
     ≡ AtBadName path ∷ rest → VisitsFirst selection holds old (ErrorAt path NameNotUtf8) rest
 go_bad_name selection None old mid rest path on is = tt
 go_bad_name selection (Some w) old mid rest path on is = λ visited m. on (ErrorAt path NameNotUtf8 ∷ visited)
-    (subst (λ (z : List Spot). Visits selection w z (ErrorAt path NameNotUtf8 ∷ visited)) (sym is) (VisitsBadName m))
+    (subst (λ (z : List Waypoint). Visits selection w z (ErrorAt path NameNotUtf8 ∷ visited)) (sym is) (VisitsBadName m))
 
 -- a directory is first, and can't be gone into
-pub go_missing : (selection : Selection) (holds : Option World) (old mid rest : List Spot) (given : Option ℕ) (path : List ℕ) (why : PathError)
+pub go_missing : (selection : Selection) (holds : Option World) (old mid rest : List Waypoint) (given : Option ℕ) (path : List ℕ) (why : PathError)
     → WalksOn selection holds old mid → mid ≡ AtDirectory given path ∷ rest → (why ≡ OutOfMemory)
     ⊎ IfSome holds (λ w. w.names path ≡ Err why) → VisitsFirst selection holds old (ErrorAt path why) rest
 go_missing selection None old mid rest given path why on is found = tt
 go_missing selection (Some w) old mid rest given path why on is found = λ visited m. on (ErrorAt path why ∷ visited)
-    (subst (λ (z : List Spot). Visits selection w z (ErrorAt path why ∷ visited)) (sym is) (MissesDirectory why found m))
+    (subst (λ (z : List Waypoint). Visits selection w z (ErrorAt path why ∷ visited)) (sym is) (MissesDirectory why found m))
 
 -- what an argument names is first, and is no directory
-pub go_given : (selection : Selection) (holds : Option World) (old mid rest : List Spot) (given : Option ℕ) (path : List ℕ) → WalksOn selection holds old mid
+pub go_given : (selection : Selection) (holds : Option World) (old mid rest : List Waypoint) (given : Option ℕ) (path : List ℕ) → WalksOn selection holds old mid
     → mid ≡ AtDirectory given path ∷ rest → given ≡ None → (NotADirectory ≡ OutOfMemory)
     ⊎ IfSome holds (λ w. w.names path ≡ Err NotADirectory) → VisitsFirst selection holds old (FileAt path) rest
 go_given selection holds old mid rest given path on is given_is (inl bad) = cc
 go_given selection None old mid rest given path on is given_is (inr found) = tt
 go_given selection (Some w) old mid rest given path on is given_is (inr found) = λ visited m. on (FileAt path ∷ visited)
-    (subst (λ (z : List Spot). Visits selection w z (FileAt path ∷ visited))
+    (subst (λ (z : List Waypoint). Visits selection w z (FileAt path ∷ visited))
     (sym (is ∙ ap (λ (b : Option ℕ). AtDirectory b path ∷ rest) given_is)) (IsGivenFile found m))
 
 -- a directory is first, and is gone into
-pub go_enter : (selection : Selection) (holds : Option World) (old mid rest new : List Spot) (given : Option ℕ) (path : List ℕ)
+pub go_enter : (selection : Selection) (holds : Option World) (old mid rest new : List Waypoint) (given : Option ℕ) (path : List ℕ)
     (names : List (List ℕ)) → WalksOn selection holds old mid → mid ≡ AtDirectory given path ∷ rest
     → IfSome holds (λ w. w.names path ≡ Ok names) → EntersInOrder selection (given_length given path) path names rest new → WalksOn selection holds old new
 go_enter selection None old mid rest new given path names on is found enters = tt
 go_enter selection (Some w) old mid rest new given path names on is found (sorted, order, new_is) = λ visited m. on visited
-    (subst (λ (z : List Spot). Visits selection w z visited) (sym is) (EntersDirectory names sorted found order
-    (subst (λ (z : List Spot). Visits selection w z visited) new_is m)))
+    (subst (λ (z : List Waypoint). Visits selection w z visited) (sym is) (EntersDirectory names sorted found order
+    (subst (λ (z : List Waypoint). Visits selection w z visited) new_is m)))
 
 -- from any places on something may be visited: of each directory, that memory ran out
-pub some_visits : (selection : Selection) (w : World) (spots : List Spot) → (visits : List Visited) × Visits selection w spots visits
+pub some_visits : (selection : Selection) (w : World) (waypoints : List Waypoint) → (visits : List Visited) × Visits selection w waypoints visits
 some_visits selection w [] = ([], VisitsNothing)
 some_visits selection w (AtFile path ∷ rest) = let more = some_visits selection w rest in (FileAt path ∷ more.0, VisitsFile more.1)
 some_visits selection w (AtBadName path ∷ rest) = let more = some_visits selection w rest in

@@ -78,28 +78,28 @@ path_in directory name = cond (is_directory directory) directory (directory ++ c
 
 -- What a walk has still to go to: a directory, and how many bytes of its path are those of the directory that an argument
 -- names, or none where it is that itself and may be a file; a file; a name in a directory that is no text.
-pub data Spot : Type 0 where
-  AtDirectory : (from : Option ℕ) → (path : List ℕ) → Spot
-  AtFile : (path : List ℕ) → Spot
-  AtBadName : (directory : List ℕ) → Spot
+pub data Waypoint : Type 0 where
+  AtDirectory : (from : Option ℕ) → (path : List ℕ) → Waypoint
+  AtFile : (path : List ℕ) → Waypoint
+  AtBadName : (directory : List ℕ) → Waypoint
 
 -- what a walk meets: a file to read, or a path that it can't go into
 pub data Visited : Type 0 where
   FileAt : (path : List ℕ) → Visited
   ErrorAt : (path : List ℕ) → (why : PathError) → Visited
 
-abbrev pub spot : {A : Type 0} → Pending A → Spot
-spot (Directory from path) = AtDirectory from (string_bytes path)
-spot (File path) = AtFile (string_bytes path)
-spot (BadName directory) = AtBadName (string_bytes directory)
+abbrev pub waypoint : {A : Type 0} → Pending A → Waypoint
+waypoint (Directory from path) = AtDirectory from (string_bytes path)
+waypoint (File path) = AtFile (string_bytes path)
+waypoint (BadName directory) = AtBadName (string_bytes directory)
 
 abbrev pub visited : {A : Type 0} → Visit A → Visited
 visited (visit.File path) = FileAt (string_bytes path)
 visited (visit.Failed path why) = ErrorAt (string_bytes path) why
 
 -- where a walk goes to for what arguments name
-abbrev pub given_spots : List (List ℕ) → List Spot
-given_spots paths = map (λ path. AtDirectory None path) paths
+abbrev pub given_waypoints : List (List ℕ) → List Waypoint
+given_waypoints paths = map (λ path. AtDirectory None path) paths
 
 -- how many bytes of the paths in a directory are those of the directory that an argument names, and its slash
 abbrev pub given_length : Option ℕ → List ℕ → ℕ
@@ -107,8 +107,8 @@ given_length None path = cond (is_directory path) (length path) (length path + 1
 given_length (Some from) path = from
 
 -- where a walk goes to that goes on to a name in a directory
-abbrev pub spot_of : ℕ → List ℕ → List ℕ → Spot
-spot_of from directory name = cond (is_directory name) (AtDirectory (Some from) (path_in directory name))
+abbrev pub waypoint_of : ℕ → List ℕ → List ℕ → Waypoint
+waypoint_of from directory name = cond (is_directory name) (AtDirectory (Some from) (path_in directory name))
     (cond (length name == 0) (AtBadName directory) (AtFile (path_in directory name)))
 
 -- a pattern that is to be left out matches the path of a name, without so many bytes of it
@@ -117,15 +117,15 @@ is_pruned selection from directory name =
     is_excluded (borrowed_texts selection.excludes.now) (drop from (path_in directory name))
 
 -- where a walk goes to for a name in a directory: to what is wanted, and isn't excluded
-abbrev pub spots_of : Selection → Bool → ℕ → List ℕ → List ℕ → List Spot
-spots_of selection in_package from directory name =
+abbrev pub waypoints_of : Selection → Bool → ℕ → List ℕ → List ℕ → List Waypoint
+waypoints_of selection in_package from directory name =
     cond (is_wanted selection in_package name && not (is_pruned selection from directory name))
-    (spot_of from directory name ∷ []) []
+    (waypoint_of from directory name ∷ []) []
 
 -- where it goes to for names in a directory
-abbrev pub spots_in : Selection → ℕ → List ℕ → List (List ℕ) → List Spot
-spots_in selection from directory names =
-    flat_map (spots_of selection (are_of_package names) from directory) names
+abbrev pub waypoints_in : Selection → ℕ → List ℕ → List (List ℕ) → List Waypoint
+waypoints_in selection from directory names =
+    flat_map (waypoints_of selection (are_of_package names) from directory) names
 
 -- these are the same names, in the order of their bytes
 abbrev pub IsOrderOf : List (List ℕ) → List (List ℕ) → Type 0
@@ -133,39 +133,39 @@ IsOrderOf names sorted = IsPermutation names sorted × IsSorted (slice_cmp nat_c
 
 -- What is visited from these places on, in order: of a directory what is visited in it, in the order of the
 -- names, before what comes after it.
-pub data Visits (selection : Selection) (w : World) : List Spot → List Visited → Type 0 where
+pub data Visits (selection : Selection) (w : World) : List Waypoint → List Visited → Type 0 where
   VisitsNothing : Visits selection w [] []
-  VisitsFile : {path : List ℕ} {rest : List Spot} {visits : List Visited} → Visits selection w rest visits
+  VisitsFile : {path : List ℕ} {rest : List Waypoint} {visits : List Visited} → Visits selection w rest visits
       → Visits selection w (AtFile path ∷ rest) (FileAt path ∷ visits)
-  VisitsBadName : {directory : List ℕ} {rest : List Spot} {visits : List Visited} → Visits selection w rest visits
+  VisitsBadName : {directory : List ℕ} {rest : List Waypoint} {visits : List Visited} → Visits selection w rest visits
       → Visits selection w (AtBadName directory ∷ rest) (ErrorAt directory NameNotUtf8 ∷ visits)
-  EntersDirectory : {from : Option ℕ} {path : List ℕ} {rest : List Spot} {visits : List Visited}
+  EntersDirectory : {from : Option ℕ} {path : List ℕ} {rest : List Waypoint} {visits : List Visited}
       (names sorted : List (List ℕ))
       → w.names path ≡ Ok names → IsOrderOf names sorted
-      → Visits selection w (spots_in selection (given_length from path) path sorted ++ rest) visits
+      → Visits selection w (waypoints_in selection (given_length from path) path sorted ++ rest) visits
       → Visits selection w (AtDirectory from path ∷ rest) visits
-  MissesDirectory : {from : Option ℕ} {path : List ℕ} {rest : List Spot} {visits : List Visited} (why : PathError)
+  MissesDirectory : {from : Option ℕ} {path : List ℕ} {rest : List Waypoint} {visits : List Visited} (why : PathError)
       → (why ≡ OutOfMemory) ⊎ (w.names path ≡ Err why) → Visits selection w rest visits
       → Visits selection w (AtDirectory from path ∷ rest) (ErrorAt path why ∷ visits)
-  IsGivenFile : {path : List ℕ} {rest : List Spot} {visits : List Visited} → w.names path ≡ Err NotADirectory
+  IsGivenFile : {path : List ℕ} {rest : List Waypoint} {visits : List Visited} → w.names path ≡ Err NotADirectory
       → Visits selection w rest visits
       → Visits selection w (AtDirectory None path ∷ rest) (FileAt path ∷ visits)
 
 -- whatever is visited from the new places on is visited from the old ones on
-abbrev pub WalksOn : Selection → Option World → List Spot → List Spot → Type 0
+abbrev pub WalksOn : Selection → Option World → List Waypoint → List Waypoint → Type 0
 WalksOn selection holds old new = IfSome holds (λ w. (visits : List Visited) → Visits selection w new visits → Visits selection w old visits)
 
 -- this is visited first, and then whatever is visited from the new places on
-abbrev pub VisitsFirst : Selection → Option World → List Spot → Visited → List Spot → Type 0
+abbrev pub VisitsFirst : Selection → Option World → List Waypoint → Visited → List Waypoint → Type 0
 VisitsFirst selection holds old first new =
     IfSome holds (λ w. (visits : List Visited) → Visits selection w new visits → Visits selection w old (first ∷ visits))
 
 -- nothing more is visited
-abbrev pub VisitsNone : Selection → Option World → List Spot → Type 0
+abbrev pub VisitsNone : Selection → Option World → List Waypoint → Type 0
 VisitsNone selection holds old = IfSome holds (λ w. Visits selection w old [])
 
 -- a walk goes to the names in a directory, in the order of their bytes, before the other places
-abbrev pub EntersInOrder : Selection → ℕ → List ℕ → List (List ℕ) → List Spot → List Spot → Type 0
+abbrev pub EntersInOrder : Selection → ℕ → List ℕ → List (List ℕ) → List Waypoint → List Waypoint → Type 0
 EntersInOrder selection from directory names old new =
     (sorted : List (List ℕ)) × IsOrderOf names sorted
-    × (new ≡ spots_in selection from directory sorted ++ old)
+    × (new ≡ waypoints_in selection from directory sorted ++ old)

@@ -4,7 +4,7 @@ ghost use Rattle.std.specs.Prelude.{◌≡◌, ◌≢◌, None, [], ◌∷◌, �
 ghost use Rattle.rl_files.specs.Globs.{is_excluded as excluded, borrowed_texts};
 ghost use Rattle.rl_files.specs.declared.walk.Pending.TheVariants.{Directory};
 ghost use Rattle.rl_files.specs.Trees.{string_texts};
-ghost use Rattle.rl_files.specs.Walks.{has_extension as has_ending, are_of_package as of_package, is_left_out as left_out, is_wanted as wanted, has_one_of as has_ending_of, is_directory as directory, given_length as base, path_in as path_of, spot, spot_of, visited, spots_of, spots_in, given_spots, EntersInOrder, WalksOn, VisitsFirst, VisitsNone};
+ghost use Rattle.rl_files.specs.Walks.{has_extension as has_ending, are_of_package as of_package, is_left_out as left_out, is_wanted as wanted, has_one_of as has_ending_of, is_directory as directory, given_length as base, path_in as path_of, waypoint, waypoint_of, visited, waypoints_of, waypoints_in, given_waypoints, EntersInOrder, WalksOn, VisitsFirst, VisitsNone};
 
 use crate::glob::is_excluded;
 use crate::tree::{PathError, Tree};
@@ -79,11 +79,11 @@ pub struct Walk<A: Allocator = Global> {
 
 impl<A: Allocator> Model for Walk<A> {
     ghost use Rattle.std.specs.Prelude.{List, map, reverse};
-    ghost use Rattle.rl_files.specs.Walks.{spot, Spot};
+    ghost use Rattle.rl_files.specs.Walks.{waypoint, Waypoint};
 
-    ghost Value = { List Spot };
+    ghost Value = { List Waypoint };
 
-    ghost view = { λ w. reverse (map spot w.pending.items) };
+    ghost view = { λ w. reverse (map waypoint w.pending.items) };
 }
 
 /// Whether a name is a directory's.
@@ -204,7 +204,7 @@ fn pending_of<A: Allocator>(
     path: String<A>,
 ) -> Result<Pending<A>, AllocError>
     requires { string_bytes path ≡ path_of directory.now name.now }
-    ensures { IfOk result (λ pending. spot pending ≡ spot_of from directory.now name.now) }
+    ensures { IfOk result (λ pending. waypoint pending ≡ waypoint_of from directory.now name.now) }
 {
     if is_directory(name) {
         return Ok(Pending::Directory(Some(from), path));
@@ -227,7 +227,7 @@ impl<A: Allocator> Walk<A> {
 
     /// Goes to this pending before the others.
     fn push(&mut self, pending: Pending<A>) -> Result<(), AllocError>
-        ensures { OnOk result (self.new ≡ spot pending ∷ self.old) }
+        ensures { OnOk result (self.new ≡ waypoint pending ∷ self.old) }
     {
         self.pending.push(pending)?;
         Ok(())
@@ -235,7 +235,7 @@ impl<A: Allocator> Walk<A> {
 
     /// Goes to what an argument names before the other places.
     fn push_given(&mut self, path: String<A>) -> Result<(), AllocError>
-        ensures { OnOk result (self.new ≡ spot (Directory None path) ∷ self.old) }
+        ensures { OnOk result (self.new ≡ waypoint (Directory None path) ∷ self.old) }
     {
         self.push(Pending::Directory(None, path))
     }
@@ -248,7 +248,7 @@ impl<A: Allocator> Walk<A> {
     pub fn of_paths(alloc: A, paths: &mut Vec<String<A>, A>) -> Result<Walk<A>, AllocError>
     where
         A: Copy,
-        ensures { IfOk result (λ walk. walk ≡ given_spots (string_texts paths.old.items)) }
+        ensures { IfOk result (λ walk. walk ≡ given_waypoints (string_texts paths.old.items)) }
     {
         let mut walk = Walk::new(alloc);
         while let Some(path) = paths.pop() {
@@ -259,7 +259,7 @@ impl<A: Allocator> Walk<A> {
 
     /// Takes the first pending.
     fn take(&mut self) -> Option<Pending<A>>
-        ensures { MatchOption result (self.old ≡ []) (λ pending. self.old ≡ spot pending ∷ self.new) }
+        ensures { MatchOption result (self.old ≡ []) (λ pending. self.old ≡ waypoint pending ∷ self.new) }
     {
         self.pending.pop()
     }
@@ -277,7 +277,7 @@ impl<A: Allocator> Walk<A> {
     where
         A: Copy,
         ensures { OnOk result (self.new
-            ≡ spots_of selection.entry in_package from directory.now name.now ++ self.old) }
+            ≡ waypoints_of selection.entry in_package from directory.now name.now ++ self.old) }
     {
         if !is_wanted(selection, in_package, name) {
             return Ok(());
@@ -302,7 +302,7 @@ impl<A: Allocator> Walk<A> {
     where
         A: Copy,
         ensures { OnOk result (self.new
-            ≡ spots_in selection.entry from directory.now (string_texts names.old.items) ++ self.old) }
+            ≡ waypoints_in selection.entry from directory.now (string_texts names.old.items) ++ self.old) }
     {
         let in_package = are_of_package(names.as_slice());
         while let Some(name) = names.pop() {

@@ -7,7 +7,7 @@ use Rattle.std.proofs.KnownBytes.{Appends-nil}
 use Rattle.rl_files.specs.Globs.{borrowed_texts}
 use Rattle.rl_files.specs.Replacements.{Replacement}
 use Rattle.rl_files.specs.Trees.{World}
-use Rattle.rl_files.specs.Walks.{Spot}
+use Rattle.rl_files.specs.Walks.{Waypoint}
 use Rattle.rl_files.proofs.WalkLemmas.{some_visits}
 use Rattle.rl_program.specs.declared.ending.Ending.{Ending}
 use Rattle.rl_program.specs.declared.ending.Ending.TheVariants.{Done, FoundBad, Reported, Closed, Usage, Failed}
@@ -46,11 +46,11 @@ pub ends_version : {B : Type 0} (wishes : Wishes) (is_terminal : Bool) (holds : 
 ends_version wishes is_terminal holds o0 o1 e h text ending is ends = rw is (text, ends, keeps_same e, refl)
 
 -- nothing was written yet
-pub front_none : (command : Command) (holds : Option World) (spots : List Spot) (o e : Option (List ℕ))
-    (h : Option (List Replacement)) → IfSome holds (λ w. WritesFront command w spots (written_on o o e e h h))
-front_none command None spots o e h = tt
-front_none command (Some w) spots o e h =
-    let more = some_visits command.selection w spots in
+pub front_none : (command : Command) (holds : Option World) (waypoints : List Waypoint) (o e : Option (List ℕ))
+    (h : Option (List Replacement)) → IfSome holds (λ w. WritesFront command w waypoints (written_on o o e e h h))
+front_none command None waypoints o e h = tt
+front_none command (Some w) waypoints o e h =
+    let more = some_visits command.selection w waypoints in
     inl ([], more.0, nothing, more.1, refl, ((0, Appends-nil o), (0, Appends-nil e), hands_none h))
 
 -- a command that selects is the one that is asked for

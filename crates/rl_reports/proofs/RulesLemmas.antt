@@ -11,6 +11,7 @@ use Rattle.rl_style.specs.declared.style.Style.{Style}
 use Rattle.rl_styles.specs.Styles.{SaysStyle}
 use Rattle.rl_reports.specs.declared.rules.RulesError.{RulesError}
 use Rattle.rl_reports.specs.declared.rules.RulesError.TheVariants as rules
+use Rattle.rl_reports.specs.Listed.{IsUnmarked}
 use Rattle.rl_reports.specs.Reports.{IsNotUtf8, IsReadError, line_count}
 use Rattle.rl_reports.specs.Rules.{HasNoRules, HasRules, IsNoStyle, line_of}
 
@@ -23,21 +24,21 @@ pub lines_within : (bytes : List ℕ) → line_count bytes ≤ length bytes
 lines_within bytes = count_by-le-length _ bytes
 
 -- a text says them
-pub has_rules : {A : Type 0} (holds : Option World) (file bytes : List ℕ) (r : Result Style (RulesError A))
-    → IfSome holds (λ w. w.bytes file ≡ Ok bytes) → IsUtf8 bytes → IfOk r (SaysStyle bytes)
+pub has_rules : {A : Type 0} (holds : Option World) (file text said : List ℕ) (r : Result Style (RulesError A))
+    → IfSome holds (λ w. w.bytes file ≡ Ok text) → IsUtf8 text → IsUnmarked text said → IfOk r (SaysStyle said)
     → IfOk r (λ style. IfSome holds (λ w. HasRules w file style))
-has_rules holds file bytes (Err e) found utf8 says = tt
-has_rules None file bytes (Ok style) found utf8 says = tt
-has_rules (Some w) file bytes (Ok style) found utf8 says = (bytes, found, utf8, says)
+has_rules holds file text said (Err e) found utf8 bare says = tt
+has_rules None file text said (Ok style) found utf8 bare says = tt
+has_rules (Some w) file text said (Ok style) found utf8 bare says = (text, said, found, utf8, bare, says)
 
 -- or doesn't
-pub has_none : {A : Type 0} (holds : Option World) (file bytes : List ℕ) (r : Result Style (RulesError A))
-    → IfSome holds (λ w. w.bytes file ≡ Ok bytes) → IsUtf8 bytes → IfErr r (IsNoStyle bytes)
+pub has_none : {A : Type 0} (holds : Option World) (file text said : List ℕ) (r : Result Style (RulesError A))
+    → IfSome holds (λ w. w.bytes file ≡ Ok text) → IsUtf8 text → IsUnmarked text said → IfErr r (IsNoStyle said)
     → IfErr r (λ e. IfSome holds (λ w. HasNoRules w file e))
-has_none holds file bytes (Ok style) found utf8 is = tt
-has_none None file bytes (Err e) found utf8 is = tt
-has_none (Some w) file bytes (Err (rules.Unread why)) found utf8 memory = inl memory
-has_none (Some w) file bytes (Err (rules.Style error)) found utf8 is = (bytes, found, utf8, is)
+has_none holds file text said (Ok style) found utf8 bare is = tt
+has_none None file text said (Err e) found utf8 bare is = tt
+has_none (Some w) file text said (Err (rules.Unread why)) found utf8 bare memory = inl memory
+has_none (Some w) file text said (Err (rules.Style error)) found utf8 bare is = (text, said, found, utf8, bare, is)
 
 -- there is none
 pub is_unread : (holds : Option World) (file : List ℕ) (why : PathError)

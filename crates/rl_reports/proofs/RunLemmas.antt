@@ -9,7 +9,7 @@ use Rattle.std.proofs.KnownBytes.{Appends-nil, Appends-trans, Appends-kept}
 use Rattle.rl_program.specs.Streams.{AppendsBeginning}
 use Rattle.rl_files.specs.Replacements.{Replacement}
 use Rattle.rl_files.specs.Trees.{World}
-use Rattle.rl_files.specs.Walks.{Spot, Visited, Visits, VisitsFirst}
+use Rattle.rl_files.specs.Walks.{Waypoint, Visited, Visits, VisitsFirst}
 use Rattle.rl_files.proofs.WalkLemmas.{some_visits}
 use Rattle.rl_reports.specs.declared.command.Command.{Command}
 use Rattle.rl_reports.specs.declared.runs.Tally.{Tally}
@@ -22,7 +22,7 @@ use Rattle.rl_reports.specs.Stats.{tally_of, shown_stats}
 
 -- what was written so far, of what was visited so far, and what is visited from the new places on comes
 -- after it
-pub record Ran (command : Command) (w : World) (old new : List Spot) (streams : Streams) (tally : Tally) : Type 0 where
+pub record Ran (command : Command) (w : World) (old new : List Waypoint) (streams : Streams) (tally : Tally) : Type 0 where
   pub visits : List Visited
   pub totals : Totals
   pub goes : (more : List Visited) → Visits command.selection w new more
@@ -38,11 +38,11 @@ told_nothing command = go command.prints_errors
     go false = refl
 
 -- nothing was written yet
-pub ran_start : (command : Command) (holds : Option World) (spots : List Spot) (o e : Option (List ℕ))
+pub ran_start : (command : Command) (holds : Option World) (waypoints : List Waypoint) (o e : Option (List ℕ))
     (h : Option (List Replacement)) (tally : Tally) → tally ≡ tally_of nothing
-    → IfSome holds (λ w. Ran command w spots spots (written_on o o e e h h) tally)
-ran_start command None spots o e h tally is = tt
-ran_start command (Some w) spots o e h tally is = record {
+    → IfSome holds (λ w. Ran command w waypoints waypoints (written_on o o e e h h) tally)
+ran_start command None waypoints o e h tally is = tt
+ran_start command (Some w) waypoints o e h tally is = record {
   visits = [];
   totals = nothing;
   goes = λ more m. m;
@@ -131,7 +131,7 @@ written_more command o0 o1 o2 e0 e1 e2 h0 h1 h2 done one before more after first
 }
 
 -- one more
-pub ran_more : (command : Command) (holds : Option World) (old mid new : List Spot) (visit : Visited)
+pub ran_more : (command : Command) (holds : Option World) (old mid new : List Waypoint) (visit : Visited)
     (o0 o1 o2 e0 e1 e2 : Option (List ℕ)) (h0 h1 h2 : Option (List Replacement)) (before more after : Tally)
     → IfSome holds (λ w. Ran command w old mid (written_on o0 o1 e0 e1 h0 h1) before)
     → VisitsFirst command.selection holds mid visit new
@@ -169,7 +169,7 @@ more_of a b c first second h (count, k) = (
 )
 
 -- the walk ended early: all that was reported is a beginning
-pub ran_front : (command : Command) (holds : Option World) (old mid : List Spot) (streams : Streams) (tally : Tally)
+pub ran_front : (command : Command) (holds : Option World) (old mid : List Waypoint) (streams : Streams) (tally : Tally)
     → IfSome holds (λ w. Ran command w old mid streams tally) → IfSome holds (λ w. WritesFirst command w old streams)
 ran_front command None old mid streams tally ran = tt
 ran_front command (Some w) old mid streams tally ran =
@@ -192,7 +192,7 @@ kept : (a b c : Option (List ℕ)) (bytes : List ℕ) → Appends a b bytes → 
 kept a b c bytes h k = all_of a c bytes (Appends-kept a b c bytes h k)
 
 -- a write failed
-pub ran_some : (command : Command) (holds : Option World) (old mid new : List Spot) (visit : Visited)
+pub ran_some : (command : Command) (holds : Option World) (old mid new : List Waypoint) (visit : Visited)
     (o0 o1 o2 e0 e1 e2 : Option (List ℕ)) (h0 h1 h2 : Option (List Replacement)) (before : Tally)
     → IfSome holds (λ w. Ran command w old mid (written_on o0 o1 e0 e1 h0 h1) before)
     → VisitsFirst command.selection holds mid visit new
@@ -260,25 +260,25 @@ all_written command (Some w) visit one o0 o1 e0 e1 h0 h1 tally (handed, is, on) 
     (with_handed handed one, is, record { on_out = out; on_err = err; handed = on; tally_is = tally_is })
 
 -- it was told how much was read and found
-pub walk_told : (command : Command) (holds : Option World) (spots : List Spot) (o0 o1 o2 e0 e1 : Option (List ℕ))
+pub walk_told : (command : Command) (holds : Option World) (waypoints : List Waypoint) (o0 o1 o2 e0 e1 : Option (List ℕ))
     (h0 h1 : Option (List Replacement)) (tally : Tally)
-    → IfSome holds (λ w. WritesReports command w spots (written_on o0 o1 e0 e1 h0 h1) tally)
+    → IfSome holds (λ w. WritesReports command w waypoints (written_on o0 o1 e0 e1 h0 h1) tally)
     → Appends o1 o2 (shown_stats command tally)
-    → IfSome holds (λ w. WritesWalk command w spots (written_on o0 o2 e0 e1 h0 h1) tally)
-walk_told command None spots o0 o1 o2 e0 e1 h0 h1 tally writes told = tt
-walk_told command (Some w) spots o0 o1 o2 e0 e1 h0 h1 tally writes told = (o1, writes, told)
+    → IfSome holds (λ w. WritesWalk command w waypoints (written_on o0 o2 e0 e1 h0 h1) tally)
+walk_told command None waypoints o0 o1 o2 e0 e1 h0 h1 tally writes told = tt
+walk_told command (Some w) waypoints o0 o1 o2 e0 e1 h0 h1 tally writes told = (o1, writes, told)
 
 -- that failed
-pub walk_untold : (command : Command) (holds : Option World) (spots : List Spot) (o0 o1 o2 e0 e1 : Option (List ℕ))
+pub walk_untold : (command : Command) (holds : Option World) (waypoints : List Waypoint) (o0 o1 o2 e0 e1 : Option (List ℕ))
     (h0 h1 : Option (List Replacement)) (tally : Tally)
-    → IfSome holds (λ w. WritesReports command w spots (written_on o0 o1 e0 e1 h0 h1) tally)
+    → IfSome holds (λ w. WritesReports command w waypoints (written_on o0 o1 e0 e1 h0 h1) tally)
     → AppendsBeginning o1 o2 (shown_stats command tally)
-    → IfSome holds (λ w. WritesFront command w spots (written_on o0 o2 e0 e1 h0 h1))
-walk_untold command None spots o0 o1 o2 e0 e1 h0 h1 tally writes told = tt
-walk_untold command (Some w) spots o0 o1 o2 e0 e1 h0 h1 tally writes told = inr (o1, tally, writes, told)
+    → IfSome holds (λ w. WritesFront command w waypoints (written_on o0 o2 e0 e1 h0 h1))
+walk_untold command None waypoints o0 o1 o2 e0 e1 h0 h1 tally writes told = tt
+walk_untold command (Some w) waypoints o0 o1 o2 e0 e1 h0 h1 tally writes told = inr (o1, tally, writes, told)
 
 -- the walk ended early
-pub walk_cut : (command : Command) (holds : Option World) (spots : List Spot) (streams : Streams)
-    → IfSome holds (λ w. WritesFirst command w spots streams) → IfSome holds (λ w. WritesFront command w spots streams)
-walk_cut command None spots streams writes = tt
-walk_cut command (Some w) spots streams writes = inl writes
+pub walk_cut : (command : Command) (holds : Option World) (waypoints : List Waypoint) (streams : Streams)
+    → IfSome holds (λ w. WritesFirst command w waypoints streams) → IfSome holds (λ w. WritesFront command w waypoints streams)
+walk_cut command None waypoints streams writes = tt
+walk_cut command (Some w) waypoints streams writes = inl writes

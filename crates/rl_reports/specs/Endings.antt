@@ -5,7 +5,7 @@ use Rattle.std.specs.Io.KnownBytes.{Appends, Keeps}
 use Rattle.rl_files.specs.Trees.{World, string_texts}
 use Rattle.rl_files.specs.Globs.{borrowed_texts}
 use Rattle.rl_files.specs.Visible.{visible}
-use Rattle.rl_files.specs.Walks.{Spot, given_spots, path_error_message, walk_error_message}
+use Rattle.rl_files.specs.Walks.{Waypoint, given_waypoints, path_error_message, walk_error_message}
 use Rattle.rl_files.specs.declared.tree.PathError.{PathError}
 use Rattle.rl_files.specs.declared.walk.WalkError.TheVariants.{OutOfMemory}
 use Rattle.rl_program.specs.Streams.{AppendsBeginning}
@@ -69,16 +69,16 @@ abbrev pub finds_no_file : Bool → Tally → Bool
 finds_no_file has_paths tally = has_paths && (tally.visited == 0)
 
 -- all that is reported was written, and the status is that of what was found
-abbrev pub RunsWith : Command → Option World → Bool → List Spot → Streams → ℕ → Type 0
-RunsWith command holds has_paths spots streams status =
-    (tally : Tally) × IfSome holds (λ w. WritesWalk command w spots streams tally)
+abbrev pub RunsWith : Command → Option World → Bool → List Waypoint → Streams → ℕ → Type 0
+RunsWith command holds has_paths waypoints streams status =
+    (tally : Tally) × IfSome holds (λ w. WritesWalk command w waypoints streams tally)
     × (finds_no_file has_paths tally ≡ false) × (asked_status command tally
     ≡ status)
 
 -- nothing was visited, though paths were named
-abbrev pub RunsInVain : Command → Option World → Bool → List Spot → Streams → Type 0
-RunsInVain command holds has_paths spots streams =
-    (tally : Tally) × IfSome holds (λ w. WritesWalk command w spots streams tally)
+abbrev pub RunsInVain : Command → Option World → Bool → List Waypoint → Streams → Type 0
+RunsInVain command holds has_paths waypoints streams =
+    (tally : Tally) × IfSome holds (λ w. WritesWalk command w waypoints streams tally)
     × (finds_no_file has_paths tally ≡ true)
 
 -- the call ends so where a write failed
@@ -112,25 +112,25 @@ EndsText text old new ending = IsUnwritten ending × AppendsBeginning old new te
 -- How a run over these places ends: by the status of what was found, or with an error where paths were named and
 -- nothing
 -- was visited, or where a beginning was written.
-abbrev pub EndsRun : {B : Type 0} → Command → Option World → Bool → List Spot → Streams → Ending (CallError B)
+abbrev pub EndsRun : {B : Type 0} → Command → Option World → Bool → List Waypoint → Streams → Ending (CallError B)
     → Type 0
-EndsRun command holds has_paths spots streams Done = RunsWith command holds has_paths spots streams 0
-EndsRun command holds has_paths spots streams FoundBad = RunsWith command holds has_paths spots streams 1
-EndsRun command holds has_paths spots streams Reported = RunsWith command holds has_paths spots streams 2
-EndsRun command holds has_paths spots streams (Failed NoFile) = RunsInVain command holds has_paths spots streams
-EndsRun command holds has_paths spots streams (Usage line) = ⊥
-EndsRun command holds has_paths spots streams (Failed NoArguments) = ⊥
-EndsRun command holds has_paths spots streams (Failed (Word error)) = ⊥
-EndsRun command holds has_paths spots streams (Failed (NoList file why)) = ⊥
-EndsRun command holds has_paths spots streams (Failed (NoStyle file error)) = ⊥
-EndsRun command holds has_paths spots streams Closed =
-    (asks_to_fix command.restyle ≡ false) × IfSome holds (λ w. WritesFront command w spots streams)
-EndsRun command holds has_paths spots streams _ = IfSome holds (λ w. WritesFront command w spots streams)
+EndsRun command holds has_paths waypoints streams Done = RunsWith command holds has_paths waypoints streams 0
+EndsRun command holds has_paths waypoints streams FoundBad = RunsWith command holds has_paths waypoints streams 1
+EndsRun command holds has_paths waypoints streams Reported = RunsWith command holds has_paths waypoints streams 2
+EndsRun command holds has_paths waypoints streams (Failed NoFile) = RunsInVain command holds has_paths waypoints streams
+EndsRun command holds has_paths waypoints streams (Usage line) = ⊥
+EndsRun command holds has_paths waypoints streams (Failed NoArguments) = ⊥
+EndsRun command holds has_paths waypoints streams (Failed (Word error)) = ⊥
+EndsRun command holds has_paths waypoints streams (Failed (NoList file why)) = ⊥
+EndsRun command holds has_paths waypoints streams (Failed (NoStyle file error)) = ⊥
+EndsRun command holds has_paths waypoints streams Closed =
+    (asks_to_fix command.restyle ≡ false) × IfSome holds (λ w. WritesFront command w waypoints streams)
+EndsRun command holds has_paths waypoints streams _ = IfSome holds (λ w. WritesFront command w waypoints streams)
 
 -- the same of what paths name
 abbrev pub EndsPaths : {B : Type 0} → Command → Option World → List (List ℕ) → Streams → Ending (CallError B) → Type 0
 EndsPaths command holds paths streams ending =
-    EndsRun command holds (not (length paths == 0)) (given_spots paths) streams ending
+    EndsRun command holds (not (length paths == 0)) (given_waypoints paths) streams ending
 
 -- the error names the file that names paths, and why it can't be read; or memory ran out for that
 abbrev pub IsListError : {B : Type 0} → List ℕ → PathError → Ending (CallError B) → Type 0

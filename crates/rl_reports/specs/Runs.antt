@@ -4,7 +4,7 @@ use Rattle.std.specs.Io.Iter.{u64_saturate}
 use Rattle.std.specs.Io.KnownBytes.{Appends, Keeps}
 use Rattle.rl_files.specs.Replacements.{Replacement}
 use Rattle.rl_files.specs.Trees.{World}
-use Rattle.rl_files.specs.Walks.{Spot, Visited, Visits}
+use Rattle.rl_files.specs.Walks.{Waypoint, Visited, Visits}
 use Rattle.rl_program.specs.Streams.{AppendsBeginning}
 use Rattle.rl_reports.specs.declared.command.Command.{Command}
 use Rattle.rl_sources.specs.declared.options.Shown.{Shown}
@@ -54,9 +54,9 @@ WritesReport command w visit streams tally =
     (printed : Findings) × IsReport command w visit printed × IsWritten command streams (totals_of printed) tally
 
 -- What was written of a walk from these places on: what is reported of all that is visited, in order.
-abbrev pub WritesReports : Command → World → List Spot → Streams → Tally → Type 0
-WritesReports command w spots streams tally =
-    (visits : List Visited) × (totals : Totals) × Visits command.selection w spots visits
+abbrev pub WritesReports : Command → World → List Waypoint → Streams → Tally → Type 0
+WritesReports command w waypoints streams tally =
+    (visits : List Visited) × (totals : Totals) × Visits command.selection w waypoints visits
     × AreReports command w visits totals × IsWritten command streams totals tally
 
 -- so much was written on standard output before what is printed of how much was read and found
@@ -64,9 +64,9 @@ abbrev pub up_to : Option (List ℕ) → Streams → Streams
 up_to middle streams = record streams { out_new = middle }
 
 -- after that it is printed how much was read and found, where that is asked for
-abbrev pub WritesWalk : Command → World → List Spot → Streams → Tally → Type 0
-WritesWalk command w spots streams tally =
-    (middle : Option (List ℕ)) × WritesReports command w spots (up_to middle streams) tally
+abbrev pub WritesWalk : Command → World → List Waypoint → Streams → Tally → Type 0
+WritesWalk command w waypoints streams tally =
+    (middle : Option (List ℕ)) × WritesReports command w waypoints (up_to middle streams) tally
     × Appends middle streams.out_new (shown_stats command tally)
 
 -- a beginning of this was written, and all was handed on
@@ -85,17 +85,17 @@ WritesSome command w visit streams =
     × WritesBeginning command streams (totals_of printed))
 
 -- What was written where a walk ended early: a beginning of what is reported of the first that it visits.
-abbrev pub WritesFirst : Command → World → List Spot → Streams → Type 0
-WritesFirst command w spots streams =
-    (visits others : List Visited) × (totals : Totals) × Visits command.selection w spots (visits ++ others)
+abbrev pub WritesFirst : Command → World → List Waypoint → Streams → Type 0
+WritesFirst command w waypoints streams =
+    (visits others : List Visited) × (totals : Totals) × Visits command.selection w waypoints (visits ++ others)
     × AreReports command w visits totals × WritesBeginning command streams totals
 
 -- What was written where the run ended early: this, or all that is reported, and a beginning of what is printed of how much
 -- was read and found.
-abbrev pub WritesFront : Command → World → List Spot → Streams → Type 0
-WritesFront command w spots streams =
-    WritesFirst command w spots streams
-    ⊎ ((middle : Option (List ℕ)) × (tally : Tally) × WritesReports command w spots (up_to middle streams) tally
+abbrev pub WritesFront : Command → World → List Waypoint → Streams → Type 0
+WritesFront command w waypoints streams =
+    WritesFirst command w waypoints streams
+    ⊎ ((middle : Option (List ℕ)) × (tally : Tally) × WritesReports command w waypoints (up_to middle streams) tally
     × AppendsBeginning middle streams.out_new (shown_stats command tally))
 
 -- something was found, and an error was reported

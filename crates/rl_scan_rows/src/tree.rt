@@ -144,6 +144,7 @@ fn text_at(path: &str) -> Option<&'static str> {
         "globs/b/deep/gen/a.rs" => Some("3"),
         "list" => Some("\n./a.rs\n\nglobs/gen\nmissing\n"),
         "list0" => Some("./a.rs\0\0./t\n.rs\0none"),
+        "list/marked" => Some("\u{feff}./a.rs\n\u{feff}none\n"),
         "empty" => Some(""),
         "fix/a.rs" => Some(FIXED),
         "fix/bad.rs" => Some("1. 0b12 \""),
@@ -160,6 +161,8 @@ fn text_at(path: &str) -> Option<&'static str> {
         "style/value" => Some("float_zero = true, hex_digits = \"Lower\"\n"),
         "style/twice" => Some("drop_raw = true\r\ndrop_raw = true\r\n"),
         "style/mark" => Some("\n/*\n*/ drop_raw true\n"),
+        "style/marked" => Some("\u{feff}drop_raw = true\n"),
+        "style/twomarks" => Some("\u{feff}\n\u{feff}drop_raw = true\n"),
         "style/number" => Some("drop_raw = true\n1 = true\n"),
         _ => None,
     }

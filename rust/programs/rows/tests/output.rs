@@ -70,6 +70,24 @@ fn annotations_of_literals() {
     );
 }
 
+/// The text of a literal of more than 1,024 bytes isn't in the object of a flaw, so that many flaws of one don't print it many times.
+#[test]
+fn objects_of_flaws_in_long_literals() {
+    for (bytes, is_shown) in [(1024, true), (1025, false)] {
+        // a character of two bytes, so that bytes are counted
+        let literal = format!("\"\u{e9}{}\\q\"", "a".repeat(bytes - 6));
+        assert_eq!(literal.len(), bytes);
+        let shown = printed(bad(Form::Json, None), &literal);
+        let text = if is_shown {
+            format!("\"{}\"", literal.replace('\\', "\\\\").replace('"', "\\\""))
+        } else {
+            "null".to_string()
+        };
+        assert!(shown.contains(&format!("\"text\":{text},\"id\":\"unknown-escape\"")), "{shown}");
+        assert!(shown.contains("\"piece\":\"\\\\q\""), "{shown}");
+    }
+}
+
 #[test]
 fn annotations_of_what_hides_text() {
     let options = Options {
