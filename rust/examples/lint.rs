@@ -5,6 +5,15 @@ use navyspindle::{source, LineIndex};
 use std::process::ExitCode;
 use std::{env, fs};
 
+/// A text with escapes for its control characters, which a terminal would obey.
+fn visible(text: &str) -> String {
+    let shown = |c: char| match c.is_control() {
+        true => c.escape_default().to_string(),
+        false => c.to_string(),
+    };
+    text.chars().map(shown).collect()
+}
+
 /// The byte of each thing that is wrong in a text, and what it is.
 fn findings(text: &str) -> Vec<(usize, String)> {
     source(text)
@@ -12,7 +21,10 @@ fn findings(text: &str) -> Vec<(usize, String)> {
             Ok((bytes, literal)) => {
                 let error = literal.check().err()?;
                 let at = bytes.start + error.range().start;
-                Some((at, format!("{}: {literal}", error.kind())))
+                Some((
+                    at,
+                    format!("{}: {}", error.kind(), visible(&literal.to_string())),
+                ))
             }
             Err(error) => Some((error.at(), error.kind().to_string())),
         })

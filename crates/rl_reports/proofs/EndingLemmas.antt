@@ -25,7 +25,7 @@ use Rattle.rl_reports.specs.Visits.{nothing}
 use Rattle.rl_reports.specs.Runs.{Streams, WritesFront}
 use Rattle.rl_reports.proofs.Handing.{hands_none, written_on}
 use Rattle.rl_reports.proofs.RunLemmas.{not_empty}
-use Rattle.rl_reports.specs.Wishes.{Wishes, style_of, wishes_of}
+use Rattle.rl_reports.specs.Wishes.{Wishes, style_of, wishes_of, reads_here}
 use Rattle.rl_reports.specs.Endings.{AskForWishes, EndsText, EndsWish, EndsAsked, EndsAsScan, EndsFrom, EndsListed, EndsPaths, EndsScan, EndsStyled, paths_read, IsCommandFor, IsSelecting}
 
 -- what wasn't written to is kept
@@ -83,15 +83,20 @@ ends_listed [] command is_terminal holds paths streams ending some ends = absurd
 ends_listed (file ∷ files) command is_terminal holds paths streams ending some ends = ends
 
 pub scan_ends : {B : Type 0} (command selecting : Command) (style : Style)
-    (finds extensions excludes lists paths : List (List ℕ)) (is_terminal : Bool) (holds : Option World) (streams : Streams) (ending : Ending (CallError B))
+    (finds extensions excludes lists paths : List (List ℕ)) (is_terminal is_here : Bool) (holds : Option World)
+    (streams : Streams) (ending : Ending (CallError B))
     → IsSelecting command style finds extensions excludes lists selecting
-    → EndsFrom (borrowed_texts selecting.files_from.now) selecting is_terminal holds paths streams ending
+    → is_here ≡ reads_here is_terminal (wishes_of command finds extensions excludes lists paths)
+    → EndsFrom (borrowed_texts selecting.files_from.now) selecting is_here holds paths streams ending
     → EndsScan (wishes_of command finds extensions excludes lists paths) style is_terminal holds streams ending
-scan_ends command selecting style finds extensions excludes lists paths is_terminal holds streams ending is ends = (
-  selecting,
-  command_for command selecting style finds extensions excludes lists paths is,
-  subst (λ (files : List (List ℕ)). EndsFrom files selecting is_terminal holds paths streams ending) is.lists_are ends,
-)
+scan_ends command selecting style finds extensions excludes lists paths is_terminal is_here holds streams ending is here
+    ends = (
+      selecting,
+      command_for command selecting style finds extensions excludes lists paths is,
+      subst (λ (b : Bool). EndsFrom lists selecting b holds paths streams ending) here
+          (subst (λ (files : List (List ℕ)). EndsFrom files selecting is_here holds paths streams ending) is.lists_are
+          ends),
+    )
 
 -- a file is named that has the rules of a style
 pub ends_styled : {B : Type 0} (said : Option (Bor (List ℕ))) (file : Bor (List ℕ)) (wishes : Wishes)
@@ -101,22 +106,26 @@ pub ends_styled : {B : Type 0} (said : Option (Bor (List ℕ))) (file : Bor (Lis
 ends_styled said file wishes is_terminal holds streams ending is ends = rw is ends
 
 -- what is asked for ends so
-scan_arguments : (B : Type 0) (wishes : Wishes) (style : Style) (is_terminal : Bool) (holds : Option World) (streams : Streams)
+scan_arguments : (B : Type 0) (wishes : Wishes) (style : Style) (is_terminal : Bool) (holds : Option World)
+    (streams : Streams)
     → EndsScan {B = B} wishes style is_terminal holds streams (Failed NoArguments) → ⊥
 scan_arguments B wishes style is_terminal holds streams (command, is, ends) = go wishes.files_from ends
   where
     go : (from : List (List ℕ))
-        → EndsFrom {B = B} from command is_terminal holds wishes.paths streams (Failed NoArguments) → ⊥
+        → EndsFrom {B = B} from command (reads_here is_terminal wishes) holds wishes.paths streams (Failed NoArguments)
+        → ⊥
     go [] never = never
     go (file ∷ files) (inl (_, (unread, why, read, never))) = never
     go (file ∷ files) (inr (all, are, never)) = never
 
-scan_word : {B : Type 0} (error : WordError B) (wishes : Wishes) (style : Style) (is_terminal : Bool) (holds : Option World)
+scan_word : {B : Type 0} (error : WordError B) (wishes : Wishes) (style : Style) (is_terminal : Bool)
+    (holds : Option World)
     (streams : Streams) → EndsScan {B = B} wishes style is_terminal holds streams (Failed (Word error)) → ⊥
 scan_word {B} error wishes style is_terminal holds streams (command, is, ends) = go wishes.files_from ends
   where
     go : (from : List (List ℕ))
-        → EndsFrom {B = B} from command is_terminal holds wishes.paths streams (Failed (Word error)) → ⊥
+        → EndsFrom {B = B} from command (reads_here is_terminal wishes) holds wishes.paths streams (Failed (Word error))
+        → ⊥
     go [] never = never
     go (file ∷ files) (inl (_, (unread, why, read, never))) = never
     go (file ∷ files) (inr (all, are, never)) = never

@@ -29,7 +29,7 @@ use Rattle.rl_reports.specs.declared.rules.RulesError.TheVariants as rules
 use Rattle.rl_reports.specs.Rules.{HasNoRules, HasRules, line_error_words}
 use Rattle.rl_reports.specs.Listed.{AreWithAllListed, IsFirstUnread}
 use Rattle.rl_reports.specs.Runs.{Streams, WritesWalk, WritesFront, asked_status}
-use Rattle.rl_reports.specs.Wishes.{Wishes, wishes_of}
+use Rattle.rl_reports.specs.Wishes.{Wishes, reads_here, wishes_of}
 use Rattle.rl_reports.specs.Words.{Asks, AreRejected, word_message}
 
 -- the line of an error
@@ -55,8 +55,8 @@ CannotAsk has_colors (program ∷ words) error = AreRejected has_colors (string_
 
 -- the paths that are read; where none is named, `.` or standard input
 abbrev pub paths_read : Bool → List (List ℕ) → List (List ℕ)
-paths_read is_terminal [] = cond is_terminal (codes ".") (codes "-") ∷ []
-paths_read is_terminal (path ∷ paths) = path ∷ paths
+paths_read is_here [] = cond is_here (codes ".") (codes "-") ∷ []
+paths_read is_here (path ∷ paths) = path ∷ paths
 
 -- nothing was written, and nothing handed on
 abbrev pub WritesNothing : Streams → Type 0
@@ -151,9 +151,9 @@ EndsListed command files holds paths streams ending =
 -- the same where no file names paths, or some do
 abbrev pub EndsFrom : {B : Type 0} → List (List ℕ) → Command → Bool → Option World → List (List ℕ) → Streams
     → Ending (CallError B) → Type 0
-EndsFrom [] command is_terminal holds paths streams ending =
-    EndsPaths command holds (paths_read is_terminal paths) streams ending
-EndsFrom (file ∷ files) command is_terminal holds paths streams ending =
+EndsFrom [] command is_here holds paths streams ending =
+    EndsPaths command holds (paths_read is_here paths) streams ending
+EndsFrom (file ∷ files) command is_here holds paths streams ending =
     EndsListed command (file ∷ files) holds paths streams ending
 
 -- what names end with; where nothing is said, `rs`
@@ -185,7 +185,7 @@ pub record IsCommandFor (wishes : Wishes) (rules : Style) (command : Command) : 
 abbrev pub EndsScan : {B : Type 0} → Wishes → Style → Bool → Option World → Streams → Ending (CallError B) → Type 0
 EndsScan wishes rules is_terminal holds streams ending =
     (command : Command) × IsCommandFor wishes rules command
-    × EndsFrom wishes.files_from command is_terminal holds wishes.paths streams ending
+    × EndsFrom wishes.files_from command (reads_here is_terminal wishes) holds wishes.paths streams ending
 
 -- the error names the file, and what is wrong with the rules that it holds; or memory ran out for that
 abbrev pub IsStyleError : {B : Type 0} → List ℕ → LineError B → Ending (CallError B) → Type 0

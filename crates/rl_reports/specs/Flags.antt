@@ -1,7 +1,7 @@
 -- The options of a command line, and the words that they take. Words are lists of bytes.
 use Rattle.std.specs.Prelude.{◌≡◌, ℕ, ◌==◌, Bool, cond, not, ◌||◌, List, ◌∷◌, ◌++◌, codes, ⊤, ◌<◌, ◌^◌}
 use Prim.Native.Char.{code}
-use Rattle.std.specs.List.{All, list_any, starts_with}
+use Rattle.std.specs.List.{All, ends_with, list_any, starts_with}
 use Rattle.std.specs.Str.{bytes_eq}
 use Rattle.std.specs.Str.Parse.{IsNumeral, digits_value, without_leading_plus}
 use Rattle.rl_restyled.specs.declared.edit.Macros.{Macros as AnyMacros}
@@ -166,10 +166,12 @@ has_other_mark pattern =
     starts_with ◌==◌ pattern (codes "!") || list_any (λ b. b == code "[") pattern
     || list_any (λ b. b == code "\\") pattern
 
--- it matches no path below a directory: `./` or `../` stands at its front, or it is a slash alone
+-- it matches no path below a directory: `./` or `../` stands at its front, or it is a slash alone; or a space stands at
+-- its end, which gitignore drops
 abbrev pub matches_nothing : List ℕ → Bool
 matches_nothing pattern =
     starts_with ◌==◌ pattern (codes "./") || starts_with ◌==◌ pattern (codes "../") || bytes_eq pattern (codes "/")
+    || ends_with ◌==◌ pattern (codes " ")
 
 -- a word is more than an extension: a list, a pattern or a path
 abbrev pub is_more_than_extension : List ℕ → Bool

@@ -1,4 +1,5 @@
--- What is reported of a text, of a file that is listed, and of what can't be read. All are lists of bytes, but where `chars` makes characters of
+-- What is reported of a text, of a file that is listed, and of what can't be read. All are lists of bytes, but where
+-- `chars` makes characters of
 -- them.
 use Rattle.std.specs.Prelude.{◌≡◌, ◌⊎◌, ℕ, ◌==◌, Bool, true, false, cond, not, ◌&&◌, ◌||◌, List, [], ◌∷◌, ◌++◌, length, codes, MatchBool, MatchOption, encode_utf8_all, Option, Some, None, is_some, option_map}
 use denote.Ref.{Bor}
@@ -128,7 +129,8 @@ worded_place by_line (Line at) = Line at
 worded_place by_line (Whole e) =
     cond by_line (Line (record { line = e.start.line; column = e.start.column })) (Bytes e.lo e.hi)
 
--- the line of a text's error that isn't found, in characters, plain, since it goes to standard error, after the path as it
+-- the line of a text's error that isn't found, in characters, plain, since it goes to standard error, after the path as
+-- it
 -- is printed; nothing where there is none
 abbrev pub error_text : Bool → Option (Bor (List ℕ)) → Option (Place × LexKind) → List ℕ
 error_text by_line shown None = []

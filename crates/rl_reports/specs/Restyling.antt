@@ -1,4 +1,5 @@
--- What is reported of a source whose literals are written anew. Texts are lists of characters, what is printed lists of bytes.
+-- What is reported of a source whose literals are written anew. Texts are lists of characters, what is printed lists of
+-- bytes.
 use Rattle.std.specs.Prelude.{◌≡◌, ◌≢◌, ◌⊎◌, ℕ, ◌==◌, Bool, true, false, cond, not, List, [], ◌∷◌, ◌++◌, codes, length, encode_utf8_all, Option, Some, None, IsFalse, IsTrue}
 use denote.Ref.{Bor}
 use Rattle.std.specs.declared.result.Result.TheVariants.{Ok}

@@ -17,7 +17,8 @@ use Rattle.rl_reports.specs.Visits.{AreReports, IsReport, Totals, totals_of}
 use Rattle.rl_reports.specs.Stats.{tally_of, shown_stats}
 use Rattle.rl_reports.specs.Clashes.{lists_files}
 
--- The bytes that two writers held before and hold now, standard output and standard error; and what was handed on before and
+-- The bytes that two writers held before and hold now, standard output and standard error; and what was handed on
+-- before and
 -- now, to be written in place of files.
 pub record Streams : Type 0 where
   pub out_old : Option (List ℕ)
@@ -90,7 +91,8 @@ WritesFirst command w waypoints streams =
     (visits others : List Visited) × (totals : Totals) × Visits command.selection w waypoints (visits ++ others)
     × AreReports command w visits totals × WritesBeginning command streams totals
 
--- What was written where the run ended early: this, or all that is reported, and a beginning of what is printed of how much
+-- What was written where the run ended early: this, or all that is reported, and a beginning of what is printed of how
+-- much
 -- was read and found.
 abbrev pub WritesFront : Command → World → List Waypoint → Streams → Type 0
 WritesFront command w waypoints streams =
@@ -115,7 +117,8 @@ run_status shown tally = cond (has_errors tally) 2 (cond (is_alarm shown && has_
 abbrev pub find_status : Tally → ℕ
 find_status tally = cond (has_errors tally) 2 (cond (has_findings tally) 0 1)
 
--- The status of a run in which literals are written anew: 2 where an error was reported; else 1 where something would change;
+-- The status of a run in which literals are written anew: 2 where an error was reported; else 1 where something would
+-- change;
 -- else 0.
 abbrev pub restyle_status : Restyling → Tally → ℕ
 restyle_status Fix tally = cond (has_errors tally) 2 0

@@ -21,9 +21,10 @@ tally_of totals = record {
 -- a line for each count
 abbrev pub stats_lines : Tally → List ℕ
 stats_lines tally =
-    decimal tally.read ++ (codes " files\n" ++ (decimal tally.with_findings ++ (codes " files with findings\n"
-    ++ (decimal tally.findings ++ (codes " findings\n" ++ (decimal tally.with_errors
-    ++ codes " files with an error\n"))))))
+    codes "files: " ++ (decimal tally.read ++ (codes "\nfiles with findings: " ++ (decimal tally.with_findings
+    ++ (codes "\nfindings: " ++ (decimal tally.findings ++ (codes "\nfiles with an error: "
+    ++ (decimal tally.with_errors
+    ++ codes "\n")))))))
 
 -- an object of JSON
 abbrev pub stats_object : Tally → List ℕ

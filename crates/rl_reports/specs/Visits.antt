@@ -44,7 +44,8 @@ abbrev pub ReportsAs : {A : Type 0} → (Findings → Type 0) → Report A → O
 ReportsAs IsThis report old new =
     (handed : List Replacement) × IsThis (with_handed handed report) × HandsOn old new handed
 
--- What is written of all that is visited, what is handed on, how much that is, how many texts were read, how many have findings, how many
+-- What is written of all that is visited, what is handed on, how much that is, how many texts were read, how many have
+-- findings, how many
 -- findings there are, and of how much an error is reported.
 pub record Totals : Type 0 where
   pub out : List ℕ

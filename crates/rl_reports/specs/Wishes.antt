@@ -1,5 +1,5 @@
 -- What a command line asks for. Words are lists of bytes.
-use Rattle.std.specs.Prelude.{ℕ, Bool, true, false, List, [], Option, Some, None}
+use Rattle.std.specs.Prelude.{ℕ, ◌==◌, Bool, true, false, not, ◌||◌, List, [], length, Option, Some, None}
 use denote.Ref.{Bor}
 use Rattle.rl_files.specs.Globs.{borrowed_texts}
 use Rattle.rl_files.specs.Trees.{string_texts}
@@ -97,6 +97,11 @@ first_wishes has_colors = record {
   files_from = [];
   paths = [];
 }
+
+-- without a path `.` is read and not standard input: input is a terminal, or it is said what is read of directories
+abbrev pub reads_here : Bool → Wishes → Bool
+reads_here is_terminal w =
+    is_terminal || w.all_directories || not (length w.extensions == 0) || not (length w.excludes == 0)
 
 -- the file with the rules of a style
 abbrev pub style_of : Option (Bor (List ℕ)) → Option (List ℕ)

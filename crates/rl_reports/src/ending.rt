@@ -5,7 +5,7 @@ ghost use Rattle.rl_files.specs.Globs.{borrowed_texts};
 ghost use Rattle.rl_files.specs.Trees.{string_texts};
 ghost use Rattle.rl_reports.specs.Endings.{extensions_read, finds_no_file, paths_read, EndsAsScan, EndsAsked, EndsListed, EndsPaths, EndsRun, EndsScan, EndsStyled, EndsText, EndsWithoutMemory, IsCutShort, IsListError, IsRulesError, IsSelecting, IsStyleError, IsUnwritten};
 ghost use Rattle.rl_reports.specs.Runs.{asked_status};
-ghost use Rattle.rl_reports.specs.Wishes.{style_of, wishes_in};
+ghost use Rattle.rl_reports.specs.Wishes.{reads_here as is_read_here, style_of, wishes_in};
 
 use crate::clash::lists_files;
 use crate::command::{Command, Console, Restyling, Wish};
@@ -105,17 +105,27 @@ fn write_text<A: Allocator, W: Write>(out: &mut W, text: &str) -> Ending<CallErr
     }
 }
 
+/// Whether without a path `.` is read and not standard input: where input is a terminal, or it is said what is read of directories.
+fn reads_here<A: Allocator>(is_terminal: bool, asked: &Asked<'_, A>) -> bool
+    ensures { result ≡ is_read_here is_terminal (wishes_in asked.now) }
+{
+    is_terminal
+        || asked.command.selection.all
+        || !asked.extensions.is_empty()
+        || !asked.excludes.is_empty()
+}
+
 /// Adds `.` or standard input to the paths, where there are none.
 fn add_usual<A: Allocator + Copy>(
     alloc: A,
-    is_terminal: bool,
+    is_here: bool,
     paths: &mut Vec<String<A>, A>,
 ) -> Result<(), AllocError>
     ensures { OnOk result (string_texts paths.new.items
-        ≡ paths_read is_terminal (string_texts paths.old.items)) }
+        ≡ paths_read is_here (string_texts paths.old.items)) }
 {
     if paths.is_empty() {
-        let usual = if is_terminal { "." } else { "-" };
+        let usual = if is_here { "." } else { "-" };
         paths.push(String::from_str(alloc, usual)?)?;
     }
     Ok(())
@@ -204,7 +214,7 @@ fn scan_paths<A: Allocator + Copy, T: Tree, W: Write, E: Write, F: Replace>(
 fn scan_named<A: Allocator + Copy, T: Tree, W: Write, E: Write, F: Replace>(
     alloc: A,
     command: Command<'_>,
-    is_terminal: bool,
+    is_here: bool,
     tree: &T,
     paths: &mut Vec<String<A>, A>,
     out: &mut W,
@@ -212,7 +222,7 @@ fn scan_named<A: Allocator + Copy, T: Tree, W: Write, E: Write, F: Replace>(
     files: &mut F,
 ) -> Ending<CallError<A>>
     ensures { EndsPaths command.entry (T.holds tree.now)
-        (paths_read is_terminal (string_texts paths.old.items)) (record {
+        (paths_read is_here (string_texts paths.old.items)) (record {
           out_old = W.contents out.old;
           out_new = W.contents out.new;
           err_old = E.contents err.old;
@@ -221,7 +231,7 @@ fn scan_named<A: Allocator + Copy, T: Tree, W: Write, E: Write, F: Replace>(
           handed_new = F.handed files.new;
         }) result }
 {
-    match add_usual(alloc, is_terminal, paths) {
+    match add_usual(alloc, is_here, paths) {
         Ok(()) => scan_paths(alloc, command, tree, paths, out, err, files),
         Err(_) => Ending::Failed(CallError::Walk(WalkError::OutOfMemory)),
     }
@@ -340,6 +350,7 @@ fn scan_asked<A: Allocator + Copy, T: Tree, W: Write, E: Write, F: Replace>(
       handed_new = F.handed files.new;
     }) result }
 {
+    let is_here = reads_here(is_terminal, &asked);
     let Asked {
         command,
         mut paths,
@@ -359,16 +370,7 @@ fn scan_asked<A: Allocator + Copy, T: Tree, W: Write, E: Write, F: Replace>(
     );
     let named = command.files_from;
     if named.is_empty() {
-        scan_named(
-            alloc,
-            command,
-            is_terminal,
-            tree,
-            &mut paths,
-            out,
-            err,
-            files,
-        )
+        scan_named(alloc, command, is_here, tree, &mut paths, out, err, files)
     } else {
         scan_listed(alloc, command, named, tree, &mut paths, out, err, files)
     }

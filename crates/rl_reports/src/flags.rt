@@ -556,12 +556,16 @@ pub(crate) fn has_other_mark(pattern: &str) -> bool
     bytes.starts_with(b"!".as_slice()) || bytes.contains(&b'[') || bytes.contains(&b'\\')
 }
 
-/// Whether a pattern matches no path below a directory: `./` or `../` stands at its front, or it is a slash alone.
+/// Whether a pattern matches no path below a directory: `./` or `../` stands at its front, or it is a slash alone; or a space stands at
+/// its end, which gitignore drops.
 pub(crate) fn matches_nothing(pattern: &str) -> bool
     ensures { result ≡ is_useless pattern.now }
 {
     let bytes = pattern.as_bytes();
-    bytes.starts_with(b"./".as_slice()) || bytes.starts_with(b"../".as_slice()) || pattern == "/"
+    bytes.starts_with(b"./".as_slice())
+        || bytes.starts_with(b"../".as_slice())
+        || pattern == "/"
+        || bytes.ends_with(b" ".as_slice())
 }
 
 /// Whether a word is more than an extension: a list, a pattern or a path.

@@ -6,4 +6,4 @@ use Rattle.rl_reports.proofs.ending.scan_named.Goals as goal
 
 pub returns-in-Err : goal.returns-in-Err
 returns-in-Err g c = front_none c.args.command (g.T.Tree.holds c.args.tree.now)
-    (given_waypoints (paths_read c.args.is_terminal (string_texts c.args.paths.now.items))) _ _ _
+    (given_waypoints (paths_read c.args.is_here (string_texts c.args.paths.now.items))) _ _ _

@@ -84,14 +84,22 @@ fn write_text<A: Allocator, W: Write>(out: &mut W, text: &str) -> Ending<CallErr
     }
 }
 
+/// Whether without a path `.` is read and not standard input: where input is a terminal, or it is said what is read of directories.
+fn reads_here<A: Allocator>(is_terminal: bool, asked: &Asked<'_, A>) -> bool {
+    is_terminal
+        || asked.command.selection.all
+        || !asked.extensions.is_empty()
+        || !asked.excludes.is_empty()
+}
+
 /// Adds `.` or standard input to the paths, where there are none.
 fn add_usual<A: Allocator + Copy>(
     alloc: A,
-    is_terminal: bool,
+    is_here: bool,
     paths: &mut Vec<String<A>, A>,
 ) -> Result<(), AllocError> {
     if paths.is_empty() {
-        let usual = if is_terminal { "." } else { "-" };
+        let usual = if is_here { "." } else { "-" };
         paths.push(String::from_str(alloc, usual)?)?;
     }
     Ok(())
@@ -158,14 +166,14 @@ fn scan_paths<A: Allocator + Copy, T: Tree, W: Write, E: Write, F: Replace>(
 fn scan_named<A: Allocator + Copy, T: Tree, W: Write, E: Write, F: Replace>(
     alloc: A,
     command: Command<'_>,
-    is_terminal: bool,
+    is_here: bool,
     tree: &T,
     paths: &mut Vec<String<A>, A>,
     out: &mut W,
     err: &mut E,
     files: &mut F,
 ) -> Ending<CallError<A>> {
-    match add_usual(alloc, is_terminal, paths) {
+    match add_usual(alloc, is_here, paths) {
         Ok(()) => scan_paths(alloc, command, tree, paths, out, err, files),
         Err(_) => Ending::Failed(CallError::Walk(WalkError::OutOfMemory)),
     }
@@ -260,6 +268,7 @@ fn scan_asked<A: Allocator + Copy, T: Tree, W: Write, E: Write, F: Replace>(
     err: &mut E,
     files: &mut F,
 ) -> Ending<CallError<A>> {
+    let is_here = reads_here(is_terminal, &asked);
     let Asked {
         command,
         mut paths,
@@ -279,16 +288,7 @@ fn scan_asked<A: Allocator + Copy, T: Tree, W: Write, E: Write, F: Replace>(
     );
     let named = command.files_from;
     if named.is_empty() {
-        scan_named(
-            alloc,
-            command,
-            is_terminal,
-            tree,
-            &mut paths,
-            out,
-            err,
-            files,
-        )
+        scan_named(alloc, command, is_here, tree, &mut paths, out, err, files)
     } else {
         scan_listed(alloc, command, named, tree, &mut paths, out, err, files)
     }

@@ -8,7 +8,7 @@ Prints the literals of Rust sources, or what is wrong with them.
 A PATH is a file, or a directory: then all *.rs below it are read, in the order
 of their paths, without hidden directories and the `target` of a package; links
 in it aren't followed. `-` is standard input, as is no PATH, unless input is a
-terminal: then it is `.`.
+terminal or it is said what is read of directories: then it is `.`.
 
 What is printed: every literal; or one of --bad, --hidden, --only; or --find
       --bad            what Rust rejects: bad literals, quotes and comments left
@@ -66,11 +66,11 @@ How it is printed:
                        the same, with NUM lines after
       --color WHEN     auto, always or never; auto is on a terminal, unless
                        NO_COLOR is set or TERM is dumb
-  -c, --count          how many lines each file has, where it has some
+  -c, --count          prints how many findings each file has, where it has some
   -l, --files-with-matches
-                       the path of each file that has lines
+                       prints the path of each file that has findings
   -Z, --null           of -c, -l and --files: NUL after the path
-  -q, --quiet          nothing
+  -q, --quiet          prints nothing
       --no-messages    no line for a file that can't be read to its end, or is
                        left alone
       --stats          after all, how many files were read and how many have

@@ -6,8 +6,8 @@ use crate::rl_reports::clash::clash_of;
 use crate::rl_reports::command::{Command, Output, PlaceForm, Wish};
 use crate::rl_reports::flags::{
     Flag, Next, Operand, When, add_flag, after_front, count_of, edition_of, flag_of, form_in,
-    form_when, format_of, has_more_than_extension, has_other_mark, joined_of, letter_of, macros_of, matches_nothing, next_after, recolored,
-    taken_by, when_of,
+    form_when, format_of, has_more_than_extension, has_other_mark, joined_of, letter_of, macros_of,
+    matches_nothing, next_after, recolored, taken_by, when_of,
 };
 use crate::rl_reports::meant::{meant_by, option_part};
 use crate::rl_reports::report::visible_text;
