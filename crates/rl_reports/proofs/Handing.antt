@@ -1,5 +1,5 @@
 -- What is handed on to be written in place of files.
-use Rattle.rl_text.proofs.Common.{List, None, Option, Some, [], ap, append-nil, append_assoc, refl, sym, ℕ, ◌++◌, ◌∙◌, ◌≡◌}
+use Rattle.rl_text.proofs.Common.{List, None, Option, Some, [], ap, append-nil, append_assoc, refl, sym, ℕ, ◌++◌, ◌∙◌}
 use Rattle.std.specs.Prelude.{option_map}
 use Rattle.rl_files.specs.Replacements.{Replacement}
 use Rattle.rl_reports.specs.Reports.{HandsOn}

@@ -1,6 +1,6 @@
 -- What is reported of a file.
-use Rattle.rl_text.proofs.Common.{false, true, IsAscii, IsUtf8, List, None, Option, Some, [], ap, append_assoc, chars, chars-IsAscii, chars-nil, codes, encodes-chars, inl, inr, refl, subst, sym, ℕ, ◌++◌, ◌∙◌, ◌≡◌, ◌⊎◌}
-use Rattle.std.specs.Prelude.{encode_utf8_all, IfSome, IfOk, MatchOption, Ok, Err}
+use Rattle.rl_text.proofs.Common.{IsAscii, IsUtf8, List, None, Option, [], ap, append_assoc, chars, chars-IsAscii, chars-nil, codes, encodes-chars, refl, subst, sym, ℕ, ◌++◌, ◌∙◌, ◌≡◌}
+use Rattle.std.specs.Prelude.{encode_utf8_all, MatchOption}
 use Rattle.std.proofs.lemmas.Str.{IsAscii-append}
 use Rattle.rl_files.specs.Visible.{visible}
 use Rattle.rl_files.specs.Walks.{path_error_message}

@@ -2,7 +2,7 @@
 use Rattle.rl_text.proofs.Common.{List, Option, [], ◌∷◌, false, inl, inr, refl, subst, sym, ℕ, ◌≡◌, ◌∙◌}
 use Rattle.std.specs.Prelude.{IfOk, Ok, Err}
 use Rattle.std.specs.declared.result.Result.{Result}
-use Rattle.rl_files.specs.Replacements.{Replacement, replacing}
+use Rattle.rl_files.specs.Replacements.{Replacement}
 use Rattle.rl_files.specs.declared.tree.PathError.{PathError}
 use Rattle.rl_fixes.specs.Outcomes.{IsRestyledAs}
 use Rattle.rl_restyled.proofs.EditPlaces.{edits_stand}

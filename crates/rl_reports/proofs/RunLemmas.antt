@@ -1,5 +1,5 @@
 -- Steps of a run.
-use Rattle.rl_text.proofs.Common.{Bool, List, None, Option, Some, [], ap, append-nil, append_assoc, arith, cond, false, inl, inr, length, not, refl, subst, suc, sym, take, take_all, true, ℕ, ◌++◌, ◌==◌, ◌||◌, ◌∙◌, ◌∷◌, ◌≡◌, ◌+◌}
+use Rattle.rl_text.proofs.Common.{Bool, List, None, Option, Some, [], ap, append-nil, append_assoc, arith, cond, false, inl, inr, length, not, refl, subst, suc, sym, take, take_all, true, ℕ, ◌++◌, ◌==◌, ◌∙◌, ◌∷◌, ◌≡◌, ◌+◌}
 use Rattle.std.proofs.Common.{rules}
 use Rattle.std.proofs.Math.Seq.{take-append-add}
 use Rattle.std.specs.Prelude.{IfSome}
@@ -13,7 +13,7 @@ use Rattle.rl_files.specs.Walks.{Waypoint, Visited, Visits, VisitsFirst}
 use Rattle.rl_files.proofs.WalkLemmas.{some_visits}
 use Rattle.rl_reports.specs.declared.command.Command.{Command}
 use Rattle.rl_reports.specs.declared.runs.Tally.{Tally}
-use Rattle.rl_reports.specs.Reports.{Findings, HandsOn, with_handed}
+use Rattle.rl_reports.specs.Reports.{Findings, with_handed}
 use Rattle.rl_reports.specs.Visits.{AreReports, IsReport, ReportsAs, Totals, both_of, nothing, totals_of}
 use Rattle.rl_reports.specs.declared.report.Report.{Report}
 use Rattle.rl_reports.proofs.Handing.{hands_both, hands_none, written_on}

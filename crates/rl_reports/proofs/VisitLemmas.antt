@@ -1,5 +1,5 @@
 -- What is reported of what a walk visits.
-use Rattle.rl_text.proofs.Common.{false, true, IsUtf8, List, None, Option, Some, [], inl, inr, ℕ, ◌≡◌, ◌⊎◌, ◌∙◌}
+use Rattle.rl_text.proofs.Common.{false, true, List, None, Option, Some, [], inl, inr, ℕ, ◌≡◌, ◌⊎◌, ◌∙◌}
 use Rattle.std.specs.Prelude.{IfSome, IfOk, Ok, Err}
 use Rattle.std.specs.declared.result.Result.{Result}
 use Rattle.rl_files.specs.Replacements.{Replacement}
@@ -10,7 +10,7 @@ use Rattle.rl_files.specs.declared.tree.PathError.TheVariants.{OutOfMemory}
 use Rattle.rl_reports.specs.declared.command.Command.{Command}
 use Rattle.rl_reports.specs.declared.report.Report.{Report}
 use Rattle.rl_reports.specs.Reports.{Findings, IsErrorReport, IsListReport, IsNotUtf8, in_report}
-use Rattle.rl_reports.specs.Visits.{IsBytesReport, IsReadReport, IsReport, IsWantedReport, ReportsAs}
+use Rattle.rl_reports.specs.Visits.{IsBytesReport, IsReadReport, IsReport, ReportsAs}
 use Rattle.rl_reports.specs.Clashes.{lists_files}
 use Rattle.rl_reports.proofs.Handing.{hands_none}
 

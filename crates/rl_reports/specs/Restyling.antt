@@ -2,7 +2,6 @@
 -- bytes.
 use Rattle.std.specs.Prelude.{◌≡◌, ◌≢◌, ◌⊎◌, ℕ, ◌==◌, Bool, true, false, cond, not, List, [], ◌∷◌, ◌++◌, codes, length, encode_utf8_all, Option, Some, None, IsFalse, IsTrue}
 use denote.Ref.{Bor}
-use Rattle.std.specs.declared.result.Result.TheVariants.{Ok}
 use Rattle.std.specs.Str.{chars, IsUtf8}
 use Rattle.rl_files.specs.Replacements.{Replacement, replacing}
 use Rattle.rl_files.specs.Visible.{visible}

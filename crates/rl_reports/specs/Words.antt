@@ -1,5 +1,5 @@
 -- What the words of a command line ask for, or what is wrong with them. Words are lists of bytes.
-use Rattle.std.specs.Prelude.{◌≡◌, ◌≢◌, ◌⊎◌, ℕ, Bool, true, false, not, List, [], ◌∷◌, ◌++◌, codes, encode_utf8, string_bytes, ⊤, Some, None}
+use Rattle.std.specs.Prelude.{◌≡◌, ◌≢◌, ◌⊎◌, ℕ, Bool, true, false, List, [], ◌∷◌, ◌++◌, codes, encode_utf8, string_bytes, ⊤, Some, None}
 use Rattle.std.specs.Str.{chars}
 use Rattle.rl_files.specs.Visible.{visible}
 use Rattle.rl_reports.specs.declared.command.Wish.TheVariants as wish

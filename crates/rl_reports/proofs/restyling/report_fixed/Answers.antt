@@ -1,4 +1,4 @@
-use Rattle.rl_text.proofs.Common.{chars, inl, inr, length-map, map, refl, string_bytes, sym, [], ◌∙◌}
+use Rattle.rl_text.proofs.Common.{inl, inr, length-map, map, string_bytes, sym, [], ◌∙◌}
 use Rattle.rl_restyled.specs.Edits.{edit_in}
 use Rattle.rl_reports.specs.Restyling.{IsFixed, IsReplaced}
 use Rattle.rl_reports.proofs.Handing.{hands_none}

@@ -1,5 +1,5 @@
 use Rattle.rl_text.proofs.Common.{sym, ◌∙◌}
-use Rattle.rl_reports.proofs.VisitLemmas.{failed_reported, listed_reported, read_reported}
+use Rattle.rl_reports.proofs.VisitLemmas.{listed_reported, read_reported}
 use Rattle.rl_reports.proofs.visits.report_of.Goals as goal
 
 pub returns-in-File-clause-reports : goal.returns-in-File-clause-reports
