@@ -160,20 +160,24 @@ pub whole_shown : (text line old new : List ℕ) → line ≡ first_line text �
     → new ≡ old ++ (codes "    " ++ (line_text line ++ codes "\n")) → new ≡ old ++ shown_line text
 whole_shown text line old new line_is short e =
     e ∙ ap (λ (z : List ℕ). old ++ (codes "    " ++ (line_text z ++ codes "\n"))) line_is
-    ∙ ap (λ (b : Bool). old ++ cond b left_out (codes "    " ++ (line_text (first_line text) ++ codes "\n"))) (sym short)
+    ∙ ap (λ (b : Bool). old ++ cond b left_out (codes "    " ++ (line_text (first_line text) ++ codes "\n")))
+    (sym short)
 
 pub long_context : (above below : ℕ) (lines before rest : List ℕ) (bytes : ℕ) (old new : List ℕ)
     → is_long (before ++ first_line rest) ≡ true → new ≡ old ++ left_out
     → new ≡ old ++ context_lines above below lines before rest bytes
 long_context above below lines before rest bytes old new long e = e ∙ ap (λ (b : Bool). old ++ cond b left_out
-    (shown_lines above lines ++ (marked_line before rest bytes ++ shown_lines below (after_first_line rest)))) (sym long)
+    (shown_lines above lines ++ (marked_line before rest bytes ++ shown_lines below (after_first_line rest))))
+    (sym long)
 
 pub whole_context : (above below : ℕ) (lines before rest : List ℕ) (bytes : ℕ) (old new : List ℕ)
     → is_long (before ++ first_line rest) ≡ false
-    → new ≡ old ++ (shown_lines above lines ++ (marked_line before rest bytes ++ shown_lines below (after_first_line rest)))
+    → new ≡ old ++ (shown_lines above lines ++ (marked_line before rest bytes
+    ++ shown_lines below (after_first_line rest)))
     → new ≡ old ++ context_lines above below lines before rest bytes
 whole_context above below lines before rest bytes old new short e = e ∙ ap (λ (b : Bool). old ++ cond b left_out
-    (shown_lines above lines ++ (marked_line before rest bytes ++ shown_lines below (after_first_line rest)))) (sym short)
+    (shown_lines above lines ++ (marked_line before rest bytes ++ shown_lines below (after_first_line rest))))
+    (sym short)
 
 -- ---- lines, one after another
 

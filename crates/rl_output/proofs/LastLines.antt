@@ -19,36 +19,38 @@ pub record LinesLeft (lines left : List ℕ) (count wanted : ℕ) : Type 0 where
   pub lines_are : lines ≡ left ++ back
   pub counted : ends_among back + wanted ≡ count
 
+-- after lines a text is cut at a character
+pub cut_after_lines : (text front back : List ℕ) → IsUtf8 text → text ≡ front ++ back → AreWholeLines front
+    → IsCharBoundary text (length front)
+cut_after_lines text front back utf8 cut (inl none) =
+    subst (IsCharBoundary text) (sym (ap length none)) (IsCharBoundary-start text utf8)
+cut_after_lines text front back utf8 cut (inr (others, is)) =
+    let front_len : length front ≡ length others + 1 = ap length is ∙ length-append others (10 ∷ []) in
+    let text_is : text ≡ others ++ (10 ∷ back) = cut
+    ∙ ap (λ (z : List ℕ). z ++ back) is ∙ append_assoc others (10 ∷ []) back in
+    let less : length others < length text = omega (
+      arith,
+      ap length text_is,
+      length-append others (10 ∷ back),
+      add-one (length back),
+    ) in
+    let byte : get_or text (length others) 0 ≡ 10 = ap (λ (z : List ℕ). get_or z (length others) 0) text_is
+    ∙ get_or-append_seam others 10 back 0 in
+    subst (IsCharBoundary text) (sym front_len)
+    (IsCharBoundary-after_ascii text (length others) utf8 less (subst (λ (n : ℕ). n < 128) (sym byte) (lit< tt)))
+
 -- so the bytes are cut at a character
 pub lines_cut : (lines : List ℕ) (count at : ℕ) → IsUtf8 lines → at ≤ length lines
     → AreLastLines count lines (drop at lines) → IsCharBoundary lines at
-lines_cut lines count at utf8 within last = go last.cut
-  where
-    long : length last.front ≡ at
-    long = omega (
+lines_cut lines count at utf8 within last =
+    let long : length last.front ≡ at = omega (
       arith,
       within,
       ap length last.lines_are,
       length-append last.front (drop at lines),
       length-drop at lines,
-    )
-
-    go : AreWholeLines last.front → IsCharBoundary lines at
-    go (inl none) = subst (IsCharBoundary lines) (sym (ap length none) ∙ long) (IsCharBoundary-start lines utf8)
-    go (inr (others, is)) =
-        let front_len : length last.front ≡ length others + 1 = ap length is ∙ length-append others (10 ∷ []) in
-        let lines_are : lines ≡ others ++ (10 ∷ drop at lines) = last.lines_are
-        ∙ ap (λ (z : List ℕ). z ++ drop at lines) is ∙ append_assoc others (10 ∷ []) (drop at lines) in
-        let less : length others < length lines = omega (
-          arith,
-          ap length lines_are,
-          length-append others (10 ∷ drop at lines),
-          add-one (length (drop at lines)),
-        ) in
-        let byte : get_or lines (length others) 0 ≡ 10 = ap (λ (z : List ℕ). get_or z (length others) 0) lines_are
-        ∙ get_or-append_seam others 10 (drop at lines) 0 in
-        subst (IsCharBoundary lines) (sym front_len ∙ long)
-        (IsCharBoundary-after_ascii lines (length others) utf8 less (subst (λ (n : ℕ). n < 128) (sym byte) (lit< tt)))
+    ) in
+    subst (IsCharBoundary lines) long (cut_after_lines lines last.front (drop at lines) utf8 last.lines_are last.cut)
 
 -- lines in characters are lines in bytes
 pub whole_lines : (lines : List ℕ) → IsUtf8 lines

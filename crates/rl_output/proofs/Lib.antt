@@ -6,3 +6,4 @@ pub mod JsonStringLemmas
 pub mod GithubLemmas
 pub mod ContextLemmas
 pub mod LastLines
+mod SpotLines

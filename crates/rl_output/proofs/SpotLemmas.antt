@@ -17,10 +17,11 @@ pub taken_before : (text seen : List ℕ) (at : ℕ) (r : List ℕ) → seen ≡
     → r ≡ bytes_before (chars seen) at
 taken_before text seen at r same u is =
     let whole : at - 0 ≡ at = omega (arith) in
-    let bytes : encode_utf8_all (chars seen) ≡ text = ap (λ (z : List ℕ). encode_utf8_all (chars z)) same ∙ encodes-chars text u in
+    let bytes : encode_utf8_all (chars seen) ≡ text = ap (λ (z : List ℕ). encode_utf8_all (chars z)) same
+    ∙ encodes-chars text u in
     is ∙ ap (λ (n : ℕ). take n text) whole ∙ ap (λ (z : List ℕ). take at z) (sym bytes)
 
-spot_after-append : (p : Spot) (xs ys : List ℕ) → spot_after p (xs ++ ys) ≡ spot_after (spot_after p xs) ys
+pub spot_after-append : (p : Spot) (xs ys : List ℕ) → spot_after p (xs ++ ys) ≡ spot_after (spot_after p xs) ys
 spot_after-append p [] ys = refl
 spot_after-append p (x ∷ xs) ys = spot_after-append (next_spot p x) xs ys
 

@@ -113,7 +113,8 @@ shown_lines zero text = []
 shown_lines (suc count) [] = []
 shown_lines (suc count) (c ∷ cs) = shown_line (c ∷ cs) ++ shown_lines count (after_first_line (c ∷ cs))
 
--- what is shown of a place: its line, between first ones of these, which stand before it, and of those after it; where it is too
+-- what is shown of a place: its line, between first ones of these, which stand before it, and of those after it; where
+-- it is too
 -- long that alone
 abbrev pub context_lines : ℕ → ℕ → List ℕ → List ℕ → List ℕ → ℕ → List ℕ
 context_lines above below lines before rest bytes = cond (is_long (before ++ first_line rest)) left_out

@@ -5,7 +5,6 @@ use Rattle.std.specs.Str.{chars}
 use Rattle.rl_text.specs.Texts.{byte_len}
 use Rattle.rl_lexer.specs.Cursors.{IsCursorState}
 use Rattle.rl_lexer.specs.Sources.{without_mark}
-use Rattle.rl_output.specs.declared.spot.Count.{Count}
 use Rattle.rl_output.specs.declared.spot.Extent.{Extent}
 use Rattle.rl_output.specs.declared.spot.Spot.{Spot}
 
@@ -60,13 +59,3 @@ pub record IsSpotOf (text rest : List ℕ) (spot : Spot) : Type 0 where
   pub line_fits : spot.line + length rest ≤ length text + 1
   pub column_fits : spot.column + length rest ≤ length text + 1
   pub bytes_fit : spot.byte_column + length rest ≤ length text + 1
-
--- How it is counted: with a character more, after which so many bytes are left.
-abbrev pub next_count : Count → ℕ → ℕ → Count
-next_count at c left =
-    if c == code "\n" then (record { line = at.line + 1; column = 1; base = 1; from = left })
-    else (record { line = at.line; column = at.column + 1; base = at.base; from = at.from })
-
--- the place where so many bytes are left
-abbrev pub counted_spot : Count → ℕ → Spot
-counted_spot at left = record { line = at.line; column = at.column; byte_column = at.base + (at.from - left) }

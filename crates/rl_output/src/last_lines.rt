@@ -1,10 +1,32 @@
-//! The last of some lines.
+//! How many lines there are, and the last of them.
 
-ghost use Rattle.std.specs.Prelude.{◌≤◌, drop, length};
-ghost use Rattle.rl_output.specs.Contexts.{AreLastLines, AreWholeLines, IsThroughEnd};
+ghost use Rattle.std.specs.Prelude.{◌≡◌, ◌≤◌, drop, length};
+ghost use Rattle.rl_output.specs.Contexts.{AreLastLines, AreWholeLines, IsThroughEnd, ends_among};
+
+/// How many LFs are among so few bytes that the count fits a byte, which is what lets the compiler count sixteen at once.
+fn ends_in(block: &[u8]) -> u8
+    requires short { length block.now ≤ 255 }
+    ensures { result ≡ ends_among block.now }
+{
+    block.iter().map(|byte| (*byte == b'\n') as u8).sum()
+}
+
+/// How many LFs are among bytes: of whole lines how many there are.
+pub fn count_ends(bytes: &[u8]) -> usize
+    ensures { result ≡ ends_among bytes.now }
+{
+    let mut ends = 0;
+    let mut rest = bytes;
+    while rest.len() > 255 {
+        let (block, after) = rest.split_at(255);
+        ends += ends_in(block) as usize;
+        rest = after;
+    }
+    ends + ends_in(rest) as usize
+}
 
 /// The bytes through the last LF among them.
-fn through_end(bytes: &[u8]) -> &[u8]
+pub(crate) fn through_end(bytes: &[u8]) -> &[u8]
     ensures cut { IsThroughEnd bytes.now result.now }
     ensures within { length result.now ≤ length bytes.now }
 {

@@ -19,6 +19,7 @@ pub use crate::error_id::id_of;
 pub use crate::form::{Form, has_extents, is_github, is_json};
 pub use crate::github::{Level, push_annotation_end, push_data};
 pub use crate::json_string::{json_strings_stand, push_json_string};
+pub use crate::last_lines::count_ends;
 pub use crate::member::{push_ascii, push_member};
 pub use crate::place::{Place, push_front};
 pub use crate::spot::{Extent, Places, Spot};

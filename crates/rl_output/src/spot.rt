@@ -5,10 +5,10 @@ ghost use Rattle.std.specs.Str.{chars, IsCharBoundary, IsUtf8};
 ghost use Rattle.rl_lexer.specs.Cursors.{IsCursorState};
 ghost use Rattle.rl_lexer.specs.Sources.{without_mark as unmarked};
 ghost use Rattle.rl_text.specs.Texts.{IsTail};
-ghost use Rattle.rl_output.specs.Contexts.{HasLinesBefore, IsBeforeInLine};
-ghost use Rattle.rl_output.specs.Spots.{bytes_before, next_spot, spot_after, next_count, covered, IsExtentOf, IsSpotOf};
+ghost use Rattle.rl_output.specs.Contexts.{AreWholeLines, HasLinesBefore, IsBeforeInLine, ends_among};
+ghost use Rattle.rl_output.specs.Spots.{bytes_before, spot_after, covered, IsExtentOf, IsSpotOf};
 
-use crate::last_lines::last_lines;
+use crate::last_lines::{count_ends, last_lines, through_end};
 use rl_lexer::without_mark;
 use rl_text::text::{before, split_char};
 use std::marker::Model;
@@ -45,40 +45,44 @@ const FIRST: Spot = Spot {
     byte_column: 1,
 };
 
-/// What is counted from a place on: the line, the column in characters, and the column in bytes where so many bytes are left of what is
-/// gone over.
-#[derive(Clone, Copy)]
-struct Count {
-    line: usize,
-    column: usize,
-    base: usize,
-    from: usize,
-}
-
-/// What is counted with a character more, after which so many bytes are left.
-#[inline(always)]
-fn next_count(at: Count, c: char, left: usize) -> Count
-    requires line { at.line + 1 < 2 ^ 64 }
-    requires column { at.column + 1 < 2 ^ 64 }
-    ensures { result ≡ next_count at c left }
+/// The place after some lines, each with its LF, of which the first begins at a place or goes on there.
+fn after_lines(spot: Spot, lines: &[u8]) -> Spot
+    requires lines { AreWholeLines lines.now }
+    requires text { IsUtf8 lines.now }
+    requires line { spot.line + length lines.now < 2 ^ 64 }
+    ensures spot { result ≡ spot_after spot (chars lines.now) }
+    ensures line { result.line ≤ spot.line + length lines.now }
+    ensures column { result.column ≤ spot.column + length lines.now }
+    ensures bytes { result.byte_column ≤ spot.byte_column + length lines.now }
 {
-    if c == '\n' {
-        return Count {
-            line: at.line + 1,
-            column: 1,
-            base: 1,
-            from: left,
-        };
+    if lines.is_empty() {
+        return spot;
     }
-    Count {
-        line: at.line,
-        column: at.column + 1,
-        base: at.base,
-        from: at.from,
+    Spot {
+        line: spot.line + count_ends(lines),
+        column: 1,
+        byte_column: 1,
     }
 }
 
-/// The place after a text that begins at a place. Bytes are counted from line to line.
+/// The place after what stands in one line from a place on.
+fn within_line(spot: Spot, inside: &str) -> Spot
+    requires inside { ends_among inside.now ≡ 0 }
+    requires column { spot.column + length inside.now < 2 ^ 64 }
+    requires bytes { spot.byte_column + length inside.now < 2 ^ 64 }
+    ensures spot { result ≡ spot_after spot (chars inside.now) }
+    ensures line { result.line ≡ spot.line }
+    ensures column { result.column ≤ spot.column + length inside.now }
+    ensures bytes { result.byte_column ≡ spot.byte_column + length inside.now }
+{
+    Spot {
+        line: spot.line,
+        column: spot.column + inside.chars().count(),
+        byte_column: spot.byte_column + inside.len(),
+    }
+}
+
+/// The place after a text that begins at a place. LFs are counted, and characters in the last line alone.
 fn spot_after(spot: Spot, text: &str) -> Spot
     requires line { spot.line + length text.now < 2 ^ 64 }
     requires column { spot.column + length text.now < 2 ^ 64 }
@@ -88,22 +92,9 @@ fn spot_after(spot: Spot, text: &str) -> Spot
     ensures column { result.column ≤ spot.column + length text.now }
     ensures bytes { result.byte_column ≤ spot.byte_column + length text.now }
 {
-    let mut at = Count {
-        line: spot.line,
-        column: spot.column,
-        base: spot.byte_column,
-        from: text.len(),
-    };
-    let mut rest = text;
-    while let Some((c, after)) = split_char(rest) {
-        at = next_count(at, c, after.len());
-        rest = after;
-    }
-    Spot {
-        line: at.line,
-        column: at.column,
-        byte_column: at.base + at.from,
-    }
+    let lines = through_end(text.as_bytes());
+    let next = after_lines(spot, lines);
+    within_line(next, &text[lines.len()..])
 }
 
 /// What has columns of a text that is passed: at the front of the whole, not a byte order mark.

@@ -12,15 +12,16 @@ use Rattle.rl_styles.specs.Styles.{SaysStyle}
 use Rattle.rl_reports.specs.declared.rules.RulesError.{RulesError}
 use Rattle.rl_reports.specs.declared.rules.RulesError.TheVariants as rules
 use Rattle.rl_reports.specs.Listed.{IsUnmarked}
-use Rattle.rl_reports.specs.Reports.{IsNotUtf8, IsReadError, line_count}
+use Rattle.rl_output.specs.Contexts.{ends_among}
+use Rattle.rl_reports.specs.Reports.{IsNotUtf8, IsReadError}
 use Rattle.rl_reports.specs.Rules.{HasNoRules, HasRules, IsNoStyle, line_of}
 
 -- a line is counted over what stands before
-pub line_is : (text : List ℕ) (at : ℕ) → line_count (take (min at (length text)) text) + 1 ≡ line_of text at
-line_is text at = ap (λ front. line_count front + 1) (take_min at text)
+pub line_is : (text : List ℕ) (at : ℕ) → ends_among (take (min at (length text)) text) + 1 ≡ line_of text at
+line_is text at = ap (λ front. ends_among front + 1) (take_min at text)
 
 -- there are no more lines than bytes
-pub lines_within : (bytes : List ℕ) → line_count bytes ≤ length bytes
+pub lines_within : (bytes : List ℕ) → ends_among bytes ≤ length bytes
 lines_within bytes = count_by-le-length _ bytes
 
 -- a text says them

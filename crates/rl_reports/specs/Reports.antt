@@ -5,7 +5,6 @@ use Rattle.std.specs.Prelude.{◌≡◌, ◌⊎◌, ℕ, ◌==◌, Bool, true, f
 use denote.Ref.{Bor}
 use Rattle.std.specs.declared.result.Result.TheVariants.{Ok, Err}
 use Rattle.std.specs.Fmt.{decimal}
-use Rattle.std.specs.List.{count_by}
 use Rattle.std.specs.Str.{chars, bytes_eq, IsUtf8, IsValidUpTo}
 use Rattle.rl_files.specs.Replacements.{Replacement}
 use Rattle.rl_files.specs.Trees.{World}
@@ -21,6 +20,7 @@ use Rattle.rl_reports.specs.declared.command.PlaceForm.{PlaceForm}
 use Rattle.rl_reports.specs.declared.command.PlaceForm.TheVariants as form
 use Rattle.rl_reports.specs.declared.command.Output.{Output}
 use Rattle.rl_reports.specs.declared.command.Output.TheVariants as output
+use Rattle.rl_output.specs.Contexts.{ends_among}
 use Rattle.rl_output.specs.declared.color.Paint.TheVariants as paint
 use Rattle.rl_output.specs.declared.form.Form.{Form}
 use Rattle.rl_output.specs.declared.form.Form.TheVariants.{Plain}
@@ -137,10 +137,6 @@ error_text by_line shown None = []
 error_text by_line shown (Some (place, kind)) =
     line_front Plain shown (worded_place by_line place) ++ error_end Plain kind []
 
--- how many lines there are
-abbrev pub line_count : List ℕ → ℕ
-line_count lines = count_by (λ b. b == 10) lines
-
 -- what stands after a path with no place: NUL where that is asked for, else this
 abbrev pub after_path : Bool → List ℕ → List ℕ
 after_path nul usual = cond nul (0 ∷ []) usual
@@ -158,7 +154,7 @@ path_line nul form (Some path) = painted form paint.Path path.now ++ after_path 
 abbrev pub printed_of : Output → Bool → Form → Option (Bor (List ℕ)) → List ℕ → List ℕ
 printed_of output.Lines nul form path lines = lines
 printed_of output.Count nul form path lines =
-    cond (length lines == 0) [] (count_line nul form path (line_count lines))
+    cond (length lines == 0) [] (count_line nul form path (ends_among lines))
 printed_of output.Path nul form path lines = cond (length lines == 0) [] (path_line nul form path)
 printed_of output.Nothing nul form path lines = []
 
@@ -206,7 +202,7 @@ AreBareLines options text lines bare = MatchOption options.context (bare ≡ lin
 -- how many findings there are in a text: as many as lines without those of context
 abbrev pub IsCount : Options → List ℕ → List ℕ → ℕ → Type 0
 IsCount options text lines count =
-    (bare : List ℕ) × AreBareLines options text lines bare × (count ≡ line_count bare)
+    (bare : List ℕ) × AreBareLines options text lines bare × (count ≡ ends_among bare)
 
 -- they are counted where that is asked for
 abbrev pub IsAskedCount : Bool → Options → List ℕ → List ℕ → ℕ → Type 0

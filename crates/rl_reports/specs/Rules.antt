@@ -17,7 +17,8 @@ use Rattle.rl_reports.specs.declared.rules.RulesError.{RulesError}
 use Rattle.rl_reports.specs.declared.rules.RulesError.TheVariants as rules
 use Rattle.rl_reports.specs.Listed.{IsUnmarked}
 use Rattle.rl_reports.specs.Meant.{IsNearest, rule_list}
-use Rattle.rl_reports.specs.Reports.{IsReadError, line_count}
+use Rattle.rl_output.specs.Contexts.{ends_among}
+use Rattle.rl_reports.specs.Reports.{IsReadError}
 
 -- the file says these rules, after a byte order mark or none
 abbrev pub HasRules : World → List ℕ → Style → Type 0
@@ -26,7 +27,7 @@ HasRules w file style =
 
 -- the line, from 1, in which a byte of a text stands
 abbrev pub line_of : List ℕ → ℕ → ℕ
-line_of text at = line_count (take at text) + 1
+line_of text at = ends_among (take at text) + 1
 
 -- the name as it is printed, where one stands there
 abbrev pub IsShownName : {A : Type 0} → Option (Bor (List ℕ)) → Option (String A) → Type 0

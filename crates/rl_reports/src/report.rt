@@ -6,11 +6,12 @@ ghost use Rattle.rl_files.specs.Visible.{visible};
 ghost use Rattle.rl_files.specs.declared.tree.PathError.{PathError};
 ghost use Rattle.rl_output.specs.Fronts.{line_front};
 ghost use Rattle.rl_sources.specs.Scans.{error_end};
-ghost use Rattle.rl_reports.specs.Reports.{is_input as input, is_by_line as by_line, is_bad as bad, is_alarm as alarm, asks_context as asks, context_of as context, edition_read, side_lines as on_side, IsShownPath, IsPathIn, IsListReport, IsOptionsFor, IsScannedAs, worded_place as as_words, error_text, after_path as path_end, line_count, count_line, listed_of, path_line, printed_of, in_report, IsTextReport, IsErrorReport};
+ghost use Rattle.rl_reports.specs.Reports.{is_input as input, is_by_line as by_line, is_bad as bad, is_alarm as alarm, asks_context as asks, context_of as context, edition_read, side_lines as on_side, IsShownPath, IsPathIn, IsListReport, IsOptionsFor, IsScannedAs, worded_place as as_words, error_text, after_path as path_end, count_line, listed_of, path_line, printed_of, in_report, IsTextReport, IsErrorReport};
 
 use crate::command::{Command, Output, PlaceForm};
 use crate::stats::asked_count;
 use rl_files::{PathError, push_visible};
+use rl_output::count_ends;
 use rl_sources::{
     Context, Edition, Form, Options, Paint, Place, ScanError, Shown, is_json, push_painted,
     push_source_error, scan,
@@ -220,13 +221,6 @@ fn error_line<A: Allocator + Copy>(
     }
 }
 
-/// How many lines there are.
-pub(crate) fn count_lines(lines: &[u8]) -> usize
-    ensures { result ≡ line_count lines.now }
-{
-    lines.iter().filter(|byte| **byte == b'\n').count()
-}
-
 /// What stands after a path with no place: NUL where that is asked for, else this.
 fn after_path(nul: bool, usual: &str) -> &str
     ensures { result.now ≡ path_end nul usual.now }
@@ -286,7 +280,7 @@ pub(crate) fn written<A: Allocator + Copy>(
     match output {
         Output::Lines => return Ok(lines),
         Output::Count => {
-            push_count_line(&mut line, nul, form, path, count_lines(lines.as_slice()))?
+            push_count_line(&mut line, nul, form, path, count_ends(lines.as_slice()))?
         }
         Output::Path => push_path_line(&mut line, nul, form, path)?,
         Output::Nothing => {}

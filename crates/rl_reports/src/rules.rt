@@ -5,9 +5,10 @@ ghost use Rattle.rl_styles.specs.Styles.{RejectsStyle, SaysStyle};
 ghost use Rattle.rl_reports.specs.Rules.{HasNoRules, HasRules, IsNearName, IsNoStyle, IsRuleMeant, IsShownName, IsLineError, line_of};
 
 use crate::meant::near_rule;
-use crate::report::{count_lines, visible_text};
+use crate::report::visible_text;
 use rl_files::{PathError, Tree};
 use rl_lexer::without_mark;
+use rl_output::count_ends;
 use rl_style::Style;
 use rl_styles::{StyleError, StyleErrorKind, style_of};
 use std::alloc::{AllocError, Allocator, Global};
@@ -60,7 +61,7 @@ fn line_at(text: &str, at: usize) -> usize
     ensures { result ≡ line_of text.now at }
 {
     let before = &text.as_bytes()[..at.min(text.len())];
-    count_lines(before) + 1
+    count_ends(before) + 1
 }
 
 /// The first rule that a name may stand for, where one stands there.

@@ -7,9 +7,10 @@ ghost use Rattle.rl_reports.specs.Reports.{IsAskedCount, IsCount};
 ghost use Rattle.rl_reports.specs.Stats.{shown_stats, stats_lines, stats_object, stats_text};
 
 use crate::command::Command;
-use crate::report::{count_lines, scan_text};
+use crate::report::scan_text;
 use crate::runs::{RunStop, Tally};
 use rl_files::WalkError;
+use rl_output::count_ends;
 use rl_program::write_bytes;
 use rl_sources::{Form, Options, is_json};
 use std::alloc::{AllocError, Allocator};
@@ -25,12 +26,12 @@ fn count_findings<A: Allocator + Copy>(
     ensures { IfOk result (IsCount options.entry text.now lines.now) }
 {
     match options.context {
-        None => Ok(count_lines(lines)),
+        None => Ok(count_ends(lines)),
         Some(_) => {
             let mut bare = options;
             bare.context = None;
             let scanned = scan_text(alloc, bare, text)?;
-            Ok(count_lines(scanned.lines.as_slice()))
+            Ok(count_ends(scanned.lines.as_slice()))
         }
     }
 }

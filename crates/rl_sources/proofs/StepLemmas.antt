@@ -1,5 +1,5 @@
 -- What is appended for one token.
-use Rattle.rl_reading.proofs.Names.{HasNoReading, HasReading, Kind}
+use Rattle.rl_reading.proofs.Names.{Float, HasNoReading, HasReading, Kind}
 use Rattle.rl_text.proofs.Common.{Bool, Bor, false, ◌==◌, IsUtf8, List, None, Option, Some, [], ap, append_assoc, arith, chars, chars-nil, inl, inr, nat_tests, refl, subst, sym, true, ℕ, ◌++◌, ◌&&◌, ◌∙◌, ◌∷◌, ◌≡◌, ◌⊎◌, IsCharBoundary, and_parts, codes, list_all, length, take, drop, ◌+◌, chars_from_encodes, encodes-append, encodes-chars, length-append, take-append_seam}
 use Rattle.std.proofs.lemmas.List.{append-nil}
 use Rattle.std.proofs.lemmas.Str.{IsCharBoundary-from_drop}
@@ -168,6 +168,13 @@ pub type_after : (before text : List ℕ) (f : Found) (o : Option Found) (negate
 type_after before text f o negated r is same h =
     subst (λ (z : Option Found). IfNone r (HasFoundType before text z)) (sym is)
     (subst (λ (n : Bool). IfNone r (HasType f.kind (chars text) f.magnitude n (suffix_in text f.body))) same h)
+
+pub type_alone : (before text : List ℕ) (f : Found) (o : Option Found) (alone : Bool) → o ≡ Some f
+    → (IsTrue alone ↔ (f.kind ≡ Float → ⊥) × (suffix_in text f.body ≡ [])) → alone ≡ true
+    → HasFoundType before text o
+type_alone before text f o alone is says yes_alone =
+    let found : (f.kind ≡ Float → ⊥) × (suffix_in text f.body ≡ []) = says.0 yes_alone in
+    subst (λ (z : Option Found). HasFoundType before text z) (sym is) (inl (found.0, found.1))
 
 -- what is right isn't bad
 no_flaw_found : (text : List ℕ) (flaw : Flaw) → FindsNoFlaw text → FindsFlaw text flaw → ⊥

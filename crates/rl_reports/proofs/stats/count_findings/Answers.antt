@@ -5,5 +5,5 @@ pub returns-in-None : goal.returns-in-None
 returns-in-None g c = (
   c.args.lines.now,
   bare_lines c.args.options c.args.text.now c.args.lines.now c.in-None.is,
-  c.count_lines.ensures,
+  c.count_ends.ensures,
 )

@@ -1,8 +1,25 @@
 // Rendered from crates/rl_output/src/last_lines.rt by tools/render, which erases contracts: change that file, and render anew.
-//! The last of some lines.
+//! How many lines there are, and the last of them.
+
+/// How many LFs are among so few bytes that the count fits a byte, which is what lets the compiler count sixteen at once.
+fn ends_in(block: &[u8]) -> u8 {
+    block.iter().map(|byte| (*byte == b'\n') as u8).sum()
+}
+
+/// How many LFs are among bytes: of whole lines how many there are.
+pub fn count_ends(bytes: &[u8]) -> usize {
+    let mut ends = 0;
+    let mut rest = bytes;
+    while rest.len() > 255 {
+        let (block, after) = rest.split_at(255);
+        ends += ends_in(block) as usize;
+        rest = after;
+    }
+    ends + ends_in(rest) as usize
+}
 
 /// The bytes through the last LF among them.
-fn through_end(bytes: &[u8]) -> &[u8] {
+pub(crate) fn through_end(bytes: &[u8]) -> &[u8] {
     let mut left = bytes;
     while let [rest @ .., byte] = left {
         if *byte == b'\n' {

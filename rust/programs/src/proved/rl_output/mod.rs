@@ -19,6 +19,7 @@ pub use crate::rl_output::error_id::id_of;
 pub use crate::rl_output::form::{Form, has_extents, is_github, is_json};
 pub use crate::rl_output::github::{Level, push_annotation_end, push_data};
 pub use crate::rl_output::json_string::{json_strings_stand, push_json_string};
+pub use crate::rl_output::last_lines::count_ends;
 pub use crate::rl_output::member::{push_ascii, push_member};
 pub use crate::rl_output::place::{Place, push_front};
 pub use crate::rl_output::spot::{Extent, Places, Spot};

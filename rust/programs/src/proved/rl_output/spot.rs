@@ -1,7 +1,7 @@
 // Rendered from crates/rl_output/src/spot.rt by tools/render, which erases contracts: change that file, and render anew.
 //! Lines and columns of places in a text, a column in characters and in bytes.
 
-use crate::rl_output::last_lines::last_lines;
+use crate::rl_output::last_lines::{count_ends, last_lines, through_end};
 use crate::rl_lexer::without_mark;
 use crate::rl_text::text::{before, split_char};
 
@@ -37,53 +37,32 @@ const FIRST: Spot = Spot {
     byte_column: 1,
 };
 
-/// What is counted from a place on: the line, the column in characters, and the column in bytes where so many bytes are left of what is
-/// gone over.
-#[derive(Clone, Copy)]
-struct Count {
-    line: usize,
-    column: usize,
-    base: usize,
-    from: usize,
-}
-
-/// What is counted with a character more, after which so many bytes are left.
-#[inline(always)]
-fn next_count(at: Count, c: char, left: usize) -> Count {
-    if c == '\n' {
-        return Count {
-            line: at.line + 1,
-            column: 1,
-            base: 1,
-            from: left,
-        };
-    }
-    Count {
-        line: at.line,
-        column: at.column + 1,
-        base: at.base,
-        from: at.from,
-    }
-}
-
-/// The place after a text that begins at a place. Bytes are counted from line to line.
-fn spot_after(spot: Spot, text: &str) -> Spot {
-    let mut at = Count {
-        line: spot.line,
-        column: spot.column,
-        base: spot.byte_column,
-        from: text.len(),
-    };
-    let mut rest = text;
-    while let Some((c, after)) = split_char(rest) {
-        at = next_count(at, c, after.len());
-        rest = after;
+/// The place after some lines, each with its LF, of which the first begins at a place or goes on there.
+fn after_lines(spot: Spot, lines: &[u8]) -> Spot {
+    if lines.is_empty() {
+        return spot;
     }
     Spot {
-        line: at.line,
-        column: at.column,
-        byte_column: at.base + at.from,
+        line: spot.line + count_ends(lines),
+        column: 1,
+        byte_column: 1,
     }
+}
+
+/// The place after what stands in one line from a place on.
+fn within_line(spot: Spot, inside: &str) -> Spot {
+    Spot {
+        line: spot.line,
+        column: spot.column + inside.chars().count(),
+        byte_column: spot.byte_column + inside.len(),
+    }
+}
+
+/// The place after a text that begins at a place. LFs are counted, and characters in the last line alone.
+fn spot_after(spot: Spot, text: &str) -> Spot {
+    let lines = through_end(text.as_bytes());
+    let next = after_lines(spot, lines);
+    within_line(next, &text[lines.len()..])
 }
 
 /// What has columns of a text that is passed: at the front of the whole, not a byte order mark.

@@ -5,6 +5,7 @@ use crate::rattle_std::prelude::{String, Vec};
 use crate::rl_reports::command::{Command, Output, PlaceForm};
 use crate::rl_reports::stats::asked_count;
 use crate::rl_files::{PathError, push_visible};
+use crate::rl_output::count_ends;
 use crate::rl_sources::{
     Context, Edition, Form, Options, Paint, Place, ScanError, Shown, is_json, push_painted,
     push_source_error, scan,
@@ -178,11 +179,6 @@ fn error_line<A: Allocator + Copy>(
     }
 }
 
-/// How many lines there are.
-pub(crate) fn count_lines(lines: &[u8]) -> usize {
-    lines.iter().filter(|byte| **byte == b'\n').count()
-}
-
 /// What stands after a path with no place: NUL where that is asked for, else this.
 fn after_path(nul: bool, usual: &str) -> &str {
     if nul { "\0" } else { usual }
@@ -234,7 +230,7 @@ pub(crate) fn written<A: Allocator + Copy>(
     match output {
         Output::Lines => return Ok(lines),
         Output::Count => {
-            push_count_line(&mut line, nul, form, path, count_lines(lines.as_slice()))?
+            push_count_line(&mut line, nul, form, path, count_ends(lines.as_slice()))?
         }
         Output::Path => push_path_line(&mut line, nul, form, path)?,
         Output::Nothing => {}

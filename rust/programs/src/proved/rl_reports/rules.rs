@@ -3,9 +3,10 @@
 
 use crate::rattle_std::prelude::{String};
 use crate::rl_reports::meant::near_rule;
-use crate::rl_reports::report::{count_lines, visible_text};
+use crate::rl_reports::report::visible_text;
 use crate::rl_files::{PathError, Tree};
 use crate::rl_lexer::without_mark;
+use crate::rl_output::count_ends;
 use crate::rl_style::Style;
 use crate::rl_styles::{StyleError, StyleErrorKind, style_of};
 use crate::rattle_std::alloc::{AllocError, Allocator, Global};
@@ -48,7 +49,7 @@ pub(crate) enum RulesError<A: Allocator = Global> {
 /// The line, from 1, in which a byte of a text stands.
 fn line_at(text: &str, at: usize) -> usize {
     let before = &text.as_bytes()[..at.min(text.len())];
-    count_lines(before) + 1
+    count_ends(before) + 1
 }
 
 /// The first rule that a name may stand for, where one stands there.

@@ -3,9 +3,10 @@
 
 use crate::rattle_std::prelude::{String};
 use crate::rl_reports::command::Command;
-use crate::rl_reports::report::{count_lines, scan_text};
+use crate::rl_reports::report::scan_text;
 use crate::rl_reports::runs::{RunStop, Tally};
 use crate::rl_files::WalkError;
+use crate::rl_output::count_ends;
 use crate::rl_program::write_bytes;
 use crate::rl_sources::{Form, Options, is_json};
 use crate::rattle_std::alloc::{AllocError, Allocator};
@@ -19,12 +20,12 @@ fn count_findings<A: Allocator + Copy>(
     lines: &[u8],
 ) -> Result<usize, AllocError> {
     match options.context {
-        None => Ok(count_lines(lines)),
+        None => Ok(count_ends(lines)),
         Some(_) => {
             let mut bare = options;
             bare.context = None;
             let scanned = scan_text(alloc, bare, text)?;
-            Ok(count_lines(scanned.lines.as_slice()))
+            Ok(count_ends(scanned.lines.as_slice()))
         }
     }
 }

@@ -4,6 +4,7 @@
 use crate::rl_sources::finding::Wrong;
 use crate::rl_sources::options::{Options, Shown};
 use crate::rl_file_reasons::explain_value_in_file;
+use crate::rl_forms::Kind;
 use crate::rl_reading::Found;
 use crate::rl_types::{TypeError, may_be_negated, type_error};
 
@@ -12,9 +13,15 @@ fn looks_for_flaws(options: &Options<'_>) -> bool {
     options.explains || matches!(options.shown, Shown::Bad)
 }
 
-/// Why Rust has no type for a literal, of what reading it found and the text before it.
+/// Whether Rust has a type for a literal, whatever stands before it: it is no float, and has no suffix.
+fn has_type_alone(text: &str, found: &Found) -> bool {
+    !matches!(found.kind, Kind::Float) && found.suffix_in(text).is_empty()
+}
+
+/// Why Rust has no type for a literal, of what reading it found and the text before it. What stands before most isn't looked at.
 fn type_error_of(before: &str, text: &str, found: &Option<Found>) -> Option<TypeError> {
     match found {
+        Some(found) if has_type_alone(text, found) => None,
         Some(found) => type_error(text, found, may_be_negated(before)),
         None => None,
     }
