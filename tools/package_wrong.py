@@ -146,7 +146,7 @@ WRONG = [Wrong(*row) for row in [
      'a literal stands after itself'),
     ('restyle.rs', "rules: rules_after(before, old, style)", 'rules: rules_after("", old, style)',
      'rules are those of the literal alone'),
-    ('restyle.rs', "rules.filter(|rule| is_of(*rule))", "rules.filter(|rule| !is_of(*rule))",
+    ('restyle.rs', ".filter(|rule| is_of(*rule))", ".filter(|rule| !is_of(*rule))",
      'rules are those that change nothing'),
     ('restyle.rs', "literal.is_field || self.skips_macros && literal.in_macro", "literal.is_field || literal.in_macro",
      'what stands in macros is skipped unasked'),
