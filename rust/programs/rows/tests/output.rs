@@ -83,7 +83,10 @@ fn objects_of_flaws_in_long_literals() {
         } else {
             "null".to_string()
         };
-        assert!(shown.contains(&format!("\"text\":{text},\"id\":\"unknown-escape\"")), "{shown}");
+        assert!(
+            shown.contains(&format!("\"text\":{text},\"id\":\"unknown-escape\"")),
+            "{shown}"
+        );
         assert!(shown.contains("\"piece\":\"\\\\q\""), "{shown}");
     }
 }
