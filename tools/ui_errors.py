@@ -89,7 +89,8 @@ def scanned(options, path):
     """The bad literals that rl_scan reports in a file, and the place of the error of the source that it ends with, if it does."""
     literals = [tuple(map(int, LITERAL.fullmatch(row).groups())) for row in lines_of(options, path)]
     found, end = [], None
-    for row in lines_of(options, path, '--bad'):
+    # (types and reserved prefixes are held against rustc itself by bad_rustc.py and before_rustc.py)
+    for row in lines_of(options, path, '--bad', '--any-suffix', '--edition', '2018'):
         line, column, told = FLAW.fullmatch(row).groups()
         place = int(line), int(column)
         if LEFT_OPEN.match(told):
