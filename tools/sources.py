@@ -163,8 +163,9 @@ def in_bulk(options, datas):
 
 
 def line_places(data, lines):
-    """The lines with the place of each as a line and a column, from 1, counted in characters."""
-    out, line, begin, last = [], 1, 0, 0
+    """The lines with the place of each as a line and a column, from 1, counted in characters; a byte order mark at the front is none."""
+    mark = '\ufeff'.encode()
+    out, line, begin, last = [], 1, len(mark) if data.startswith(mark) else 0, 0
     for told in lines:
         placed = re.fullmatch(rb'(error at |)(\d+)\.\.\d+(.*)', told, re.S)
         if placed:
