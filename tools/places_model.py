@@ -3,10 +3,8 @@
 alone. It decodes unit by unit, shares nothing with the programs, and knows no fast way.
 
   tools/places_model.py --count N [--seed S]   writes an answer for each of N generated texts, one a line
-  tools/places_model.py --run --count N [--seed S] [--bulk PROGRAM | --proved]   compares the answers for N generated texts with
-                                               those of `rl_rows`, as Cargo builds it: see tools/programs.py
-  tools/places_model.py --rows < ANSWERS       the lines of input of `rl_rows` for these texts
-  tools/places_model.py --told < ANSWERS       what `rl_rows` has to print for them
+  tools/places_model.py --run LINES --count N [--seed S]   compares the answers for N generated texts with those of LINES, the
+                                               example `lines` of rust/, under `places`
   tools/places_model.py --compare FILE < ANSWERS   compares with answers of a program, one a line in the same order
 
 Of a comparison the last line is `N texts, M differences`, and the status is 0 where M is 0.
@@ -22,13 +20,13 @@ An answer is an object of JSON, in one line:
 
 Of a text that is no quoted literal `segments` and `places` are null."""
 import argparse
+import itertools
 import json
 import random
 import re
 import subprocess
 import sys
 
-import programs
 import texts
 
 HEX = '[0-9a-fA-F]'
@@ -213,56 +211,20 @@ def generated(seed, count):
             yield texts.random_raw(source)
 
 
-# ---- the lines of `rl_rows`
-
-def row(line):
-    """The line of input that asks `rl_rows` for the segments."""
-    return 'segments %s\n' % line['text']
-
-
-def told(line):
-    """What `rl_rows` prints for the row `segments`: the segments, the table, and each call up to one byte past the end."""
-    if line['segments'] is None:
-        return 'None\n'
-    forms = {'T': lambda value: 'T%d' % (len(value) // 2), 'N': lambda value: 'N'}
-    segments = ['%d..%d %s ' % (lo, hi, forms.get(form, lambda value: form + str(value))(value)) for lo, hi, form, value in line['segments']]
-    places = ['%d..%d ' % (lo, hi) for lo, hi in line['places']]
-    return ''.join(segments) + '\n' + ''.join(places) + '\n' + ''.join(places) + places[-1] + '\n'
+def answers_of(program, lines):
+    """What the example `lines` answers under `places` to each text."""
+    asked = ''.join('places %s\n' % line['text'] for line in lines)
+    return subprocess.run([program], input=asked, capture_output=True, text=True, check=True).stdout.splitlines()
 
 
-def by_rows(program, answers):
-    """What the program prints for each answer's text: a line where it is no quoted literal, else three."""
-    asked = ''.join(map(row, answers)).encode()
-    lines = subprocess.run([program], input=asked, stdout=subprocess.PIPE, check=True).stdout.decode().splitlines(keepends=True)
-    at = 0
-    for _ in answers:
-        end = at + (1 if lines[at:at + 1] == ['None\n'] else 3)
-        yield ''.join(lines[at:end])
-        at = end
-
-
-def compare_rows(program, answers):
-    differences = 0
-    for answer, theirs in zip(answers, by_rows(program, answers)):
-        if theirs != told(answer):
+def compare(theirs, lines):
+    count = differences = 0
+    for line, other in itertools.zip_longest(lines, theirs):
+        count += 1
+        if line is None or other is None or json.loads(other) != line:
             differences += 1
             if differences <= 20:
-                print('text %s\nmodel:\n%sother:\n%s' % (answer['text'], told(answer), theirs))
-    print('%d texts, %d differences' % (len(answers), differences))
-    return 1 if differences else 0
-
-
-def compare(path, lines):
-    count = differences = 0
-    with open(path) as answers:
-        for line in lines:
-            theirs = answers.readline()
-            count += 1
-            if not theirs or json.loads(theirs) != line:
-                differences += 1
-                if differences <= 20:
-                    print('model: %s\nother: %s' % (json.dumps(line), theirs.strip()))
-        differences += sum(1 for _ in answers)
+                print('model: %s\nother: %s' % (json.dumps(line), other))
     print('%d texts, %d differences' % (count, differences))
     return 1 if differences else 0
 
@@ -271,27 +233,19 @@ def main():
     parser = argparse.ArgumentParser(description=__doc__, formatter_class=argparse.RawDescriptionHelpFormatter)
     parser.add_argument('--count', type=int)
     parser.add_argument('--seed', type=int, default=1)
-    parser.add_argument('--run', action='store_true')
-    parser.add_argument('--bulk')
-    parser.add_argument('--proved', action='store_true')
-    parser.add_argument('--rows', action='store_true')
-    parser.add_argument('--told', action='store_true')
-    parser.add_argument('--compare')
+    parser.add_argument('--run', metavar='LINES')
+    parser.add_argument('--compare', metavar='FILE')
     options = parser.parse_args()
+    if options.count is None and not options.compare:
+        parser.error('--count N is missing')
     if options.run:
-        if options.count is None:
-            parser.error('--run needs --count N')
-        program = programs.chosen('rl_rows', options.bulk, options.proved)
-        return compare_rows(program, [answer(text) for text in generated(options.seed, options.count)])
-    if options.count is not None:
-        for text in generated(options.seed, options.count):
-            print(json.dumps(answer(text)))
-        return 0
-    lines = (json.loads(line) for line in sys.stdin)
+        lines = [answer(text) for text in generated(options.seed, options.count)]
+        return compare(answers_of(options.run, lines), lines)
     if options.compare:
-        return compare(options.compare, lines)
-    for line in lines:
-        sys.stdout.write(row(line) if options.rows else told(line))
+        with open(options.compare, encoding='utf-8') as answers:
+            return compare(answers, [json.loads(line) for line in sys.stdin])
+    for text in generated(options.seed, options.count):
+        print(json.dumps(answer(text)))
     return 0
 
 

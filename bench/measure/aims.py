@@ -7,14 +7,7 @@ from measure import text
 # on these corpora; None where there is no aim
 Aim = collections.namedtuple('Aim', 'work beside most but')
 AIMS = (
-    Aim('shape', 'litrs', 0.6, {'short strings': 0.85, 'floats': 0.85, 'characters': None}),
-    Aim('borrowed', 'litrs, borrowed', 1, {'characters': None}),
-    Aim('value', 'litrs', 1.5, {'characters': None}),
-    Aim('literal', 'syn', 1 / 3,
-        {'floats': 0.5, 'strings of escapes': 0.5, 'characters': None}),
     Aim('package', 'litrs', 1.0, {}),
-    Aim('lex', 'proc-macro2', 0.5, {}),
-    Aim('read', 'proc-macro2 and syn', 1 / 3, {}),
     Aim('rl_scan', 'proc-macro2', 1 / 3, {}),
 )
 

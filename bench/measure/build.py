@@ -7,7 +7,6 @@ import subprocess
 BENCH = os.path.dirname(os.path.dirname(os.path.abspath(__file__)))
 TOP = os.path.dirname(BENCH)
 DRIVER = os.path.join(BENCH, 'driver')
-CRATE = os.path.join(TOP, 'crates/rl_bench')
 BUILD = os.path.join(DRIVER, 'target')
 # rustc's own lexer, in Debian's rust-src; of what it depends on Debian has no `unic-emoji-char`
 LEXER = '/usr/src/rustc-*/compiler/rustc_lexer'
@@ -30,12 +29,6 @@ def output(command, **more):
     return subprocess.run(command, check=True, capture_output=True, text=True, **more).stdout
 
 
-def archives():
-    """The folders of the static libraries that the driver is linked with."""
-    kit = os.path.dirname(output(['rt', 'doc']).strip())
-    return os.pathsep.join([os.path.join(CRATE, 'out'), os.path.join(kit, 'c')])
-
-
 def dependencies(oracle):
     """The features of the driver that can be had here, each with what its manifest says of the dependency."""
     found = {}
@@ -50,10 +43,9 @@ def with_dependencies(lines):
     """A folder with the driver's sources and a manifest that names these dependencies too."""
     folder = os.path.join(BUILD, 'with_dependencies')
     os.makedirs(folder, exist_ok=True)
-    for name in ('src', 'build.rs'):
-        link = os.path.join(folder, name)
-        if not os.path.islink(link):
-            os.symlink(os.path.join(DRIVER, name), link)
+    link = os.path.join(folder, 'src')
+    if not os.path.islink(link):
+        os.symlink(os.path.join(DRIVER, 'src'), link)
     with open(os.path.join(DRIVER, 'Cargo.toml')) as manifest:
         text = manifest.read().replace('"../../rust"', '"%s"' % os.path.join(TOP, 'rust'))
     with open(os.path.join(folder, 'Cargo.toml'), 'w') as copy:
@@ -61,19 +53,14 @@ def with_dependencies(lines):
     return folder
 
 
-def driver(oracle, archives_too=True):
+def driver(oracle):
     """The path of the built driver, whose works have made the same sums where they have to."""
-    features, environment = dependencies(oracle), dict(os.environ)
+    features = dependencies(oracle)
     folder = with_dependencies(features.values()) if features else DRIVER
     command = ['cargo', 'build', '--release', '--offline', '--quiet', '--target-dir', BUILD]
     command += ['--manifest-path', os.path.join(folder, 'Cargo.toml')]
     command += ['--features', ','.join(features)] if features else []
-    if archives_too:
-        subprocess.run(['rt', 'lib', '--jobs', '2'], cwd=CRATE, check=True, stdout=subprocess.DEVNULL)
-        environment['RL_BENCH_ARCHIVES'] = archives()
-    else:
-        command += ['--no-default-features']
-    subprocess.run(command, cwd=DRIVER, check=True, env=environment)
+    subprocess.run(command, cwd=DRIVER, check=True)
     path = os.path.join(BUILD, 'release/driver')
     subprocess.run([path, 'check', str(CHECKED)], check=True)
     return path

@@ -2,16 +2,14 @@
 import os
 import sys
 
-from measure import build, counts
+from measure import build
 
-OURS = (
-    'package', 'shape', 'borrowed', 'value', 'literal', 'segments', 'tokens', 'lex', 'read', 'attr', 'source', 'next_literal', 'restylables', 'rl_scan')
+OURS = ('package', 'rl_scan')
 COLOURS = {True: '#2f6db3', False: '#d98a2b'}
-OF_SOURCES = ('source', 'next_literal', 'restylables', 'rl_scan')
+OF_SOURCES = ('rl_scan',)
 BESIDE = (
-    (('package', 'shape', 'borrowed', 'value', 'literal'), ('litrs, borrowed', 'litrs', 'syn')),
-    (('tokens', 'lex', 'read', 'attr'),
-     ("rustc's lexer", 'proc-macro2', 'proc-macro2 and syn', 'UTF-8')),
+    (('package',), ('litrs, borrowed', 'litrs', 'syn')),
+    ((), ("rustc's lexer", 'proc-macro2', 'proc-macro2 and syn', 'UTF-8')),
 )
 # nothing of the day or the machine goes into the files
 PLAIN = {'metadata': {'Software': None}, 'dpi': 100}
@@ -19,7 +17,7 @@ PLAIN = {'metadata': {'Software': None}, 'dpi': 100}
 
 def corpora(taken):
     """The corpora on which another library runs too."""
-    others = {corpus for corpus, work in taken if work not in OURS + ('value_ref',)}
+    others = {corpus for corpus, work in taken if work not in OURS}
     return [corpus for corpus in dict.fromkeys(corpus for corpus, _ in taken) if corpus in others]
 
 
@@ -60,31 +58,6 @@ def speed(pyplot, taken, path):
     figure.savefig(path, **PLAIN)
 
 
-def growth(pyplot, taken, path):
-    """Each of our works on every corpus, at each size. What grows as the text does is level."""
-    shared = {'sharex': True, 'sharey': True, 'layout': 'constrained'}
-    figure, grid = pyplot.subplots(2, 6, figsize=(16, 6), **shared)
-    style = {'color': COLOURS[True], 'alpha': 0.55, 'linewidth': 1.2}
-    style |= {'marker': 'o', 'markersize': 3}
-    panels = list(grid.flat)
-    for axes, name in zip(panels, OURS):
-        for (_, work), each in taken.items():
-            if work == name:
-                axes.plot(counts.SIZES, each, **style)
-        axes.set_xscale('log')
-        axes.set_yscale('log')
-        axes.set_xticks(counts.SIZES, ['1 MB', '100 KB', '10 KB'], minor=False)
-        axes.minorticks_off()
-        axes.set_yticks((0.1, 1, 10, 100, 1000), ('0.1', '1', '10', '100', '1000'))
-        axes.set_title(name, fontsize=10, loc='left')
-        axes.grid(color='#dddddd', linewidth=0.6)
-    for axes in panels[len(OURS):]:
-        axes.axis('off')
-    title = 'Instructions a byte by the size of the text, a line for each corpus; level is linear'
-    figure.suptitle(title, fontsize=12)
-    figure.savefig(path, **PLAIN)
-
-
 def speeds(pyplot, found, path):
     """The megabytes a second of whole sources, a bar each."""
     figure, axes = pyplot.subplots(figsize=(8, 0.5 + 0.42 * len(found)), layout='constrained')
@@ -112,7 +85,6 @@ def draw(taken, found):
     matplotlib.use('Agg')
     from matplotlib import pyplot
     speed(pyplot, taken, os.path.join(build.TOP, 'docs/speed.png'))
-    growth(pyplot, taken, os.path.join(build.TOP, 'docs/growth.png'))
     if found:
         speeds(pyplot, found, os.path.join(build.TOP, 'docs/rates.png'))
     return 0

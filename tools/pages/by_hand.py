@@ -37,15 +37,16 @@ def run_commands(tell):
 CALLS = {
     'read': ('rl_rows', 'read'), 'text': ('rl_rows', 'text'), 'attr': ('rl_tool', 'attr'),
     'explain': ('rl_rows', 'explain'), 'explain-value': ('rl_rows', 'explain-value'),
-    'LitInt::new': ('rl_rows', 'integer'), 'LitFloat::new': ('rl_rows', 'real'),
-    'LitStr::parse': ('rl_rows', 'inside'), 'read_number': ('rl_rows', 'settings'),
-    'read_config': ('rl_rows', 'config'),
-    'LitInt': ('rl_rows', 'LitInt'), 'LitStr': ('rl_rows', 'LitStr'),
+}
+# The others, by the table and heading of rust/programs/rows/tests/calls where the row has to stand.
+STORED = {
+    'LitInt::new': ('numbers', 'integer'), 'LitFloat::new': ('numbers', 'real'), 'LitStr::parse': ('parsers', 'inside'),
+    'read_number': ('uses', 'settings'), 'read_config': ('uses', 'config'), 'LitInt': ('parsers', 'LitInt'), 'LitStr': ('parsers', 'LitStr'),
 }
 # The kinds of flaws that `explain` doesn't return.
 OF_VALUES = ('NoNumber', 'TooLarge')
-# A call after each row of rl_rows, and the line that it prints.
-MARK, LINE = 'skipped', '===\n'
+# A command after each row of rl_rows, and the line that it prints.
+MARK, LINE = 'text', 'Verbatim "===" -\n'
 
 
 def text_of(cell):
@@ -62,7 +63,7 @@ def rows_of_errors():
         cells = [it.strip() for it in re.split(r'(?<!\\)\|', line)[1:-1]]
         yield from row_of_flaw(cells)
         called = re.fullmatch(r'`([^`]+)`: (.*)', cells[1]) if len(cells) == 4 else None
-        row = [called[1], text_of(called[2]), text_of(cells[2])] if called and called[1] in CALLS else [None]
+        row = [called[1], text_of(called[2]), text_of(cells[2])] if called and called[1] in {**CALLS, **STORED} else [None]
         if None not in row:
             yield row
 
@@ -83,10 +84,24 @@ def answers_of(crate, rows):
     return tried(crate, [], given.encode())[0].split(LINE)
 
 
+def stored_answer(call, text):
+    """What the table of a call has of a text; nothing where it has no such row."""
+    table, heading = STORED[call]
+    rows = re.split(r'^# (.+)\n', read(f'rust/programs/rows/tests/calls/{table}.rows'), flags=re.M)
+    for row in rows[rows.index(heading) + 1].split('\n\n'):
+        lines = row.strip('\n').split('\n')
+        if '\n'.join(line[2:] for line in lines if line.startswith('<')) == text:
+            return '\n'.join(line[2:] for line in lines if line.startswith('>'))
+    return ''
+
+
 def run_errors(tell):
     shown = list(rows_of_errors())
+    for call, text, message in shown:
+        if call in STORED and message not in stored_answer(call, text):
+            tell(f'docs/ERRORS.md: no row of rust/programs/rows/tests/calls has {message} for {call} of {text}')
     for crate in ('rl_rows', 'rl_tool'):
-        rows = [it for it in shown if CALLS[it[0]][0] == crate]
+        rows = [it for it in shown if it[0] in CALLS and CALLS[it[0]][0] == crate]
         answers = answers_of(crate, [(CALLS[call][1], text) for call, text, _ in rows])
         for (call, text, message), found in zip(rows, answers):
             print(f'{"as shown" if message in found else "OTHER"}: {call} {text[:60]}', flush=True)

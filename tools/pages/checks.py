@@ -122,12 +122,12 @@ def shown_snippets():
 def check_snippets(tell):
     """Each snippet of Rust that is shown is whole, and of the code of a crate; its values are printed."""
     sources = [Source(read(it)) for it in code_files() + paths('rust/examples/*.rs')]
-    printed = set(read('crates/rl_rows/stdout').split('\n'))
+    printed = {line.removeprefix('> ') for line in read('rust/programs/rows/tests/calls/uses.rows').split('\n')}
     for where, block in shown_snippets():
         first = block.strip().splitlines()[0] if block.strip() else 'an empty snippet'
         for value in VALUE.findall(block):
             if value not in printed:
-                tell(f'{where}: rl_rows prints no {value}')
+                tell(f'{where}: no row of rl_uses prints {value}')
         items, rest = whole_items(block)
         lacks = [it for it in (source.lacks(items) for source in sources) if it is not None]
         if rest or not items:

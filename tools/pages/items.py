@@ -10,7 +10,7 @@ TOP = os.path.dirname(os.path.dirname(os.path.dirname(os.path.abspath(__file__))
 # The crates whose items are for callers.
 LIBRARIES = """
     rl_tokens rl_grammar rl_quoted rust_literals rl_attributes rl_lines rl_program rl_commands
-    rl_files rl_restyled rl_output rl_fixes rl_sources rl_uses rl_c""".split()
+    rl_files rl_restyled rl_output rl_fixes rl_sources rl_uses""".split()
 
 
 @functools.cache

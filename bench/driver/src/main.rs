@@ -13,8 +13,6 @@ mod corpus;
 mod files;
 mod known;
 mod others;
-#[cfg(feature = "archives")]
-mod ours;
 mod package;
 mod process;
 mod weight;
@@ -34,7 +32,7 @@ fn measured(work: &Work, corpus: &Corpus) -> u64 {
 }
 
 /// The sums of works that weigh alike have to agree.
-fn check_sums(works: &[&Work], corpus: &Corpus) -> Result<(), String> {
+fn check_sums(works: &[Work], corpus: &Corpus) -> Result<(), String> {
     for work in works {
         let sum = measured(work, corpus);
         let Some(first) = works.iter().find(|other| other.sum == work.sum) else {
@@ -53,7 +51,7 @@ fn check_sums(works: &[&Work], corpus: &Corpus) -> Result<(), String> {
 fn check_all(size: usize) -> Result<(), String> {
     for (name, form) in corpus::all() {
         if !form.is_bad() {
-            check_sums(&works::of(form), &corpus::make(name, form, size))?;
+            check_sums(works::of(form), &corpus::make(name, form, size))?;
         }
     }
     Ok(())
@@ -89,7 +87,7 @@ fn print_text(name: &str, size: usize) -> Result<(), String> {
 fn found(name: &str, work_name: &str, size: usize) -> Result<(&'static Work, Corpus), String> {
     let (name, form) = named(name)?;
     let work = works::of(form)
-        .into_iter()
+        .iter()
         .find(|work| work.name == work_name)
         .ok_or_else(|| format!("no work {work_name} on {name}"))?;
     Ok((work, corpus::make(name, form, size)))

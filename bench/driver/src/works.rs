@@ -1,24 +1,17 @@
 //! What runs on a corpus.
 
 use crate::corpus::{Corpus, Form};
-#[cfg(feature = "archives")]
-use crate::ours;
 use crate::{others, package};
 
 /// What is summed: works of one sum answer the same. Which are there depends on the features.
 #[allow(dead_code)]
 #[derive(Clone, Copy, PartialEq, Eq)]
 pub enum Sum {
-    Shapes,
     Borrows,
-    Segments,
     Values,
     Trees,
-    Cuts,
     Literals,
-    Attributes,
     SourceLiterals,
-    Restylables,
     RustTokens,
     Bytes,
 }
@@ -31,7 +24,7 @@ pub struct Work {
     pub run: fn(&Corpus) -> u64,
 }
 
-pub const fn ours(name: &'static str, sum: Sum, run: fn(&Corpus) -> u64) -> Work {
+const fn ours(name: &'static str, sum: Sum, run: fn(&Corpus) -> u64) -> Work {
     let ours = true;
     Work {
         name,
@@ -51,7 +44,7 @@ const fn other(name: &'static str, sum: Sum, run: fn(&Corpus) -> u64) -> Work {
     }
 }
 
-/// The works of texts that are a literal each, those of crates/rl_bench aside.
+/// The works of texts that are a literal each.
 const OF_LITERALS: &[Work] = &[
     other("litrs, borrowed", Sum::Borrows, others::litrs_borrowed),
     ours("package", Sum::Values, package::value),
@@ -79,18 +72,19 @@ const OF_SOURCES: &[Work] = &[
     other("UTF-8", Sum::Bytes, others::utf8),
 ];
 
-/// The works of a corpus of this form: those of crates/rl_bench, where its archive is linked, and then the others.
-pub fn of(form: Form) -> Vec<&'static Work> {
-    #[cfg(feature = "archives")]
-    let mut works: Vec<_> = ours::works(form).iter().collect();
-    #[cfg(not(feature = "archives"))]
-    let mut works = Vec::new();
-    works.extend(match form {
+/// Those of bad input.
+const OF_BAD: &[Work] = &[
+    ours("package", Sum::Values, package::value),
+    ours("package, source", Sum::SourceLiterals, package::source),
+];
+
+/// The works of a corpus of this form.
+pub fn of(form: Form) -> &'static [Work] {
+    match form {
         Form::Literals | Form::Found => OF_LITERALS,
         Form::Source => OF_SOURCES,
         Form::List => OF_LISTS,
         Form::Attributes => OF_ATTRIBUTES,
-        Form::Spoiled | Form::Hostile => &[],
-    });
-    works
+        Form::Spoiled | Form::Hostile => OF_BAD,
+    }
 }

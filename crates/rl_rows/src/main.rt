@@ -1,34 +1,14 @@
-//! Rows of tests: reads lines of input, and prints of each what a command or a call of the libraries answers to a text, to be
-//! compared with stored lines or, many texts at once, with what other programs say.
+//! What is printed of many texts: reads lines of input, and answers each, for stored rows, and to be compared with what other
+//! programs say.
 #![tactic(auto)]
 
-mod attributes;
-mod bulk;
-mod bytes;
+mod answer;
+mod borrowed;
 mod calls;
-mod copies;
-mod debugs;
-mod examples;
-mod inside;
+mod flaws;
 mod lists;
-mod literals;
-mod long;
-mod messages;
-mod numbers;
-mod padded;
-mod parsers;
-mod rejected;
 mod row;
-mod runs;
-mod segments;
-mod shapes;
-mod streams;
-mod takers;
-mod tell;
-mod tokens;
-mod trees;
-mod turns;
-mod uses;
+mod sources;
 
 use std::alloc::Global;
 use std::io;

@@ -1,7 +1,6 @@
-//! A line of input: a command or the name of a call, a space, and a text's bytes as pairs of hexadecimal digits.
+//! A line of input: a command, a space, and a text's bytes as pairs of hexadecimal digits.
 
-use crate::bulk::is_command;
-use crate::bytes;
+use crate::answer;
 use rl_failing::Page;
 use rl_lines::decoded;
 use std::alloc::{AllocError, Global};
@@ -18,29 +17,18 @@ pub(crate) fn told(alloc: Global, line: &[u8]) -> Result<String, AllocError> {
 
 /// Prints what is printed for a row. Digits that aren't hexadecimal or come in no pairs are answered by a line of their own.
 fn tell_row(alloc: Global, row: &str, out: &mut Page) {
-    let (name, digits) = parts_of(row);
+    let (name, digits) = row.split_once(' ').unwrap_or((row, ""));
     match decoded(alloc, digits.as_bytes()) {
-        Ok(Some(bytes)) => bytes::told(alloc, name, bytes.as_slice(), out),
-        Ok(None) => tell_rejected(
-            name,
-            "error: input is not hexadecimal\n",
-            "error: no bytes\n",
-            out,
-        ),
+        Ok(Some(bytes)) => tell_bytes(alloc, name, bytes.as_slice(), out),
+        Ok(None) => out.put("error: input is not hexadecimal\n"),
         Err(_) => out.fail(),
     }
 }
 
-/// What stands before the first space of a line, and what stands after it; all of a line with none stands before it.
-pub(crate) fn parts_of(line: &str) -> (&str, &str) {
-    line.split_once(' ').unwrap_or((line, ""))
-}
-
-/// Prints why a row is rejected, as it is told of a command and of any other call.
-pub(crate) fn tell_rejected(name: &str, command: &str, call: &str, out: &mut Page) {
-    if is_command(name) {
-        out.put(command)
-    } else {
-        out.put(call)
+/// Prints what a command answers to the text that the bytes are, or that they are none.
+fn tell_bytes(alloc: Global, name: &str, bytes: &[u8], out: &mut Page) {
+    match std::str::from_utf8(bytes) {
+        Ok(text) => answer::told(alloc, name, text, out),
+        Err(_) => out.put("error: input is not UTF-8\n"),
     }
 }

@@ -1,7 +1,7 @@
 //! Files that are replaced as a whole: the system's, and what is kept in memory. `tools/fixing.py` tries more with the system.
 #![cfg(target_os = "linux")]
 
-#[path = "../../tests/directory/mod.rs"]
+#[path = "directory/mod.rs"]
 mod directory;
 
 use directory::Directory;

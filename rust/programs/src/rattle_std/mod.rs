@@ -2,7 +2,7 @@
 //! allocator, and what reaches the system is passed a handle.
 //!
 //! Each module says which of Rattle's it stands for, and where it is narrower on purpose. Elsewhere a call answers what Rattle's
-//! answers; `tests/rattle_std` holds the corners with answers of Rattle's own. A failed allocation is an error value here too,
+//! answers; `rows/tests/rattle_std` holds the corners with answers of Rattle's own. A failed allocation is an error value here too,
 //! since room is always made by `try_reserve`. There is no `unsafe`: where Rattle leaves out a check that is proved, Rust makes it.
 
 pub mod alloc;

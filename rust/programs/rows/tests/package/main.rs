@@ -14,10 +14,10 @@ use asked::check_settings;
 use lists::{check_list, check_source};
 use literals::{check_equal, check_literal, check_text};
 use std::fs;
+use std::ops::Range;
 use std::path::Path;
 
-#[allow(dead_code)]
-#[path = "../../../../compare/src/texts.rs"]
+mod settings;
 mod texts;
 
 fn check_all(text: &str) {
@@ -35,12 +35,19 @@ fn check_most(text: &str) {
     check_source(text);
 }
 
-#[test]
-fn generated_texts() {
+/// How many of the generated texts are tried by default: the first ones. The others are the gate's.
+const SAMPLE: usize = 2_000;
+const TEXTS: usize = 60_000;
+const SETTINGS: usize = 100_000;
+
+fn check_texts(tried: Range<usize>) {
     let mut r = texts::Random::new(5);
     let mut joined = String::new();
-    for n in 0..60_000 {
+    for n in 0..tried.end {
         let text = texts::nth(&mut r, n);
+        if !tried.contains(&n) {
+            continue;
+        }
         if n % 4 == 0 || text.len() < 12 {
             check_all(&text);
         } else {
@@ -57,22 +64,67 @@ fn generated_texts() {
 }
 
 #[test]
-fn generated_settings() {
+fn generated_texts() {
+    check_texts(0..SAMPLE);
+}
+
+#[test]
+#[ignore = "twenty seconds of a processor; rust/check runs it"]
+fn more_generated_texts() {
+    check_texts(SAMPLE..TEXTS);
+}
+
+fn check_generated_settings(tried: Range<usize>) {
     let (mut entries, mut rejected) = (0, 0);
     let (mut picks, mut r) = (made::Picks(5), texts::Random::new(6));
-    for _ in 0..100_000 {
+    for n in 0..tried.end {
         let text = made::settings(&mut picks);
-        for text in [&text, &texts::broken(&mut r, &text)] {
+        let broken = texts::broken(&mut r, &text);
+        if !tried.contains(&n) {
+            continue;
+        }
+        for text in [&text, &broken] {
             match check_settings(text) {
                 Some(count) => entries += count,
                 None => rejected += 1,
             }
         }
     }
-    assert!(
-        entries > 40_000 && rejected > 40_000,
-        "{entries} {rejected}"
-    );
+    let least = tried.len() * 2 / 5;
+    assert!(entries > least && rejected > least, "{entries} {rejected}");
+}
+
+#[test]
+fn generated_settings() {
+    check_generated_settings(0..SAMPLE);
+}
+
+#[test]
+#[ignore = "ten seconds of a processor; rust/check runs it"]
+fn more_generated_settings() {
+    check_generated_settings(SAMPLE..SETTINGS);
+}
+
+/// Settings that are put together of parts, so that what is read is known.
+fn check_known_settings(tried: Range<usize>) {
+    let mut random = texts::Random::new(3);
+    for n in 0..tried.end {
+        let made = settings::made(&mut random);
+        if tried.contains(&n) {
+            assert_eq!(settings::read(&made.text), made.answer, "{:?}", made.text);
+        }
+    }
+}
+
+#[test]
+fn known_settings() {
+    check_known_settings(0..SAMPLE);
+}
+
+#[test]
+#[ignore = "rust/check runs it"]
+fn more_known_settings() {
+    check_known_settings(SAMPLE..200_000);
 }
 
 #[test]
@@ -296,24 +348,40 @@ fn lines_and_columns() {
     );
 }
 
-#[test]
-fn each_character() {
+fn check_character(c: char) {
+    let number = c as u32;
+    quoted::check_written_character(c);
+    if number < 0x250 {
+        texts::alone(c).iter().for_each(|text| check_text(text));
+        texts::among(c).iter().for_each(|text| check_all(text));
+        return;
+    }
+    texts::alone(c).iter().for_each(|text| check_literal(text));
+    if number < 0x3000 || number % 3 == 0 {
+        texts::among(c).iter().for_each(|text| check_most(text));
+    }
+}
+
+/// The characters that are tried: all below U+3000, and every seventh of the others; those of the sample, or those that it leaves out.
+fn check_characters(of_sample: bool) {
     for c in '\0'..=char::MAX {
         let number = c as u32;
-        if number >= 0x3000 && number % 7 != 0 {
-            continue;
-        }
-        quoted::check_written_character(c);
-        if number < 0x250 {
-            texts::alone(c).iter().for_each(|text| check_text(text));
-            texts::among(c).iter().for_each(|text| check_all(text));
-            continue;
-        }
-        texts::alone(c).iter().for_each(|text| check_literal(text));
-        if number < 0x3000 || number % 3 == 0 {
-            texts::among(c).iter().for_each(|text| check_most(text));
+        let is_tried = number < 0x3000 || number % 7 == 0;
+        if is_tried && (number < 0x250 || number % 343 == 0) == of_sample {
+            check_character(c);
         }
     }
+}
+
+#[test]
+fn characters() {
+    check_characters(true);
+}
+
+#[test]
+#[ignore = "twenty seconds of a processor; rust/check runs it"]
+fn more_characters() {
+    check_characters(false);
 }
 
 #[test]

@@ -1,0 +1,64 @@
+//! Calls whose allocations fail.
+
+use crate::rows::{check, check_headings};
+use crate::shown::{at, HERE};
+use navyspindle_programs::rattle_std::alloc::Global;
+use navyspindle_programs::rl_tokens::Literal;
+use navyspindle_programs::rust_literals::Lit;
+use navyspindle_rows::failing::Failing;
+
+const TABLE: &str = include_str!("failing.rows");
+
+#[test]
+fn headings() {
+    check_headings(TABLE, include_str!("failing.rs"));
+}
+
+/// A number, where none is needed, or the token that comes back.
+#[test]
+fn every_allocation() {
+    check(TABLE, "all_failing", |text| {
+        let failing = &Failing::new(Global);
+        let token = Literal::from_text(failing, text, HERE).unwrap();
+        failing.fail(1, u64::MAX);
+        let answer = Lit::new(failing, token);
+        failing.succeed();
+        match &answer {
+            Ok(Lit::Int(it)) => format!("Int {} {}", it.base10_digits(), it.suffix()),
+            Ok(Lit::Float(it)) => format!("Float {} {}", it.base10_digits(), it.suffix()),
+            Ok(other) => format!("{} {}", other.text(), other.suffix()),
+            Err(kept) => {
+                let spans = (at(kept.error.span), at(kept.value.span()));
+                format!(
+                    "{} {} {} {}",
+                    kept.error,
+                    spans.0,
+                    kept.value.text(),
+                    spans.1
+                )
+            }
+        }
+    });
+}
+
+/// Whether a string of the text ten thousand times over borrows its value, and how long that is where all allocations but the first
+/// fail.
+#[test]
+fn all_but_the_first() {
+    check(TABLE, "second_failing", |text| {
+        let failing = &Failing::new(Global);
+        let quoted = format!("\"{}\"", text.repeat(10_000));
+        let token = Literal::from_text(failing, &quoted, HERE).unwrap();
+        let Ok(Lit::Str(literal)) = Lit::new(failing, token) else {
+            panic!("no string");
+        };
+        failing.fail(2, u64::MAX);
+        let value = literal.value(failing);
+        failing.succeed();
+        let borrows = literal.value_ref().is_some();
+        match value {
+            Ok(value) => format!("{borrows} {}", value.len()),
+            Err(it) => format!("{borrows} {it}"),
+        }
+    });
+}

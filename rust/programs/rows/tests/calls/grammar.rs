@@ -1,0 +1,135 @@
+//! What the grammars return of one text.
+
+use crate::rows::{check, check_headings};
+use crate::shown::{debug, place};
+use navyspindle_programs::rattle_std::alloc::Global;
+use navyspindle_programs::rl_grammar::{
+    self, place_of, spans_of, Kind, Parts, SegmentValue, Segments,
+};
+use navyspindle_programs::rl_tokens::{whitespace, Span};
+
+const TABLE: &str = include_str!("grammar.rows");
+
+#[test]
+fn headings() {
+    check_headings(TABLE, include_str!("grammar.rs"));
+}
+
+/// A kind, and body and suffix with a point between.
+fn parts(parts: Option<Parts<'_>>) -> String {
+    parts.map_or("None".to_owned(), |it| {
+        format!("{:?} {}.{}", it.kind, it.body, it.suffix)
+    })
+}
+
+#[test]
+fn shape() {
+    check(TABLE, "shape", |text| parts(rl_grammar::shape(text)));
+}
+
+/// Of an integer past 128 bits that it is one.
+#[test]
+fn int_shape() {
+    check(TABLE, "int_shape", |text| {
+        match rl_grammar::int_shape(text) {
+            Some(None) => "past".to_owned(),
+            shape => parts(shape.flatten()),
+        }
+    });
+}
+
+#[test]
+fn float_shape() {
+    check(TABLE, "float_shape", |text| {
+        parts(rl_grammar::float_shape(text))
+    });
+}
+
+#[test]
+fn shape_negative() {
+    check(TABLE, "shape_negative", |text| {
+        parts(rl_grammar::shape_negative(text))
+    });
+}
+
+/// Whether the contents of a text of a kind stand in it as they are. The kind's name is the first line.
+#[test]
+fn is_plain() {
+    check(TABLE, "plain", |row| {
+        let (name, text) = row.split_once('\n').unwrap();
+        let kind = match name {
+            "Str" => Kind::Str,
+            "ByteStr" => Kind::ByteStr,
+            "CStr" => Kind::CStr,
+            "Byte" => Kind::Byte,
+            "Char" => Kind::Char,
+            "Int" => Kind::Int,
+            "Float" => Kind::Float,
+            "Bool" => Kind::Bool,
+            _ => panic!("no kind {name}"),
+        };
+        rl_grammar::is_plain(kind, text).to_string()
+    });
+}
+
+/// By the decoder of its kind: bytes, a number, or the digits.
+#[test]
+fn contents() {
+    check(TABLE, "contents", |text| {
+        match rl_grammar::shape(text).map(|it| it.kind) {
+            Some(Kind::Str) => {
+                format!("{:?}", rl_grammar::str_of(Global, text).unwrap().as_bytes())
+            }
+            Some(Kind::ByteStr | Kind::CStr) => debug(rl_grammar::bytes_of(Global, text)),
+            Some(Kind::Byte) => rl_grammar::byte_of(text).to_string(),
+            Some(Kind::Char) => u32::from(rl_grammar::char_of(text)).to_string(),
+            Some(kind @ (Kind::Int | Kind::Float)) => rl_grammar::digits_of(Global, kind, text)
+                .unwrap()
+                .as_str()
+                .to_owned(),
+            Some(Kind::Bool) => text.to_owned(),
+            None => "None".to_owned(),
+        }
+    });
+}
+
+#[test]
+fn skip() {
+    check(TABLE, "skipped", |text| whitespace::skip(text).to_owned());
+}
+
+/// A segment's bytes; of a run how many bytes it gives, of an escape the number of its character or byte.
+fn segment(lo: usize, hi: usize, value: SegmentValue<'_>) -> String {
+    let value = match value {
+        SegmentValue::Text(run) => format!("T{}", run.len()),
+        SegmentValue::Char(c) => format!("C{}", u32::from(c)),
+        SegmentValue::Byte(byte) => format!("B{byte}"),
+        SegmentValue::Nothing => "N".to_owned(),
+    };
+    format!("{lo}..{hi} {value} ")
+}
+
+/// The segments; where each byte of the contents comes from by the table; and the same by each call, and past the end.
+#[test]
+fn segments() {
+    check(TABLE, "segments", |text| {
+        if Segments::of(text).is_none() {
+            return "None".to_owned();
+        }
+        let segments = || Segments::of(text).unwrap();
+        let lines: String = segments()
+            .map(|it| segment(it.lo, it.hi, it.value))
+            .collect();
+        let bytes: usize = segments().map(|it| it.value.len()).sum();
+        let spans = spans_of(Global, segments(), Span::new(7, 0, text.len())).unwrap();
+        let table: String = spans.iter().map(|span| place(*span) + " ").collect();
+        let each = (0..=bytes + 1).filter_map(|at| {
+            Some(format!(
+                "{}..{} ",
+                place_of(text, at)?,
+                segments().end_of(at)
+            ))
+        });
+        format!("{lines}\n{table}\n{}", each.collect::<String>())
+    });
+}

@@ -1,0 +1,92 @@
+//! Lists of literals: where each stands, and pairs of them with a gap between.
+
+use crate::rows::{check, check_headings};
+use crate::shown::{line, literal_of, place, spanned, told};
+use navyspindle_programs::rattle_std::alloc::Global;
+use navyspindle_programs::rl_tokens::{Error, Span};
+use navyspindle_programs::rust_literals::{read_all, Lit, Literals};
+
+const TABLE: &str = include_str!("lists.rows");
+
+#[test]
+fn headings() {
+    check_headings(TABLE, include_str!("lists.rs"));
+}
+
+/// A literal's bytes and line.
+fn placed(literal: &Lit) -> String {
+    format!("{} {}", place(literal.span()), line(literal))
+}
+
+/// An error's bytes and message.
+fn rejected(error: &Error) -> String {
+    format!("{} {error}\n", place(error.span))
+}
+
+/// Each literal's bytes and line, or the error.
+fn places_of(text: &str) -> String {
+    match read_all(Global, text, 0) {
+        Ok(literals) => literals.iter().map(placed).collect(),
+        Err(error) => rejected(&error),
+    }
+}
+
+#[test]
+fn places() {
+    check(TABLE, "places", places_of);
+}
+
+#[test]
+fn texts() {
+    check(TABLE, "texts", |text| {
+        told(read_all(Global, text, 7), |literals| {
+            literals.iter().map(|it| spanned(it) + "\n").collect()
+        })
+    });
+}
+
+/// Each literal as the iterator returns it, up to what ends them, twice.
+#[test]
+fn one_by_one() {
+    check(TABLE, "one_by_one", |text| {
+        let mut literals = Literals::new(Global, text, 0);
+        let mut next = || match literals.next() {
+            Ok(Some(literal)) => (true, placed(&literal)),
+            Ok(None) => (false, "end\n".to_owned()),
+            Err(error) => (false, rejected(&error)),
+        };
+        let mut out = String::new();
+        loop {
+            let (goes_on, line) = next();
+            out += &line;
+            if !goes_on {
+                return out + &next().1;
+            }
+        }
+    });
+}
+
+/// How many of the texts read after each of the others and a gap as they do by themselves. A U+001E parts the gap, the texts in
+/// front and those after; a U+001F parts texts. Those that don't are shown.
+#[test]
+fn pairs() {
+    check(TABLE, "pairs", |row| {
+        let (gap, texts) = row.split_once('\u{1e}').unwrap();
+        let (fronts, backs) = texts.split_once('\u{1e}').unwrap();
+        let (mut agreed, mut out) = (0, String::new());
+        for first in fronts.split('\u{1f}') {
+            for second in backs.split('\u{1f}') {
+                let whole = format!("{first}{gap}{second}");
+                let at = first.len() + gap.len();
+                let alone = [(first, 0, first.len()), (second, at, whole.len())]
+                    .map(|(text, lo, hi)| placed(&literal_of(text, Span::new(0, lo, hi)).unwrap()));
+                if places_of(&whole) == alone.concat() {
+                    agreed += 1;
+                } else {
+                    out += &format!("{first} and {second} don't\n");
+                }
+            }
+        }
+        format!("{out}{agreed} agree")
+    });
+}

@@ -1,0 +1,148 @@
+//! Calls on the literal that a text is.
+
+use crate::rows::{check, check_headings};
+use crate::shown::{at, error, literal_of, spanned, told, trees, whole, HERE, THERE};
+use navyspindle_programs::rattle_std::alloc::Global;
+use navyspindle_programs::rl_tokens::{ParseBuffer, Span, ToTokens, TokenStream};
+use navyspindle_programs::rust_literals::Lit;
+use navyspindle_rows::rl_uses::rewritten;
+use std::collections::hash_map::DefaultHasher;
+use std::collections::HashMap;
+use std::fmt::Display;
+use std::hash::{Hash, Hasher};
+
+const TABLE: &str = include_str!("literals.rows");
+
+#[test]
+fn headings() {
+    check_headings(TABLE, include_str!("literals.rs"));
+}
+
+/// The literal, whether its copy equals it, the copy, the trees that it appends, what is parsed of these, its suffix; and where it
+/// is moved to.
+#[test]
+fn literal() {
+    check(TABLE, "literal", |text| {
+        let mut literal = literal_of(text, HERE).unwrap();
+        let copy = told(literal.clone(Global), |copy| {
+            format!("{} {}", *copy == literal, whole(copy))
+        });
+        let mut stream = TokenStream::new(Global);
+        assert!(literal.to_tokens(Global, &mut stream).is_ok());
+        let mut input = ParseBuffer::new(stream.trees(), THERE);
+        let parsed = told(input.parse::<Lit>(Global), whole);
+        let before = whole(&literal) + &copy + &trees(stream.trees()) + &parsed;
+        let suffix = format!("{:?}", literal.suffix());
+        literal.set_span(THERE);
+        format!("{before}{suffix} {}", at(literal.span()))
+    });
+}
+
+/// What is borrowed of a string's text.
+#[test]
+fn value_ref() {
+    check(TABLE, "borrows", |text| {
+        let literal = literal_of(text, HERE).unwrap();
+        let borrowed = match &literal {
+            Lit::Str(string) => string.value_ref().map(str::as_bytes),
+            Lit::ByteStr(string) => string.value_ref(),
+            Lit::CStr(string) => string.value_ref(),
+            _ => return "no string".to_owned(),
+        };
+        match borrowed.map(std::str::from_utf8) {
+            Some(Ok(value)) => format!("{value:?}"),
+            Some(Err(_)) => "no text".to_owned(),
+            None => "nothing".to_owned(),
+        }
+    });
+}
+
+/// A number, or a token that is no literal, as it is displayed.
+#[test]
+fn displayed() {
+    check(TABLE, "shown", |text| {
+        match literal_of(text, HERE).unwrap() {
+            Lit::Int(literal) => literal.to_string(),
+            Lit::Float(literal) => literal.to_string(),
+            Lit::Verbatim(token) => token.to_string(),
+            _ => "another literal".to_owned(),
+        }
+    });
+}
+
+/// With a width: at its end, with stars at its front, and of its first three characters in the middle.
+fn padded<T: Display>(value: &T) -> String {
+    format!("{value:>10}|{value:*<10}|{value:^10.3}|\n")
+}
+
+/// The literal, and the one of its own type.
+#[test]
+fn displayed_with_a_width() {
+    check(TABLE, "padded", |text| {
+        let literal = literal_of(text, HERE).unwrap();
+        let own = match &literal {
+            Lit::Str(own) => padded(own),
+            Lit::ByteStr(own) => padded(own),
+            Lit::CStr(own) => padded(own),
+            Lit::Byte(own) => padded(own),
+            Lit::Char(own) => padded(own),
+            Lit::Int(own) => padded(own),
+            Lit::Float(own) => padded(own),
+            Lit::Bool(own) => padded(own),
+            Lit::Verbatim(own) => padded(own),
+        };
+        padded(&literal) + &own
+    });
+}
+
+fn hash_of<T: Hash>(value: &T) -> u64 {
+    let mut state = DefaultHasher::new();
+    value.hash(&mut state);
+    state.finish()
+}
+
+/// Whether two literals, a LF between their texts, are equal, and hash alike, at two spans.
+#[test]
+fn equality() {
+    check(TABLE, "equal", |text| {
+        let (first, second) = text.split_once('\n').unwrap();
+        let (first, second) = (
+            literal_of(first, HERE).unwrap(),
+            literal_of(second, THERE).unwrap(),
+        );
+        format!(
+            "{} {}",
+            first == second,
+            hash_of(&first) == hash_of(&second)
+        )
+    });
+}
+
+/// Literals that are put into a map: which one stood there before.
+#[test]
+fn keys() {
+    check(TABLE, "map", |text| {
+        let (mut map, mut out) = (HashMap::new(), String::new());
+        for (at, text) in text.split('\n').enumerate() {
+            let key = literal_of(text, Span::new(0, at, at)).unwrap();
+            out += &match map.insert(key, at) {
+                Some(before) => format!("{at} as {before}\n"),
+                None => format!("{at} new\n"),
+            };
+        }
+        out + &map.len().to_string()
+    });
+}
+
+/// The literal, moved and written anew, and whether it equals what it was.
+#[test]
+fn rewritten_literals() {
+    check(TABLE, "anew", |text| {
+        let mut literal = literal_of(text, HERE).unwrap();
+        literal.set_span(Span::new(3, 5, 9));
+        match rewritten(Global, &literal) {
+            Ok(anew) => format!("{} {}", spanned(&anew), anew == literal),
+            Err(it) => error(&it),
+        }
+    });
+}

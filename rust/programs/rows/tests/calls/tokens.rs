@@ -1,0 +1,284 @@
+//! Spans, words, tokens, trees, and what writers make of texts.
+
+use crate::rows::{check, check_bytes, check_headings};
+use crate::shown::{
+    at, debug, error, form, made, place, spanned, token, told, trees, trees_of, HERE, THERE,
+};
+use navyspindle_programs::rattle_std::alloc::Global;
+use navyspindle_programs::rattle_std::vec::Vec as Bytes;
+use navyspindle_programs::rl_tokens::ident::xid_ok;
+use navyspindle_programs::rl_tokens::{
+    lex, CString, Delimiter, Group, Ident, Literal, ParseBuffer, Punct, Span, TokenStream,
+    TokenTree, Tokens,
+};
+use navyspindle_programs::rust_literals::{
+    Lit, LitBool, LitByte, LitByteStr, LitCStr, LitChar, LitStr,
+};
+
+const TABLE: &str = include_str!("tokens.rows");
+
+#[test]
+fn headings() {
+    check_headings(TABLE, include_str!("tokens.rs"));
+}
+
+/// Each tree with its bytes; after a group the trees inside, between angle brackets.
+fn nested(trees: &[TokenTree]) -> String {
+    let mut out = String::new();
+    for tree in trees {
+        out += &format!("{} {} ", form(tree), place(tree.span()));
+        if let TokenTree::Group(group) = tree {
+            out += &format!("< {}> ", nested(group.stream().trees()));
+        }
+    }
+    out
+}
+
+/// The trees of a text, or the error and its byte.
+#[test]
+fn trees_of_texts() {
+    check(TABLE, "lex", |text| match lex(Global, text, 7) {
+        Ok(stream) => nested(stream.trees()),
+        Err(error) => format!("{:?} {}", error.kind, error.at),
+    });
+}
+
+/// The tokens of a text with their bytes, why they stopped, and what is left of it.
+#[test]
+fn borrowed_tokens() {
+    check(TABLE, "borrowed", |text| {
+        let (mut tokens, mut out) = (Tokens::new(text), String::new());
+        for _ in 0..text.len() {
+            if let Some(error) = tokens.error() {
+                out += &format!("{:?} {}; ", error.kind, error.at);
+            }
+            let Some(it) = tokens.next() else { break };
+            out += &format!("{} {}..{}; ", it.text, it.lo, it.hi);
+        }
+        out + tokens.rest()
+    });
+}
+
+fn stream_of(trees: impl IntoIterator<Item = TokenTree>) -> TokenStream {
+    let mut stream = TokenStream::new(Global);
+    for tree in trees {
+        assert!(stream.append(tree).is_ok());
+    }
+    stream
+}
+
+/// A group of a literal, set to another span.
+#[test]
+fn built() {
+    check(TABLE, "built", |_| {
+        let first = Literal::from_text(Global, "1", HERE).unwrap();
+        let inside = stream_of([TokenTree::Literal(first)]);
+        let mut stream = stream_of([TokenTree::Group(Group::new(Delimiter::Brace, inside, HERE))]);
+        let before = nested(stream.trees());
+        stream.respan(Span::new(0, 8, 9));
+        before + &nested(stream.trees())
+    });
+}
+
+#[test]
+fn spans() {
+    check(TABLE, "joined", |_| {
+        let others = [
+            (HERE, (7, 1, 4)),
+            (Span::new(7, 1, 4), (7, 6, 8)),
+            (HERE, (8, 1, 4)),
+        ];
+        let joined = others.map(|(first, (file, lo, hi))| {
+            first
+                .join(Span::new(file, lo, hi))
+                .map_or("None\n".to_owned(), |it| at(it) + "\n")
+        });
+        let here = format!("{} {} {}", HERE.file(), HERE.lo(), HERE.hi());
+        format!("{} {here}\n{}", at(Span::call_site()), joined.concat())
+    });
+}
+
+/// An identifier that is made of the text and moved, where it is a word.
+#[test]
+fn words() {
+    check(TABLE, "word", |text| {
+        if !xid_ok(text) {
+            return "no word".to_owned();
+        }
+        told(Ident::new(Global, text, HERE), |ident| {
+            let mut moved = Ident::new(Global, text, ident.span()).unwrap();
+            moved.set_span(THERE);
+            format!(
+                "{} {} {}\n",
+                moved.text(),
+                at(ident.span()),
+                at(moved.span())
+            )
+        })
+    });
+}
+
+/// A token that is made of the text and moved.
+#[test]
+fn tokens_of_texts() {
+    check(TABLE, "token", |text| {
+        let mut it = Literal::from_text(Global, text, HERE).unwrap();
+        let before = format!("{it} {} {}", it.text(), at(it.span()));
+        it.set_span(THERE);
+        format!("{before} {}", at(it.span()))
+    });
+}
+
+#[test]
+fn string() {
+    check(TABLE, "string", |text| {
+        token(Literal::string(Global, text)) + &made(LitStr::new(Global, text, HERE))
+    });
+}
+
+/// The bytes as a token; and as a literal, its value before it.
+#[test]
+fn byte_string() {
+    check_bytes(TABLE, "byte_string", |bytes| {
+        let literal = told(LitByteStr::new(Global, bytes, HERE), |literal| {
+            debug(literal.value(Global)).replace('\n', " ")
+        });
+        let made = made(LitByteStr::new(Global, bytes, HERE));
+        token(Literal::byte_string(Global, bytes)) + &literal + &made
+    });
+}
+
+/// The bytes as a C string, as a token, and as a literal, whether its value is these before it; or where the zero stands.
+#[test]
+fn c_string() {
+    check_bytes(TABLE, "c_string", |bytes| {
+        match CString::new(Bytes::from_slice(Global, bytes).unwrap()) {
+            Ok(held) => {
+                let value = LitCStr::new(Global, &held, HERE).and_then(|it| it.value(Global));
+                let same = told(value, |value| format!("{} ", *value == held));
+                let made = made(LitCStr::new(Global, &held, HERE));
+                let token = token(Literal::c_string(Global, &held));
+                format!("{:?} {token}{same}{made}", held.as_bytes())
+            }
+            Err(rejected) => {
+                let at = rejected.nul_position();
+                format!("zero at {at} of {:?}", rejected.into_vec().as_slice())
+            }
+        }
+    });
+}
+
+/// Each byte as a literal, and as a token.
+#[test]
+fn bytes() {
+    check_bytes(TABLE, "bytes", |bytes| {
+        let each = bytes.iter().map(|byte| {
+            let literal = told(LitByte::new(Global, *byte, HERE), |it| {
+                format!("{}{} {} ", it.value(), it.suffix(), at(it.span()))
+            });
+            literal + &token(Literal::byte_character(Global, *byte))
+        });
+        each.collect()
+    });
+}
+
+/// Each character as a token, and as a literal.
+#[test]
+fn characters() {
+    check(TABLE, "characters", |text| {
+        let each = text
+            .chars()
+            .map(|c| token(Literal::character(Global, c)) + &made(LitChar::new(Global, c, HERE)));
+        each.collect()
+    });
+}
+
+/// Truth values: made, moved, and as tokens.
+#[test]
+fn truth() {
+    check(TABLE, "truth", |_| {
+        let each = [false, true].map(|value| {
+            let mut literal = LitBool::new(value, HERE);
+            let before = format!("{} {} ", literal.value(), at(literal.span()));
+            literal.set_span(THERE);
+            let moved = told(literal.token(Global), |it| {
+                format!("{} {}\n", it.text(), at(it.span()))
+            });
+            before + &moved
+        });
+        each.concat()
+    });
+}
+
+/// Which of the four takers take what stands next, each on a fork, and what the one that does takes.
+fn taken(input: &mut ParseBuffer<'_>) -> String {
+    let takes = [
+        ("ident", input.fork().ident().is_some()),
+        ("punct", input.fork().punct().is_some()),
+        ("literal", input.fork().literal().is_some()),
+        ("group", input.fork().group().is_some()),
+    ];
+    let forks = takes
+        .iter()
+        .filter(|it| it.1)
+        .map(|it| format!(" {}", it.0));
+    let front = format!(
+        "{} of {}:{}\n",
+        at(input.span()),
+        input.rest().len(),
+        forks.collect::<String>()
+    );
+    let taken = if let Some(ident) = input.ident() {
+        ident.text().to_owned()
+    } else if let Some(punct) = input.punct() {
+        punct.as_char().to_string()
+    } else if let Some(literal) = input.literal() {
+        literal.text().to_owned()
+    } else if let Some(group) = input.group() {
+        format!("{} inside", group.stream().trees().len())
+    } else {
+        "nothing".to_owned()
+    };
+    front + &taken + "\n"
+}
+
+/// Tree by tree, to the end and once more.
+#[test]
+fn takers() {
+    check(TABLE, "takers", |text| {
+        let stream = trees_of(text, 0).unwrap();
+        let mut input = ParseBuffer::new(stream.trees(), Span::new(0, text.len(), text.len()));
+        let all: String = stream.trees().iter().map(|_| taken(&mut input)).collect();
+        format!("{all}{} {}", input.is_empty(), taken(&mut input))
+    });
+}
+
+/// A minus and a number of two files, as one literal.
+#[test]
+fn two_files() {
+    check(TABLE, "two_files", |_| {
+        let number = Literal::from_text(Global, "1", Span::new(1, 0, 1)).unwrap();
+        let minus = Punct::new('-', Span::new(0, 3, 4));
+        let stream = stream_of([TokenTree::Punct(minus), TokenTree::Literal(number)]);
+        let mut input = ParseBuffer::new(stream.trees(), Span::call_site());
+        trees(stream.trees()) + &told(input.parse::<Lit>(Global), spanned)
+    });
+}
+
+/// Whether `=` stands at the front, or at the front of the group there; what taking it answers; where the buffer stands then.
+#[test]
+fn mark() {
+    check(TABLE, "mark", |text| {
+        let stream = trees_of(text, 0).unwrap();
+        let mut input = ParseBuffer::new(stream.trees(), Span::new(0, text.len(), text.len()));
+        if let Some(group) = input.group() {
+            input = group.inside();
+        }
+        let peeked = input.peek_punct('=');
+        let taken = match input.take_punct('=') {
+            Ok(_) => "ok\n".to_owned(),
+            Err(it) => error(&it),
+        };
+        format!("equals sign, {peeked}: {taken}next {}", at(input.span()))
+    });
+}

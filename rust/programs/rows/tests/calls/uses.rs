@@ -1,0 +1,255 @@
+//! What the small callers of `rl_uses` make of a text, and its examples.
+
+use crate::rows::{check, check_headings};
+use crate::shown::{self, at, debug, told};
+use navyspindle_programs::rattle_std::alloc::Global;
+use navyspindle_programs::rl_tokens::{parse_all, ParseBuffer, Span};
+use navyspindle_programs::rust_literals::read_all;
+use navyspindle_rows::rl_uses::examples::attributes::{host_of, missing_at, string_setting};
+use navyspindle_rows::rl_uses::examples::buffers::{
+    first_in_group, mark_after_name, port, trees_left, trees_of,
+};
+use navyspindle_rows::rl_uses::examples::grammar::{
+    contents, digits_of_hex, exponent_of, first_escape, integer_of, is_plain_string, is_rust,
+    is_too_large, is_value, place_after_escape, reason, reason_in_file, suffix_of, why_no_value,
+};
+use navyspindle_rows::rl_uses::examples::literals::{
+    after_literal, code_of, digits_or_text, first_flaw, second_string,
+};
+use navyspindle_rows::rl_uses::examples::own::{mark_in_string, set_value};
+use navyspindle_rows::rl_uses::examples::quoted::{
+    brace_in_file, bytes_len, c_string_len, literal_in_file, string_of, string_value,
+};
+use navyspindle_rows::rl_uses::examples::tokens::{
+    after_comments, all_places, first_delimiter, first_docs, is_name, no_token, second_token,
+    text_at,
+};
+use navyspindle_rows::rl_uses::{
+    backslash_in_path, bad_literals, control_strings, count_literals, format as formatted,
+    read_attribute, read_config, read_number, Attribute, Item, ItemList,
+};
+use std::fmt::Debug;
+
+const TABLE: &str = include_str!("uses.rows");
+
+/// The file that spans name.
+const FILE: u32 = 7;
+
+#[test]
+fn headings() {
+    check_headings(TABLE, include_str!("uses.rs"));
+}
+
+/// An attribute's name and value, each after its bytes.
+fn attribute_of(it: &Attribute) -> String {
+    let (name, value) = (it.name.text(), it.value.value(Global).unwrap());
+    format!(
+        "{} {name}, {} {}\n",
+        at(it.name.span()),
+        at(it.value.span()),
+        value.as_str()
+    )
+}
+
+#[test]
+fn attribute() {
+    check(TABLE, "attribute", |text| {
+        told(read_attribute(Global, text, FILE), attribute_of)
+    });
+}
+
+/// Two attributes, one after the other, and where the buffer stands after each.
+#[test]
+fn attributes() {
+    check(TABLE, "attributes", |text| {
+        let stream = shown::trees_of(text, FILE).unwrap();
+        let mut input = ParseBuffer::new(stream.trees(), Span::call_site());
+        let mut next = || {
+            let parsed = told(input.parse::<Attribute>(Global), attribute_of);
+            format!("{parsed}next {}\n", at(input.span()))
+        };
+        next() + &next()
+    });
+}
+
+/// Each item's kind and span.
+#[test]
+fn list() {
+    check(TABLE, "list", |text| {
+        told(parse_all::<ItemList, Global>(Global, text, FILE), |list| {
+            let items = list.items.iter().map(|item| match item {
+                Item::Int(literal) => format!("int {};", at(literal.span())),
+                Item::Str(literal) => format!("str {};", at(literal.span())),
+            });
+            items.collect::<String>() + "\n"
+        })
+    });
+}
+
+/// Why a list and why an item are rejected, and where the buffer stands then.
+#[test]
+fn rejected_list() {
+    check(TABLE, "rejected_list", |text| {
+        let stream = shown::trees_of(text, FILE).unwrap();
+        let mut input = ParseBuffer::new(stream.trees(), Span::call_site());
+        let list = told(input.parse::<ItemList>(Global), |_| "ok\n".to_owned());
+        let item = told(input.parse::<Item>(Global), |_| "ok\n".to_owned());
+        format!("{list}{item}next {}", at(input.span()))
+    });
+}
+
+/// The spans of strings with control characters.
+#[test]
+fn lint() {
+    check(TABLE, "lint", |text| {
+        told(control_strings(Global, text, FILE), |spans| {
+            spans.iter().map(|it| at(*it) + " ").collect::<String>() + "\n"
+        })
+    });
+}
+
+/// How many reasons there are, and each after its place.
+#[test]
+fn reasons() {
+    check(TABLE, "reasons", |text| {
+        told(bad_literals(Global, text, FILE), |reasons| {
+            let each = reasons
+                .iter()
+                .map(|it| format!("{} {}\n", at(it.span), it.kind));
+            format!("{}\n", reasons.len()) + &each.collect::<String>()
+        })
+    });
+}
+
+#[test]
+fn format_literals() {
+    check(TABLE, "format", |text| {
+        told(formatted(Global, text, FILE), |lines| {
+            lines.as_str().to_owned()
+        })
+    });
+}
+
+/// Of each literal of a text, the first that equals it, and how often it stands there; and how many there are.
+#[test]
+fn counts() {
+    check(TABLE, "counts", |text| {
+        let counts = count_literals(Global, text, FILE).unwrap();
+        let literals = read_all(Global, text, FILE).unwrap();
+        let each = literals.iter().map(|literal| {
+            let (first, times) = counts.get_key_value(literal).unwrap();
+            format!("{} {times}\n", at(first.span()))
+        });
+        each.collect::<String>() + &counts.len().to_string()
+    });
+}
+
+/// A number of 16 bits, and one of 64 bits with a sign.
+#[test]
+fn numbers() {
+    check(TABLE, "settings", |text| {
+        debug(read_number::<u16, Global>(Global, text, FILE))
+            + &debug(read_number::<i64, Global>(Global, text, FILE))
+    });
+}
+
+/// The port, whether more is reported, and the name.
+#[test]
+fn config() {
+    check(TABLE, "config", |text| {
+        match read_config(Global, text, FILE) {
+            Ok(it) => format!("{} {} {}", it.port, it.verbose, it.name.as_str()),
+            Err(error) => format!("{} {error}", at(error.span())),
+        }
+    });
+}
+
+/// What in the text gives the first backslash of a path that is set.
+#[test]
+fn path() {
+    check(TABLE, "path", |text| {
+        match backslash_in_path(Global, text, FILE) {
+            Ok(span) => format!("{span:?}"),
+            Err(error) => format!("{} {error}", at(error.span())),
+        }
+    });
+}
+
+/// A call as it is written, and what it returns.
+fn example<T: Debug>(call: &str, value: T) -> String {
+    format!("{} == {value:?}\n", call.replace("Global", "alloc"))
+}
+
+macro_rules! examples {
+    ($($call:expr;)*) => { [$(example(stringify!($call), $call)),*].concat() };
+}
+
+#[test]
+fn examples() {
+    check(TABLE, "examples", |_| {
+        examples! {
+            text_at("let a = 12;", Span::new(0, 8, 10));
+            second_token("a /* b */ 1.5");
+            no_token("\"a");
+            first_docs("/// Docs.");
+            all_places(Global, "f(\"a);\nlet b = 'x';\ng('ab');");
+            after_comments("/* one */ two");
+            is_name("port");
+            first_delimiter(Global, "[1, 2]");
+            first_in_group(Global, "(0x10, 2)");
+            mark_after_name(Global, "port = 80");
+            trees_left(Global, "= 80");
+            trees_left(Global, "= a");
+            port(Global, "8_080");
+            port(Global, "1 'a'");
+            trees_of(Global, "12");
+            set_value(Global, "= 80");
+            mark_in_string(Global, "\"+\"");
+            is_rust("0xFF_u8");
+            is_rust("-1");
+            integer_of("0x1F_u8");
+            integer_of("1.5");
+            suffix_of("0xFF_u8");
+            digits_of_hex("-0xF_F_u8");
+            digits_of_hex("255");
+            exponent_of("1_0.5E+3f64");
+            exponent_of("1.5");
+            reason("\"a\\q\"");
+            reason("0b102");
+            reason("0b101");
+            reason_in_file("\"a\rb\"");
+            reason_in_file("\"a\r\nb\"");
+            is_value("-1.5");
+            is_value("-\"a\"");
+            is_too_large("340282366920938463463374607431768211456");
+            is_too_large("340282366920938463463374607431768211455");
+            why_no_value("-340282366920938463463374607431768211456");
+            why_no_value("-1e");
+            why_no_value("-1");
+            is_plain_string("\"a\"");
+            is_plain_string("\"\\n\"");
+            contents(Global, "\"a\\x41\"");
+            first_escape("\"a\\x41\\n\"");
+            place_after_escape("\"\\u{e4}b\"");
+            place_after_escape("\"\\x41b\"");
+            place_after_escape("5");
+            string_value(Global, "\"a\\x41\"");
+            string_of(Global, "a\tb");
+            bytes_len(Global, "b\"a\\xFF\"");
+            c_string_len(Global, "c\"a\\n\"");
+            brace_in_file(Global, "  \"\\u{e4}\\n{x}\"");
+            literal_in_file(Global, "\"\\x20\\\"a\\\"\"");
+            literal_in_file(Global, "\"\\u{31}, 2\"");
+            code_of(Global, "b'a'");
+            code_of(Global, "true");
+            digits_or_text(Global, "1_0.5e3_f64");
+            digits_or_text(Global, "abc");
+            first_flaw(Global, "\"a\\q\" 1");
+            after_literal(Global, "1.5, 2");
+            second_string(Global, "1 \"a\" 'b'");
+            host_of(Global, "host = \"a\", port = 80");
+            missing_at(Global, "port = 80");
+            string_setting(Global, "host = \"a\", port = 80", "host");
+        }
+    });
+}
