@@ -1,5 +1,4 @@
 """The crates of the repository, copies of them, and the checks of the kit's prover over these."""
-import hashlib
 import os
 import re
 import shutil
@@ -15,15 +14,17 @@ PARTS = ('src', 'specs', 'proofs')
 LONGEST, MEMORY = 3600, 4_000_000_000
 
 
+def lines_of(text):
+    """The lines of a crates.txt, each by its crate."""
+    lines = [line.partition('#')[0].strip() for line in text.split('\n')]
+    return {line.split(':')[0].split()[0]: line for line in lines if line}
+
+
 class Crates:
     """The crates that crates.txt lists, lowest first where each stands below those that name it."""
 
     def __init__(self, top):
-        self.top, self.lines = top, {}
-        for line in read(f'{top}/crates.txt').split('\n'):
-            line = line.partition('#')[0].strip()
-            if line:
-                self.lines[line.split(':')[0].split()[0]] = line
+        self.top, self.lines = top, lines_of(read(f'{top}/crates.txt'))
 
     def __contains__(self, name):
         return name in self.lines
@@ -51,15 +52,6 @@ class Crates:
         """About how much there is to prove in a crate's folder."""
         return sum(os.path.getsize(f'{folder}/{it}') for it in files_below(folder))
 
-    def sum_of(self, name, folder):
-        """A sum of a crate's line, and of what the prover reads of it in its folder or a copy of that."""
-        found = hashlib.sha256(' '.join(self.lines[name].split()).encode())
-        for part in PARTS:
-            for it in files_below(f'{folder}/{part}'):
-                with open(f'{folder}/{part}/{it}', 'rb') as file:
-                    found.update(repr((part, it, file.read())).encode())
-        return found.hexdigest()
-
 
 class Prover:
     """Rattle's prover, over libraries as `rt ci` builds them: with their statements alone, which other commands of rt don't take."""
@@ -67,7 +59,6 @@ class Prover:
     def __init__(self, crates, libraries):
         self.crates, self.libraries = crates, libraries
         self.kit = os.path.dirname(said_by('rt', 'doc'))
-        self.version = said_by('rt', 'version')
         self.running, self.lock, self.is_stopped = set(), threading.Lock(), False
 
     def build_below(self, names, copies):
