@@ -2,7 +2,7 @@
 use Rattle.std.proofs.Common.{Bool, Bor, List, Option, Some, None, ℕ, false, refl, true, ◌++◌, ◌∷◌, ◌≡◌}
 use Rattle.std.specs.Prelude.{MatchOption}
 use Rattle.std.specs.List.{All}
-use Rattle.rl_sources.specs.Options.{words_of}
+use Rattle.rl_output.specs.Choices.{words_of}
 use Rattle.rl_reports.specs.Meant.{IsNearest, is_near}
 
 is_true : (b : Bool) → (b ≡ false → ⊥) → b ≡ true

@@ -9,11 +9,11 @@ use Rattle.rl_reports.specs.declared.command.Restyling.{Restyling}
 use Rattle.rl_reports.specs.declared.command.Restyling.TheVariants as restyling
 use Rattle.rl_output.specs.Forms.{has_extents}
 use Rattle.rl_output.specs.declared.form.Form.{Form}
-use Rattle.rl_sources.specs.declared.options.Spelling.{Spelling}
-use Rattle.rl_sources.specs.declared.options.Spelling.TheVariants.{Value, Source}
+use Rattle.rl_output.specs.declared.choice.Spelling.{Spelling}
+use Rattle.rl_output.specs.declared.choice.Spelling.TheVariants.{Value, Source}
 use Rattle.rl_reports.specs.declared.words.WordError.{WordError}
 use Rattle.rl_reports.specs.declared.words.WordError.TheVariants.{TextlessKinds, ObjectsOfPaths, StatsOfPaths, RestylesAlone, SumsOfCheck, StyleAlone, MacrosAlone, SuffixAlone, EditionAlone}
-use Rattle.rl_sources.specs.Options.{Names, words_of}
+use Rattle.rl_output.specs.Choices.{Names, words_of}
 use Rattle.rl_reports.specs.Wishes.{AllWanted, BadWanted, HiddenWanted, OnlyWanted, Wanted, Wishes}
 
 -- the kinds whose contents may hold a text

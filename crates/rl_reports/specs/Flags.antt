@@ -18,7 +18,7 @@ use Rattle.rl_reports.specs.declared.flags.Operand.{Operand}
 use Rattle.rl_reports.specs.declared.flags.Operand.TheVariants as takes
 use Rattle.rl_reports.specs.declared.flags.When.{When}
 use Rattle.rl_reports.specs.declared.flags.When.TheVariants.{Auto, Always, Never}
-use Rattle.rl_sources.specs.Options.{Names, words_of}
+use Rattle.rl_output.specs.Choices.{Names, words_of}
 
 -- the word of an option
 abbrev pub IsOptionWord : Flag → List ℕ → Type 0

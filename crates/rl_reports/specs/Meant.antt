@@ -4,7 +4,7 @@ use denote.Ref.{Bor}
 use Prim.Native.Char.{code}
 use Rattle.std.specs.List.{All, before_first, starts_with}
 use Rattle.std.specs.Str.{bytes_eq}
-use Rattle.rl_sources.specs.Options.{words_of}
+use Rattle.rl_output.specs.Choices.{words_of}
 
 -- the options; commas separate them
 abbrev pub option_list : List ℕ

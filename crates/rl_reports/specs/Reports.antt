@@ -25,8 +25,8 @@ use Rattle.rl_output.specs.declared.color.Paint.TheVariants as paint
 use Rattle.rl_output.specs.declared.form.Form.{Form}
 use Rattle.rl_output.specs.declared.form.Form.TheVariants.{Plain}
 use Rattle.rl_sources.specs.declared.options.Options.{Options}
-use Rattle.rl_sources.specs.declared.options.Shown.{Shown}
-use Rattle.rl_sources.specs.declared.options.Shown.TheVariants.{All, Only, Bad, Hidden}
+use Rattle.rl_output.specs.declared.choice.Shown.{Shown}
+use Rattle.rl_output.specs.declared.choice.Shown.TheVariants.{All, Only, Bad, Hidden}
 use Rattle.rl_output.specs.declared.place.Place.{Place}
 use Rattle.rl_output.specs.declared.place.Place.TheVariants.{Bytes, Line, Whole}
 use Rattle.rl_reports.specs.declared.report.Report.{Report}

@@ -7,8 +7,8 @@ use Rattle.rl_files.specs.Trees.{World}
 use Rattle.rl_files.specs.Walks.{Waypoint, Visited, Visits}
 use Rattle.rl_program.specs.Streams.{AppendsBeginning}
 use Rattle.rl_reports.specs.declared.command.Command.{Command}
-use Rattle.rl_sources.specs.declared.options.Shown.{Shown}
-use Rattle.rl_sources.specs.declared.options.Shown.TheVariants.{All}
+use Rattle.rl_output.specs.declared.choice.Shown.{Shown}
+use Rattle.rl_output.specs.declared.choice.Shown.TheVariants.{All}
 use Rattle.rl_reports.specs.declared.command.Restyling.{Restyling}
 use Rattle.rl_reports.specs.declared.command.Restyling.TheVariants.{Fix, Check, Diff}
 use Rattle.rl_reports.specs.declared.runs.Tally.{Tally}

@@ -13,10 +13,10 @@ use Rattle.rl_reports.specs.declared.command.Command.{Command}
 use Rattle.rl_reports.specs.declared.command.Restyling.{Restyling}
 use Rattle.rl_restyled.specs.declared.edit.Macros.{Macros as AnyMacros}
 use Rattle.rl_output.specs.declared.form.Form.{Form}
-use Rattle.rl_sources.specs.declared.options.Shown.{Shown}
-use Rattle.rl_sources.specs.declared.options.Spelling.{Spelling}
-use Rattle.rl_sources.specs.declared.options.Spelling.TheVariants.{Value}
-use Rattle.rl_sources.specs.declared.options.Shown.TheVariants as shown
+use Rattle.rl_output.specs.declared.choice.Shown.{Shown}
+use Rattle.rl_output.specs.declared.choice.Spelling.{Spelling}
+use Rattle.rl_output.specs.declared.choice.Spelling.TheVariants.{Value}
+use Rattle.rl_output.specs.declared.choice.Shown.TheVariants as shown
 use Rattle.rl_types.specs.declared.before.Edition.{Edition as AnyEdition}
 use Rattle.rl_reports.specs.declared.flags.When.TheVariants.{Auto}
 use Rattle.rl_reports.specs.declared.words.Asked.{Asked}

@@ -8,7 +8,7 @@ use Rattle.rl_reports.specs.declared.command.Output.TheVariants as output
 use Rattle.rl_reports.specs.declared.command.Restyling.TheVariants as restyling
 use Rattle.rl_restyled.specs.declared.edit.Macros.{Macros as AnyMacros}
 use Rattle.rl_output.specs.declared.form.Form.TheVariants as written
-use Rattle.rl_sources.specs.declared.options.Spelling.TheVariants.{Source}
+use Rattle.rl_output.specs.declared.choice.Spelling.TheVariants.{Source}
 use Rattle.rl_reports.specs.declared.flags.Flag.{Flag}
 use Rattle.rl_reports.specs.declared.flags.Flag.TheVariants.{Bad, Hidden, Only, Find, IgnoreCase, WholeWords, Text, Json, Format, Context, Before, After, Color, Bytes, Lines, NoStray, AnySuffix, Edition, AllDirectories, Extension, Exclude, FilesFrom, NoMessages, Count, FilesWithMatches, Nul, Quiet, Files, Stats, Fix, Check, Diff, Style, Macros, Help, Version, Paths}
 use Rattle.rl_reports.specs.declared.flags.Format.{Format as AnyFormat}

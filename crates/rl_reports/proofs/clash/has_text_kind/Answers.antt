@@ -1,8 +1,8 @@
 use Rattle.std.proofs.Common.{lit<, rules, tests}
 use Rattle.std.proofs.lemmas.Iterator.{cases_from_any}
 use Rattle.std.proofs.lemmas.Iterator.Splits.{YieldsList-from_str_split}
-use Rattle.rl_sources.specs.Options.{Names}
-use Rattle.rl_sources.proofs.OptionLemmas.{found_word}
+use Rattle.rl_output.specs.Choices.{Names}
+use Rattle.rl_output.proofs.ChoiceLemmas.{found_word}
 use Rattle.rl_reports.specs.Clashes.{text_kind_list}
 use Rattle.rl_reports.proofs.clash.has_text_kind.Goals as goal
 

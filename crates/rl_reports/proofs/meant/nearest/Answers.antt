@@ -1,9 +1,9 @@
 use Rattle.std.proofs.Common.{false, lit<, rules, tests, ◌≡◌}
 use Rattle.std.proofs.lemmas.Iterator.{first_from_find}
 use Rattle.std.proofs.lemmas.Iterator.Splits.{YieldsList-from_str_split}
-use Rattle.rl_sources.specs.Options.{words_of}
+use Rattle.rl_output.specs.Choices.{words_of}
 use Rattle.rl_reports.specs.Meant.{is_near}
-use Rattle.rl_sources.proofs.OptionLemmas.{first_failing}
+use Rattle.rl_output.proofs.ChoiceLemmas.{first_failing}
 use Rattle.rl_reports.proofs.MeantLemmas.{first_near}
 use Rattle.rl_reports.proofs.meant.nearest.Goals as goal
 

@@ -2,7 +2,7 @@ use Rattle.std.proofs.Common.{lit<, rules, tests}
 use Rattle.std.proofs.lemmas.Iterator.{first_from_find}
 use Rattle.std.proofs.lemmas.Iterator.Splits.{YieldsList-from_str_split}
 use Rattle.rl_reports.specs.Flags.{IsKindWord}
-use Rattle.rl_sources.proofs.OptionLemmas.{first_failing}
+use Rattle.rl_output.proofs.ChoiceLemmas.{first_failing}
 use Rattle.rl_reports.proofs.words.unknown_kind.Goals as goal
 
 pub returns : goal.returns

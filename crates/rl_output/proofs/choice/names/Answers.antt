@@ -1,9 +1,9 @@
 use Rattle.std.proofs.Common.{lit<, rules, tests}
 use Rattle.std.proofs.lemmas.Iterator.{cases_from_any}
 use Rattle.std.proofs.lemmas.Iterator.Splits.{YieldsList-from_str_split}
-use Rattle.rl_sources.specs.Options.{IsSameWord}
-use Rattle.rl_sources.proofs.OptionLemmas.{found_word}
-use Rattle.rl_sources.proofs.options.names.Goals as goal
+use Rattle.rl_output.specs.Choices.{IsSameWord}
+use Rattle.rl_output.proofs.ChoiceLemmas.{found_word}
+use Rattle.rl_output.proofs.choice.names.Goals as goal
 
 pub returns : goal.returns
 returns c =

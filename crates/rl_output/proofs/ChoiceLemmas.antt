@@ -1,4 +1,4 @@
--- Words of a list, and words of the command line.
+-- Words of a list.
 use Rattle.rl_text.proofs.Common.{Bool, Bor, IsTrue, List, None, Option, Some, [], arith, common_steps, drop, false, get_or, length, refl, subst, sym, take, true, zero, suc, ℕ, ◌++◌, ◌+◌, ◌<◌, ◌∷◌, ◌≡◌}
 use Rattle.std.proofs.Common.{MatchBool}
 use Rattle.std.specs.Prelude.{◌↔◌, MatchOption}
