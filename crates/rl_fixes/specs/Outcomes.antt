@@ -9,7 +9,7 @@ use Rattle.rl_restyled.specs.declared.edit.RestyleError.{RestyleError}
 use Rattle.rl_restyled.specs.declared.edit.RestyleError.TheVariants.{Memory}
 use Rattle.rl_sources.specs.Scans.{Scans}
 use Rattle.rl_sources.specs.declared.options.Options.{Options}
-use Rattle.rl_sources.specs.declared.options.Shown.TheVariants.{Bad}
+use Rattle.rl_output.specs.declared.choice.Shown.TheVariants.{Bad}
 use Rattle.rl_style.specs.Recut.{begins_with_code}
 use Rattle.rl_style.specs.declared.style.Style.{Style}
 use Rattle.rl_types.specs.declared.before.Edition.{Edition}

@@ -7,3 +7,4 @@ pub mod GithubLemmas
 pub mod ContextLemmas
 pub mod LastLines
 mod SpotLines
+pub mod ChoiceLemmas

@@ -1,3 +1,4 @@
+pub mod Choices
 pub mod Forms
 pub mod Colors
 pub mod Spots

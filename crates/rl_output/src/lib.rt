@@ -1,7 +1,8 @@
 //! What a line of the programs looks like: places, colours, strings of JSON, annotations of GitHub, and the line of the source
-//! with a mark below, and lines about it.
+//! with a mark below, and lines about it; and which literals have one.
 #![tactic(auto)]
 
+mod choice;
 mod color;
 mod context;
 mod error_id;
@@ -13,6 +14,7 @@ mod member;
 mod place;
 mod spot;
 
+pub use crate::choice::{Matching, Shown, Spelling, names};
 pub use crate::color::{Paint, push_error_word, push_painted};
 pub use crate::context::{Context, first_line, push_context};
 pub use crate::error_id::id_of;

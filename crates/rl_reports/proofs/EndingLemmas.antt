@@ -11,22 +11,23 @@ use Rattle.rl_files.specs.Walks.{Waypoint}
 use Rattle.rl_files.proofs.WalkLemmas.{some_visits}
 use Rattle.rl_program.specs.declared.ending.Ending.{Ending}
 use Rattle.rl_program.specs.declared.ending.Ending.TheVariants.{Done, FoundBad, Reported, Closed, Usage, Failed}
-use Rattle.rl_reports.specs.declared.command.Wish.{Wish}
-use Rattle.rl_reports.specs.declared.command.Wish.TheVariants.{Scan, Help, Version, Files}
-use Rattle.rl_reports.specs.declared.command.Command.{Command}
-use Rattle.rl_reports.specs.declared.command.Console.{Console}
-use Rattle.rl_reports.specs.declared.words.WordError.{WordError}
+use Rattle.rl_options.specs.declared.command.Wish.{Wish}
+use Rattle.rl_options.specs.declared.command.Wish.TheVariants.{Scan, Help, Version, Files}
+use Rattle.rl_options.specs.declared.command.Command.{Command}
+use Rattle.rl_options.specs.declared.command.Console.{Console}
+use Rattle.rl_options.specs.declared.words.WordError.{WordError}
 use Rattle.rl_reports.specs.declared.ending.CallError.{CallError}
 use Rattle.rl_reports.specs.declared.ending.CallError.TheVariants.{NoArguments, Word, Walk, List as NoList, Style as NoStyle, NoFile, Write}
 use Rattle.rl_style.specs.declared.style.Style.{Style}
 use Rattle.rl_styles.specs.Styles.{default_settings}
-use Rattle.rl_reports.specs.declared.rules.RulesError.TheVariants as rules
+use Rattle.rl_options.specs.declared.rules.RulesError.TheVariants as rules
 use Rattle.rl_reports.specs.Visits.{nothing}
 use Rattle.rl_reports.specs.Runs.{Streams, WritesFront}
 use Rattle.rl_reports.proofs.Handing.{hands_none, written_on}
 use Rattle.rl_reports.proofs.RunLemmas.{not_empty}
-use Rattle.rl_reports.specs.Wishes.{Wishes, style_of, wishes_of, reads_here}
-use Rattle.rl_reports.specs.Endings.{AskForWishes, EndsText, EndsWish, EndsAsked, EndsAsScan, EndsFrom, EndsListed, EndsPaths, EndsScan, EndsStyled, paths_read, IsCommandFor, IsSelecting}
+use Rattle.rl_options.specs.Wishes.{Wishes, style_of, wishes_of, reads_here}
+use Rattle.rl_options.specs.Words.{AskForWishes}
+use Rattle.rl_reports.specs.Endings.{EndsText, EndsWish, EndsAsked, EndsAsScan, EndsFrom, EndsListed, EndsPaths, EndsScan, EndsStyled, paths_read, IsCommandFor, IsSelecting}
 
 -- what wasn't written to is kept
 pub keeps_same : (a : Option (List ℕ)) → Keeps a a

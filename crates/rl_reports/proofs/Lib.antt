@@ -1,11 +1,6 @@
-pub mod WordLemmas
 pub mod ReportLemmas
 pub mod Handing
 pub mod VisitLemmas
-pub mod RulesLemmas
 pub mod RestyleLemmas
 pub mod RunLemmas
 pub mod EndingLemmas
-pub mod MeantLemmas
-pub mod LetterLemmas
-pub mod ListedLemmas

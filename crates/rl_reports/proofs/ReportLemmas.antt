@@ -1,5 +1,5 @@
 -- What is reported of a file.
-use Rattle.rl_text.proofs.Common.{IsAscii, IsUtf8, List, None, Option, [], ap, append_assoc, chars, chars-IsAscii, chars-nil, codes, encodes-chars, refl, subst, sym, ℕ, ◌++◌, ◌∙◌, ◌≡◌}
+use Rattle.rl_text.proofs.Common.{IsAscii, IsUtf8, List, None, Option, [], ap, append_assoc, chars, chars-IsAscii, codes, encodes-chars, refl, subst, sym, ℕ, ◌++◌, ◌∙◌, ◌≡◌}
 use Rattle.std.specs.Prelude.{encode_utf8_all, MatchOption}
 use Rattle.std.proofs.lemmas.Str.{IsAscii-append}
 use Rattle.rl_files.specs.Visible.{visible}
@@ -11,13 +11,9 @@ use Rattle.rl_lines.proofs.LineLemmas.{pushed}
 use Rattle.rl_output.specs.declared.context.Context.{Context}
 use Rattle.rl_output.specs.declared.place.Place.{Place}
 use Rattle.rl_sources.specs.declared.options.Options.{Options}
+use Rattle.rl_options.proofs.VisibleLemmas.{from_nothing}
 use Rattle.rl_reports.specs.Reports.{AreBareLines, IsScannedAs}
 use Rattle.rl_output.proofs.Pieces.{decimal_ascii, low_text}
-
--- what is appended to nothing
-pub from_nothing : (old new piece : List ℕ) → old ≡ [] → chars new ≡ chars old ++ piece → chars new ≡ piece
-from_nothing old new piece none e = e ∙ ap (λ (z : List ℕ). chars z ++ piece) none
-    ∙ ap (λ (z : List ℕ). z ++ piece) chars-nil
 
 -- the bytes of what is appended to nothing
 pub bytes_from_nothing : (old new piece : List ℕ) → IsUtf8 new → old ≡ [] → chars new ≡ chars old ++ piece → new

@@ -11,7 +11,7 @@ use Rattle.rl_files.specs.Replacements.{Replacement}
 use Rattle.rl_files.specs.Trees.{World}
 use Rattle.rl_files.specs.Walks.{Waypoint, Visited, Visits, VisitsFirst}
 use Rattle.rl_files.proofs.WalkLemmas.{some_visits}
-use Rattle.rl_reports.specs.declared.command.Command.{Command}
+use Rattle.rl_options.specs.declared.command.Command.{Command}
 use Rattle.rl_reports.specs.declared.runs.Tally.{Tally}
 use Rattle.rl_reports.specs.Reports.{Findings, with_handed}
 use Rattle.rl_reports.specs.Visits.{AreReports, IsReport, ReportsAs, Totals, both_of, nothing, totals_of}

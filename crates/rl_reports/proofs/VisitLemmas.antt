@@ -7,11 +7,12 @@ use Rattle.rl_files.specs.Trees.{World}
 use Rattle.rl_files.specs.Walks.{ErrorAt, FileAt}
 use Rattle.rl_files.specs.declared.tree.PathError.{PathError}
 use Rattle.rl_files.specs.declared.tree.PathError.TheVariants.{OutOfMemory}
-use Rattle.rl_reports.specs.declared.command.Command.{Command}
+use Rattle.rl_options.specs.declared.command.Command.{Command}
 use Rattle.rl_reports.specs.declared.report.Report.{Report}
-use Rattle.rl_reports.specs.Reports.{Findings, IsErrorReport, IsListReport, IsNotUtf8, in_report}
+use Rattle.rl_options.specs.Reads.{IsNotUtf8}
+use Rattle.rl_reports.specs.Reports.{Findings, IsErrorReport, IsListReport, in_report}
 use Rattle.rl_reports.specs.Visits.{IsBytesReport, IsReadReport, IsReport, ReportsAs}
-use Rattle.rl_reports.specs.Clashes.{lists_files}
+use Rattle.rl_options.specs.Clashes.{lists_files}
 use Rattle.rl_reports.proofs.Handing.{hands_none}
 
 -- it is reported so, and nothing was handed on

@@ -2,7 +2,7 @@
 use Rattle.std.specs.Prelude.{◌≡◌, ◌⊎◌, ℕ, ◌==◌, Bool, true, false, cond, not, ◌&&◌, List, [], ◌∷◌, ◌++◌, length, codes, String, string_bytes, Option, Some, None, IfSome, ⊤}
 use Rattle.std.specs.Str.{chars}
 use Rattle.std.specs.Io.KnownBytes.{Appends, Keeps}
-use Rattle.rl_files.specs.Trees.{World, string_texts}
+use Rattle.rl_files.specs.Trees.{World}
 use Rattle.rl_files.specs.Globs.{borrowed_texts}
 use Rattle.rl_files.specs.Visible.{visible}
 use Rattle.rl_files.specs.Walks.{Waypoint, given_waypoints, path_error_message, walk_error_message}
@@ -11,26 +11,25 @@ use Rattle.rl_files.specs.declared.walk.WalkError.TheVariants.{OutOfMemory}
 use Rattle.rl_program.specs.Streams.{AppendsBeginning}
 use Rattle.rl_program.specs.declared.ending.Ending.{Ending}
 use Rattle.rl_program.specs.declared.ending.Ending.TheVariants.{Done, FoundBad, Reported, Closed, Usage, Failed}
-use Rattle.rl_reports.specs.declared.command.Wish.{Wish}
-use Rattle.rl_reports.specs.declared.command.Wish.TheVariants.{Scan, Help, Version, Files}
-use Rattle.rl_reports.specs.declared.command.Command.{Command}
-use Rattle.rl_reports.specs.declared.command.Console.{Console}
-use Rattle.rl_reports.specs.declared.command.Restyling.{Restyling}
-use Rattle.rl_reports.specs.declared.command.Restyling.TheVariants.{Fix}
+use Rattle.rl_options.specs.declared.command.Wish.{Wish}
+use Rattle.rl_options.specs.declared.command.Wish.TheVariants.{Scan, Help, Version, Files}
+use Rattle.rl_options.specs.declared.command.Command.{Command}
+use Rattle.rl_options.specs.declared.command.Console.{Console}
+use Rattle.rl_options.specs.declared.command.Restyling.{Restyling}
+use Rattle.rl_options.specs.declared.command.Restyling.TheVariants.{Fix}
 use Rattle.rl_reports.specs.declared.runs.Tally.{Tally}
-use Rattle.rl_reports.specs.declared.words.WordError.{WordError}
 use Rattle.rl_reports.specs.declared.ending.CallError.{CallError}
 use Rattle.rl_reports.specs.declared.ending.CallError.TheVariants.{NoArguments, Word, Walk, List as NoList, Style as NoStyle, NoFile, Write}
 use Rattle.rl_style.specs.declared.style.Style.{Style}
 use Rattle.rl_styles.specs.Styles.{default_settings}
-use Rattle.rl_reports.specs.declared.rules.LineError.{LineError}
-use Rattle.rl_reports.specs.declared.rules.RulesError.{RulesError}
-use Rattle.rl_reports.specs.declared.rules.RulesError.TheVariants as rules
-use Rattle.rl_reports.specs.Rules.{HasNoRules, HasRules, line_error_words}
-use Rattle.rl_reports.specs.Listed.{AreWithAllListed, IsFirstUnread}
+use Rattle.rl_options.specs.declared.rules.LineError.{LineError}
+use Rattle.rl_options.specs.declared.rules.RulesError.{RulesError}
+use Rattle.rl_options.specs.declared.rules.RulesError.TheVariants as rules
+use Rattle.rl_options.specs.Rules.{HasNoRules, HasRules, line_error_words}
+use Rattle.rl_options.specs.Listed.{AreWithAllListed, IsFirstUnread}
 use Rattle.rl_reports.specs.Runs.{Streams, WritesWalk, WritesFront, asked_status}
-use Rattle.rl_reports.specs.Wishes.{Wishes, reads_here, wishes_of}
-use Rattle.rl_reports.specs.Words.{Asks, AreRejected, word_message}
+use Rattle.rl_options.specs.Wishes.{Wishes, reads_here, wishes_of}
+use Rattle.rl_options.specs.Words.{AskForWishes, CannotAsk, word_message}
 
 -- the line of an error
 abbrev pub call_error_line : {A : Type 0} → CallError A → List ℕ
@@ -42,16 +41,6 @@ call_error_line (NoStyle file error) =
     codes "rl_scan: " ++ (string_bytes file ++ (codes ":" ++ line_error_words error))
 call_error_line NoFile = codes "rl_scan: there was no file to read"
 call_error_line Write = codes "rl_scan: write failed"
-
--- the arguments are the program's own name and words that ask for this
-abbrev pub AskForWishes : {A : Type 0} → Bool → List (String A) → Wishes → Type 0
-AskForWishes has_colors [] wishes = ⊥
-AskForWishes has_colors (program ∷ words) wishes = Asks has_colors (string_texts words) wishes
-
--- they are its name and words that can't be asked for
-abbrev pub CannotAsk : {A B : Type 0} → Bool → List (String A) → WordError B → Type 0
-CannotAsk has_colors [] error = ⊥
-CannotAsk has_colors (program ∷ words) error = AreRejected has_colors (string_texts words) error
 
 -- the paths that are read; where none is named, `.` or standard input
 abbrev pub paths_read : Bool → List (List ℕ) → List (List ℕ)

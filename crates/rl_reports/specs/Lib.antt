@@ -1,13 +1,6 @@
-pub mod Meant
-pub mod Flags
-pub mod Wishes
-pub mod Clashes
-pub mod Words
 pub mod Reports
 pub mod Restyling
 pub mod Visits
-pub mod Rules
 pub mod Stats
 pub mod Runs
-pub mod Listed
 pub mod Endings

@@ -1,32 +1,29 @@
 -- What is reported of a text, of a file that is listed, and of what can't be read. All are lists of bytes, but where
 -- `chars` makes characters of
 -- them.
-use Rattle.std.specs.Prelude.{◌≡◌, ◌⊎◌, ℕ, ◌==◌, Bool, true, false, cond, not, ◌&&◌, ◌||◌, List, [], ◌∷◌, ◌++◌, length, codes, MatchBool, MatchOption, encode_utf8_all, Option, Some, None, is_some, option_map}
+use Rattle.std.specs.Prelude.{◌≡◌, ℕ, ◌==◌, Bool, true, false, cond, not, ◌&&◌, List, [], ◌∷◌, ◌++◌, length, codes, MatchBool, MatchOption, encode_utf8_all, Option, Some, None, option_map}
 use denote.Ref.{Bor}
-use Rattle.std.specs.declared.result.Result.TheVariants.{Ok, Err}
 use Rattle.std.specs.Fmt.{decimal}
-use Rattle.std.specs.Str.{chars, bytes_eq, IsUtf8, IsValidUpTo}
+use Rattle.std.specs.Str.{chars, bytes_eq}
 use Rattle.rl_files.specs.Replacements.{Replacement}
-use Rattle.rl_files.specs.Trees.{World}
 use Rattle.rl_files.specs.Visible.{visible}
 use Rattle.rl_files.specs.Walks.{path_error_message}
 use Rattle.rl_files.specs.declared.tree.PathError.{PathError}
-use Rattle.rl_files.specs.declared.tree.PathError.TheVariants.{NotUtf8, OutOfMemory}
 use Rattle.rl_lexer.specs.declared.lex_error.LexKind.{LexKind}
 use Rattle.rl_types.specs.declared.before.Edition.{Edition}
 use Rattle.rl_types.specs.declared.before.Edition.TheVariants.{E2021}
-use Rattle.rl_reports.specs.declared.command.Command.{Command}
-use Rattle.rl_reports.specs.declared.command.PlaceForm.{PlaceForm}
-use Rattle.rl_reports.specs.declared.command.PlaceForm.TheVariants as form
-use Rattle.rl_reports.specs.declared.command.Output.{Output}
-use Rattle.rl_reports.specs.declared.command.Output.TheVariants as output
+use Rattle.rl_options.specs.declared.command.Command.{Command}
+use Rattle.rl_options.specs.declared.command.PlaceForm.{PlaceForm}
+use Rattle.rl_options.specs.declared.command.PlaceForm.TheVariants as form
+use Rattle.rl_options.specs.declared.command.Output.{Output}
+use Rattle.rl_options.specs.declared.command.Output.TheVariants as output
 use Rattle.rl_output.specs.Contexts.{ends_among}
 use Rattle.rl_output.specs.declared.color.Paint.TheVariants as paint
 use Rattle.rl_output.specs.declared.form.Form.{Form}
 use Rattle.rl_output.specs.declared.form.Form.TheVariants.{Plain}
 use Rattle.rl_sources.specs.declared.options.Options.{Options}
-use Rattle.rl_sources.specs.declared.options.Shown.{Shown}
-use Rattle.rl_sources.specs.declared.options.Shown.TheVariants.{All, Only, Bad, Hidden}
+use Rattle.rl_output.specs.declared.choice.Shown.{Shown}
+use Rattle.rl_output.specs.declared.choice.Shown.TheVariants.{All, Only, Bad, Hidden}
 use Rattle.rl_output.specs.declared.place.Place.{Place}
 use Rattle.rl_output.specs.declared.place.Place.TheVariants.{Bytes, Line, Whole}
 use Rattle.rl_reports.specs.declared.report.Report.{Report}
@@ -34,6 +31,7 @@ use Rattle.rl_output.specs.declared.context.Context.{Context}
 use Rattle.rl_output.specs.Colors.{painted}
 use Rattle.rl_output.specs.Forms.{is_json}
 use Rattle.rl_output.specs.Fronts.{line_front}
+use Rattle.rl_options.specs.Clashes.{asks_context}
 use Rattle.rl_sources.specs.Scans.{Scans, StopsAtError, error_end}
 
 -- the path of standard input
@@ -88,10 +86,6 @@ abbrev pub side_lines : Option ℕ → Option ℕ → ℕ
 side_lines (Some own) around = own
 side_lines None (Some around) = around
 side_lines None None = 0
-
--- it is said how many
-abbrev pub asks_context : Command → Bool
-asks_context command = is_some command.around || is_some command.before || is_some command.after
 
 -- how many lines of the source stand below each line, where that is said
 abbrev pub context_of : Command → Option Context
@@ -250,13 +244,3 @@ pub record IsErrorReport (path : List ℕ) (why : PathError) (printed : Findings
   pub count : printed.count ≡ 0
   pub errors : chars printed.errors
       ≡ codes "rl_scan: " ++ (visible (chars path) ++ (codes ": " ++ (path_error_message why ++ codes "\n")))
-
--- these bytes are no text, from the byte on that the error says
-abbrev pub IsNotUtf8 : List ℕ → PathError → Type 0
-IsNotUtf8 bytes why = (at : ℕ) × (why ≡ NotUtf8 at) × (IsUtf8 bytes → ⊥) × IsValidUpTo bytes at
-
--- why a file isn't scanned: what the tree says, or an allocation failed, or it is no text
-abbrev pub IsReadError : World → List ℕ → PathError → Type 0
-IsReadError w path why =
-    (why ≡ OutOfMemory) ⊎ (w.bytes path ≡ Err why)
-    ⊎ ((bytes : List ℕ) × (w.bytes path ≡ Ok bytes) × IsNotUtf8 bytes why)

@@ -14,11 +14,11 @@ use Rattle.rl_restyled.specs.declared.edit.Macros.{Macros}
 use Rattle.rl_restyled.specs.declared.edit.Macros.TheVariants.{Skip}
 use Rattle.rl_sources.specs.declared.options.Options.{Options}
 use Rattle.rl_style.specs.Recut.{begins_with_code}
-use Rattle.rl_reports.specs.declared.command.Command.{Command}
-use Rattle.rl_reports.specs.declared.command.Output.{Output}
-use Rattle.rl_reports.specs.declared.command.Output.TheVariants as output
-use Rattle.rl_reports.specs.declared.command.Restyling.{Restyling}
-use Rattle.rl_reports.specs.declared.command.Restyling.TheVariants.{Fix, Check, Diff}
+use Rattle.rl_options.specs.declared.command.Command.{Command}
+use Rattle.rl_options.specs.declared.command.Output.{Output}
+use Rattle.rl_options.specs.declared.command.Output.TheVariants as output
+use Rattle.rl_options.specs.declared.command.Restyling.{Restyling}
+use Rattle.rl_options.specs.declared.command.Restyling.TheVariants.{Fix, Check, Diff}
 use Rattle.rl_reports.specs.Reports.{Findings, IsErrorReport, IsPathIn, IsShownPath, edition_read, is_by_line, is_input, printed_of}
 
 -- Only this is printed, on standard output, and this is handed on.

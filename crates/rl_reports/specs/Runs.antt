@@ -6,16 +6,16 @@ use Rattle.rl_files.specs.Replacements.{Replacement}
 use Rattle.rl_files.specs.Trees.{World}
 use Rattle.rl_files.specs.Walks.{Waypoint, Visited, Visits}
 use Rattle.rl_program.specs.Streams.{AppendsBeginning}
-use Rattle.rl_reports.specs.declared.command.Command.{Command}
-use Rattle.rl_sources.specs.declared.options.Shown.{Shown}
-use Rattle.rl_sources.specs.declared.options.Shown.TheVariants.{All}
-use Rattle.rl_reports.specs.declared.command.Restyling.{Restyling}
-use Rattle.rl_reports.specs.declared.command.Restyling.TheVariants.{Fix, Check, Diff}
+use Rattle.rl_options.specs.declared.command.Command.{Command}
+use Rattle.rl_output.specs.declared.choice.Shown.{Shown}
+use Rattle.rl_output.specs.declared.choice.Shown.TheVariants.{All}
+use Rattle.rl_options.specs.declared.command.Restyling.{Restyling}
+use Rattle.rl_options.specs.declared.command.Restyling.TheVariants.{Fix, Check, Diff}
 use Rattle.rl_reports.specs.declared.runs.Tally.{Tally}
 use Rattle.rl_reports.specs.Reports.{Findings, HandsOn, is_alarm}
 use Rattle.rl_reports.specs.Visits.{AreReports, IsReport, Totals, totals_of}
 use Rattle.rl_reports.specs.Stats.{tally_of, shown_stats}
-use Rattle.rl_reports.specs.Clashes.{lists_files}
+use Rattle.rl_options.specs.Clashes.{lists_files}
 
 -- The bytes that two writers held before and hold now, standard output and standard error; and what was handed on
 -- before and

@@ -4,7 +4,7 @@ use Rattle.std.specs.Fmt.{decimal}
 use Rattle.std.specs.Io.Iter.{u64_saturate}
 use Rattle.rl_output.specs.declared.form.Form.{Form}
 use Rattle.rl_output.specs.Forms.{is_json}
-use Rattle.rl_reports.specs.declared.command.Command.{Command}
+use Rattle.rl_options.specs.declared.command.Command.{Command}
 use Rattle.rl_reports.specs.declared.runs.Tally.{Tally}
 use Rattle.rl_reports.specs.Visits.{Totals}
 

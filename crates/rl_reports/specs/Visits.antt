@@ -6,12 +6,13 @@ use Rattle.rl_files.specs.Replacements.{Replacement}
 use Rattle.rl_files.specs.Trees.{World}
 use Rattle.rl_files.specs.Walks.{Visited, FileAt, ErrorAt}
 use Rattle.rl_files.specs.declared.tree.PathError.{PathError}
-use Rattle.rl_reports.specs.declared.command.Command.{Command}
-use Rattle.rl_reports.specs.declared.command.Restyling.{Restyling}
+use Rattle.rl_options.specs.declared.command.Command.{Command}
+use Rattle.rl_options.specs.declared.command.Restyling.{Restyling}
 use Rattle.rl_reports.specs.declared.report.Report.{Report}
-use Rattle.rl_reports.specs.Reports.{Findings, HandsOn, IsErrorReport, IsListReport, IsNotUtf8, IsReadError, IsTextReport, with_handed}
+use Rattle.rl_options.specs.Reads.{IsNotUtf8, IsReadError}
+use Rattle.rl_reports.specs.Reports.{Findings, HandsOn, IsErrorReport, IsListReport, IsTextReport, with_handed}
 use Rattle.rl_reports.specs.Restyling.{IsRestyledReport}
-use Rattle.rl_reports.specs.Clashes.{lists_files}
+use Rattle.rl_options.specs.Clashes.{lists_files}
 
 -- what is reported of a text, whose literals may be written anew
 abbrev pub IsWantedReport : Option Restyling → Command → List ℕ → List ℕ → Findings → Type 0

@@ -5,17 +5,14 @@ ghost use Rattle.rl_files.specs.Globs.{borrowed_texts};
 ghost use Rattle.rl_files.specs.Trees.{string_texts};
 ghost use Rattle.rl_reports.specs.Endings.{extensions_read, finds_no_file, paths_read, EndsAsScan, EndsAsked, EndsListed, EndsPaths, EndsRun, EndsScan, EndsStyled, EndsText, EndsWithoutMemory, IsCutShort, IsListError, IsRulesError, IsSelecting, IsStyleError, IsUnwritten};
 ghost use Rattle.rl_reports.specs.Runs.{asked_status};
-ghost use Rattle.rl_reports.specs.Wishes.{reads_here as is_read_here, style_of, wishes_in};
+ghost use Rattle.rl_options.specs.Wishes.{reads_here as is_read_here, style_of, wishes_in};
 
-use crate::clash::lists_files;
-use crate::command::{Command, Console, Restyling, Wish};
-use crate::help::{HELP, VERSION};
-use crate::listed::push_all_listed;
-use crate::report::visible_text;
-use crate::rules::{LineError, RulesError, rules_in};
 use crate::runs::{RunStop, Tally, run};
-use crate::words::{Asked, WordError, asked_by};
 use rl_files::{PathError, Replace, Selection, Tree, Walk, WalkError};
+use rl_options::{
+    Asked, Command, Console, HELP, LineError, Restyling, RulesError, VERSION, Wish, WordError,
+    asked_by, lists_files, push_all_listed, rules_in, visible_text,
+};
 use rl_program::{Ending, RunError, WriteError, write_bytes};
 use rl_sources::Shown;
 use rl_style::Style;

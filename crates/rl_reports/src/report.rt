@@ -6,11 +6,11 @@ ghost use Rattle.rl_files.specs.Visible.{visible};
 ghost use Rattle.rl_files.specs.declared.tree.PathError.{PathError};
 ghost use Rattle.rl_output.specs.Fronts.{line_front};
 ghost use Rattle.rl_sources.specs.Scans.{error_end};
-ghost use Rattle.rl_reports.specs.Reports.{is_input as input, is_by_line as by_line, is_bad as bad, is_alarm as alarm, asks_context as asks, context_of as context, edition_read, side_lines as on_side, IsShownPath, IsPathIn, IsListReport, IsOptionsFor, IsScannedAs, worded_place as as_words, error_text, after_path as path_end, count_line, listed_of, path_line, printed_of, in_report, IsTextReport, IsErrorReport};
+ghost use Rattle.rl_reports.specs.Reports.{is_input as input, is_by_line as by_line, is_bad as bad, is_alarm as alarm, context_of as context, edition_read, side_lines as on_side, IsShownPath, IsPathIn, IsListReport, IsOptionsFor, IsScannedAs, worded_place as as_words, error_text, after_path as path_end, count_line, listed_of, path_line, printed_of, in_report, IsTextReport, IsErrorReport};
 
-use crate::command::{Command, Output, PlaceForm};
 use crate::stats::asked_count;
 use rl_files::{PathError, push_visible};
+use rl_options::{Command, Output, PlaceForm, asks_context, visible_text};
 use rl_output::count_ends;
 use rl_sources::{
     Context, Edition, Form, Options, Paint, Place, ScanError, Shown, is_json, push_painted,
@@ -48,15 +48,6 @@ pub(crate) fn is_input(path: &str) -> bool
     ensures { result ≡ input path.now }
 {
     path == "-"
-}
-
-/// A text as it is printed.
-pub(crate) fn visible_text<A: Allocator>(alloc: A, text: &str) -> Result<String<A>, AllocError>
-    ensures { IfOk result (λ shown. chars (string_bytes shown) ≡ visible (chars text.now)) }
-{
-    let mut shown = String::new(alloc);
-    push_visible(&mut shown, text)?;
-    Ok(shown)
 }
 
 /// Whether the places in a file are printed by lines and columns.
@@ -124,13 +115,6 @@ fn side_lines(own: Option<usize>, around: Option<usize>) -> usize
         (Some(count), _) | (None, Some(count)) => count,
         (None, None) => 0,
     }
-}
-
-/// Whether it is said how many lines are shown about that of a place.
-pub(crate) fn asks_context(command: Command<'_>) -> bool
-    ensures { result ≡ asks command.entry }
-{
-    command.around.is_some() || command.before.is_some() || command.after.is_some()
 }
 
 /// How many lines of the source stand below each line, where that is said, and lines are printed, and not how many there are.

@@ -8,13 +8,12 @@ ghost use Rattle.rl_reports.specs.Reports.{in_report};
 ghost use Rattle.rl_reports.specs.Visits.{ReportsAs};
 ghost use Rattle.rl_reports.specs.Restyling.{AreChangeBytes, IsChanged, IsChecked, IsCompared, IsFixed, IsReplaced, IsRestyledReport, IsScriptReport, PrintsAlone, PrintsRejections, fixed_output as output_of_fixed, macros_read, text_left as text_left_of};
 
-use crate::command::{Command, Output, Restyling};
 use crate::report::{
-    Report, edition_for, is_by_line, is_input, path_before, path_in, report_error, visible_text,
-    written,
+    Report, edition_for, is_by_line, is_input, path_before, path_in, report_error, written,
 };
 use rl_files::{Replace, push_visible};
 use rl_fixes::{Outcome, judging, push_changes, push_diff, written_anew};
+use rl_options::{Command, Output, Restyling, visible_text};
 use rl_restyled::{Macros, Restyled};
 use rl_sources::Options;
 use std::alloc::{AllocError, Allocator};

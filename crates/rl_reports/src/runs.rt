@@ -7,11 +7,11 @@ ghost use Rattle.rl_reports.specs.Visits.{nothing, one_if as one_where, totals_o
 ghost use Rattle.rl_reports.specs.Runs.{both_tallies as both, has_errors, has_findings, shown_errors, WritesReport, WritesSome, WritesReports, WritesFirst, WritesWalk, WritesFront, find_status, restyle_status, run_status};
 ghost use Rattle.rl_reports.specs.Stats.{tally_of};
 
-use crate::command::{Command, Restyling};
 use crate::report::{Report, is_alarm};
 use crate::stats::write_stats;
 use crate::visits::report_of;
 use rl_files::{Replace, Tree, Visit, Walk, WalkError};
+use rl_options::{Command, Restyling};
 use rl_program::{WriteError, write_bytes};
 use rl_sources::Shown;
 use std::alloc::Allocator;

@@ -6,10 +6,10 @@ ghost use Rattle.rl_program.specs.Streams.{AppendsBeginning};
 ghost use Rattle.rl_reports.specs.Reports.{IsAskedCount, IsCount};
 ghost use Rattle.rl_reports.specs.Stats.{shown_stats, stats_lines, stats_object, stats_text};
 
-use crate::command::Command;
 use crate::report::scan_text;
 use crate::runs::{RunStop, Tally};
 use rl_files::WalkError;
+use rl_options::Command;
 use rl_output::count_ends;
 use rl_program::write_bytes;
 use rl_sources::{Form, Options, is_json};

@@ -5,11 +5,10 @@ ghost use Rattle.std.specs.Str.{IsUtf8};
 ghost use Rattle.rl_files.specs.Walks.{visited};
 ghost use Rattle.rl_reports.specs.Visits.{IsBytesReport, IsReadReport, IsReport, IsWantedReport, ReportsAs};
 
-use crate::clash::lists_files;
-use crate::command::Command;
 use crate::report::{Report, report_error, report_listed, report_text};
 use crate::restyling::report_restyled;
 use rl_files::{PathError, Replace, Tree, Visit};
+use rl_options::{Command, lists_files};
 use std::alloc::{AllocError, Allocator};
 
 /// What is reported of a text, whose literals may be written anew.

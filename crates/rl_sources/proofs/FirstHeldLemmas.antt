@@ -4,7 +4,7 @@ use Rattle.std.proofs.lemmas.List.{drop_all}
 use Rattle.rl_files.specs.Globs.{borrowed_texts}
 use Rattle.std.specs.Prelude.{IfNone, IfSome}
 use Rattle.rl_text.specs.Texts.{byte_len}
-use Rattle.rl_sources.specs.declared.options.Matching.{Matching}
+use Rattle.rl_output.specs.declared.choice.Matching.{Matching}
 use Rattle.rl_sources.specs.Held.{AreHeldIn, Holds, IsCutAt, IsFirstHeld, IsHeldAt, IsHeldIn, first_after, first_range}
 
 -- This is the first range so far, and these texts are left.

@@ -6,7 +6,7 @@ use Rattle.rl_reading.proofs.FoundContents.{found_kind, unit_of}
 use Rattle.rl_reading.specs.Decoded.{in_bytes}
 use Rattle.rl_reading.specs.declared.found.Found.{Found}
 use Rattle.rl_reading.specs.Founds.{IsFound, is_quoted}
-use Rattle.rl_sources.specs.declared.options.Matching.{Matching}
+use Rattle.rl_output.specs.declared.choice.Matching.{Matching}
 use Rattle.rl_sources.specs.Held.{AreContentsOf, Holds, MatchesAt}
 
 -- ---- one text has one contents

@@ -14,7 +14,7 @@ use Rattle.rl_reading.proofs.SegmentStarts.{quoted_kind, quoted_reads_as}
 use Rattle.rl_reading.specs.Decoded.{in_bytes}
 use Rattle.rl_reading.specs.Segments.{AreUnitsOf, IsBytePlace, begins_in, is_itself, unit_bytes, unit_place, units_bytes}
 use Rattle.std.specs.Char.{to_ascii_lowercase}
-use Rattle.rl_sources.specs.declared.options.Matching.{Matching}
+use Rattle.rl_output.specs.declared.choice.Matching.{Matching}
 use Rattle.rl_sources.specs.Held.{AreContentsOf, FirstMatchAt, IsCutAt, MatchesFirst, compared}
 use Rattle.rl_sources.proofs.HeldLemmas.{same_contents}
 

@@ -1,5 +1,4 @@
 pub mod ScanLemmas
-pub mod OptionLemmas
 pub mod StepLemmas
 pub mod HeldLemmas
 pub mod HeldPlaces

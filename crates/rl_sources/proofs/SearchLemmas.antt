@@ -9,7 +9,7 @@ use Rattle.std.specs.declared.result.Result.{Result}
 use Rattle.std.specs.declared.result.Result.TheVariants.{Err, Ok}
 use Rattle.std.specs.Char.{to_ascii_lowercase}
 use lib.Pointwise.{pointwise}
-use Rattle.rl_sources.specs.declared.options.Matching.{Matching}
+use Rattle.rl_output.specs.declared.choice.Matching.{Matching}
 use Rattle.rl_sources.specs.Held.{FirstMatchAt, IsAsWanted, MatchesAt, MatchesFirst, MatchesFrom, StandsFrom, compared}
 use Rattle.rl_sources.specs.Searches.{Agrees, AreBorders, IsLongestBorder, IsShift}
 

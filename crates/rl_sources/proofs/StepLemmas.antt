@@ -17,15 +17,15 @@ use Rattle.rl_lines.specs.Bare.{IsBareString, is_bare, bare_line}
 use Rattle.rl_lines.specs.Lines.{label_of, IsLabelOf, IsLineOf, Appends}
 use Rattle.rl_reasons.specs.declared.flaws.Flaw.{Flaw}
 use Rattle.rl_sources.specs.declared.options.Options.{Options}
-use Rattle.rl_sources.specs.declared.options.Spelling.{Spelling}
-use Rattle.rl_sources.specs.declared.options.Spelling.TheVariants.{Value}
+use Rattle.rl_output.specs.declared.choice.Spelling.{Spelling}
+use Rattle.rl_output.specs.declared.choice.Spelling.TheVariants.{Value}
 use Rattle.rl_output.specs.declared.form.Form.TheVariants.{Github}
 use Rattle.rl_output.specs.Contexts.{first_line}
 use Rattle.rl_output.specs.Github.{annotation_end, message_text}
-use Rattle.rl_sources.specs.declared.options.Shown.{Shown}
-use Rattle.rl_sources.specs.declared.options.Shown.TheVariants.{All, Only, Bad, Hidden}
+use Rattle.rl_output.specs.declared.choice.Shown.{Shown}
+use Rattle.rl_output.specs.declared.choice.Shown.TheVariants.{All, Only, Bad, Hidden}
 use Rattle.rl_output.specs.declared.place.Place.{Place}
-use Rattle.rl_sources.specs.Options.{Picks}
+use Rattle.rl_output.specs.Choices.{Picks}
 use Rattle.rl_sources.specs.Places.{IsContextIn, IsPlaceIn, WithContext}
 use Rattle.rl_output.proofs.Pieces.{back_utf8}
 use Rattle.rl_output.specs.Fronts.{leveled_front}

@@ -8,7 +8,7 @@ use Rattle.rl_forms.specs.declared.kind.Kind.{Kind}
 use Rattle.rl_forms.specs.Reading.{HasContents, quoted_contents}
 use Rattle.rl_reading.specs.Decoded.{in_bytes}
 use Rattle.rl_reading.specs.Segments.{IsBytePlace, IsByteEnd}
-use Rattle.rl_sources.specs.declared.options.Matching.{Matching}
+use Rattle.rl_output.specs.declared.choice.Matching.{Matching}
 
 -- The text is a quoted literal of the kind, and these bytes are its contents, those of characters in
 -- UTF-8.

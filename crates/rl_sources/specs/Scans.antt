@@ -32,11 +32,11 @@ use Rattle.rl_output.specs.Contexts.{first_line}
 use Rattle.rl_output.specs.ErrorIds.{error_id}
 use Rattle.rl_output.specs.Fronts.{leveled_front, line_front}
 use Rattle.rl_output.specs.Github.{annotation_end, message_text}
-use Rattle.rl_sources.specs.declared.options.Spelling.{Spelling}
-use Rattle.rl_sources.specs.declared.options.Spelling.TheVariants.{Value, Source}
+use Rattle.rl_output.specs.declared.choice.Spelling.{Spelling}
+use Rattle.rl_output.specs.declared.choice.Spelling.TheVariants.{Value, Source}
 use Rattle.rl_sources.specs.declared.options.Options.{Options}
-use Rattle.rl_sources.specs.declared.options.Shown.{Shown}
-use Rattle.rl_sources.specs.declared.options.Shown.TheVariants as asked
+use Rattle.rl_output.specs.declared.choice.Shown.{Shown}
+use Rattle.rl_output.specs.declared.choice.Shown.TheVariants as asked
 use Rattle.rl_sources.specs.declared.scan_error.ScanError.{ScanError}
 use Rattle.rl_sources.specs.declared.scan_error.ScanError.TheVariants.{Program, Source}
 use Rattle.rl_output.specs.Spots.{bytes_before}
@@ -53,7 +53,8 @@ use Rattle.rl_files.specs.Globs.{borrowed_texts}
 use Rattle.rl_sources.specs.Held.{IsFirstHeld}
 use Rattle.rl_sources.specs.Hidden.{ShowsHidden}
 use Rattle.rl_sources.specs.Json.{IsJsonLiteral, finding_members, error_members}
-use Rattle.rl_sources.specs.Options.{Picks, ends_at_strays, finds_strays}
+use Rattle.rl_output.specs.Choices.{Picks}
+use Rattle.rl_sources.specs.Options.{ends_at_strays, finds_strays}
 use Rattle.rl_sources.specs.Places.{IsPlaceIn, WithContext}
 
 -- what is printed of a literal: the line of its text as a literal, or the text as it is written

@@ -11,10 +11,10 @@ ghost use Rattle.rl_reading.specs.Segments.{IsBytePlace, IsByteEnd};
 ghost use Rattle.rl_sources.specs.Held.{AreContentsOf, Holds, IsCutAt, IsFirstHeld, IsHeldAt, first_range as earlier};
 ghost use Rattle.rl_files.specs.Globs.{borrowed_texts};
 
-use crate::options::Matching;
 use crate::search::first_in;
 use rl_forms::Kind;
 use rl_fronts::{bytes_of_body, str_of_body};
+use rl_output::Matching;
 use rl_reading::Found;
 use std::alloc::{AllocError, Allocator};
 

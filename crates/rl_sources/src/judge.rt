@@ -8,9 +8,10 @@ ghost use Rattle.rl_sources.specs.Findings.{FindsNoFlaw, HasFoundError, HasFound
 ghost use Rattle.rl_sources.specs.Steps.{LooksForFlaws};
 
 use crate::finding::Wrong;
-use crate::options::{Options, Shown};
+use crate::options::Options;
 use rl_file_reasons::explain_value_in_file;
 use rl_forms::Kind;
+use rl_output::Shown;
 use rl_reading::Found;
 use rl_types::{TypeError, may_be_negated, type_error};
 

@@ -19,10 +19,12 @@ mod scanner;
 mod search;
 mod step;
 
-pub use crate::options::{Matching, Options, Shown, Spelling, names};
+pub use crate::options::Options;
 pub use crate::place::place_of;
 pub use crate::reason::push_source_error;
 pub use crate::scan_error::ScanError;
 pub use crate::scanner::scan;
-pub use rl_output::{Context, Form, Paint, Place, is_json, push_painted};
+pub use rl_output::{
+    Context, Form, Matching, Paint, Place, Shown, Spelling, is_json, names, push_painted,
+};
 pub use rl_types::Edition;

@@ -5,10 +5,10 @@ ghost use Rattle.std.specs.Str.{chars};
 ghost use Rattle.rl_sources.specs.Scans.{Scans, ScansHidden, ScansTokens, FailsHidden, FailsScan, FailsTokens};
 
 use crate::hidden::hidden_lines;
-use crate::options::{Options, Shown};
+use crate::options::Options;
 use crate::scan_error::ScanError;
 use crate::step::{Step, gather};
-use rl_output::Places;
+use rl_output::{Places, Shown};
 use rl_program::{ProgramError, write_whole};
 use rl_tokens::Sources;
 use std::alloc::Allocator;

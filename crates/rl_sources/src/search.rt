@@ -5,7 +5,7 @@ ghost use Rattle.std.specs.Char.{to_ascii_lowercase};
 ghost use Rattle.rl_sources.specs.Held.{is_word_part as word_part, is_bounded as bounded, FirstMatchAt, IsAsWanted, MatchesAt, MatchesFirst, MatchesFrom};
 ghost use Rattle.rl_sources.specs.Searches.{Agrees, AreBorders, IsLongestBorder, IsShift};
 
-use crate::options::Matching;
+use rl_output::Matching;
 use std::alloc::{AllocError, Allocator};
 
 /// The longest border of the bytes up to the one at a place, by those of fewer bytes.

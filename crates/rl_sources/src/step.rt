@@ -11,7 +11,7 @@ ghost use Rattle.rl_lines.specs.Lines.{Appends};
 ghost use Rattle.rl_sources.specs.Held.{IsCutAt};
 ghost use Rattle.rl_sources.specs.Scans.{IsErrorAt, IsHeldLine, IsLineAt, IsLineEnd, IsLineIn, IsPickedLine, IsPlacedLine, IsPrintedAs, IsShownLiteral, IsShownToken};
 ghost use Rattle.rl_output.specs.declared.form.Form.TheVariants.{Github};
-ghost use Rattle.rl_sources.specs.declared.options.Spelling.TheVariants.{Value};
+ghost use Rattle.rl_output.specs.declared.choice.Spelling.TheVariants.{Value};
 ghost use Rattle.rl_sources.specs.Steps.{BeginsRest, EndsUnshown, IsAcceptedToken, IsCursorOver, IsLiteralOf, IsStepOf, IsStopAt, MayShow, StopsUnshown, TakesShown};
 ghost use Rattle.rl_sources.specs.Findings.{IsFoundIn};
 
@@ -20,12 +20,14 @@ use crate::held::first_held_at;
 use crate::json::push_json_literal;
 use crate::judge::{reason_of, wrong_in};
 use crate::literal::{Literal, kind_of};
-use crate::options::{Options, Spelling, ends_at_strays, finds_strays};
+use crate::options::{Options, ends_at_strays, finds_strays};
 use crate::place::{place_inside, place_of, push_context_inside, push_context_of};
 use crate::reason::push_error_line;
 use rl_files::{make_visible, push_visible};
 use rl_lines::{bare_value, label_of, push_bare, push_found};
-use rl_output::{Form, Level, Place, Places, first_line, push_annotation_end, push_front};
+use rl_output::{
+    Form, Level, Place, Places, Spelling, first_line, push_annotation_end, push_front,
+};
 use rl_reading::{Found, find};
 use rl_tokens::{LexError, LexKind, SourceForm, SourceToken, Sources};
 use std::alloc::{AllocError, Allocator};

@@ -17,15 +17,16 @@ use navyspindle::rendered::{
 };
 #[cfg(not(feature = "rendered"))]
 use proved::{
-    rl_attributes, rl_commands, rl_files, rl_fixes, rl_fronts, rl_lines, rl_output, rl_program,
-    rl_quoted, rl_reports, rl_restyled, rl_sources, rl_styles, rl_tokens, rust_literals,
+    rl_attributes, rl_commands, rl_files, rl_fixes, rl_fronts, rl_lines, rl_options, rl_output,
+    rl_program, rl_quoted, rl_reports, rl_restyled, rl_sources, rl_styles, rl_tokens,
+    rust_literals,
 };
 
 /// The libraries, of which the tests make programs.
 #[cfg(feature = "rendered")]
 pub use proved::{
-    rl_attributes, rl_commands, rl_files, rl_fixes, rl_fronts, rl_grammar, rl_lines, rl_output,
-    rl_program, rl_quoted, rl_reports, rl_restyled, rl_sources, rl_styles, rl_tokens,
+    rl_attributes, rl_commands, rl_files, rl_fixes, rl_fronts, rl_grammar, rl_lines, rl_options,
+    rl_output, rl_program, rl_quoted, rl_reports, rl_restyled, rl_sources, rl_styles, rl_tokens,
     rust_literals,
 };
 pub use proved::{rl_scan, rl_tool};

@@ -7,6 +7,7 @@ pub mod rl_fixes;
 pub mod rl_fronts;
 pub mod rl_grammar;
 pub mod rl_lines;
+pub mod rl_options;
 pub mod rl_output;
 pub mod rl_program;
 pub mod rl_quoted;

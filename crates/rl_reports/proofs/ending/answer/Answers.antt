@@ -1,4 +1,4 @@
-use Rattle.rl_reports.specs.Wishes.{wishes_in}
+use Rattle.rl_options.specs.Wishes.{wishes_in}
 use Rattle.rl_reports.proofs.EndingLemmas.{ends_help, ends_version}
 use Rattle.rl_reports.proofs.ending.answer.Goals as goal
 

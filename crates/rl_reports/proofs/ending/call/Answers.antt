@@ -1,7 +1,7 @@
 use Rattle.rl_text.proofs.Common.{refl}
-use Rattle.rl_reports.specs.Wishes.{wishes_in}
+use Rattle.rl_options.specs.Wishes.{wishes_in}
 use Rattle.rl_reports.proofs.EndingLemmas.{call_asked, keeps_same}
-use Rattle.rl_reports.proofs.WordLemmas.{ask_for, cannot_ask}
+use Rattle.rl_options.proofs.WordLemmas.{ask_for, cannot_ask}
 use Rattle.rl_reports.proofs.ending.call.Goals as goal
 
 pub returns-in-Ok : goal.returns-in-Ok

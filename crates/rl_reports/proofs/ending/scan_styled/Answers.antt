@@ -1,5 +1,5 @@
 use Rattle.std.proofs.Common.{inl, inr, refl}
-use Rattle.rl_reports.specs.Wishes.{wishes_in}
+use Rattle.rl_options.specs.Wishes.{wishes_in}
 use Rattle.rl_reports.proofs.EndingLemmas.{ends_styled, keeps_same}
 use Rattle.rl_reports.proofs.Handing.{written_on}
 use Rattle.rl_reports.proofs.ending.scan_styled.Goals as goal

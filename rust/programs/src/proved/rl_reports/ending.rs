@@ -2,15 +2,12 @@
 //! A call of the program, and how it ends.
 
 use crate::rattle_std::prelude::{String, Vec};
-use crate::rl_reports::clash::lists_files;
-use crate::rl_reports::command::{Command, Console, Restyling, Wish};
-use crate::rl_reports::help::{HELP, VERSION};
-use crate::rl_reports::listed::push_all_listed;
-use crate::rl_reports::report::visible_text;
-use crate::rl_reports::rules::{LineError, RulesError, rules_in};
 use crate::rl_reports::runs::{RunStop, Tally, run};
-use crate::rl_reports::words::{Asked, WordError, asked_by};
 use crate::rl_files::{PathError, Replace, Selection, Tree, Walk, WalkError};
+use crate::rl_options::{
+    Asked, Command, Console, HELP, LineError, Restyling, RulesError, VERSION, Wish, WordError,
+    asked_by, lists_files, push_all_listed, rules_in, visible_text,
+};
 use crate::rl_program::{Ending, RunError, WriteError, write_bytes};
 use crate::rl_sources::Shown;
 use crate::rl_style::Style;

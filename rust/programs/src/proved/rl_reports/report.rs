@@ -2,9 +2,9 @@
 //! What is reported of a text, of a file that is listed, and of what can't be read.
 
 use crate::rattle_std::prelude::{String, Vec};
-use crate::rl_reports::command::{Command, Output, PlaceForm};
 use crate::rl_reports::stats::asked_count;
 use crate::rl_files::{PathError, push_visible};
+use crate::rl_options::{Command, Output, PlaceForm, asks_context, visible_text};
 use crate::rl_output::count_ends;
 use crate::rl_sources::{
     Context, Edition, Form, Options, Paint, Place, ScanError, Shown, is_json, push_painted,
@@ -38,13 +38,6 @@ pub(crate) struct Scanned<A: Allocator = Global> {
 /// Whether a path is standard input.
 pub(crate) fn is_input(path: &str) -> bool {
     path == "-"
-}
-
-/// A text as it is printed.
-pub(crate) fn visible_text<A: Allocator>(alloc: A, text: &str) -> Result<String<A>, AllocError> {
-    let mut shown = String::new(alloc);
-    push_visible(&mut shown, text)?;
-    Ok(shown)
 }
 
 /// Whether the places in a file are printed by lines and columns.
@@ -96,11 +89,6 @@ fn side_lines(own: Option<usize>, around: Option<usize>) -> usize {
         (Some(count), _) | (None, Some(count)) => count,
         (None, None) => 0,
     }
-}
-
-/// Whether it is said how many lines are shown about that of a place.
-pub(crate) fn asks_context(command: Command<'_>) -> bool {
-    command.around.is_some() || command.before.is_some() || command.after.is_some()
 }
 
 /// How many lines of the source stand below each line, where that is said, and lines are printed, and not how many there are.

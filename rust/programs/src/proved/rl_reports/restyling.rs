@@ -2,13 +2,12 @@
 //! What is reported of a source whose literals are written anew.
 
 use crate::rattle_std::prelude::{String, Vec};
-use crate::rl_reports::command::{Command, Output, Restyling};
 use crate::rl_reports::report::{
-    Report, edition_for, is_by_line, is_input, path_before, path_in, report_error, visible_text,
-    written,
+    Report, edition_for, is_by_line, is_input, path_before, path_in, report_error, written,
 };
 use crate::rl_files::{Replace, push_visible};
 use crate::rl_fixes::{Outcome, judging, push_changes, push_diff, written_anew};
+use crate::rl_options::{Command, Output, Restyling, visible_text};
 use crate::rl_restyled::{Macros, Restyled};
 use crate::rl_sources::Options;
 use crate::rattle_std::alloc::{AllocError, Allocator};

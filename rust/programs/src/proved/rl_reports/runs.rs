@@ -1,11 +1,11 @@
 // Rendered from crates/rl_reports/src/runs.rt by tools/render, which erases contracts: change that file, and render anew.
 //! A run over a walk.
 
-use crate::rl_reports::command::{Command, Restyling};
 use crate::rl_reports::report::{Report, is_alarm};
 use crate::rl_reports::stats::write_stats;
 use crate::rl_reports::visits::report_of;
 use crate::rl_files::{Replace, Tree, Visit, Walk, WalkError};
+use crate::rl_options::{Command, Restyling};
 use crate::rl_program::{WriteError, write_bytes};
 use crate::rl_sources::Shown;
 use crate::rattle_std::alloc::Allocator;

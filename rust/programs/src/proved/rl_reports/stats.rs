@@ -2,10 +2,10 @@
 //! How many findings there are, and what is printed of how much was read and found.
 
 use crate::rattle_std::prelude::{String};
-use crate::rl_reports::command::Command;
 use crate::rl_reports::report::scan_text;
 use crate::rl_reports::runs::{RunStop, Tally};
 use crate::rl_files::WalkError;
+use crate::rl_options::Command;
 use crate::rl_output::count_ends;
 use crate::rl_program::write_bytes;
 use crate::rl_sources::{Form, Options, is_json};

@@ -1,11 +1,10 @@
 // Rendered from crates/rl_reports/src/visits.rt by tools/render, which erases contracts: change that file, and render anew.
 //! What is reported of what a walk visits.
 
-use crate::rl_reports::clash::lists_files;
-use crate::rl_reports::command::Command;
 use crate::rl_reports::report::{Report, report_error, report_listed, report_text};
 use crate::rl_reports::restyling::report_restyled;
 use crate::rl_files::{PathError, Replace, Tree, Visit};
+use crate::rl_options::{Command, lists_files};
 use crate::rattle_std::alloc::{AllocError, Allocator};
 
 /// What is reported of a text, whose literals may be written anew.

@@ -2,10 +2,10 @@
 //! Where a text stands in what a literal stands for.
 
 use crate::rattle_std::prelude::{String, Vec};
-use crate::rl_sources::options::Matching;
 use crate::rl_sources::search::first_in;
 use crate::rl_forms::Kind;
 use crate::rl_fronts::{bytes_of_body, str_of_body};
+use crate::rl_output::Matching;
 use crate::rl_reading::Found;
 use crate::rattle_std::alloc::{AllocError, Allocator};
 

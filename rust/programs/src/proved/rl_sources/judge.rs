@@ -2,9 +2,10 @@
 //! What is wrong with a literal of a source, as rustc finds it.
 
 use crate::rl_sources::finding::Wrong;
-use crate::rl_sources::options::{Options, Shown};
+use crate::rl_sources::options::Options;
 use crate::rl_file_reasons::explain_value_in_file;
 use crate::rl_forms::Kind;
+use crate::rl_output::Shown;
 use crate::rl_reading::Found;
 use crate::rl_types::{TypeError, may_be_negated, type_error};
 

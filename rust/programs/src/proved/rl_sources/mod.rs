@@ -19,10 +19,12 @@ mod scanner;
 mod search;
 mod step;
 
-pub use crate::rl_sources::options::{Matching, Options, Shown, Spelling, names};
+pub use crate::rl_sources::options::Options;
 pub use crate::rl_sources::place::place_of;
 pub use crate::rl_sources::reason::push_source_error;
 pub use crate::rl_sources::scan_error::ScanError;
 pub use crate::rl_sources::scanner::scan;
-pub use crate::rl_output::{Context, Form, Paint, Place, is_json, push_painted};
+pub use crate::rl_output::{
+    Context, Form, Matching, Paint, Place, Shown, Spelling, is_json, names, push_painted,
+};
 pub use crate::rl_types::Edition;

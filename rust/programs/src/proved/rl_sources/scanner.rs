@@ -3,10 +3,10 @@
 
 use crate::rattle_std::prelude::{String};
 use crate::rl_sources::hidden::hidden_lines;
-use crate::rl_sources::options::{Options, Shown};
+use crate::rl_sources::options::Options;
 use crate::rl_sources::scan_error::ScanError;
 use crate::rl_sources::step::{Step, gather};
-use crate::rl_output::Places;
+use crate::rl_output::{Places, Shown};
 use crate::rl_program::{ProgramError, write_whole};
 use crate::rl_tokens::Sources;
 use crate::rattle_std::alloc::Allocator;

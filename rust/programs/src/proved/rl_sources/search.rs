@@ -2,7 +2,7 @@
 //! Where bytes stand first among others, in time that grows with both lengths, as Knuth, Morris and Pratt search.
 
 use crate::rattle_std::prelude::{Vec};
-use crate::rl_sources::options::Matching;
+use crate::rl_output::Matching;
 use crate::rattle_std::alloc::{AllocError, Allocator};
 
 /// The longest border of the bytes up to the one at a place, by those of fewer bytes.

@@ -7,12 +7,14 @@ use crate::rl_sources::held::first_held_at;
 use crate::rl_sources::json::push_json_literal;
 use crate::rl_sources::judge::{reason_of, wrong_in};
 use crate::rl_sources::literal::{Literal, kind_of};
-use crate::rl_sources::options::{Options, Spelling, ends_at_strays, finds_strays};
+use crate::rl_sources::options::{Options, ends_at_strays, finds_strays};
 use crate::rl_sources::place::{place_inside, place_of, push_context_inside, push_context_of};
 use crate::rl_sources::reason::push_error_line;
 use crate::rl_files::{make_visible, push_visible};
 use crate::rl_lines::{bare_value, label_of, push_bare, push_found};
-use crate::rl_output::{Form, Level, Place, Places, first_line, push_annotation_end, push_front};
+use crate::rl_output::{
+    Form, Level, Place, Places, Spelling, first_line, push_annotation_end, push_front,
+};
 use crate::rl_reading::{Found, find};
 use crate::rl_tokens::{LexError, LexKind, SourceForm, SourceToken, Sources};
 use crate::rattle_std::alloc::{AllocError, Allocator};

@@ -1,0 +1,6 @@
+pub mod VisibleLemmas
+pub mod MeantLemmas
+pub mod WordLemmas
+pub mod LetterLemmas
+pub mod ListedLemmas
+pub mod RulesLemmas

@@ -1,0 +1,145 @@
+-- What a command line asks for. Words are lists of bytes.
+use Rattle.std.specs.Prelude.{ℕ, ◌==◌, Bool, true, false, not, ◌||◌, List, [], length, Option, Some, None}
+use denote.Ref.{Bor}
+use Rattle.rl_files.specs.Globs.{borrowed_texts}
+use Rattle.rl_files.specs.Trees.{string_texts}
+use Rattle.rl_options.specs.declared.command.Wish.{Wish}
+use Rattle.rl_options.specs.declared.command.Wish.TheVariants as wish
+use Rattle.rl_options.specs.declared.command.PlaceForm.{PlaceForm}
+use Rattle.rl_options.specs.declared.command.PlaceForm.TheVariants as form
+use Rattle.rl_options.specs.declared.command.Output.{Output}
+use Rattle.rl_options.specs.declared.command.Output.TheVariants as output
+use Rattle.rl_options.specs.declared.command.Command.{Command}
+use Rattle.rl_options.specs.declared.command.Restyling.{Restyling}
+use Rattle.rl_restyled.specs.declared.edit.Macros.{Macros as AnyMacros}
+use Rattle.rl_output.specs.declared.form.Form.{Form}
+use Rattle.rl_output.specs.declared.choice.Shown.{Shown}
+use Rattle.rl_output.specs.declared.choice.Spelling.{Spelling}
+use Rattle.rl_output.specs.declared.choice.Spelling.TheVariants.{Value}
+use Rattle.rl_output.specs.declared.choice.Shown.TheVariants as shown
+use Rattle.rl_types.specs.declared.before.Edition.{Edition as AnyEdition}
+use Rattle.rl_options.specs.declared.flags.When.TheVariants.{Auto}
+use Rattle.rl_options.specs.declared.words.Asked.{Asked}
+use Rattle.rl_options.specs.Flags.{colored_form}
+
+-- which literals are wanted: all, those of a list's kinds, those that are bad, those that hold what hides
+-- text
+pub data Wanted : Type 0 where
+  AllWanted : Wanted
+  OnlyWanted : (list : List ℕ) → Wanted
+  BadWanted : Wanted
+  HiddenWanted : Wanted
+
+abbrev pub wanted_of : Shown → Wanted
+wanted_of shown.All = AllWanted
+wanted_of (shown.Only list) = OnlyWanted list.now
+wanted_of shown.Bad = BadWanted
+wanted_of shown.Hidden = HiddenWanted
+
+-- what a command line asks for
+pub record Wishes : Type 0 where
+  pub wish : Wish
+  pub wanted : Wanted
+  pub searches : Bool
+  pub finds : List (List ℕ)
+  pub ignores_case : Bool
+  pub whole_words : Bool
+  pub places : PlaceForm
+  pub output : Output
+  pub nul_after_paths : Bool
+  pub rejects_strays : Bool
+  pub any_suffix : Bool
+  pub edition : Option AnyEdition
+  pub around : Option ℕ
+  pub before : Option ℕ
+  pub after : Option ℕ
+  pub spelling : Spelling
+  pub form : Form
+  pub all_directories : Bool
+  pub prints_errors : Bool
+  pub prints_stats : Bool
+  pub restyle : Option Restyling
+  pub style : Option (List ℕ)
+  pub macros : Option AnyMacros
+  pub extensions : List (List ℕ)
+  pub excludes : List (List ℕ)
+  pub files_from : List (List ℕ)
+  pub paths : List (List ℕ)
+
+-- what is asked for where nothing is said
+abbrev pub first_wishes : Bool → Wishes
+first_wishes has_colors = record {
+  wish = wish.Scan;
+  wanted = AllWanted;
+  searches = false;
+  finds = [];
+  ignores_case = false;
+  whole_words = false;
+  places = form.Usual;
+  output = output.Lines;
+  nul_after_paths = false;
+  rejects_strays = false;
+  any_suffix = false;
+  edition = None;
+  around = None;
+  before = None;
+  after = None;
+  spelling = Value;
+  form = colored_form has_colors Auto;
+  all_directories = false;
+  prints_errors = true;
+  prints_stats = false;
+  restyle = None;
+  style = None;
+  macros = None;
+  extensions = [];
+  excludes = [];
+  files_from = [];
+  paths = [];
+}
+
+-- without a path `.` is read and not standard input: input is a terminal, or it is said what is read of directories
+abbrev pub reads_here : Bool → Wishes → Bool
+reads_here is_terminal w =
+    is_terminal || w.all_directories || not (length w.extensions == 0) || not (length w.excludes == 0)
+
+-- the file with the rules of a style
+abbrev pub style_of : Option (Bor (List ℕ)) → Option (List ℕ)
+style_of None = None
+style_of (Some file) = Some file.now
+
+-- what the code holds
+abbrev pub wishes_of : Command → List (List ℕ) → List (List ℕ) → List (List ℕ) → List (List ℕ) → List (List ℕ) → Wishes
+wishes_of command finds extensions excludes lists paths = record {
+  wish = command.wish;
+  wanted = wanted_of command.shown;
+  searches = command.searches;
+  finds = finds;
+  ignores_case = command.matching.ignores_case;
+  whole_words = command.matching.whole_words;
+  places = command.places;
+  output = command.output;
+  nul_after_paths = command.nul_after_paths;
+  rejects_strays = command.rejects_strays;
+  any_suffix = command.any_suffix;
+  edition = command.edition;
+  around = command.around;
+  before = command.before;
+  after = command.after;
+  spelling = command.spelling;
+  form = command.form;
+  all_directories = command.selection.all;
+  prints_errors = command.prints_errors;
+  prints_stats = command.prints_stats;
+  restyle = command.restyle;
+  style = style_of command.style;
+  macros = command.macros;
+  extensions = extensions;
+  excludes = excludes;
+  files_from = lists;
+  paths = paths;
+}
+
+abbrev pub wishes_in : {A : Type 0} → Asked A → Wishes
+wishes_in asked = wishes_of asked.command (borrowed_texts asked.finds.items) (borrowed_texts asked.extensions.items)
+    (borrowed_texts asked.excludes.items) (borrowed_texts asked.lists.items) (string_texts asked.paths.items)

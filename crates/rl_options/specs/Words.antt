@@ -1,0 +1,417 @@
+-- What the words of a command line ask for, or what is wrong with them. Words are lists of bytes.
+use Rattle.std.specs.Prelude.{◌≡◌, ◌≢◌, ◌⊎◌, ℕ, Bool, true, false, List, [], ◌∷◌, ◌++◌, codes, encode_utf8, String, string_bytes, ⊤, Some, None}
+use Rattle.std.specs.Str.{chars}
+use Rattle.rl_files.specs.Trees.{string_texts}
+use Rattle.rl_files.specs.Visible.{visible}
+use Rattle.rl_options.specs.declared.command.Wish.TheVariants as wish
+use Rattle.rl_options.specs.declared.command.PlaceForm.TheVariants as form
+use Rattle.rl_options.specs.declared.command.Output.TheVariants as output
+use Rattle.rl_options.specs.declared.command.Restyling.TheVariants as restyling
+use Rattle.rl_restyled.specs.declared.edit.Macros.{Macros as AnyMacros}
+use Rattle.rl_output.specs.declared.form.Form.TheVariants as written
+use Rattle.rl_output.specs.declared.choice.Spelling.TheVariants.{Source}
+use Rattle.rl_options.specs.declared.flags.Flag.{Flag}
+use Rattle.rl_options.specs.declared.flags.Flag.TheVariants.{Bad, Hidden, Only, Find, IgnoreCase, WholeWords, Text, Json, Format, Context, Before, After, Color, Bytes, Lines, NoStray, AnySuffix, Edition, AllDirectories, Extension, Exclude, FilesFrom, NoMessages, Count, FilesWithMatches, Nul, Quiet, Files, Stats, Fix, Check, Diff, Style, Macros, Help, Version, Paths}
+use Rattle.rl_options.specs.declared.flags.Format.{Format as AnyFormat}
+use Rattle.rl_types.specs.declared.before.Edition.{Edition as AnyEdition}
+use Rattle.rl_options.specs.declared.flags.Operand.{Operand}
+use Rattle.rl_options.specs.declared.flags.Operand.TheVariants as takes
+use Rattle.rl_options.specs.declared.flags.Next.{Next}
+use Rattle.rl_options.specs.declared.flags.Next.TheVariants as next
+use Rattle.rl_options.specs.declared.flags.When.{When}
+use Rattle.rl_options.specs.declared.words.WordError.{WordError}
+use Rattle.rl_options.specs.declared.words.WordError.TheVariants.{Memory, UnknownOption, UnknownLetter, NoValue, UnknownKind, NoKinds, TwoChoices, NoText, EmptyText, BadAndFind, TextlessKinds, ObjectsOfPaths, StatsOfPaths, TwoRestylings, RestylesAlone, SumsOfCheck, StyleAlone, MacrosAlone, SuffixAlone, EditionAlone, NoStyle, NoMacros, UnknownMacros, NoColor, UnknownColor, NoExtension, NoPattern, EmptyPattern, OtherPattern, UselessPattern, UnknownExtension, NoList, NoEdition, UnknownEdition, NoFormat, UnknownFormat, NoCount, UnknownCount}
+use Rattle.rl_options.specs.Meant.{IsMeant, option_part}
+use Rattle.rl_options.specs.Flags.{AreKindWords, IsCountWord, IsLetter, IsOptionWord, IsSide, IsUnknownKind, color_word, colored_form, edition_word, format_word, formatted, has_other_mark, is_more_than_extension, matches_nothing, is_path_word, joined_word, macros_word, recolored, taken_by}
+use Rattle.rl_options.specs.Wishes.{AllWanted, BadWanted, HiddenWanted, OnlyWanted, Wishes, first_wishes}
+use Rattle.rl_options.specs.Clashes.{GoTogether, IsClash}
+
+-- only one option may say which literals are wanted
+abbrev pub IsAllowed : Flag → Wishes → Type 0
+IsAllowed Bad w = w.wanted ≡ AllWanted
+IsAllowed Hidden w = w.wanted ≡ AllWanted
+IsAllowed Only w = w.wanted ≡ AllWanted
+IsAllowed _ w = ⊤
+
+-- no text is looked for where what is bad or hidden is wanted
+abbrev pub GoesWithFind : Flag → Wishes → Type 0
+GoesWithFind Bad w = w.searches ≡ false
+GoesWithFind Hidden w = w.searches ≡ false
+GoesWithFind Find w = (w.wanted ≢ BadWanted) × (w.wanted ≢ HiddenWanted)
+GoesWithFind _ w = ⊤
+
+-- only one option asks for literals written anew, once
+abbrev pub RestylesOnce : Flag → Wishes → Type 0
+RestylesOnce Fix w = w.restyle ≡ None
+RestylesOnce Check w = w.restyle ≡ None
+RestylesOnce Diff w = w.restyle ≡ None
+RestylesOnce _ w = ⊤
+
+-- the option goes with what is asked for
+abbrev pub MayStand : Flag → Wishes → Type 0
+MayStand flag w = IsAllowed flag w × GoesWithFind flag w × RestylesOnce flag w
+
+abbrev pub with_flag : Flag → Wishes → Wishes
+with_flag Bad w = record w { wanted = BadWanted }
+with_flag Hidden w = record w { wanted = HiddenWanted }
+with_flag Only w = w
+with_flag Find w = w
+with_flag IgnoreCase w = record w { ignores_case = true }
+with_flag WholeWords w = record w { whole_words = true }
+with_flag Text w = record w { spelling = Source }
+with_flag Json w = record w { form = written.Json }
+with_flag Format w = w
+with_flag Context w = w
+with_flag Before w = w
+with_flag After w = w
+with_flag Color w = w
+with_flag Bytes w = record w { places = form.Bytes }
+with_flag Lines w = record w { places = form.Lines }
+with_flag NoStray w = record w { rejects_strays = true }
+with_flag AnySuffix w = record w { any_suffix = true }
+with_flag Edition w = w
+with_flag AllDirectories w = record w { all_directories = true }
+with_flag Extension w = w
+with_flag Exclude w = w
+with_flag FilesFrom w = w
+with_flag NoMessages w = record w { prints_errors = false }
+with_flag Count w = record w { output = output.Count }
+with_flag FilesWithMatches w = record w { output = output.Path }
+with_flag Nul w = record w { nul_after_paths = true }
+with_flag Quiet w = record w { output = output.Nothing }
+with_flag Files w = record w { wish = wish.Files }
+with_flag Stats w = record w { prints_stats = true }
+with_flag Fix w = record w { restyle = Some restyling.Fix }
+with_flag Check w = record w { restyle = Some restyling.Check }
+with_flag Diff w = record w { restyle = Some restyling.Diff }
+with_flag Style w = w
+with_flag Macros w = w
+with_flag Help w = record w { wish = wish.Help }
+with_flag Version w = record w { wish = wish.Version }
+with_flag Paths w = w
+
+-- after `--only` stands a list of kinds, after `--find` a text, after `--color` when there are colours, after
+-- `--extension` what names end with, after `--exclude` a pattern, after `--files-from` a file, after
+-- `--edition` one, after `--format` how lines are written, after `--context`, `--before-context` and `--after-context`
+-- how
+-- many lines, after `--` stand paths
+abbrev pub next_after : Flag → Next
+next_after Only = next.Operand takes.Kinds
+next_after Find = next.Operand takes.Text
+next_after Color = next.Operand takes.Color
+next_after Extension = next.Operand takes.Extension
+next_after Exclude = next.Operand takes.Pattern
+next_after FilesFrom = next.Operand takes.List
+next_after Edition = next.Operand takes.Edition
+next_after Format = next.Operand takes.Format
+next_after Context = next.Operand takes.Around
+next_after Before = next.Operand takes.Before
+next_after After = next.Operand takes.After
+next_after Style = next.Operand takes.Style
+next_after Macros = next.Operand takes.Macros
+next_after Paths = next.Path
+next_after _ = next.Any
+
+abbrev pub with_path : List ℕ → Wishes → Wishes
+with_path path w = record w { paths = w.paths ++ path ∷ [] }
+
+abbrev pub with_kinds : List ℕ → Wishes → Wishes
+with_kinds list w = record w { wanted = OnlyWanted list }
+
+abbrev pub with_text : List ℕ → Wishes → Wishes
+with_text text w = record w { searches = true; finds = w.finds ++ text ∷ [] }
+
+abbrev pub with_extension : List ℕ → Wishes → Wishes
+with_extension extension w = record w { extensions = w.extensions ++ extension ∷ [] }
+
+abbrev pub with_pattern : List ℕ → Wishes → Wishes
+with_pattern pattern w = record w { excludes = w.excludes ++ pattern ∷ [] }
+
+abbrev pub with_list : List ℕ → Wishes → Wishes
+with_list file w = record w { files_from = w.files_from ++ file ∷ [] }
+
+-- a dot before an extension says nothing
+abbrev pub IsWithoutDot : List ℕ → List ℕ → Type 0
+IsWithoutDot text extension =
+    (text ≡ codes "." ++ extension)
+    ⊎ (((rest : List ℕ) → text ≢ codes "." ++ rest) × (extension ≡ text))
+
+-- With this option more, so much is asked for, and such a word may stand next.
+abbrev pub IsAdded : Flag → Wishes → Next → Wishes → Type 0
+IsAdded flag old then new = MayStand flag old × (then ≡ next_after flag) × (new ≡ with_flag flag old)
+
+-- With this, which an option takes, so much is asked for.
+abbrev pub IsTaken : Bool → Operand → Wishes → List ℕ → Wishes → Type 0
+IsTaken has_colors takes.Kinds old list new = AreKindWords list × (new ≡ with_kinds list old)
+IsTaken has_colors takes.Text old text new = (text ≢ []) × (new ≡ with_text text old)
+IsTaken has_colors takes.Color old word new =
+    (when : When) × (word ≡ color_word when)
+    × (new ≡ record old { form = recolored old.form (colored_form has_colors when) })
+IsTaken has_colors takes.Extension old text new =
+    (extension : List ℕ) × (is_more_than_extension text ≡ false) × IsWithoutDot text extension
+    × (new ≡ with_extension extension old)
+IsTaken has_colors takes.Pattern old text new =
+    (text ≢ []) × (has_other_mark text ≡ false) × (matches_nothing text ≡ false) × (new ≡ with_pattern text old)
+IsTaken has_colors takes.List old text new = new ≡ with_list text old
+IsTaken has_colors takes.Edition old word new =
+    (edition : AnyEdition) × (word ≡ edition_word edition) × (new ≡ record old { edition = Some edition })
+IsTaken has_colors takes.Format old word new =
+    (format : AnyFormat) × (word ≡ format_word format)
+    × (new ≡ record old { form = formatted has_colors old.form format })
+IsTaken has_colors takes.Around old word new =
+    (count : ℕ) × IsCountWord word count × (new ≡ record old { around = Some count })
+IsTaken has_colors takes.Before old word new =
+    (count : ℕ) × IsCountWord word count × (new ≡ record old { before = Some count })
+IsTaken has_colors takes.After old word new =
+    (count : ℕ) × IsCountWord word count × (new ≡ record old { after = Some count })
+IsTaken has_colors takes.Style old file new = new ≡ record old { style = Some file }
+IsTaken has_colors takes.Macros old word new =
+    (macros : AnyMacros) × (word ≡ macros_word macros) × (new ≡ record old { macros = Some macros })
+
+-- With these letters, one after another, so much is asked for, and such a word may stand next: what an option
+-- takes stands after its letter, or is the next word.
+pub data AreLetters (has_colors : Bool) : Wishes → List ℕ → Next → Wishes → Type 0 where
+  NoLetters : {old : Wishes} → AreLetters has_colors old [] next.Any old
+  Letter : {old new : Wishes} {then : Next} {more : List ℕ} (flag : Flag) (c : ℕ) (middle : Wishes)
+      → IsLetter flag c → IsAdded flag old next.Any middle → AreLetters has_colors middle more then new
+      → AreLetters has_colors old (c ∷ more) then new
+  LastLetter : {old new : Wishes} (flag : Flag) (operand : Operand) (c : ℕ)
+      → IsLetter flag c → IsAdded flag old (next.Operand operand) new
+      → AreLetters has_colors old (c ∷ []) (next.Operand operand) new
+  LetterAndText : {old new : Wishes} {text : List ℕ} (operand : Operand) (c : ℕ)
+      → IsLetter (taken_by operand) c → MayStand (taken_by operand) old → text ≢ []
+      → IsTaken has_colors operand old text new → AreLetters has_colors old (c ∷ text) next.Any new
+
+-- With this word more, where such a word may stand, so much is asked for, and such a word may stand
+-- next.
+abbrev pub IsStep : Bool → Next → Wishes → List ℕ → Next → Wishes → Type 0
+IsStep has_colors (next.Operand operand) old word then new =
+    (then ≡ next.Any) × IsTaken has_colors operand old word new
+IsStep has_colors next.Path old word then new = (then ≡ next.Path) × (new ≡ with_path word old)
+IsStep has_colors next.Any old word then new =
+    ((is_path_word word ≡ true) × (then ≡ next.Any) × (new ≡ with_path word old))
+    ⊎ ((flag : Flag) × (is_path_word word ≡ false) × IsOptionWord flag word × IsAdded flag old then new)
+    ⊎ ((operand : Operand) × (text : List ℕ) × (word ≡ joined_word operand text)
+    × MayStand (taken_by operand) old × (then ≡ next.Any) × IsTaken has_colors operand old text new)
+    ⊎ ((letters : List ℕ) × (word ≡ codes "-" ++ letters) × AreLetters has_colors old letters then new)
+
+abbrev pub AreSteps : Bool → Next → Wishes → List (List ℕ) → Next → Wishes → Type 0
+AreSteps has_colors first old [] then new = (then ≡ first) × (new ≡ old)
+AreSteps has_colors first old (word ∷ words) then new =
+    (between : Next) × (middle : Wishes) × IsStep has_colors first old word between middle
+    × AreSteps has_colors between middle words then new
+
+-- the words ask for this so far, and such a word may stand next
+abbrev pub AskSoFar : Bool → List (List ℕ) → Next → Wishes → Type 0
+AskSoFar has_colors words then new = AreSteps has_colors next.Any (first_wishes has_colors) words then new
+
+-- all words ask for this
+abbrev pub Asks : Bool → List (List ℕ) → Wishes → Type 0
+Asks has_colors words wishes =
+    (then : Next) × AskSoFar has_colors words then wishes
+    × ((operand : Operand) → then ≢ next.Operand operand) × GoTogether wishes
+
+-- what is wrong
+abbrev pub word_message : {A : Type 0} → WordError A → List ℕ
+word_message Memory = codes "out of memory"
+word_message (UnknownOption word None) =
+    codes "unknown option '" ++ (string_bytes word ++ codes "': rl_scan --help lists them")
+word_message (UnknownOption word (Some meant)) =
+    codes "unknown option '" ++ (string_bytes word ++ (codes "': did you mean '" ++ (meant.now ++ codes "'?")))
+word_message (UnknownLetter letter word None) =
+    codes "unknown option '" ++ (string_bytes letter ++ (codes "' in '" ++ (string_bytes word
+    ++ codes "': rl_scan --help lists them")))
+word_message (UnknownLetter letter word (Some meant)) =
+    codes "unknown option '" ++ (string_bytes letter ++ (codes "' in '" ++ (string_bytes word
+    ++ (codes "': did you mean '" ++ (meant.now ++ codes "'?")))))
+word_message (NoValue option) = string_bytes option ++ codes " takes no value"
+word_message (UnknownKind word) =
+    codes "unknown kind '" ++ (string_bytes word
+    ++ codes "': one of Str, ByteStr, CStr, Byte, Char, Int, Float, Bool, Verbatim")
+word_message NoKinds = codes "--only: which kinds? as in --only Str,ByteStr"
+word_message TwoChoices = codes "--bad, --hidden and --only: one of them, once"
+word_message NoText = codes "-e, --find: which text? as in --find TODO"
+word_message EmptyText = codes "-e, --find: an empty text stands everywhere"
+word_message BadAndFind = codes "--bad, --hidden and -e, --find: one of them"
+word_message TextlessKinds =
+    codes "-e, --find looks in Str, ByteStr, CStr, Byte and Char, and --only names none of them"
+word_message ObjectsOfPaths =
+    codes "--json and --format json, github can't be used with -c, --count, -l, --files-with-matches, --files"
+word_message StatsOfPaths = codes "--stats can't be used with --files, which reads none"
+word_message TwoRestylings = codes "--fix, --check and --diff: one of them, once"
+word_message RestylesAlone =
+    codes "--fix, --check and --diff can't be used with what says what is printed: --bad, --hidden, --only, -e, --files, --text, --json, --format, -C, -B, -A, --stats"
+word_message SumsOfCheck =
+    codes "-c, --count, -l, --files-with-matches go with --check, and not with --fix or --diff"
+word_message StyleAlone = codes "--style goes with --fix, --check or --diff"
+word_message MacrosAlone = codes "--macros goes with --fix, --check or --diff"
+word_message SuffixAlone = codes "--any-suffix goes with --bad"
+word_message EditionAlone = codes "--edition goes with --bad, --fix, --check or --diff"
+word_message NoStyle = codes "--style: which file? as in --style style.txt"
+word_message NoMacros = codes "--macros: which? one of skip, all"
+word_message (UnknownMacros word) = codes "unknown macros '" ++ (string_bytes word ++ codes "': one of skip, all")
+word_message NoColor = codes "--color: when? one of auto, always, never"
+word_message (UnknownColor word) =
+    codes "unknown colour '" ++ (string_bytes word ++ codes "': one of auto, always, never")
+word_message NoExtension = codes "--extension: which? as in --extension rs.in"
+word_message NoPattern = codes "--exclude: which pattern? as in --exclude tests/ui"
+word_message EmptyPattern = codes "--exclude: an empty pattern matches nothing"
+word_message (OtherPattern word) =
+    codes "unknown pattern '" ++ (string_bytes word
+    ++ codes "': --exclude takes *, ?, ** and /, but no [, no \\ and no ! at its front")
+word_message (UselessPattern word) =
+    codes "--exclude: '" ++ (string_bytes word ++ codes "' matches nothing: it takes what stands below a PATH, as src or /src")
+word_message (UnknownExtension word) =
+    codes "'" ++ (string_bytes word ++ codes "' is no extension: as in --extension rs --extension rs.in")
+word_message NoList = codes "--files-from: which file? as in --files-from list"
+word_message NoEdition = codes "--edition: which? one of 2015, 2018, 2021, 2024"
+word_message (UnknownEdition word) =
+    codes "unknown edition '" ++ (string_bytes word ++ codes "': one of 2015, 2018, 2021, 2024")
+word_message NoFormat = codes "--format: which? one of text, json, github"
+word_message (UnknownFormat word) =
+    codes "unknown format '" ++ (string_bytes word ++ codes "': one of text, json, github")
+word_message NoCount = codes "-C, -B, -A: how many lines? as in --context 2"
+word_message (UnknownCount word) =
+    codes "'" ++ (string_bytes word ++ codes "' is no number of lines: as in --context 2")
+
+-- why this option doesn't go with what is asked for
+abbrev pub IsRejectedFlag : {A : Type 0} → Flag → Wishes → WordError A → Type 0
+IsRejectedFlag flag old TwoChoices = IsAllowed flag old → ⊥
+IsRejectedFlag flag old BadAndFind = GoesWithFind flag old → ⊥
+IsRejectedFlag flag old TwoRestylings = RestylesOnce flag old → ⊥
+IsRejectedFlag flag old _ = ⊥
+
+-- why this isn't what an option takes
+abbrev pub IsRejectedText : {A : Type 0} → Operand → List ℕ → WordError A → Type 0
+IsRejectedText operand text Memory = ⊤
+IsRejectedText operand text (UnknownKind said) =
+    (operand ≡ takes.Kinds)
+    × ((word : List ℕ) × IsUnknownKind text word × (chars (string_bytes said) ≡ visible (chars word)))
+IsRejectedText operand text EmptyText = (operand ≡ takes.Text) × (text ≡ [])
+IsRejectedText operand text EmptyPattern = (operand ≡ takes.Pattern) × (text ≡ [])
+IsRejectedText operand text (OtherPattern said) =
+    (operand ≡ takes.Pattern) × (has_other_mark text ≡ true) × (chars (string_bytes said) ≡ visible (chars text))
+IsRejectedText operand text (UselessPattern said) =
+    (operand ≡ takes.Pattern) × (matches_nothing text ≡ true) × (chars (string_bytes said) ≡ visible (chars text))
+IsRejectedText operand text (UnknownExtension said) =
+    (operand ≡ takes.Extension) × (is_more_than_extension text ≡ true)
+    × (chars (string_bytes said) ≡ visible (chars text))
+IsRejectedText operand text (UnknownColor said) =
+    (operand ≡ takes.Color) × ((when : When) → text ≢ color_word when)
+    × (chars (string_bytes said) ≡ visible (chars text))
+IsRejectedText operand text (UnknownEdition said) =
+    (operand ≡ takes.Edition) × ((edition : AnyEdition) → text ≢ edition_word edition)
+    × (chars (string_bytes said) ≡ visible (chars text))
+IsRejectedText operand text (UnknownFormat said) =
+    (operand ≡ takes.Format) × ((format : AnyFormat) → text ≢ format_word format)
+    × (chars (string_bytes said) ≡ visible (chars text))
+IsRejectedText operand text (UnknownCount said) =
+    IsSide operand × ((count : ℕ) → IsCountWord text count → ⊥)
+    × (chars (string_bytes said) ≡ visible (chars text))
+IsRejectedText operand text (UnknownMacros said) =
+    (operand ≡ takes.Macros) × ((macros : AnyMacros) → text ≢ macros_word macros)
+    × (chars (string_bytes said) ≡ visible (chars text))
+IsRejectedText operand text _ = ⊥
+
+-- why an option can't be asked for that takes this
+abbrev pub IsRejectedJoined : {A : Type 0} → Operand → Wishes → List ℕ → WordError A → Type 0
+IsRejectedJoined operand old text error =
+    IsRejectedFlag (taken_by operand) old error
+    ⊎ (MayStand (taken_by operand) old × IsRejectedText operand text error)
+
+-- an option stands before the first `=`, or in the whole word
+abbrev pub HasOptionPart : List ℕ → Type 0
+HasOptionPart word = (flag : Flag) × IsOptionWord flag (option_part word)
+
+-- The error names the word as one of no option, and the option that it was likely meant to be; or the option that takes
+-- no
+-- value, where it has one.
+abbrev pub NamesUnknown : {A : Type 0} → List ℕ → WordError A → Type 0
+NamesUnknown word (UnknownOption said meant) =
+    (HasOptionPart word → ⊥) × (chars (string_bytes said) ≡ visible (chars word)) × IsMeant word meant
+NamesUnknown word (NoValue said) =
+    HasOptionPart word × (chars (string_bytes said) ≡ visible (chars (option_part word)))
+NamesUnknown word _ = ⊥
+
+-- the error names the letter of no option, and the word where it isn't all of that
+abbrev pub NamesLetter : {A : Type 0} → ℕ → List ℕ → WordError A → Type 0
+NamesLetter c word (UnknownLetter letter said meant) =
+    (word ≢ codes "-" ++ encode_utf8 c) × (chars (string_bytes letter) ≡ visible (chars (codes "-" ++ encode_utf8 c)))
+    × (chars (string_bytes said) ≡ visible (chars word)) × IsMeant word meant
+NamesLetter c word error = (word ≡ codes "-" ++ encode_utf8 c) × NamesUnknown word error
+
+-- there is no option of this word
+abbrev pub IsUnknownOption : {A : Type 0} → List ℕ → WordError A → Type 0
+IsUnknownOption word error =
+    (is_path_word word ≡ false) × ((flag : Flag) → IsOptionWord flag word → ⊥)
+    × ((operand : Operand) → (text : List ℕ) → word ≢ joined_word operand text) × NamesUnknown word error
+
+-- Why these letters of a word can't be asked for: one is no option's; or an option doesn't go with what is
+-- asked for, or takes no such text.
+pub data AreRejectedLetters {A : Type 0} (has_colors : Bool) (word : List ℕ) (error : WordError A)
+    : Wishes → List ℕ → Type 0 where
+  StrangeLetter : {old : Wishes} {letters : List ℕ} (c : ℕ) (more : List ℕ) → letters ≡ encode_utf8 c ++ more
+      → ((flag : Flag) → IsLetter flag c → ⊥) → NamesLetter c word error
+      → AreRejectedLetters has_colors word error old letters
+  RejectedLetter : {old : Wishes} {more : List ℕ} (flag : Flag) (c : ℕ) → IsLetter flag c
+      → IsRejectedFlag flag old error → AreRejectedLetters has_colors word error old (c ∷ more)
+  RejectedText : {old : Wishes} {text : List ℕ} (operand : Operand) (c : ℕ) → IsLetter (taken_by operand) c
+      → IsRejectedJoined operand old text error → AreRejectedLetters has_colors word error old (c ∷ text)
+  LaterLetter : {old : Wishes} {more : List ℕ} (flag : Flag) (c : ℕ) (middle : Wishes) → IsLetter flag c
+      → IsAdded flag old next.Any middle → AreRejectedLetters has_colors word error middle more
+      → AreRejectedLetters has_colors word error old (c ∷ more)
+
+-- why this word can't be asked for, where any may stand: an allocation failed; there is no such option; it
+-- doesn't go with what is asked for; or what it takes can't be asked for
+abbrev pub IsRejectedOption : {A : Type 0} → Bool → Wishes → List ℕ → WordError A → Type 0
+IsRejectedOption has_colors old word error =
+    (error ≡ Memory)
+    ⊎ IsUnknownOption word error
+    ⊎ ((flag : Flag) × IsOptionWord flag word × IsRejectedFlag flag old error)
+    ⊎ ((operand : Operand) × (text : List ℕ) × (word ≡ joined_word operand text)
+    × IsRejectedJoined operand old text error)
+    ⊎ ((letters : List ℕ) × (word ≡ codes "-" ++ letters)
+    × AreRejectedLetters has_colors word error old letters)
+
+-- why this word can't be asked for, where such a word may stand
+abbrev pub IsRejectedWord : {A : Type 0} → Bool → Next → Wishes → List ℕ → WordError A → Type 0
+IsRejectedWord has_colors (next.Operand operand) old word error = IsRejectedText operand word error
+IsRejectedWord has_colors next.Any old word error = IsRejectedOption has_colors old word error
+IsRejectedWord has_colors next.Path old word error = error ≡ Memory
+
+-- this is wrong where the words end before what an option takes
+abbrev pub IsMissing : {A : Type 0} → Operand → WordError A → Type 0
+IsMissing takes.Kinds error = error ≡ NoKinds
+IsMissing takes.Text error = error ≡ NoText
+IsMissing takes.Color error = error ≡ NoColor
+IsMissing takes.Extension error = error ≡ NoExtension
+IsMissing takes.Pattern error = error ≡ NoPattern
+IsMissing takes.List error = error ≡ NoList
+IsMissing takes.Edition error = error ≡ NoEdition
+IsMissing takes.Format error = error ≡ NoFormat
+IsMissing takes.Around error = error ≡ NoCount
+IsMissing takes.Before error = error ≡ NoCount
+IsMissing takes.After error = error ≡ NoCount
+IsMissing takes.Style error = error ≡ NoStyle
+IsMissing takes.Macros error = error ≡ NoMacros
+
+-- Why the words can't be asked for: where they end, what an option takes is missing, or what they ask for doesn't go
+-- together; or they ask for something up to one that can't be asked for.
+abbrev pub AreRejected : {A : Type 0} → Bool → List (List ℕ) → WordError A → Type 0
+AreRejected has_colors words error =
+    ((operand : Operand) × (old : Wishes) × IsMissing operand error
+    × AskSoFar has_colors words (next.Operand operand) old)
+    ⊎ ((then : Next) × (wishes : Wishes) × AskSoFar has_colors words then wishes × IsClash wishes error)
+    ⊎ ((before after : List (List ℕ)) × (word : List ℕ) × (first : Next) × (old : Wishes)
+    × (words ≡ before ++ word ∷ after) × AskSoFar has_colors before first old
+    × IsRejectedWord has_colors first old word error)
+
+-- the arguments are the program's own name and words that ask for this
+abbrev pub AskForWishes : {A : Type 0} → Bool → List (String A) → Wishes → Type 0
+AskForWishes has_colors [] wishes = ⊥
+AskForWishes has_colors (program ∷ words) wishes = Asks has_colors (string_texts words) wishes
+
+-- they are its name and words that can't be asked for
+abbrev pub CannotAsk : {A B : Type 0} → Bool → List (String A) → WordError B → Type 0
+CannotAsk has_colors [] error = ⊥
+CannotAsk has_colors (program ∷ words) error = AreRejected has_colors (string_texts words) error

@@ -1,0 +1,590 @@
+//! The options of a command line, and what they take.
+
+ghost use Rattle.std.specs.Prelude.{◌≡◌, ◌≢◌, ◌++◌, ℕ, List, IfOk, IfErr, IfSome, IfNone, MatchBool};
+ghost use Rattle.rl_restyled.specs.declared.edit.Macros.{Macros as AnyMacros};
+ghost use Rattle.rl_options.specs.declared.flags.Flag.{Flag};
+ghost use Rattle.rl_options.specs.declared.flags.Format.{Format as AnyFormat};
+ghost use Rattle.rl_types.specs.declared.before.Edition.{Edition as AnyEdition};
+ghost use Rattle.rl_options.specs.declared.flags.Operand.{Operand};
+ghost use Rattle.rl_options.specs.declared.flags.When.{When};
+ghost use Rattle.rl_options.specs.Flags.{IsCountWord, IsLetter, IsOptionWord, joined_word, taken_by as flag_before, color_word, macros_word, colored_form, recolored as with_colors, edition_word, format_word, formatted, has_other_mark as other_mark, is_more_than_extension, matches_nothing as is_useless};
+ghost use Rattle.rl_options.specs.Wishes.{wishes_of};
+ghost use Rattle.rl_options.specs.Words.{IsAllowed, GoesWithFind, MayStand, RestylesOnce, IsRejectedFlag, with_flag as flagged, next_after as follows};
+
+use crate::command::{Command, Macros, Output, PlaceForm, Restyling, Wish};
+use crate::words::WordError;
+use rl_files::Selection;
+use rl_output::{Form, Matching, Shown, Spelling};
+use rl_types::Edition;
+use std::alloc::Allocator;
+
+/// An option.
+#[derive(Clone, Copy)]
+pub(crate) enum Flag {
+    Bad,
+    Hidden,
+    Only,
+    Find,
+    IgnoreCase,
+    WholeWords,
+    Text,
+    Json,
+    Format,
+    Context,
+    Before,
+    After,
+    Color,
+    Bytes,
+    Lines,
+    NoStray,
+    AnySuffix,
+    Edition,
+    AllDirectories,
+    Extension,
+    Exclude,
+    FilesFrom,
+    NoMessages,
+    Count,
+    FilesWithMatches,
+    Nul,
+    Quiet,
+    Files,
+    Stats,
+    Fix,
+    Check,
+    Diff,
+    Style,
+    Macros,
+    Help,
+    Version,
+    Paths,
+}
+
+/// What an option takes, in the word after it, or in its own word after `=`.
+#[derive(Clone, Copy)]
+pub(crate) enum Operand {
+    /// A list of kinds.
+    Kinds,
+    /// A text that is looked for.
+    Text,
+    /// When lines have colours.
+    Color,
+    /// What the names of files end with.
+    Extension,
+    /// A pattern of what is left out.
+    Pattern,
+    /// A file that names paths.
+    List,
+    /// An edition of Rust.
+    Edition,
+    /// How lines are written.
+    Format,
+    /// How many lines are shown before and after that of a place.
+    Around,
+    /// How many are shown before it.
+    Before,
+    /// How many are shown after it.
+    After,
+    /// A file with the rules of a style.
+    Style,
+    /// Which literals in calls of macros are written anew.
+    Macros,
+}
+
+/// What the next word may be.
+#[derive(Clone, Copy)]
+pub(crate) enum Next {
+    /// An option or a path.
+    Any,
+    /// What the option before it takes.
+    Operand(Operand),
+    /// A path.
+    Path,
+}
+
+/// When lines have colours.
+#[derive(Clone, Copy)]
+pub(crate) enum When {
+    /// Where output takes them.
+    Auto,
+    Always,
+    Never,
+}
+
+/// How lines are written.
+#[derive(Clone, Copy)]
+pub(crate) enum Format {
+    /// As text.
+    Text,
+    /// As objects of JSON.
+    Json,
+    /// As annotations of GitHub.
+    Github,
+}
+
+/// The option that a word is.
+pub(crate) fn flag_of(word: &str) -> Option<Flag>
+    ensures known { IfSome result (λ flag. IsOptionWord flag word.now) }
+    ensures unknown { IfNone result ((flag : Flag) → IsOptionWord flag word.now → ⊥) }
+{
+    match word {
+        "--bad" => Some(Flag::Bad),
+        "--hidden" => Some(Flag::Hidden),
+        "--only" => Some(Flag::Only),
+        "--find" => Some(Flag::Find),
+        "--ignore-case" => Some(Flag::IgnoreCase),
+        "--word" => Some(Flag::WholeWords),
+        "--text" => Some(Flag::Text),
+        "--json" => Some(Flag::Json),
+        "--format" => Some(Flag::Format),
+        "--context" => Some(Flag::Context),
+        "--before-context" => Some(Flag::Before),
+        "--after-context" => Some(Flag::After),
+        "--color" => Some(Flag::Color),
+        "--bytes" => Some(Flag::Bytes),
+        "--lines" => Some(Flag::Lines),
+        "--no-stray" => Some(Flag::NoStray),
+        "--any-suffix" => Some(Flag::AnySuffix),
+        "--edition" => Some(Flag::Edition),
+        "--all" => Some(Flag::AllDirectories),
+        "--extension" => Some(Flag::Extension),
+        "--exclude" => Some(Flag::Exclude),
+        "--files-from" => Some(Flag::FilesFrom),
+        "--no-messages" => Some(Flag::NoMessages),
+        "--count" => Some(Flag::Count),
+        "--files-with-matches" => Some(Flag::FilesWithMatches),
+        "--null" => Some(Flag::Nul),
+        "--quiet" => Some(Flag::Quiet),
+        "--files" => Some(Flag::Files),
+        "--stats" => Some(Flag::Stats),
+        "--fix" => Some(Flag::Fix),
+        "--check" => Some(Flag::Check),
+        "--diff" => Some(Flag::Diff),
+        "--style" => Some(Flag::Style),
+        "--macros" => Some(Flag::Macros),
+        "--help" => Some(Flag::Help),
+        "--version" => Some(Flag::Version),
+        "--" => Some(Flag::Paths),
+        _ => None,
+    }
+}
+
+/// The option that a letter after a dash is.
+pub(crate) fn letter_of(c: char) -> Option<Flag>
+    ensures known { IfSome result (λ flag. IsLetter flag c) }
+    ensures unknown { IfNone result ((flag : Flag) → IsLetter flag c → ⊥) }
+{
+    match c {
+        'e' => Some(Flag::Find),
+        'i' => Some(Flag::IgnoreCase),
+        'w' => Some(Flag::WholeWords),
+        'c' => Some(Flag::Count),
+        'l' => Some(Flag::FilesWithMatches),
+        'Z' => Some(Flag::Nul),
+        'C' => Some(Flag::Context),
+        'B' => Some(Flag::Before),
+        'A' => Some(Flag::After),
+        'q' => Some(Flag::Quiet),
+        'h' => Some(Flag::Help),
+        'V' => Some(Flag::Version),
+        _ => None,
+    }
+}
+
+/// What stands after the front of a word, where the word begins with that.
+#[tactic(auto, using(crate::proofs::WordLemmas::front_some, crate::proofs::WordLemmas::front_none))]
+pub(crate) fn after_front<'w>(front: &str, word: &'w str) -> Option<&'w str>
+    ensures some { IfSome result (λ rest. word.now ≡ front.now ++ rest.now) }
+    ensures none { IfNone result ((rest : List ℕ) → word.now ≢ front.now ++ rest) }
+{
+    word.strip_prefix(front)
+}
+
+/// What a word has after an option and `=`.
+#[tactic(auto, using(crate::proofs::WordLemmas::no_joined))]
+pub(crate) fn joined_of(word: &str) -> Option<(Operand, &str)>
+    ensures some { IfSome result (λ p. word.now ≡ joined_word p.0 p.1.now) }
+    ensures none { IfNone result ((operand : Operand) → (text : List ℕ) → word.now ≢ joined_word operand text) }
+{
+    if let Some(list) = after_front("--only=", word) {
+        return Some((Operand::Kinds, list));
+    }
+    if let Some(text) = after_front("--find=", word) {
+        return Some((Operand::Text, text));
+    }
+    if let Some(when) = after_front("--color=", word) {
+        return Some((Operand::Color, when));
+    }
+    if let Some(extension) = after_front("--extension=", word) {
+        return Some((Operand::Extension, extension));
+    }
+    if let Some(pattern) = after_front("--exclude=", word) {
+        return Some((Operand::Pattern, pattern));
+    }
+    if let Some(list) = after_front("--files-from=", word) {
+        return Some((Operand::List, list));
+    }
+    if let Some(edition) = after_front("--edition=", word) {
+        return Some((Operand::Edition, edition));
+    }
+    if let Some(format) = after_front("--format=", word) {
+        return Some((Operand::Format, format));
+    }
+    if let Some(count) = after_front("--context=", word) {
+        return Some((Operand::Around, count));
+    }
+    if let Some(count) = after_front("--before-context=", word) {
+        return Some((Operand::Before, count));
+    }
+    if let Some(count) = after_front("--after-context=", word) {
+        return Some((Operand::After, count));
+    }
+    if let Some(file) = after_front("--style=", word) {
+        return Some((Operand::Style, file));
+    }
+    if let Some(macros) = after_front("--macros=", word) {
+        return Some((Operand::Macros, macros));
+    }
+    None
+}
+
+/// The option that takes this.
+pub(crate) fn taken_by(operand: Operand) -> Flag
+    ensures { result ≡ flag_before operand }
+{
+    match operand {
+        Operand::Kinds => Flag::Only,
+        Operand::Text => Flag::Find,
+        Operand::Color => Flag::Color,
+        Operand::Extension => Flag::Extension,
+        Operand::Pattern => Flag::Exclude,
+        Operand::List => Flag::FilesFrom,
+        Operand::Edition => Flag::Edition,
+        Operand::Format => Flag::Format,
+        Operand::Around => Flag::Context,
+        Operand::Before => Flag::Before,
+        Operand::After => Flag::After,
+        Operand::Style => Flag::Style,
+        Operand::Macros => Flag::Macros,
+    }
+}
+
+/// The command with an option more; `None` where another option says already which literals are printed.
+fn with_flag(command: Command<'_>, flag: Flag) -> Option<Command<'_>>
+    ensures some { IfSome result (λ next. (finds extensions excludes lists paths : List (List ℕ))
+        → IsAllowed flag (wishes_of command.entry finds extensions excludes lists paths)
+        × (wishes_of next finds extensions excludes lists paths ≡ flagged flag (wishes_of command.entry finds extensions excludes lists paths))) }
+    ensures none { IfNone result ((finds extensions excludes lists paths : List (List ℕ))
+        → IsAllowed flag (wishes_of command.entry finds extensions excludes lists paths) → ⊥) }
+{
+    match (flag, command.shown) {
+        (Flag::Bad, Shown::All) => Some(Command {
+            shown: Shown::Bad,
+            ..command
+        }),
+        (Flag::Hidden, Shown::All) => Some(Command {
+            shown: Shown::Hidden,
+            ..command
+        }),
+        (Flag::Only, Shown::All) => Some(command),
+        (Flag::Bad | Flag::Hidden | Flag::Only, _) => None,
+        (Flag::Find | Flag::Color | Flag::Extension | Flag::Exclude, _) => Some(command),
+        (Flag::FilesFrom | Flag::Edition | Flag::Format | Flag::Paths, _) => Some(command),
+        (Flag::Context | Flag::Before | Flag::After, _) => Some(command),
+        (Flag::Style | Flag::Macros, _) => Some(command),
+        (Flag::NoMessages, _) => Some(Command {
+            prints_errors: false,
+            ..command
+        }),
+        (Flag::Stats, _) => Some(Command {
+            prints_stats: true,
+            ..command
+        }),
+        (Flag::Fix, _) => Some(Command {
+            restyle: Some(Restyling::Fix),
+            ..command
+        }),
+        (Flag::Check, _) => Some(Command {
+            restyle: Some(Restyling::Check),
+            ..command
+        }),
+        (Flag::Diff, _) => Some(Command {
+            restyle: Some(Restyling::Diff),
+            ..command
+        }),
+        (Flag::IgnoreCase, _) => Some(Command {
+            matching: Matching {
+                ignores_case: true,
+                ..command.matching
+            },
+            ..command
+        }),
+        (Flag::WholeWords, _) => Some(Command {
+            matching: Matching {
+                whole_words: true,
+                ..command.matching
+            },
+            ..command
+        }),
+        (Flag::AllDirectories, _) => Some(Command {
+            selection: Selection {
+                all: true,
+                ..command.selection
+            },
+            ..command
+        }),
+        (Flag::Text, _) => Some(Command {
+            spelling: Spelling::Source,
+            ..command
+        }),
+        (Flag::Json, _) => Some(Command {
+            form: Form::Json,
+            ..command
+        }),
+        (Flag::Bytes, _) => Some(Command {
+            places: PlaceForm::Bytes,
+            ..command
+        }),
+        (Flag::Lines, _) => Some(Command {
+            places: PlaceForm::Lines,
+            ..command
+        }),
+        (Flag::NoStray, _) => Some(Command {
+            rejects_strays: true,
+            ..command
+        }),
+        (Flag::AnySuffix, _) => Some(Command {
+            any_suffix: true,
+            ..command
+        }),
+        (Flag::Count, _) => Some(Command {
+            output: Output::Count,
+            ..command
+        }),
+        (Flag::FilesWithMatches, _) => Some(Command {
+            output: Output::Path,
+            ..command
+        }),
+        (Flag::Nul, _) => Some(Command {
+            nul_after_paths: true,
+            ..command
+        }),
+        (Flag::Quiet, _) => Some(Command {
+            output: Output::Nothing,
+            ..command
+        }),
+        (Flag::Files, _) => Some(Command {
+            wish: Wish::Files,
+            ..command
+        }),
+        (Flag::Help, _) => Some(Command {
+            wish: Wish::Help,
+            ..command
+        }),
+        (Flag::Version, _) => Some(Command {
+            wish: Wish::Version,
+            ..command
+        }),
+    }
+}
+
+/// Whether an option goes with what is looked for: no text is where what is bad or hidden is wanted.
+fn goes_with_find(command: Command<'_>, flag: Flag) -> bool
+    ensures { MatchBool result
+        ((finds extensions excludes lists paths : List (List ℕ)) → GoesWithFind flag (wishes_of command.entry finds extensions excludes lists paths))
+        ((finds extensions excludes lists paths : List (List ℕ)) → GoesWithFind flag (wishes_of command.entry finds extensions excludes lists paths) → ⊥) }
+{
+    match (flag, command.shown) {
+        (Flag::Bad | Flag::Hidden, _) => !command.searches,
+        (Flag::Find, Shown::Bad | Shown::Hidden) => false,
+        _ => true,
+    }
+}
+
+/// Whether an option goes with what the command says of writing literals anew: only one says that, once.
+fn restyles_once(command: Command<'_>, flag: Flag) -> bool
+    ensures { MatchBool result
+        ((finds extensions excludes lists paths : List (List ℕ)) → RestylesOnce flag (wishes_of command.entry finds extensions excludes lists paths))
+        ((finds extensions excludes lists paths : List (List ℕ)) → RestylesOnce flag (wishes_of command.entry finds extensions excludes lists paths) → ⊥) }
+{
+    match flag {
+        Flag::Fix | Flag::Check | Flag::Diff => command.restyle.is_none(),
+        _ => true,
+    }
+}
+
+/// The command with an option more.
+///
+/// # Errors
+///
+/// `TwoChoices`, `BadAndFind` or `TwoRestylings`, where the option doesn't go with what the command asks for.
+pub(crate) fn add_flag<A: Allocator>(
+    command: Command<'_>,
+    flag: Flag,
+) -> Result<Command<'_>, WordError<A>>
+    ensures allowed { IfOk result (λ next. (finds extensions excludes lists paths : List (List ℕ))
+        → MayStand flag (wishes_of command.entry finds extensions excludes lists paths)) }
+    ensures wishes { IfOk result (λ next. (finds extensions excludes lists paths : List (List ℕ))
+        → wishes_of next finds extensions excludes lists paths ≡ flagged flag (wishes_of command.entry finds extensions excludes lists paths)) }
+    ensures rejected { IfErr result (λ error. (finds extensions excludes lists paths : List (List ℕ))
+        → IsRejectedFlag flag (wishes_of command.entry finds extensions excludes lists paths) error) }
+{
+    let Some(next) = with_flag(command, flag) else {
+        return Err(WordError::TwoChoices);
+    };
+    if !goes_with_find(command, flag) {
+        return Err(WordError::BadAndFind);
+    }
+    if !restyles_once(command, flag) {
+        return Err(WordError::TwoRestylings);
+    }
+    Ok(next)
+}
+
+/// What a word after an option may be.
+pub(crate) fn next_after(flag: Flag) -> Next
+    ensures { result ≡ follows flag }
+{
+    match flag {
+        Flag::Only => Next::Operand(Operand::Kinds),
+        Flag::Find => Next::Operand(Operand::Text),
+        Flag::Color => Next::Operand(Operand::Color),
+        Flag::Extension => Next::Operand(Operand::Extension),
+        Flag::Exclude => Next::Operand(Operand::Pattern),
+        Flag::FilesFrom => Next::Operand(Operand::List),
+        Flag::Edition => Next::Operand(Operand::Edition),
+        Flag::Format => Next::Operand(Operand::Format),
+        Flag::Context => Next::Operand(Operand::Around),
+        Flag::Before => Next::Operand(Operand::Before),
+        Flag::After => Next::Operand(Operand::After),
+        Flag::Style => Next::Operand(Operand::Style),
+        Flag::Macros => Next::Operand(Operand::Macros),
+        Flag::Paths => Next::Path,
+        _ => Next::Any,
+    }
+}
+
+/// When lines have colours, by its word.
+pub(crate) fn when_of(word: &str) -> Option<When>
+    ensures known { IfSome result (λ when. word.now ≡ color_word when) }
+    ensures unknown { IfNone result ((when : When) → word.now ≢ color_word when) }
+{
+    match word {
+        "auto" => Some(When::Auto),
+        "always" => Some(When::Always),
+        "never" => Some(When::Never),
+        _ => None,
+    }
+}
+
+/// How lines are written that have colours then; `has_colors` says whether output takes them.
+pub(crate) fn form_when(has_colors: bool, when: When) -> Form
+    ensures { result ≡ colored_form has_colors when }
+{
+    match (when, has_colors) {
+        (When::Always, _) | (When::Auto, true) => Form::Colored,
+        (When::Never, _) | (When::Auto, false) => Form::Plain,
+    }
+}
+
+/// How lines are written by a later word; objects of JSON and annotations stay so.
+pub(crate) fn recolored(form: Form, later: Form) -> Form
+    ensures { result ≡ with_colors form later }
+{
+    match form {
+        Form::Json => Form::Json,
+        Form::Github => Form::Github,
+        Form::Plain | Form::Colored => later,
+    }
+}
+
+/// An edition, by its word.
+pub(crate) fn edition_of(word: &str) -> Option<Edition>
+    ensures known { IfSome result (λ edition. word.now ≡ edition_word edition) }
+    ensures unknown { IfNone result ((edition : AnyEdition) → word.now ≢ edition_word edition) }
+{
+    match word {
+        "2015" => Some(Edition::E2015),
+        "2018" => Some(Edition::E2018),
+        "2021" => Some(Edition::E2021),
+        "2024" => Some(Edition::E2024),
+        _ => None,
+    }
+}
+
+/// How lines are written, by its word.
+pub(crate) fn format_of(word: &str) -> Option<Format>
+    ensures known { IfSome result (λ format. word.now ≡ format_word format) }
+    ensures unknown { IfNone result ((format : AnyFormat) → word.now ≢ format_word format) }
+{
+    match word {
+        "text" => Some(Format::Text),
+        "json" => Some(Format::Json),
+        "github" => Some(Format::Github),
+        _ => None,
+    }
+}
+
+/// Which literals in calls of macros are written anew, by its word.
+pub(crate) fn macros_of(word: &str) -> Option<Macros>
+    ensures known { IfSome result (λ macros. word.now ≡ macros_word macros) }
+    ensures unknown { IfNone result ((macros : AnyMacros) → word.now ≢ macros_word macros) }
+{
+    match word {
+        "skip" => Some(Macros::Skip),
+        "all" => Some(Macros::All),
+        _ => None,
+    }
+}
+
+/// How many lines a word says: a number in base ten.
+#[tactic(auto, using(crate::proofs::WordLemmas::count_unknown))]
+pub(crate) fn count_of(word: &str) -> Option<usize>
+    ensures known { IfSome result (IsCountWord word.now) }
+    ensures unknown { IfNone result ((count : ℕ) → IsCountWord word.now count → ⊥) }
+{
+    match word.parse::<usize>() {
+        Ok(count) => Some(count),
+        Err(_) => None,
+    }
+}
+
+/// Whether a pattern has a mark that has another meaning in gitignore: `[` or `\`, or `!` at its front.
+pub(crate) fn has_other_mark(pattern: &str) -> bool
+    ensures { result ≡ other_mark pattern.now }
+{
+    let bytes = pattern.as_bytes();
+    bytes.starts_with(b"!".as_slice()) || bytes.contains(&b'[') || bytes.contains(&b'\\')
+}
+
+/// Whether a pattern matches no path below a directory: `./` or `../` stands at its front, or it is a slash alone; or a space stands at
+/// its end, which gitignore drops.
+pub(crate) fn matches_nothing(pattern: &str) -> bool
+    ensures { result ≡ is_useless pattern.now }
+{
+    let bytes = pattern.as_bytes();
+    bytes.starts_with(b"./".as_slice())
+        || bytes.starts_with(b"../".as_slice())
+        || pattern == "/"
+        || bytes.ends_with(b" ".as_slice())
+}
+
+/// Whether a word is more than an extension: a list, a pattern or a path.
+pub(crate) fn has_more_than_extension(word: &str) -> bool
+    ensures { result ≡ is_more_than_extension word.now }
+{
+    let bytes = word.as_bytes();
+    bytes.contains(&b',') || bytes.contains(&b'*') || bytes.contains(&b'/')
+}
+
+/// How lines are written in this format: as text, lines that are written so stay as they are.
+pub(crate) fn form_in(has_colors: bool, form: Form, format: Format) -> Form
+    ensures { result ≡ formatted has_colors form format }
+{
+    match (format, form) {
+        (Format::Json, _) => Form::Json,
+        (Format::Github, _) => Form::Github,
+        (Format::Text, Form::Json | Form::Github) => form_when(has_colors, When::Auto),
+        (Format::Text, Form::Plain | Form::Colored) => form,
+    }
+}

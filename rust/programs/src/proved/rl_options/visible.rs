@@ -1,0 +1,13 @@
+// Rendered from crates/rl_options/src/visible.rt by tools/render, which erases contracts: change that file, and render anew.
+//! Texts as they are printed.
+
+use crate::rattle_std::prelude::{String};
+use crate::rl_files::push_visible;
+use crate::rattle_std::alloc::{AllocError, Allocator};
+
+/// A text as it is printed.
+pub fn visible_text<A: Allocator>(alloc: A, text: &str) -> Result<String<A>, AllocError> {
+    let mut shown = String::new(alloc);
+    push_visible(&mut shown, text)?;
+    Ok(shown)
+}
