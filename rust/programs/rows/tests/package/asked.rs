@@ -7,7 +7,7 @@ use navyspindle::{settings, Key, Lit, Number, SettingError, Settings};
 use navyspindle_programs::rattle_std::alloc::Global;
 use navyspindle_programs::rl_attributes::{self, Attrs};
 use navyspindle_programs::rl_tokens::{parse_all, Error, ErrorKind};
-use std::fmt::Display;
+use std::fmt::{Display, Write};
 use std::ops::Range;
 
 const EXPECTED: &str = "as it is expected";
@@ -31,6 +31,23 @@ pub const NAMES: [&str; 16] = [
     "maximum_size_of_a",
     "maximum_size_of_b",
 ];
+
+/// Shows the package's reading of settings as `navyspindle_rows::settings` does.
+pub fn reading(text: &str) -> String {
+    match settings(text) {
+        Ok(entries) => entries.iter().fold(String::new(), |mut out, it| {
+            let (name, value) = (&it.name_range, &it.value_range);
+            let _ = writeln!(out, "{} {name:?} {} {value:?}", it.name, it.value.text());
+            out
+        }),
+        Err(error) => {
+            let range = error.range();
+            let words = error.to_string();
+            let words = words.trim_end_matches(&format!(" at byte {}", range.start));
+            format!("{words} at {range:?}\n")
+        }
+    }
+}
 
 /// What is asked for, or the words and the place of why it isn't given.
 type Told = Result<Option<String>, (String, Range<usize>)>;

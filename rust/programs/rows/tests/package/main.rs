@@ -13,12 +13,10 @@ mod quoted;
 use asked::check_settings;
 use lists::{check_list, check_source};
 use literals::{check_equal, check_literal, check_text};
+use navyspindle_rows::{settings, texts};
 use std::fs;
 use std::ops::Range;
 use std::path::Path;
-
-mod settings;
-mod texts;
 
 fn check_all(text: &str) {
     check_text(text);
@@ -111,7 +109,7 @@ fn check_known_settings(tried: Range<usize>) {
     for n in 0..tried.end {
         let made = settings::made(&mut random);
         if tried.contains(&n) {
-            assert_eq!(settings::read(&made.text), made.answer, "{:?}", made.text);
+            assert_eq!(asked::reading(&made.text), made.answer, "{:?}", made.text);
         }
     }
 }
