@@ -1,5 +1,5 @@
-//! Holds the types of the package `navyspindle`, which are written by hand, against the proved ones as they are rendered. What is
-//! expected comes of the rendered libraries, or is written here; `tools/package_wrong` tries whether wrong bodies are caught.
+//! Compares the types of the package `navyspindle`, which are written by hand, with the translated libraries. The expected answers come
+//! from these libraries, or are written here. `tools/package_wrong` tries whether the tests reject wrong bodies.
 
 mod asked;
 mod flaws;
@@ -25,7 +25,7 @@ fn check_all(text: &str) {
     check_source(text);
 }
 
-/// As `check_all`, of many texts.
+/// Checks a text less closely than `check_all`, and in less time.
 fn check_most(text: &str) {
     check_literal(text);
     check_list(text);
@@ -33,10 +33,11 @@ fn check_most(text: &str) {
     check_source(text);
 }
 
-/// How many of the generated texts are tried by default: the first ones. The others are the gate's.
+/// The number of generated texts that are tried by default. Ignored tests, which `rust/check` runs, try the rest.
 const SAMPLE: usize = 2_000;
-const TEXTS: usize = 60_000;
+const TEXTS: usize = 200_000;
 const SETTINGS: usize = 100_000;
+const KNOWN_SETTINGS: usize = 200_000;
 
 fn check_texts(tried: Range<usize>) {
     let mut r = texts::Random::new(5);
@@ -67,9 +68,15 @@ fn generated_texts() {
 }
 
 #[test]
-#[ignore = "twenty seconds of a processor; rust/check runs it"]
-fn more_generated_texts() {
-    check_texts(SAMPLE..TEXTS);
+#[ignore = "half a minute of a processor; rust/check runs it"]
+fn generated_texts_of_the_first_half() {
+    check_texts(SAMPLE..TEXTS / 2);
+}
+
+#[test]
+#[ignore = "half a minute of a processor; rust/check runs it"]
+fn generated_texts_of_the_second_half() {
+    check_texts(TEXTS / 2..TEXTS);
 }
 
 fn check_generated_settings(tried: Range<usize>) {
@@ -103,7 +110,7 @@ fn more_generated_settings() {
     check_generated_settings(SAMPLE..SETTINGS);
 }
 
-/// Settings that are put together of parts, so that what is read is known.
+/// Settings that are put together from parts, so that their reading is known.
 fn check_known_settings(tried: Range<usize>) {
     let mut random = texts::Random::new(3);
     for n in 0..tried.end {
@@ -120,9 +127,9 @@ fn known_settings() {
 }
 
 #[test]
-#[ignore = "rust/check runs it"]
+#[ignore = "five seconds of a processor; rust/check runs it"]
 fn more_known_settings() {
-    check_known_settings(SAMPLE..200_000);
+    check_known_settings(SAMPLE..KNOWN_SETTINGS);
 }
 
 #[test]
@@ -346,8 +353,9 @@ fn lines_and_columns() {
     );
 }
 
+/// Checks a character in twelve places, and as it is written. Few characters are checked as closely as texts are.
 fn check_character(c: char) {
-    let number = c as u32;
+    let number = u32::from(c);
     quoted::check_written_character(c);
     if number < 0x250 {
         texts::alone(c).iter().for_each(|text| check_text(text));
@@ -355,31 +363,40 @@ fn check_character(c: char) {
         return;
     }
     texts::alone(c).iter().for_each(|text| check_literal(text));
-    if number < 0x3000 || number % 3 == 0 {
-        texts::among(c).iter().for_each(|text| check_most(text));
-    }
-}
-
-/// The characters that are tried: all below U+3000, and every seventh of the others; those of the sample, or those that it leaves out.
-fn check_characters(of_sample: bool) {
-    for c in '\0'..=char::MAX {
-        let number = c as u32;
-        let is_tried = number < 0x3000 || number % 7 == 0;
-        if is_tried && (number < 0x250 || number % 343 == 0) == of_sample {
-            check_character(c);
+    for text in &texts::among(c) {
+        if number < 0x3000 || number % 21 == 0 {
+            check_most(text);
+        } else {
+            check_list(text);
+            check_source(text);
         }
     }
 }
 
-#[test]
-fn characters() {
-    check_characters(true);
+/// Whether a character is tried by default.
+fn is_in_sample(c: &char) -> bool {
+    let number = u32::from(*c);
+    number < 0x250 || number % 343 == 0
 }
 
 #[test]
-#[ignore = "twenty seconds of a processor; rust/check runs it"]
-fn more_characters() {
-    check_characters(false);
+fn characters() {
+    let sample = ('\0'..=char::MAX).filter(is_in_sample);
+    sample.for_each(check_character);
+}
+
+#[test]
+#[ignore = "two minutes of a processor; rust/check runs it"]
+fn characters_of_the_lower_half() {
+    let others = ('\0'..'\u{88000}').filter(|c| !is_in_sample(c));
+    others.for_each(check_character);
+}
+
+#[test]
+#[ignore = "two minutes of a processor; rust/check runs it"]
+fn characters_of_the_upper_half() {
+    let others = ('\u{88000}'..=char::MAX).filter(|c| !is_in_sample(c));
+    others.for_each(check_character);
 }
 
 #[test]
