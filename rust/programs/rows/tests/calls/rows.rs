@@ -4,6 +4,9 @@
 //! expected answer, after `>`. Empty lines separate headings and rows. `⟨41⟩` is the character of this hexadecimal number, `⟨xFF⟩` is a
 //! byte. White space at the end of an expected line isn't compared.
 
+use std::fs;
+use std::path::Path;
+
 /// A given text, and the expected answer.
 struct Row {
     given: Vec<u8>,
@@ -126,6 +129,23 @@ pub fn check_headings(table: &str, tests: &str) {
         assert!(is_first, "the heading {heading} occurs twice");
         let call = format!("(TABLE, \"{heading}\"");
         assert!(tests.contains(&call), "no test of {heading}");
+    }
+}
+
+#[test]
+fn each_table_has_a_file_of_tests() {
+    let folder = Path::new(env!("CARGO_MANIFEST_DIR")).join("tests/calls");
+    let paths = fs::read_dir(&folder).unwrap();
+    let paths = paths.map(|entry| entry.unwrap().path());
+    for table in paths.filter(|path| path.extension().is_some_and(|it| it == "rows")) {
+        let name = table.file_stem().unwrap().to_str().unwrap();
+        let is_module = include_str!("main.rs").contains(&format!("\nmod {name};\n"));
+        let tests = fs::read_to_string(table.with_extension("rs")).unwrap_or_default();
+        let call = format!("check_headings(TABLE, include_str!(\"{name}.rs\"))");
+        assert!(
+            is_module && tests.contains(&call),
+            "no tests of {name}.rows"
+        );
     }
 }
 
