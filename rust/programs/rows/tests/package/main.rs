@@ -16,7 +16,7 @@ use literals::{check_equal, check_literal, check_text};
 use navyspindle_rows::{settings, texts};
 use std::fs;
 use std::ops::Range;
-use std::path::Path;
+use std::path::{Path, PathBuf};
 
 fn check_all(text: &str) {
     check_text(text);
@@ -399,22 +399,54 @@ fn characters_of_the_upper_half() {
     others.for_each(check_character);
 }
 
-#[test]
-fn sources_of_the_repository() {
-    let mut pending = vec![Path::new(env!("CARGO_MANIFEST_DIR")).join("..")];
-    let mut count = 0;
-    while let Some(folder) = pending.pop() {
-        for entry in fs::read_dir(folder).unwrap() {
-            let path = entry.unwrap().path();
-            if path.is_dir() && !path.ends_with("target") {
-                pending.push(path);
-            } else if path.extension().is_some_and(|it| it == "rs") {
-                let text = fs::read_to_string(&path).unwrap();
-                check_source(&text);
-                check_list(&text);
-                count += 1;
-            }
+/// The paths of Rust and Rattle sources below a folder, without build folders and hidden ones.
+fn sources_below(folder: &Path) -> Vec<PathBuf> {
+    let mut found = Vec::new();
+    for entry in fs::read_dir(folder).unwrap() {
+        let path = entry.unwrap().path();
+        let name = path.file_name().unwrap_or_default().to_string_lossy();
+        let is_hidden = name.starts_with('.') || name == "target" || name == "out";
+        if path.is_dir() && !is_hidden {
+            found.extend(sources_below(&path));
+        } else if path.is_file() && (name.ends_with(".rs") || name.ends_with(".rt")) {
+            found.push(path);
         }
     }
-    assert!(count > 100, "{count}");
+    found
+}
+
+/// Checks a source, its literals, and both with errors put in.
+fn check_file(random: &mut texts::Random, text: &str) {
+    check_source(text);
+    check_list(text);
+    for (range, _) in navyspindle::source(text).map_while(Result::ok) {
+        check_all(&text[range.clone()]);
+        check_all(&texts::broken(random, &text[range]));
+    }
+    for _ in 0..5 {
+        check_source(&texts::broken(random, text));
+    }
+}
+
+#[test]
+fn sources_of_the_programs() {
+    let paths = sources_below(&Path::new(env!("CARGO_MANIFEST_DIR")).join(".."));
+    assert!(paths.len() > 100, "{}", paths.len());
+    for path in paths {
+        let text = fs::read_to_string(path).unwrap();
+        check_source(&text);
+        check_list(&text);
+    }
+}
+
+#[test]
+#[ignore = "half a minute of a processor; rust/check runs it"]
+fn sources_of_the_repository() {
+    let paths = sources_below(&Path::new(env!("CARGO_MANIFEST_DIR")).join("../../.."));
+    assert!(paths.len() > 400, "{}", paths.len());
+    let mut random = texts::Random::new(1);
+    for path in paths {
+        let text = fs::read_to_string(path).unwrap();
+        check_file(&mut random, &text);
+    }
 }
