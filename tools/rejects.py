@@ -1,7 +1,7 @@
-"""What tools/render rejects: calls that could mean something else in Rust than in Rattle, what the core can't have, and entries of its
-lists that name nothing. Each text is put into a file as it would be read; no file is changed.
+"""Tries whether tools/render rejects calls that could mean something else in Rust than in Rattle, types that the core can't have, and
+entries of its lists that name nothing. Each change is made to a file's text when it is read; no file is written.
 
-    tools/rejects.py     prints what is rejected for no reason, or isn't rejected; the last line says how many were tried
+    tools/rejects.py     prints each change that is rejected without a reason, or isn't rejected; the last line counts both
 """
 import importlib.machinery
 import importlib.util
@@ -14,7 +14,7 @@ TOP = pathlib.Path(__file__).resolve().parent.parent
 LINE, BARE = 'crates/rl_lines/src/line.rt', 'bytes.iter().all('
 IDENT, ALL = 'crates/rl_text/src/ident.rt', 'text.chars().all('
 UNCALLED, INLINING = 'tools/uncalled.txt', 'tools/inlining.txt'
-# A file, what stands there, what is put in its place, and a word of why that is rejected; nothing where it isn't.
+# A file, a text in it, the text that replaces it, and a word of the error; None where the change is accepted.
 TRIED = [
     (LINE, BARE, BARE, None),
     (LINE, BARE, 'bytes.to_vec().iter().all(', 'to_vec'),
@@ -25,7 +25,7 @@ TRIED = [
     (IDENT, ALL, ALL, None),
     (IDENT, ALL, 'text.to_lowercase().chars().all(', 'to_lowercase'),
     (IDENT, ALL, 'String::new(text).chars().all(', 'String'),
-    # An entry of what the package doesn't call, whose file, function, method, module or variant isn't there; and a line that is none.
+    # Entries of the list of uncalled items whose file, function, method, module or variant doesn't exist; and a line that isn't an entry.
     (UNCALLED, 'body_unit', 'body_unit', None),
     (UNCALLED, 'rl_forms/kind.rs Kind::word', 'rl_forms/kinds.rs Kind::word', 'kinds.rs'),
     (UNCALLED, 'Kind::word', 'Kind::words', 'Kind::words'),
@@ -36,7 +36,7 @@ TRIED = [
     (UNCALLED, 'LexKind::{Memory}', 'LexKind::{Room}', 'Room'),
     (UNCALLED, 'LexKind::{Memory}', 'Lex::{Memory}', 'Lex::'),
     (UNCALLED, 'Kind::word: ', 'Kind::word ', 'no entry'),
-    # An entry of what the compiler inlines by itself, whose file or function isn't there, or isn't always inlined; and a line that is none.
+    # Entries of the list of inlined functions whose file or function doesn't exist, or isn't always inlined; and a line that isn't an entry.
     (INLINING, 'skip_inside', 'skip_inside', None),
     (INLINING, 'strict.rs skip_inside', 'strictly.rs skip_inside', 'strictly.rs'),
     (INLINING, 'strict.rs skip_inside', 'strict.rs skip_outside', 'skip_outside'),
@@ -54,7 +54,7 @@ def render_itself():
 
 
 class Reading:
-    """Files are read as they are, but for one that has another text."""
+    """Makes `Path.read_text` return another text for one file."""
 
     def __init__(self):
         self.path = self.text = None
@@ -74,7 +74,7 @@ def main():
     core = render.files_of(render.crates_below('# The core'), render.rendered)
 
     def said_of(file):
-        """Why the texts are rejected; nothing where they aren't."""
+        """Returns the error, or None where the texts are accepted."""
         try:
             if file == LINE:
                 render.files_of(['rl_lines'], render.rendered_program)

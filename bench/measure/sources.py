@@ -20,7 +20,7 @@ def find():
     """Tells the driver where the files are; false where they aren't there, which is said."""
     found = sorted(glob.glob(FOLDERS))
     if found:
-        os.environ['RL_BENCH_SOURCES'] = found[-1]
+        os.environ['BENCH_SOURCES'] = found[-1]
         return True
     words = "bench/run: Debian's package rust-src isn't there: the rows of %s are left out"
     print(words % ' and '.join('`%s`' % corpus for corpus in CORPORA), file=sys.stderr)

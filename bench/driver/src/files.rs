@@ -1,4 +1,4 @@
-//! Files of Rust, in the folder that `RL_BENCH_SOURCES` names, and their literals.
+//! Files of Rust, in the folder that `BENCH_SOURCES` names, and their literals.
 
 use proc_macro2::{TokenStream, TokenTree};
 use std::path::{Path, PathBuf};
@@ -6,7 +6,7 @@ use std::{env, fs, io};
 
 /// Whether there is such a folder.
 pub fn are_there() -> bool {
-    env::var_os("RL_BENCH_SOURCES").is_some()
+    env::var_os("BENCH_SOURCES").is_some()
 }
 
 /// Adds the paths of the folder's files of Rust.
@@ -25,7 +25,7 @@ fn add_paths(folder: &Path, paths: &mut Vec<PathBuf>) {
 /// bytes.
 pub fn text(size: usize) -> String {
     let mut paths = Vec::new();
-    let folder = env::var_os("RL_BENCH_SOURCES").expect("the variable RL_BENCH_SOURCES");
+    let folder = env::var_os("BENCH_SOURCES").expect("the variable BENCH_SOURCES");
     add_paths(Path::new(&folder), &mut paths);
     paths.sort();
     let mut all = String::new();

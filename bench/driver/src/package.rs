@@ -2,7 +2,7 @@
 
 use crate::corpus::Corpus;
 use crate::weight::{weight, Kind};
-use navyspindle::{source as literals_of, Lit};
+use navyspindle::{literals, settings, source as literals_of, Lit};
 use std::hint::black_box;
 
 /// The number of digits in base ten.
@@ -38,6 +38,25 @@ fn weight_of(text: &str) -> u64 {
 /// By the values.
 pub fn value(corpus: &Corpus) -> u64 {
     corpus.texts().map(weight_of).fold(0, u64::wrapping_add)
+}
+
+/// The number of literals in the texts as lists, each up to its first error.
+pub fn list(corpus: &Corpus) -> u64 {
+    corpus
+        .texts()
+        .map(|text| {
+            let literals = literals(text).map_while(Result::ok);
+            literals.map(black_box).count() as u64
+        })
+        .fold(0, u64::wrapping_add)
+}
+
+/// The number of settings in the texts, none in a text with an error.
+pub fn attributes(corpus: &Corpus) -> u64 {
+    corpus
+        .texts()
+        .map(|text| settings(text).map_or(0, |entries| black_box(entries).len() as u64))
+        .fold(0, u64::wrapping_add)
 }
 
 /// How many literals stand in the texts as whole sources, each up to its first error; each literal is read.

@@ -11,6 +11,7 @@ pub enum Sum {
     Values,
     Trees,
     Literals,
+    Settings,
     SourceLiterals,
     RustTokens,
     Bytes,
@@ -55,13 +56,17 @@ const OF_LITERALS: &[Work] = &[
 
 /// Those of a text that is a list.
 const OF_LISTS: &[Work] = &[
+    ours("package", Sum::Literals, package::list),
     other("proc-macro2", Sum::Trees, others::proc_macro2_lex),
     #[cfg(feature = "oracle")]
     other("proc-macro2 and syn", Sum::Literals, others::syn::read),
 ];
 
 /// Those of a text that is attributes.
-const OF_ATTRIBUTES: &[Work] = &[other("proc-macro2", Sum::Trees, others::proc_macro2_lex)];
+const OF_ATTRIBUTES: &[Work] = &[
+    ours("package", Sum::Settings, package::attributes),
+    other("proc-macro2", Sum::Trees, others::proc_macro2_lex),
+];
 
 /// Those of a text that is files of Rust.
 const OF_SOURCES: &[Work] = &[

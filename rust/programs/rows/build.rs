@@ -1,4 +1,4 @@
-//! Renders the crates that print rows of tests, which the repository doesn't keep.
+//! Translates the crates for development, of which the repository keeps no translation.
 
 use std::env;
 use std::path::Path;

@@ -1,4 +1,4 @@
-//! What the two programs print of their stored runs is what the proved programs print of them.
+//! The translated programs print the stored output of the proved ones.
 
 mod stored;
 

@@ -1,7 +1,9 @@
-//! The programs that print rows of tests: the stored runs of `rl_rows` and `rl_failures`, by Cargo.
+//! The programs for development, `rl_rows` and `rl_failures`, translated when they are built; and generated texts.
 #![forbid(unsafe_code)]
 
 pub mod failing;
+pub mod settings;
+pub mod texts;
 include!(concat!(env!("OUT_DIR"), "/modules.rs"));
 
 use navyspindle_programs::{

@@ -1,9 +1,9 @@
-//! What `tools/render` rejects.
+//! `tools/render` rejects what it must, by `tools/rejects.py`.
 
 use std::process::Command;
 
 #[test]
-fn what_is_rejected() {
+fn wrong_sources_are_rejected() {
     let script = concat!(env!("CARGO_MANIFEST_DIR"), "/../../../tools/rejects.py");
     let ran = Command::new("python3").arg(script).output().unwrap();
     let said = String::from_utf8_lossy(&ran.stdout);

@@ -1,4 +1,4 @@
-//! What the programs of rows print of the stored rows is what the proved programs print of them.
+//! The translated programs for development print the stored output of the proved ones.
 
 #[path = "../../tests/stored/mod.rs"]
 mod stored;

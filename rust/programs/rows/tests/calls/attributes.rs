@@ -1,7 +1,7 @@
-//! Attributes by their own calls: what no line tells.
+//! Attributes: calls whose answers `rl_tool` doesn't print.
 
 use crate::rows::{check, check_headings};
-use crate::shown::{line, place, told, HERE};
+use crate::shown::{line, range, value_or_error, HERE};
 use navyspindle_programs::rattle_std::alloc::Global;
 use navyspindle_programs::rl_attributes::{read, Attrs, Setting, SettingError};
 use navyspindle_programs::rl_program::Rejection;
@@ -15,15 +15,16 @@ fn headings() {
     check_headings(TABLE, include_str!("attributes.rs"));
 }
 
-/// What a setting is set to; else the error, or that it is missing.
+/// Shows a setting's value, or the error, or that the setting is missing.
 fn set<T: Display>(value: Result<Option<T>, SettingError>, missing: SettingError) -> String {
     match value {
         Ok(Some(value)) => format!("{value}\n"),
-        Ok(None) => format!("{} {missing}\n", place(missing.span())),
-        Err(error) => format!("{} {error}\n", place(error.span())),
+        Ok(None) => format!("{} {missing}\n", range(missing.span())),
+        Err(error) => format!("{} {error}\n", range(error.span())),
     }
 }
 
+/// Three settings, by name and type.
 #[test]
 fn settings() {
     let name = Setting {
@@ -39,7 +40,7 @@ fn settings() {
         expected: "`true` or `false`",
     };
     check(TABLE, "attr_settings", |text| {
-        told(read(Global, text, 4), |attrs| {
+        value_or_error(read(Global, text, 4), |attrs| {
             set(attrs.string(Global, name), attrs.missing(name))
                 + &set(attrs.number::<u16>(Global, port), attrs.missing(port))
                 + &set(attrs.truth(verbose), attrs.missing(verbose))
@@ -47,11 +48,12 @@ fn settings() {
     });
 }
 
+/// Shows the number of attributes.
 fn count(attrs: &Attrs) -> String {
     format!("{}\n", attrs.entries().len())
 }
 
-/// How many attributes stand inside a string, or what is reported.
+/// The number of attributes inside a string, or the error message.
 #[test]
 fn inside() {
     check(TABLE, "attr_inside", |text| {
@@ -63,12 +65,12 @@ fn inside() {
     });
 }
 
-/// The line of what each name is set to: names with a comma between them, a US (0x1F), and attributes.
+/// The value of each name. A given text has the names, with commas between them, a US (0x1F), and attributes.
 #[test]
 fn values() {
     check(TABLE, "attr_values", |row| {
         let (names, text) = row.split_once('\u{1f}').unwrap();
-        told(read(Global, text, 4), |attrs| {
+        value_or_error(read(Global, text, 4), |attrs| {
             let values = names.split(',').map(|name| attrs.get(name));
             values
                 .map(|it| it.map_or("none\n".to_owned(), line))
@@ -77,12 +79,13 @@ fn values() {
     });
 }
 
-/// How many attributes are read where so many are set, and why none are where the first is set once more.
+/// The number of attributes in a text of that many, and the error where the first name is repeated at its end.
 #[test]
 fn many() {
     check(TABLE, "attr_many", |count_of| {
         let all = 0..count_of.parse::<usize>().unwrap();
         let text: String = all.map(|at| format!("a{at}={at},")).collect();
-        told(read(Global, &text, 0), count) + &told(read(Global, &(text + "a0=1"), 0), count)
+        value_or_error(read(Global, &text, 0), count)
+            + &value_or_error(read(Global, &(text + "a0=1"), 0), count)
     });
 }

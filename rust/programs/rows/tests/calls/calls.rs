@@ -1,4 +1,4 @@
-//! Calls of `rl_tool` with words and streams. A US (0x1F) parts its words from its input. Between the words stands a LF.
+//! Calls of `rl_tool`. A given text has the arguments, one a line, a US (0x1F), and standard input.
 
 use crate::numbers::spelled;
 use crate::rows::{check, check_bytes, check_headings};
@@ -16,20 +16,20 @@ fn headings() {
     check_headings(TABLE, include_str!("calls.rs"));
 }
 
-/// How the streams of a call behave.
+/// How the standard streams of a call behave.
 #[derive(Clone, Copy)]
 struct Streams {
-    /// How many bytes a call passes at most.
+    /// The greatest number of bytes that one call of `read` or `write` passes.
     at_once: usize,
-    /// After how many bytes reading fails.
+    /// The number of bytes after which `read` fails.
     readable: usize,
-    /// After how many bytes writing fails.
+    /// The number of bytes after which `write` fails.
     writable: usize,
-    /// Whether a writer that is to fail takes no byte in place of an error.
+    /// Whether `write` then writes no byte and returns no error.
     is_full: bool,
 }
 
-/// Streams that pass all bytes.
+/// Streams that pass all bytes at once.
 const WIDE: Streams = Streams {
     at_once: usize::MAX,
     readable: usize::MAX,
@@ -37,6 +37,7 @@ const WIDE: Streams = Streams {
     is_full: false,
 };
 
+/// Standard input.
 struct Input<'a> {
     bytes: &'a [u8],
     streams: Streams,
@@ -57,6 +58,7 @@ impl Read for Input<'_> {
     }
 }
 
+/// Standard output.
 struct Output {
     held: Vec<u8>,
     streams: Streams,
@@ -82,12 +84,12 @@ impl Write for Output {
     }
 }
 
-/// The status, and the line that is reported.
+/// Shows the exit status and the error message.
 fn ended<E: RunError>(ending: &Ending<E>) -> String {
     format!("{} {ending}\n", ending.status())
 }
 
-/// What a call of the program writes, its status, and the line that it reports.
+/// Calls the program, and shows its output, exit status and error message.
 fn called(words: &str, bytes: &[u8], streams: Streams) -> String {
     let words: Vec<Text> = words
         .split('\n')
@@ -99,7 +101,7 @@ fn called(words: &str, bytes: &[u8], streams: Streams) -> String {
         streams,
     };
     let ending = rl_commands::call(Global, &words, &mut input, &mut output);
-    // What is cut off inside of a character is no text.
+    // Output that ends inside a character isn't shown.
     String::from_utf8(output.held).unwrap_or_default() + &ended(&ending)
 }
 
@@ -115,7 +117,8 @@ fn call() {
     });
 }
 
-/// How many bytes pass at once, after how many reading and writing fail (`-`: never), and `full`; the words; the input, by parts.
+/// The limits of the streams stand before the arguments: bytes at once, bytes before `read` fails, before `write` fails (`-`: no limit),
+/// and `full` where `write` then writes nothing. Standard input is written in parts.
 #[test]
 fn call_by_streams() {
     check(TABLE, "call_by", |row| {

@@ -14,7 +14,7 @@ fn headings() {
     check_headings(TABLE, include_str!("failing.rs"));
 }
 
-/// A number, where none is needed, or the token that comes back.
+/// Every allocation fails: the literal, where none is needed, or the error and the token that comes back.
 #[test]
 fn every_allocation() {
     check(TABLE, "all_failing", |text| {
@@ -41,8 +41,7 @@ fn every_allocation() {
     });
 }
 
-/// Whether a string of the text ten thousand times over borrows its value, and how long that is where all allocations but the first
-/// fail.
+/// All allocations after the first fail: whether a string of ten thousand copies of the text borrows its value, and the value's length.
 #[test]
 fn all_but_the_first() {
     check(TABLE, "second_failing", |text| {

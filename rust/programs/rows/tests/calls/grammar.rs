@@ -1,7 +1,7 @@
-//! What the grammars return of one text.
+//! The grammars' functions on one text.
 
 use crate::rows::{check, check_headings};
-use crate::shown::{debug, place};
+use crate::shown::{debug_or_error, range};
 use navyspindle_programs::rattle_std::alloc::Global;
 use navyspindle_programs::rl_grammar::{
     self, place_of, spans_of, Kind, Parts, SegmentValue, Segments,
@@ -15,7 +15,7 @@ fn headings() {
     check_headings(TABLE, include_str!("grammar.rs"));
 }
 
-/// A kind, and body and suffix with a point between.
+/// Shows a kind, body and suffix, with a dot between body and suffix.
 fn parts(parts: Option<Parts<'_>>) -> String {
     parts.map_or("None".to_owned(), |it| {
         format!("{:?} {}.{}", it.kind, it.body, it.suffix)
@@ -27,7 +27,7 @@ fn shape() {
     check(TABLE, "shape", |text| parts(rl_grammar::shape(text)));
 }
 
-/// Of an integer past 128 bits that it is one.
+/// An integer above 128 bits is shown as `past`.
 #[test]
 fn int_shape() {
     check(TABLE, "int_shape", |text| {
@@ -52,7 +52,7 @@ fn shape_negative() {
     });
 }
 
-/// Whether the contents of a text of a kind stand in it as they are. The kind's name is the first line.
+/// Whether a text of a kind holds its decoded value as it is. The kind's name is the first line.
 #[test]
 fn is_plain() {
     check(TABLE, "plain", |row| {
@@ -72,7 +72,7 @@ fn is_plain() {
     });
 }
 
-/// By the decoder of its kind: bytes, a number, or the digits.
+/// The decoded value: bytes, the number of a character, or digits.
 #[test]
 fn contents() {
     check(TABLE, "contents", |text| {
@@ -80,7 +80,7 @@ fn contents() {
             Some(Kind::Str) => {
                 format!("{:?}", rl_grammar::str_of(Global, text).unwrap().as_bytes())
             }
-            Some(Kind::ByteStr | Kind::CStr) => debug(rl_grammar::bytes_of(Global, text)),
+            Some(Kind::ByteStr | Kind::CStr) => debug_or_error(rl_grammar::bytes_of(Global, text)),
             Some(Kind::Byte) => rl_grammar::byte_of(text).to_string(),
             Some(Kind::Char) => u32::from(rl_grammar::char_of(text)).to_string(),
             Some(kind @ (Kind::Int | Kind::Float)) => rl_grammar::digits_of(Global, kind, text)
@@ -98,7 +98,7 @@ fn skip() {
     check(TABLE, "skipped", |text| whitespace::skip(text).to_owned());
 }
 
-/// A segment's bytes; of a run how many bytes it gives, of an escape the number of its character or byte.
+/// Shows a segment's byte range, and its value: the length of plain text, or the number of an escape's character or byte.
 fn segment(lo: usize, hi: usize, value: SegmentValue<'_>) -> String {
     let value = match value {
         SegmentValue::Text(run) => format!("T{}", run.len()),
@@ -109,7 +109,8 @@ fn segment(lo: usize, hi: usize, value: SegmentValue<'_>) -> String {
     format!("{lo}..{hi} {value} ")
 }
 
-/// The segments; where each byte of the contents comes from by the table; and the same by each call, and past the end.
+/// The segments; the byte range that each byte of the value comes from, by `spans_of`; and the same by `place_of` and `end_of`, up to
+/// two bytes past the end.
 #[test]
 fn segments() {
     check(TABLE, "segments", |text| {
@@ -122,7 +123,7 @@ fn segments() {
             .collect();
         let bytes: usize = segments().map(|it| it.value.len()).sum();
         let spans = spans_of(Global, segments(), Span::new(7, 0, text.len())).unwrap();
-        let table: String = spans.iter().map(|span| place(*span) + " ").collect();
+        let table: String = spans.iter().map(|span| range(*span) + " ").collect();
         let each = (0..=bytes + 1).filter_map(|at| {
             Some(format!(
                 "{}..{} ",

@@ -1,7 +1,7 @@
-//! Lists of literals: where each stands, and pairs of them with a gap between.
+//! Lists of literals, and pairs of literals with a separator between them.
 
 use crate::rows::{check, check_headings};
-use crate::shown::{line, literal_of, place, spanned, told};
+use crate::shown::{line, literal_of, range, spanned, value_or_error};
 use navyspindle_programs::rattle_std::alloc::Global;
 use navyspindle_programs::rl_tokens::{Error, Span};
 use navyspindle_programs::rust_literals::{read_all, Lit, Literals};
@@ -13,17 +13,17 @@ fn headings() {
     check_headings(TABLE, include_str!("lists.rs"));
 }
 
-/// A literal's bytes and line.
+/// Shows a literal's byte range and line.
 fn placed(literal: &Lit) -> String {
-    format!("{} {}", place(literal.span()), line(literal))
+    format!("{} {}", range(literal.span()), line(literal))
 }
 
-/// An error's bytes and message.
+/// Shows an error's byte range and message.
 fn rejected(error: &Error) -> String {
-    format!("{} {error}\n", place(error.span))
+    format!("{} {error}\n", range(error.span))
 }
 
-/// Each literal's bytes and line, or the error.
+/// Shows each literal's byte range and line, or the error.
 fn places_of(text: &str) -> String {
     match read_all(Global, text, 0) {
         Ok(literals) => literals.iter().map(placed).collect(),
@@ -39,13 +39,13 @@ fn places() {
 #[test]
 fn texts() {
     check(TABLE, "texts", |text| {
-        told(read_all(Global, text, 7), |literals| {
+        value_or_error(read_all(Global, text, 7), |literals| {
             literals.iter().map(|it| spanned(it) + "\n").collect()
         })
     });
 }
 
-/// Each literal as the iterator returns it, up to what ends them, twice.
+/// Each literal that the iterator returns, and its first two answers after the last one.
 #[test]
 fn one_by_one() {
     check(TABLE, "one_by_one", |text| {
@@ -66,8 +66,8 @@ fn one_by_one() {
     });
 }
 
-/// How many of the texts read after each of the others and a gap as they do by themselves. A U+001E parts the gap, the texts in
-/// front and those after; a U+001F parts texts. Those that don't are shown.
+/// The number of pairs that read as the two literals do alone, after each pair that doesn't. A given text has a separator, the first
+/// literals and the second ones, with U+001E between these and U+001F between literals.
 #[test]
 fn pairs() {
     check(TABLE, "pairs", |row| {

@@ -1,7 +1,7 @@
-//! Calls on the literal that a text is.
+//! Calls on a literal.
 
 use crate::rows::{check, check_headings};
-use crate::shown::{at, error, literal_of, spanned, told, trees, whole, HERE, THERE};
+use crate::shown::{at, error, literal_of, spanned, trees, value_or_error, whole, HERE, THERE};
 use navyspindle_programs::rattle_std::alloc::Global;
 use navyspindle_programs::rl_tokens::{ParseBuffer, Span, ToTokens, TokenStream};
 use navyspindle_programs::rust_literals::Lit;
@@ -18,19 +18,19 @@ fn headings() {
     check_headings(TABLE, include_str!("literals.rs"));
 }
 
-/// The literal, whether its copy equals it, the copy, the trees that it appends, what is parsed of these, its suffix; and where it
-/// is moved to.
+/// The literal; whether its copy is equal, and the copy; its token trees; the literal parsed from these; its suffix; and its span once it
+/// is set.
 #[test]
 fn literal() {
     check(TABLE, "literal", |text| {
         let mut literal = literal_of(text, HERE).unwrap();
-        let copy = told(literal.clone(Global), |copy| {
+        let copy = value_or_error(literal.clone(Global), |copy| {
             format!("{} {}", *copy == literal, whole(copy))
         });
         let mut stream = TokenStream::new(Global);
         assert!(literal.to_tokens(Global, &mut stream).is_ok());
         let mut input = ParseBuffer::new(stream.trees(), THERE);
-        let parsed = told(input.parse::<Lit>(Global), whole);
+        let parsed = value_or_error(input.parse::<Lit>(Global), whole);
         let before = whole(&literal) + &copy + &trees(stream.trees()) + &parsed;
         let suffix = format!("{:?}", literal.suffix());
         literal.set_span(THERE);
@@ -38,7 +38,7 @@ fn literal() {
     });
 }
 
-/// What is borrowed of a string's text.
+/// The value that a string borrows from its text.
 #[test]
 fn value_ref() {
     check(TABLE, "borrows", |text| {
@@ -57,7 +57,7 @@ fn value_ref() {
     });
 }
 
-/// A number, or a token that is no literal, as it is displayed.
+/// A number's `Display`, or that of a token that isn't a literal.
 #[test]
 fn displayed() {
     check(TABLE, "shown", |text| {
@@ -70,12 +70,12 @@ fn displayed() {
     });
 }
 
-/// With a width: at its end, with stars at its front, and of its first three characters in the middle.
+/// Shows a value right-aligned, left-aligned with stars, and its first three characters centred.
 fn padded<T: Display>(value: &T) -> String {
     format!("{value:>10}|{value:*<10}|{value:^10.3}|\n")
 }
 
-/// The literal, and the one of its own type.
+/// The `Lit`, and the struct in it.
 #[test]
 fn displayed_with_a_width() {
     check(TABLE, "padded", |text| {
@@ -101,7 +101,7 @@ fn hash_of<T: Hash>(value: &T) -> u64 {
     state.finish()
 }
 
-/// Whether two literals, a LF between their texts, are equal, and hash alike, at two spans.
+/// Whether two literals with different spans are equal, and have equal hashes. Each is a line.
 #[test]
 fn equality() {
     check(TABLE, "equal", |text| {
@@ -118,7 +118,7 @@ fn equality() {
     });
 }
 
-/// Literals that are put into a map: which one stood there before.
+/// Literals, one a line, as keys of a map: which one each replaces, and how many are left.
 #[test]
 fn keys() {
     check(TABLE, "map", |text| {
@@ -134,7 +134,7 @@ fn keys() {
     });
 }
 
-/// The literal, moved and written anew, and whether it equals what it was.
+/// The literal that is made from a literal's value, and whether the two are equal.
 #[test]
 fn rewritten_literals() {
     check(TABLE, "anew", |text| {

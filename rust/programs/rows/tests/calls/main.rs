@@ -1,5 +1,5 @@
-//! Calls of the libraries as they are rendered: a table of rows a subject. What is stored comes from `syn`, from the grammars or by
-//! hand, and never from our own output.
+//! Calls of the translated libraries. Each subject has a table of rows, `NAME.rows`, and beside it the tests, `NAME.rs`. The
+//! expected answers come from `syn`, from the grammars or are written by hand, and never come from our own output.
 
 mod attributes;
 mod calls;

@@ -1,4 +1,4 @@
-//! The message of every kind of error, and values as they are printed to programmers.
+//! The message of each kind of error, and the `Debug` of some values.
 
 use crate::rows::{check, check_headings};
 use crate::shown::{error, HERE};
@@ -61,9 +61,9 @@ fn errors() {
     });
 }
 
-/// A C string of the bytes or where it is rejected, the parts of a text, and the commands.
+/// A C string of the text or its error, the text's parts, and the commands.
 #[test]
-fn to_programmers() {
+fn debug_of_values() {
     check(TABLE, "debugs", |text| {
         let bytes = Bytes::from_slice(Global, text.as_bytes()).unwrap();
         let held = match CString::new(bytes) {

@@ -1,7 +1,7 @@
-//! Numbers of one text: what the structs of numbers make of it, and numbers by base ten.
+//! Integers and floats, and numbers parsed from their digits.
 
 use crate::rows::{check, check_headings};
-use crate::shown::{at, debug, error, literal_of, told, whole, HERE, THERE};
+use crate::shown::{at, debug_or_error, error, literal_of, value_or_error, whole, HERE, THERE};
 use navyspindle_programs::rattle_std::alloc::Global;
 use navyspindle_programs::rl_tokens::{Error, ErrorKind, Literal};
 use navyspindle_programs::rust_literals::{
@@ -17,7 +17,7 @@ fn headings() {
     check_headings(TABLE, include_str!("numbers.rs"));
 }
 
-/// Parts, each as often as the number before it says: `3*a` is `aaa`.
+/// Joins parts, each repeated by the number before it: `3*a` is `aaa`.
 pub fn spelled(row: &str, between: char) -> String {
     let parts = row.split(between).map(|part| match part.split_once('*') {
         Some((count, piece)) => piece.repeat(count.parse().unwrap()),
@@ -26,7 +26,7 @@ pub fn spelled(row: &str, between: char) -> String {
     parts.collect()
 }
 
-/// A text of up to forty bytes; of a longer one its first eight, its last eight, and how many they are.
+/// Shows a text of up to forty bytes, or the first eight and last eight of a longer one, and its length.
 fn brief(text: &str) -> String {
     if text.len() <= 40 {
         return text.to_owned();
@@ -34,7 +34,7 @@ fn brief(text: &str) -> String {
     format!("{}..{} {}", &text[..8], &text[text.len() - 8..], text.len())
 }
 
-/// The number that parts of a text spell.
+/// The number that a text of repeated parts is.
 #[test]
 fn long() {
     check(TABLE, "long", |row| {
@@ -48,13 +48,14 @@ fn long() {
     });
 }
 
-/// A number's digits, suffix, span and text; and moved, as a token.
+/// Shows a number's digits, suffix, span and text, and its token once the span is set.
 fn moved<K: NumberKind>(made: Result<Number<K>, Error>) -> String {
     match made {
         Ok(mut number) => {
             let before = (at(number.span()), number.to_string());
             number.set_span(THERE);
-            let token = told(number.token(Global), |it| format!("{it} {}", at(it.span())));
+            let token =
+                value_or_error(number.token(Global), |it| format!("{it} {}", at(it.span())));
             let (digits, suffix) = (number.base10_digits(), number.suffix());
             format!("{digits} {suffix:?} {} {} {token}", before.0, before.1)
         }
@@ -76,7 +77,7 @@ fn floats() {
     });
 }
 
-/// A token that is made an integer, or is handed back and made a float.
+/// A token as an integer; where it isn't one, the token that comes back, as a float.
 #[test]
 fn kept() {
     check(TABLE, "kept", |text| {
@@ -94,7 +95,7 @@ fn kept() {
     });
 }
 
-/// Whether the text as an integer equals it as a float.
+/// Whether the text as an integer is equal to the text as a float.
 #[test]
 fn across() {
     check(TABLE, "across", |text| {
@@ -104,7 +105,7 @@ fn across() {
     });
 }
 
-/// The number that a type makes of an integer's digits, or where it is rejected.
+/// Shows the number that a type parses from an integer's digits, or the error's span.
 fn parsed<N: FromStr<Err: Display> + Display>(literal: &LitInt) -> String {
     match literal.base10_parse::<N, Global>(Global) {
         Ok(number) => format!(" {number}"),
@@ -116,7 +117,7 @@ fn parsed<N: FromStr<Err: Display> + Display>(literal: &LitInt) -> String {
     }
 }
 
-/// The numbers of every size that the text makes: those of up to 32 bits, and those of more.
+/// The number as each integer type: a line of types up to 32 bits, and a line of the others.
 #[test]
 #[cfg_attr(
     not(target_pointer_width = "64"),
@@ -151,12 +152,12 @@ fn base10_parse() {
     });
 }
 
-/// The byte that the text makes as a float.
+/// The `u8` that a float's digits parse as.
 #[test]
 fn byte_of_a_float() {
     check(TABLE, "float_byte", |text| {
         match LitFloat::new(Global, text, HERE) {
-            Ok(literal) => debug(literal.base10_parse::<u8, Global>(Global)),
+            Ok(literal) => debug_or_error(literal.base10_parse::<u8, Global>(Global)),
             Err(_) => "no float".to_owned(),
         }
     });

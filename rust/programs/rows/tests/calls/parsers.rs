@@ -1,7 +1,7 @@
-//! Parsers and peeks over the trees of a text, and parsers inside strings.
+//! Parsers and peeks on token trees, and parsers on the values of strings.
 
 use crate::rows::{check, check_headings};
-use crate::shown::{at, debug, error, literal_of, told, trees_of, HERE, THERE};
+use crate::shown::{at, debug_or_error, error, literal_of, trees_of, value_or_error, HERE, THERE};
 use navyspindle_programs::rattle_std::alloc::{Allocator, Global};
 use navyspindle_programs::rl_tokens::{
     parse_all, ByParse, Error, Group, Parse, ParseBuffer, Parser, Span, Token,
@@ -17,16 +17,15 @@ fn headings() {
     check_headings(TABLE, include_str!("parsers.rs"));
 }
 
-/// The type's name in messages, whether such a token stands at the front, what its parser answers, and where the buffer
-/// stands then.
-fn check_parser<T: Parse<Global> + Token>(heading: &str) {
-    check(TABLE, heading, |text| {
+/// Checks a type's name in messages, its peek, its parser's answer, and the buffer's position after that.
+fn check_parser<T: Parse<Global> + Token>(table: &str, heading: &str) {
+    check(table, heading, |text| {
         let Some(stream) = trees_of(text, 0) else {
             return "no trees".to_owned();
         };
         let mut input = ParseBuffer::new(stream.trees(), Span::new(0, text.len(), text.len()));
         let peeked = input.peek::<T>();
-        let parsed = told(input.parse::<T>(Global), |_| "ok\n".to_owned());
+        let parsed = value_or_error(input.parse::<T>(Global), |_| "ok\n".to_owned());
         format!(
             "{}, {peeked}: {parsed}next {}",
             T::display(),
@@ -37,19 +36,19 @@ fn check_parser<T: Parse<Global> + Token>(heading: &str) {
 
 #[test]
 fn parsers() {
-    check_parser::<Lit>("Lit");
-    check_parser::<LitStr>("LitStr");
-    check_parser::<LitByteStr>("LitByteStr");
-    check_parser::<LitCStr>("LitCStr");
-    check_parser::<LitByte>("LitByte");
-    check_parser::<LitChar>("LitChar");
-    check_parser::<LitInt>("LitInt");
-    check_parser::<LitFloat>("LitFloat");
-    check_parser::<LitBool>("LitBool");
-    check_parser::<Sign>("Sign");
+    check_parser::<Lit>(TABLE, "Lit");
+    check_parser::<LitStr>(TABLE, "LitStr");
+    check_parser::<LitByteStr>(TABLE, "LitByteStr");
+    check_parser::<LitCStr>(TABLE, "LitCStr");
+    check_parser::<LitByte>(TABLE, "LitByte");
+    check_parser::<LitChar>(TABLE, "LitChar");
+    check_parser::<LitInt>(TABLE, "LitInt");
+    check_parser::<LitFloat>(TABLE, "LitFloat");
+    check_parser::<LitBool>(TABLE, "LitBool");
+    check_parser::<Sign>(TABLE, "Sign");
 }
 
-/// A user's own type: one mark.
+/// A caller's own type: one punctuation character.
 struct Sign {
     ch: char,
 }
@@ -73,7 +72,7 @@ impl Token for Sign {
     }
 }
 
-/// Literals and signs in turn, up to the end or an error.
+/// Parses literals and signs in turn, up to the end or an error.
 fn turns_of(text: &str) -> Result<String, (String, Error)> {
     let stream = trees_of(text, 0).unwrap();
     let (mut input, mut out) = (
@@ -103,11 +102,12 @@ fn turns() {
     });
 }
 
+/// Shows an integer and its span, or the error.
 fn integer(answer: Result<LitInt, Error>) -> String {
-    told(answer, |it| format!("{it} {}\n", at(it.span())))
+    value_or_error(answer, |it| format!("{it} {}\n", at(it.span())))
 }
 
-/// The integer inside a string.
+/// The integer in a string's value.
 #[test]
 fn inside() {
     check(TABLE, "inside", |text| {
@@ -118,7 +118,7 @@ fn inside() {
     });
 }
 
-/// The spans of a group, of the literal in front in it, of the group after that, and of the literal in this.
+/// A caller's own parser: the spans of a group, of the literal and the group in it, and of the literal in the inner group.
 struct SpansOfGroup;
 
 impl<A: Allocator> Parser<A> for SpansOfGroup {
@@ -146,10 +146,10 @@ fn literal_in<A: Allocator>(input: &mut ParseBuffer<'_, A>) -> Result<Span, Erro
 }
 
 fn spans(answer: Result<[Span; 4], Error>) -> String {
-    told(answer, |spans| spans.map(|it| at(it) + " ").concat() + "\n")
+    value_or_error(answer, |spans| spans.map(|it| at(it) + " ").concat() + "\n")
 }
 
-/// By a user's own parser.
+/// A caller's own parser on a string's value.
 #[test]
 fn group() {
     check(TABLE, "group", |text| {
@@ -160,8 +160,8 @@ fn group() {
     });
 }
 
-/// What stands in a string, each token where it comes from in the file: an integer, a group, and the integer again where the string
-/// stands elsewhere.
+/// Parsers on a string's value, whose tokens have the spans of the file: an integer, a group, and the integer once the string's span is
+/// set.
 #[test]
 fn in_file() {
     check(TABLE, "in_file", |text| {
@@ -174,7 +174,7 @@ fn in_file() {
                 string.set_span(THERE);
                 before + &group + &integer_of(&string)
             }
-            Err(it) => debug::<()>(Err(it)),
+            Err(it) => debug_or_error::<()>(Err(it)),
         }
     });
 }

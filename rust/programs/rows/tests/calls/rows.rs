@@ -1,63 +1,98 @@
-//! Tables of rows. Below a heading, `# NAME`, each row has the lines of what is given, after `<`, and of what is expected, after
-//! `>`. `⟨41⟩` stands for the character of this number, `⟨xFF⟩` for a byte; white space at an expected line's end isn't compared.
+//! Tables of rows, and how they are checked.
+//!
+//! A heading, `# NAME`, begins the rows of one test. A row is a block of lines: those of the given text, after `<`, then those of the
+//! expected answer, after `>`. Empty lines separate headings and rows. `⟨41⟩` is the character of this hexadecimal number, `⟨xFF⟩` is a
+//! byte. White space at the end of an expected line isn't compared.
 
-/// A row of a table: what is given, and what is expected.
+use std::fs;
+use std::path::Path;
+
+/// A given text, and the expected answer.
 struct Row {
     given: Vec<u8>,
     expected: String,
 }
 
-/// The bytes of a table's lines.
+/// The blocks of a table: headings, of one line each, and rows.
+fn blocks(table: &str) -> Vec<Vec<&str>> {
+    let lines: Vec<&str> = table.split('\n').collect();
+    let blocks = lines.split(|line| line.is_empty());
+    blocks
+        .filter(|block| !block.is_empty())
+        .map(<[&str]>::to_vec)
+        .collect()
+}
+
+/// Returns the heading that a block is, or nothing where it is a row.
+fn heading_of<'a>(block: &[&'a str]) -> Option<&'a str> {
+    match block {
+        [line] => line.strip_prefix("# "),
+        _ => None,
+    }
+}
+
+/// Reads a row. Panics where the block has other lines, or nothing given, or nothing expected.
+fn row_of(block: &[&str]) -> Row {
+    let count = block
+        .iter()
+        .take_while(|line| line.starts_with('<'))
+        .count();
+    let (given, expected) = block.split_at(count);
+    let is_row = !given.is_empty()
+        && !expected.is_empty()
+        && expected.iter().all(|line| line.starts_with('>'));
+    assert!(is_row, "no row: {block:?}");
+    Row {
+        given: unescaped(given),
+        expected: String::from_utf8(unescaped(expected)).expect("the expected answer is text"),
+    }
+}
+
+/// The bytes that lines hold after their mark, with an LF between two lines.
 fn unescaped(lines: &[&str]) -> Vec<u8> {
+    let lines = lines.iter().map(|line| &line[1..]);
+    let lines: Vec<&str> = lines
+        .map(|line| line.strip_prefix(' ').unwrap_or(line))
+        .collect();
     let text = lines.join("\n");
     let mut parts = text.split('⟨');
     let mut bytes = parts.next().unwrap_or_default().as_bytes().to_vec();
     for part in parts {
         let (number, rest) = part.split_once('⟩').expect("`⟩` after `⟨`");
-        match number.strip_prefix('x') {
-            Some(byte) => bytes.push(u8::from_str_radix(byte, 16).expect("a byte")),
-            None => {
-                let number = u32::from_str_radix(number, 16).expect("a number");
-                let c = char::from_u32(number).expect("a character");
-                bytes.extend(c.to_string().bytes());
-            }
-        }
+        bytes.extend(escaped(number));
         bytes.extend(rest.bytes());
     }
     bytes
 }
 
-/// The rows below a heading.
-fn below(table: &str, heading: &str) -> Vec<Row> {
-    let heading = format!("# {heading}");
-    let lines = table.lines().skip_while(|line| *line != heading).skip(1);
-    let lines: Vec<_> = lines.take_while(|line| !line.starts_with('#')).collect();
-    let rows = lines
-        .split(|line| line.is_empty())
-        .filter(|row| !row.is_empty());
-    rows.map(|row| {
-        let after = |mark: &str| -> Vec<&str> {
-            let lines = row.iter().filter_map(|line| line.strip_prefix(mark));
-            lines
-                .map(|line| line.strip_prefix(' ').unwrap_or(line))
-                .collect()
-        };
-        let expected = unescaped(&after(">"));
-        Row {
-            given: unescaped(&after("<")),
-            expected: String::from_utf8(expected).expect("a text is expected"),
-        }
-    })
-    .collect()
+/// The bytes of a character or a byte that a number names.
+fn escaped(number: &str) -> Vec<u8> {
+    if let Some(byte) = number.strip_prefix('x') {
+        return vec![u8::from_str_radix(byte, 16).expect("the number of a byte")];
+    }
+    let number = u32::from_str_radix(number, 16).expect("a hexadecimal number");
+    let character = char::from_u32(number).expect("the number of a character");
+    character.to_string().into_bytes()
 }
 
-/// The lines, without white space at their ends.
+/// The rows below a heading.
+fn below(table: &str, heading: &str) -> Vec<Row> {
+    let blocks = blocks(table);
+    let after = blocks
+        .iter()
+        .skip_while(|block| heading_of(block) != Some(heading))
+        .skip(1);
+    let rows = after.take_while(|block| heading_of(block).is_none());
+    rows.map(|block| row_of(block)).collect()
+}
+
+/// The lines of a text, without white space at their ends.
 fn trimmed(text: &str) -> Vec<&str> {
     let text = text.strip_suffix('\n').unwrap_or(text);
     text.split('\n').map(str::trim_end).collect()
 }
 
-/// Each row below the heading is answered as is expected. All that aren't are shown.
+/// Checks the answer to each row below a heading, where the given bytes needn't be UTF-8. Shows all rows that fail.
 pub fn check_bytes(table: &str, heading: &str, answer: impl Fn(&[u8]) -> String) {
     let rows = below(table, heading);
     assert!(!rows.is_empty(), "no rows below {heading}");
@@ -72,19 +107,88 @@ pub fn check_bytes(table: &str, heading: &str, answer: impl Fn(&[u8]) -> String)
     assert!(wrong.is_empty(), "{heading}:\n{wrong}");
 }
 
-/// The same of texts.
+/// Checks the answer to each row below a heading.
 pub fn check(table: &str, heading: &str, answer: impl Fn(&str) -> String) {
     check_bytes(table, heading, |bytes| {
-        answer(std::str::from_utf8(bytes).expect("a text is given"))
+        answer(std::str::from_utf8(bytes).expect("the given text is UTF-8"))
     });
 }
 
-/// Each heading of a table is checked by a test of the file.
+/// Checks that a table is headings and rows, that no heading occurs twice, and that for each one a test calls `check` or its like with
+/// `TABLE` and the heading. `tests` is the text of the file of tests.
 pub fn check_headings(table: &str, tests: &str) {
-    for heading in table.lines().filter_map(|line| line.strip_prefix("# ")) {
+    let mut headings = Vec::new();
+    for block in blocks(table) {
+        match heading_of(&block) {
+            Some(heading) => headings.push(heading),
+            None => drop(row_of(&block)),
+        }
+    }
+    for (at, heading) in headings.iter().enumerate() {
+        let is_first = !headings[..at].contains(heading);
+        assert!(is_first, "the heading {heading} occurs twice");
+        let call = format!("(TABLE, \"{heading}\"");
+        assert!(tests.contains(&call), "no test of {heading}");
+    }
+}
+
+#[test]
+fn each_table_has_a_file_of_tests() {
+    let folder = Path::new(env!("CARGO_MANIFEST_DIR")).join("tests/calls");
+    let paths = fs::read_dir(&folder).unwrap();
+    let paths = paths.map(|entry| entry.unwrap().path());
+    for table in paths.filter(|path| path.extension().is_some_and(|it| it == "rows")) {
+        let name = table.file_stem().unwrap().to_str().unwrap();
+        let is_module = include_str!("main.rs").contains(&format!("\nmod {name};\n"));
+        let tests = fs::read_to_string(table.with_extension("rs")).unwrap_or_default();
+        let call = format!("check_headings(TABLE, include_str!(\"{name}.rs\"))");
         assert!(
-            tests.contains(&format!("\"{heading}\"")),
-            "no test of {heading}"
+            is_module && tests.contains(&call),
+            "no tests of {name}.rows"
         );
     }
+}
+
+const SMALL: &str = "# upper\n\n< a⟨62⟩\n< c\n> AB\n> C\n\n< ⟨xC3⟩⟨xA9⟩\n> É\n";
+
+#[test]
+fn right_answers_pass() {
+    check(SMALL, "upper", |text| text.to_uppercase() + " \n");
+    check_headings(SMALL, "check(TABLE, \"upper\", str::to_uppercase)");
+}
+
+#[test]
+#[should_panic = "given    ab\nc\nexpected AB\nC\nfound    ab\nc\n"]
+fn a_wrong_answer_fails() {
+    check(SMALL, "upper", str::to_owned);
+}
+
+#[test]
+#[should_panic = "no rows below lower"]
+fn a_test_without_a_heading_fails() {
+    check(SMALL, "lower", str::to_lowercase);
+}
+
+#[test]
+#[should_panic = "no test of upper"]
+fn a_heading_without_a_test_fails() {
+    check_headings(SMALL, "check(TABLE, \"lower\", str::to_lowercase)");
+}
+
+#[test]
+#[should_panic = "the heading upper occurs twice"]
+fn a_heading_that_occurs_twice_fails() {
+    check_headings(&format!("{SMALL}\n{SMALL}"), "(TABLE, \"upper\"");
+}
+
+#[test]
+#[should_panic = "no row"]
+fn a_line_that_is_neither_given_nor_expected_fails() {
+    check_headings(&SMALL.replace("> AB", "AB"), "(TABLE, \"upper\"");
+}
+
+#[test]
+#[should_panic = "no row"]
+fn a_row_that_expects_nothing_fails() {
+    check_headings(&SMALL.replace("\n> AB\n> C", ""), "(TABLE, \"upper\"");
 }

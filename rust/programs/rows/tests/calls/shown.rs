@@ -1,4 +1,4 @@
-//! How values, spans and errors are shown in rows.
+//! How rows show values, spans and errors.
 
 use navyspindle_programs::rattle_std::alloc::Global;
 use navyspindle_programs::rl_commands::line_of;
@@ -6,87 +6,87 @@ use navyspindle_programs::rl_tokens::{lex, Error, Literal, Span, TokenStream, To
 use navyspindle_programs::rust_literals::Lit;
 use std::fmt::Debug;
 
-/// A span that no call makes by itself.
+/// A span that callers pass, and that no call makes by itself.
 pub const HERE: Span = Span {
     file: 7,
     lo: 3,
     hi: 9,
 };
 
-/// Another one.
+/// Another span that no call makes by itself.
 pub const THERE: Span = Span {
     file: 3,
     lo: 1,
     hi: 2,
 };
 
-/// A span's file and bytes.
+/// Shows a span's file and byte range.
 pub fn at(span: Span) -> String {
-    format!("{}:{}", span.file, place(span))
+    format!("{}:{}", span.file, range(span))
 }
 
-/// A span's bytes.
-pub fn place(span: Span) -> String {
+/// Shows a span's byte range.
+pub fn range(span: Span) -> String {
     format!("{}..{}", span.lo, span.hi)
 }
 
-/// An error's span, kind and message.
+/// Shows an error's span, kind and message.
 pub fn error(error: &Error) -> String {
     format!("{} {:?}: {error}\n", at(error.span), error.kind)
 }
 
-/// What a value is shown as, or the error.
-pub fn told<T>(answer: Result<T, Error>, shown: impl FnOnce(&T) -> String) -> String {
+/// Shows a value by `shown`, or the error.
+pub fn value_or_error<T>(answer: Result<T, Error>, shown: impl FnOnce(&T) -> String) -> String {
     match answer {
         Ok(value) => shown(&value),
         Err(it) => error(&it),
     }
 }
 
-/// The value as it is shown to programmers, or the error.
-pub fn debug<T: Debug>(answer: Result<T, Error>) -> String {
-    told(answer, |value| format!("{value:?}\n"))
+/// Shows a value by its `Debug`, or the error.
+pub fn debug_or_error<T: Debug>(answer: Result<T, Error>) -> String {
+    value_or_error(answer, |value| format!("{value:?}\n"))
 }
 
-/// The line of a literal.
+/// Shows a literal's line, as `rl_tool` prints it.
 pub fn line(literal: &Lit) -> String {
     line_of(Global, literal).unwrap().as_str().to_owned()
 }
 
-/// A literal as it is shown to programmers, and its span.
+/// Shows a literal's `Debug` and span.
 pub fn spanned(literal: &Lit) -> String {
     format!("{literal:?} {}", at(literal.span()))
 }
 
-/// A literal as it is shown to programmers, its span and its line.
+/// Shows a literal's `Debug`, span and line.
 pub fn whole(literal: &Lit) -> String {
     format!("{} {}", spanned(literal), line(literal))
 }
 
-/// What a call makes, as a literal of any kind.
-pub fn made<T: Into<Lit>>(answer: Result<T, Error>) -> String {
+/// Shows a value as a `Lit`, or the error.
+pub fn literal_or_error<T: Into<Lit>>(answer: Result<T, Error>) -> String {
     match answer {
         Ok(value) => whole(&value.into()),
         Err(it) => error(&it),
     }
 }
 
-/// A token, and its span.
-pub fn token(answer: Result<Literal, Error>) -> String {
-    told(answer, |token| format!("{token} {}\n", at(token.span())))
+/// Shows a token and its span, or the error.
+pub fn token_or_error(answer: Result<Literal, Error>) -> String {
+    value_or_error(answer, |token| format!("{token} {}\n", at(token.span())))
 }
 
-/// The literal that the text reads as.
+/// Reads the text as a literal.
 pub fn literal_of(text: &str, span: Span) -> Result<Lit, Error> {
     Ok(Lit::new(Global, Literal::from_text(Global, text, span)?)?)
 }
 
-/// The trees of the text, where it has some.
+/// Returns the token trees of a text, or nothing where the lexer rejects it.
 pub fn trees_of(text: &str, file: u32) -> Option<TokenStream> {
     lex(Global, text, file).ok()
 }
 
-/// A tree's form, and its text.
+/// Shows a token tree's form and text.
 pub fn form(tree: &TokenTree) -> String {
     match tree {
         TokenTree::Group(group) => format!("{:?}", group.delimiter()),
@@ -96,7 +96,7 @@ pub fn form(tree: &TokenTree) -> String {
     }
 }
 
-/// Trees, each with its span.
+/// Shows token trees, each with its span.
 pub fn trees(trees: &[TokenTree]) -> String {
     let trees = trees
         .iter()

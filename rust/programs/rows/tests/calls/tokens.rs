@@ -1,8 +1,9 @@
-//! Spans, words, tokens, trees, and what writers make of texts.
+//! Spans, identifiers, tokens, token trees, and written literals.
 
 use crate::rows::{check, check_bytes, check_headings};
 use crate::shown::{
-    at, debug, error, form, made, place, spanned, token, told, trees, trees_of, HERE, THERE,
+    at, debug_or_error, error, form, literal_or_error, range, spanned, token_or_error, trees,
+    trees_of, value_or_error, HERE, THERE,
 };
 use navyspindle_programs::rattle_std::alloc::Global;
 use navyspindle_programs::rattle_std::vec::Vec as Bytes;
@@ -22,11 +23,11 @@ fn headings() {
     check_headings(TABLE, include_str!("tokens.rs"));
 }
 
-/// Each tree with its bytes; after a group the trees inside, between angle brackets.
+/// Shows each token tree with its byte range; after a group, the trees in it in angle brackets.
 fn nested(trees: &[TokenTree]) -> String {
     let mut out = String::new();
     for tree in trees {
-        out += &format!("{} {} ", form(tree), place(tree.span()));
+        out += &format!("{} {} ", form(tree), range(tree.span()));
         if let TokenTree::Group(group) = tree {
             out += &format!("< {}> ", nested(group.stream().trees()));
         }
@@ -34,7 +35,7 @@ fn nested(trees: &[TokenTree]) -> String {
     out
 }
 
-/// The trees of a text, or the error and its byte.
+/// The token trees of a text, or the error and its position.
 #[test]
 fn trees_of_texts() {
     check(TABLE, "lex", |text| match lex(Global, text, 7) {
@@ -43,7 +44,7 @@ fn trees_of_texts() {
     });
 }
 
-/// The tokens of a text with their bytes, why they stopped, and what is left of it.
+/// The tokens of a text with their byte ranges, the error that ends them, and the rest of the text.
 #[test]
 fn borrowed_tokens() {
     check(TABLE, "borrowed", |text| {
@@ -59,6 +60,7 @@ fn borrowed_tokens() {
     });
 }
 
+/// Makes a stream of token trees.
 fn stream_of(trees: impl IntoIterator<Item = TokenTree>) -> TokenStream {
     let mut stream = TokenStream::new(Global);
     for tree in trees {
@@ -67,7 +69,7 @@ fn stream_of(trees: impl IntoIterator<Item = TokenTree>) -> TokenStream {
     stream
 }
 
-/// A group of a literal, set to another span.
+/// A group that holds a literal, before and after the spans are set.
 #[test]
 fn built() {
     check(TABLE, "built", |_| {
@@ -98,14 +100,14 @@ fn spans() {
     });
 }
 
-/// An identifier that is made of the text and moved, where it is a word.
+/// An identifier, and its span once it is set.
 #[test]
 fn words() {
     check(TABLE, "word", |text| {
         if !xid_ok(text) {
             return "no word".to_owned();
         }
-        told(Ident::new(Global, text, HERE), |ident| {
+        value_or_error(Ident::new(Global, text, HERE), |ident| {
             let mut moved = Ident::new(Global, text, ident.span()).unwrap();
             moved.set_span(THERE);
             format!(
@@ -118,7 +120,7 @@ fn words() {
     });
 }
 
-/// A token that is made of the text and moved.
+/// A token of the text, and its span once it is set.
 #[test]
 fn tokens_of_texts() {
     check(TABLE, "token", |text| {
@@ -132,32 +134,33 @@ fn tokens_of_texts() {
 #[test]
 fn string() {
     check(TABLE, "string", |text| {
-        token(Literal::string(Global, text)) + &made(LitStr::new(Global, text, HERE))
+        token_or_error(Literal::string(Global, text))
+            + &literal_or_error(LitStr::new(Global, text, HERE))
     });
 }
 
-/// The bytes as a token; and as a literal, its value before it.
+/// The bytes as a token, and as a literal after its value.
 #[test]
 fn byte_string() {
     check_bytes(TABLE, "byte_string", |bytes| {
-        let literal = told(LitByteStr::new(Global, bytes, HERE), |literal| {
-            debug(literal.value(Global)).replace('\n', " ")
+        let literal = value_or_error(LitByteStr::new(Global, bytes, HERE), |literal| {
+            debug_or_error(literal.value(Global)).replace('\n', " ")
         });
-        let made = made(LitByteStr::new(Global, bytes, HERE));
-        token(Literal::byte_string(Global, bytes)) + &literal + &made
+        let made = literal_or_error(LitByteStr::new(Global, bytes, HERE));
+        token_or_error(Literal::byte_string(Global, bytes)) + &literal + &made
     });
 }
 
-/// The bytes as a C string, as a token, and as a literal, whether its value is these before it; or where the zero stands.
+/// The bytes as a C string, as a token, and as a literal after whether its value is the C string; or the position of the zero byte.
 #[test]
 fn c_string() {
     check_bytes(TABLE, "c_string", |bytes| {
         match CString::new(Bytes::from_slice(Global, bytes).unwrap()) {
             Ok(held) => {
                 let value = LitCStr::new(Global, &held, HERE).and_then(|it| it.value(Global));
-                let same = told(value, |value| format!("{} ", *value == held));
-                let made = made(LitCStr::new(Global, &held, HERE));
-                let token = token(Literal::c_string(Global, &held));
+                let same = value_or_error(value, |value| format!("{} ", *value == held));
+                let made = literal_or_error(LitCStr::new(Global, &held, HERE));
+                let token = token_or_error(Literal::c_string(Global, &held));
                 format!("{:?} {token}{same}{made}", held.as_bytes())
             }
             Err(rejected) => {
@@ -173,10 +176,10 @@ fn c_string() {
 fn bytes() {
     check_bytes(TABLE, "bytes", |bytes| {
         let each = bytes.iter().map(|byte| {
-            let literal = told(LitByte::new(Global, *byte, HERE), |it| {
+            let literal = value_or_error(LitByte::new(Global, *byte, HERE), |it| {
                 format!("{}{} {} ", it.value(), it.suffix(), at(it.span()))
             });
-            literal + &token(Literal::byte_character(Global, *byte))
+            literal + &token_or_error(Literal::byte_character(Global, *byte))
         });
         each.collect()
     });
@@ -186,14 +189,15 @@ fn bytes() {
 #[test]
 fn characters() {
     check(TABLE, "characters", |text| {
-        let each = text
-            .chars()
-            .map(|c| token(Literal::character(Global, c)) + &made(LitChar::new(Global, c, HERE)));
+        let each = text.chars().map(|c| {
+            token_or_error(Literal::character(Global, c))
+                + &literal_or_error(LitChar::new(Global, c, HERE))
+        });
         each.collect()
     });
 }
 
-/// Truth values: made, moved, and as tokens.
+/// Both `bool` literals: value, span, token, and its span once it is set.
 #[test]
 fn truth() {
     check(TABLE, "truth", |_| {
@@ -201,7 +205,7 @@ fn truth() {
             let mut literal = LitBool::new(value, HERE);
             let before = format!("{} {} ", literal.value(), at(literal.span()));
             literal.set_span(THERE);
-            let moved = told(literal.token(Global), |it| {
+            let moved = value_or_error(literal.token(Global), |it| {
                 format!("{} {}\n", it.text(), at(it.span()))
             });
             before + &moved
@@ -210,7 +214,7 @@ fn truth() {
     });
 }
 
-/// Which of the four takers take what stands next, each on a fork, and what the one that does takes.
+/// Shows which of the four takers accept the next token tree, each on a fork, and takes it.
 fn taken(input: &mut ParseBuffer<'_>) -> String {
     let takes = [
         ("ident", input.fork().ident().is_some()),
@@ -242,7 +246,7 @@ fn taken(input: &mut ParseBuffer<'_>) -> String {
     front + &taken + "\n"
 }
 
-/// Tree by tree, to the end and once more.
+/// All token trees, and one step past the end.
 #[test]
 fn takers() {
     check(TABLE, "takers", |text| {
@@ -253,7 +257,7 @@ fn takers() {
     });
 }
 
-/// A minus and a number of two files, as one literal.
+/// A minus and a number from two files, as one literal.
 #[test]
 fn two_files() {
     check(TABLE, "two_files", |_| {
@@ -261,11 +265,11 @@ fn two_files() {
         let minus = Punct::new('-', Span::new(0, 3, 4));
         let stream = stream_of([TokenTree::Punct(minus), TokenTree::Literal(number)]);
         let mut input = ParseBuffer::new(stream.trees(), Span::call_site());
-        trees(stream.trees()) + &told(input.parse::<Lit>(Global), spanned)
+        trees(stream.trees()) + &value_or_error(input.parse::<Lit>(Global), spanned)
     });
 }
 
-/// Whether `=` stands at the front, or at the front of the group there; what taking it answers; where the buffer stands then.
+/// Whether `=` is next, or is first in the group that is next; the answer of `take_punct`; and the buffer's position after that.
 #[test]
 fn mark() {
     check(TABLE, "mark", |text| {

@@ -1,7 +1,7 @@
-//! What the small callers of `rl_uses` make of a text, and its examples.
+//! The small callers in `rl_uses`, and its examples.
 
 use crate::rows::{check, check_headings};
-use crate::shown::{self, at, debug, told};
+use crate::shown::{self, at, debug_or_error, value_or_error};
 use navyspindle_programs::rattle_std::alloc::Global;
 use navyspindle_programs::rl_tokens::{parse_all, ParseBuffer, Span};
 use navyspindle_programs::rust_literals::read_all;
@@ -32,7 +32,7 @@ use std::fmt::Debug;
 
 const TABLE: &str = include_str!("uses.rows");
 
-/// The file that spans name.
+/// The file of the spans.
 const FILE: u32 = 7;
 
 #[test]
@@ -40,7 +40,7 @@ fn headings() {
     check_headings(TABLE, include_str!("uses.rs"));
 }
 
-/// An attribute's name and value, each after its bytes.
+/// Shows an attribute's name and value, each after its span.
 fn attribute_of(it: &Attribute) -> String {
     let (name, value) = (it.name.text(), it.value.value(Global).unwrap());
     format!(
@@ -54,18 +54,18 @@ fn attribute_of(it: &Attribute) -> String {
 #[test]
 fn attribute() {
     check(TABLE, "attribute", |text| {
-        told(read_attribute(Global, text, FILE), attribute_of)
+        value_or_error(read_attribute(Global, text, FILE), attribute_of)
     });
 }
 
-/// Two attributes, one after the other, and where the buffer stands after each.
+/// Two attributes that are parsed one after the other, and the buffer's position after each.
 #[test]
 fn attributes() {
     check(TABLE, "attributes", |text| {
         let stream = shown::trees_of(text, FILE).unwrap();
         let mut input = ParseBuffer::new(stream.trees(), Span::call_site());
         let mut next = || {
-            let parsed = told(input.parse::<Attribute>(Global), attribute_of);
+            let parsed = value_or_error(input.parse::<Attribute>(Global), attribute_of);
             format!("{parsed}next {}\n", at(input.span()))
         };
         next() + &next()
@@ -76,7 +76,7 @@ fn attributes() {
 #[test]
 fn list() {
     check(TABLE, "list", |text| {
-        told(parse_all::<ItemList, Global>(Global, text, FILE), |list| {
+        value_or_error(parse_all::<ItemList, Global>(Global, text, FILE), |list| {
             let items = list.items.iter().map(|item| match item {
                 Item::Int(literal) => format!("int {};", at(literal.span())),
                 Item::Str(literal) => format!("str {};", at(literal.span())),
@@ -86,14 +86,14 @@ fn list() {
     });
 }
 
-/// Why a list and why an item are rejected, and where the buffer stands then.
+/// The errors of a list and of an item, and the buffer's position after these.
 #[test]
 fn rejected_list() {
     check(TABLE, "rejected_list", |text| {
         let stream = shown::trees_of(text, FILE).unwrap();
         let mut input = ParseBuffer::new(stream.trees(), Span::call_site());
-        let list = told(input.parse::<ItemList>(Global), |_| "ok\n".to_owned());
-        let item = told(input.parse::<Item>(Global), |_| "ok\n".to_owned());
+        let list = value_or_error(input.parse::<ItemList>(Global), |_| "ok\n".to_owned());
+        let item = value_or_error(input.parse::<Item>(Global), |_| "ok\n".to_owned());
         format!("{list}{item}next {}", at(input.span()))
     });
 }
@@ -102,17 +102,17 @@ fn rejected_list() {
 #[test]
 fn lint() {
     check(TABLE, "lint", |text| {
-        told(control_strings(Global, text, FILE), |spans| {
+        value_or_error(control_strings(Global, text, FILE), |spans| {
             spans.iter().map(|it| at(*it) + " ").collect::<String>() + "\n"
         })
     });
 }
 
-/// How many reasons there are, and each after its place.
+/// The number of bad literals, and each one's error after its span.
 #[test]
 fn reasons() {
     check(TABLE, "reasons", |text| {
-        told(bad_literals(Global, text, FILE), |reasons| {
+        value_or_error(bad_literals(Global, text, FILE), |reasons| {
             let each = reasons
                 .iter()
                 .map(|it| format!("{} {}\n", at(it.span), it.kind));
@@ -124,13 +124,13 @@ fn reasons() {
 #[test]
 fn format_literals() {
     check(TABLE, "format", |text| {
-        told(formatted(Global, text, FILE), |lines| {
+        value_or_error(formatted(Global, text, FILE), |lines| {
             lines.as_str().to_owned()
         })
     });
 }
 
-/// Of each literal of a text, the first that equals it, and how often it stands there; and how many there are.
+/// For each literal, the first one that is equal, and the number of those; and the number of distinct literals.
 #[test]
 fn counts() {
     check(TABLE, "counts", |text| {
@@ -144,16 +144,16 @@ fn counts() {
     });
 }
 
-/// A number of 16 bits, and one of 64 bits with a sign.
+/// A `u16`, and an `i64`.
 #[test]
 fn numbers() {
     check(TABLE, "settings", |text| {
-        debug(read_number::<u16, Global>(Global, text, FILE))
-            + &debug(read_number::<i64, Global>(Global, text, FILE))
+        debug_or_error(read_number::<u16, Global>(Global, text, FILE))
+            + &debug_or_error(read_number::<i64, Global>(Global, text, FILE))
     });
 }
 
-/// The port, whether more is reported, and the name.
+/// The port, `verbose`, and the name.
 #[test]
 fn config() {
     check(TABLE, "config", |text| {
@@ -164,7 +164,7 @@ fn config() {
     });
 }
 
-/// What in the text gives the first backslash of a path that is set.
+/// The span of the first backslash of a path's value.
 #[test]
 fn path() {
     check(TABLE, "path", |text| {
@@ -175,7 +175,7 @@ fn path() {
     });
 }
 
-/// A call as it is written, and what it returns.
+/// Shows a call as written, and its answer.
 fn example<T: Debug>(call: &str, value: T) -> String {
     format!("{} == {value:?}\n", call.replace("Global", "alloc"))
 }

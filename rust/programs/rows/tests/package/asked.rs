@@ -1,4 +1,4 @@
-//! Settings: the entries of a text, and what is asked for by name.
+//! Settings: the entries of a text, and settings by name and type.
 
 use crate::flaws::proved_flaw_in_file;
 use crate::lists::{range_at, words_of};
@@ -7,12 +7,12 @@ use navyspindle::{settings, Key, Lit, Number, SettingError, Settings};
 use navyspindle_programs::rattle_std::alloc::Global;
 use navyspindle_programs::rl_attributes::{self, Attrs};
 use navyspindle_programs::rl_tokens::{parse_all, Error, ErrorKind};
-use std::fmt::Display;
+use std::fmt::{Display, Write};
 use std::ops::Range;
 
 const EXPECTED: &str = "as it is expected";
 
-/// Names that are asked for; some begin as others do, or differ in their case.
+/// Requested names. Some are prefixes of others, or differ only in case.
 pub const NAMES: [&str; 16] = [
     "a",
     "b",
@@ -32,7 +32,24 @@ pub const NAMES: [&str; 16] = [
     "maximum_size_of_b",
 ];
 
-/// What is asked for, or the words and the place of why it isn't given.
+/// Shows the package's reading of settings as `navyspindle_rows::settings` does.
+pub fn reading(text: &str) -> String {
+    match settings(text) {
+        Ok(entries) => entries.iter().fold(String::new(), |mut out, it| {
+            let (name, value) = (&it.name_range, &it.value_range);
+            let _ = writeln!(out, "{} {name:?} {} {value:?}", it.name, it.value.text());
+            out
+        }),
+        Err(error) => {
+            let range = error.range();
+            let words = error.to_string();
+            let words = words.trim_end_matches(&format!(" at byte {}", range.start));
+            format!("{words} at {range:?}\n")
+        }
+    }
+}
+
+/// A requested value, or the error's message and range.
 type Told = Result<Option<String>, (String, Range<usize>)>;
 
 fn told<T: Display>(answer: Result<Option<T>, SettingError>) -> Told {
@@ -59,7 +76,7 @@ fn proved_told<T: Display>(answer: Result<Option<T>, rl_attributes::SettingError
     }
 }
 
-/// Why the package's reader rejects a value before it is looked at: Rust does.
+/// Returns the error of a value that Rust rejects. The package reports it first.
 fn rejection_of(value: &Proved, setting: Key) -> Option<(String, Range<usize>)> {
     let text = value.text();
     let flaw = proved_flaw_in_file(text)?;
@@ -67,7 +84,7 @@ fn rejection_of(value: &Proved, setting: Key) -> Option<(String, Range<usize>)> 
     Some((words, range_in(value, flaw.lo..flaw.hi)))
 }
 
-/// Where bytes of the value stand: all of it where something stands after its minus, which is none of the text.
+/// Returns the range of some bytes of a value, or of all of it where white space or comments follow its minus.
 fn range_in(value: &Proved, bytes: Range<usize>) -> Range<usize> {
     let span = value.span();
     if span.hi - span.lo == value.text().len() {
@@ -77,7 +94,7 @@ fn range_in(value: &Proved, bytes: Range<usize>) -> Range<usize> {
     }
 }
 
-/// A string's value, or that it has a suffix.
+/// Returns a string's value, or an error where it has a suffix.
 fn string_told(value: &Proved, setting: Key, answer: Told) -> Told {
     let suffix = value.suffix().len();
     if !matches!(value, Proved::Str(_)) || suffix == 0 {
@@ -88,8 +105,8 @@ fn string_told(value: &Proved, setting: Key, answer: Told) -> Told {
     Err((words, range_in(value, end - suffix..end)))
 }
 
-/// A number as the package's own literal of the value's text has it, which is what the proved reader makes of its digits, where its
-/// suffix is none and the number no infinity.
+/// Returns the number that the package reads from the value's text. It is the proved reader's number, unless the value has a suffix or
+/// the number is infinite.
 fn number_told<N: Number + Display>(value: &Proved, setting: Key, answer: Told) -> Told {
     let number = match Lit::new(value.text()) {
         Lit::Int(literal) => literal.value::<N>(),
@@ -139,7 +156,7 @@ fn check_name(text: &str, ours: &Settings, proved: &Attrs, name: &'static str) {
     assert_eq!(told::<u8>(Err(ours.missing(a))), missing, "{text:?} {name}");
 }
 
-/// That names are known: the first that isn't is an error.
+/// Checks that the first unknown name is an error.
 fn check_known(text: &str, ours: &Settings, proved: &Attrs, known: &[&'static str]) {
     let expected = EXPECTED;
     let settings: Vec<_> = known.iter().map(|&name| Key::new(name, expected)).collect();
@@ -168,7 +185,7 @@ fn check_asked(text: &str, proved: &Attrs) {
     }
 }
 
-/// What the package says of an error of the proved reader: its kind, the name that it names, and its range.
+/// Returns the package's message, name and range for an error of the proved reader.
 fn said_of(text: &str, error: &Error) -> (String, String, Range<usize>) {
     let span = error.span;
     match &error.kind {
@@ -188,7 +205,7 @@ fn said_of(text: &str, error: &Error) -> (String, String, Range<usize>) {
     }
 }
 
-/// The entries, or the error, in words.
+/// Shows the entries, or the error.
 fn shown(read: &Result<Attrs, Error>) -> Vec<String> {
     match read {
         Ok(attrs) => attrs
@@ -208,7 +225,8 @@ fn shown(read: &Result<Attrs, Error>) -> Vec<String> {
     }
 }
 
-/// Returns how many entries the text has, if it has settings. The proved reader goes over tokens, and the proved parser over trees.
+/// Checks the reading of settings, and returns the number of entries, or `None` for an error. The proved reader works on tokens, and the
+/// proved parser on token trees.
 pub fn check_settings(text: &str) -> Option<usize> {
     let proved = rl_attributes::read(Global, text, 0);
     assert_eq!(

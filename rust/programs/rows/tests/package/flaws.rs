@@ -1,4 +1,4 @@
-//! What Rust takes of texts, and why it doesn't take others, and where.
+//! The texts that Rust accepts, and the errors of others.
 
 use crate::literals::{check_closely as check_literal_closely, check_same, Proved};
 use navyspindle::{
@@ -10,12 +10,12 @@ use navyspindle_programs::rl_grammar::{
     is_float_by_suffix, strict, Flaw,
 };
 
-/// Why Rust doesn't take the text: it is no token after an optional minus, or an integer past 128 bits.
+/// Returns the error of a text that isn't a literal token after an optional minus, or is an integer above 128 bits.
 fn proved_flaw(text: &str) -> Option<Flaw> {
     explain_signed(text).or_else(|| explain_limit(text))
 }
 
-/// The flaw, as one of these says, of the text without the CR of each CR LF, at its places in the text.
+/// Returns the flaw that `of` finds in the text without the CR of each CR LF, at its positions in the text.
 fn flaw_by_hand(text: &str, of: impl Fn(&str) -> Option<Flaw>) -> Option<Flaw> {
     // Where the text without the CR of each CR LF has a byte, this one has it there: at an LF, where its CR stands.
     let (mut read, mut places) = (String::new(), Vec::new());
@@ -36,7 +36,7 @@ fn flaw_by_hand(text: &str, of: impl Fn(&str) -> Option<Flaw>) -> Option<Flaw> {
     })
 }
 
-/// Why Rust doesn't take the text where it stands in a file.
+/// Returns the error of a text in a file.
 pub fn proved_flaw_in_file(text: &str) -> Option<Flaw> {
     flaw_by_hand(text, proved_flaw)
 }
@@ -51,7 +51,7 @@ fn check_flaw(text: &str, error: ParseError, flaw: Flaw) {
     assert_eq!(error.to_string(), line, "{text:?}");
 }
 
-/// Why a text has no value in Rust.
+/// Checks the error of a text that has no value in Rust.
 pub fn check_verbatim(ours: &Lit, proved: &Proved) {
     let Lit::Verbatim(literal) = ours else {
         panic!()
@@ -63,7 +63,7 @@ pub fn check_verbatim(ours: &Lit, proved: &Proved) {
     }
 }
 
-/// What `Lit::parse` takes, and why it doesn't take others.
+/// Checks whether `Lit::parse` accepts a text, and its error.
 pub fn check_parse(text: &str, proved: &Proved) {
     match (Lit::parse(text), proved_flaw(text)) {
         (Ok(ours), None) => check_same(&ours, proved),
@@ -72,7 +72,7 @@ pub fn check_parse(text: &str, proved: &Proved) {
     }
 }
 
-/// The same in all ways of reading a text.
+/// Checks all functions that parse a text.
 pub fn check_closely(text: &str, proved: &Proved) {
     let read = [
         Lit::parse(text),
@@ -90,7 +90,7 @@ pub fn check_closely(text: &str, proved: &Proved) {
     check_kinds(text, proved);
 }
 
-/// A literal of one kind is taken where the text is of that kind, and else both kinds are said.
+/// Checks the parsers of one kind: each accepts only literals of its kind, and an error names both kinds.
 fn check_kinds(text: &str, proved: &Proved) {
     macro_rules! check {
         ($($name:ident $kind:ident)*) => {
@@ -147,7 +147,7 @@ fn check_kind(text: &str, proved: &Proved, expected: Kind, read: [Result<Lit, Pa
     }
 }
 
-/// What Rust takes in a file, where a CR LF is an LF.
+/// Checks whether Rust accepts a text in a file, where CR LF counts as LF.
 pub fn check_file(text: &str) {
     assert_eq!(
         explain_in_file(text),

@@ -3,8 +3,8 @@
 use navyspindle::{LineColumn, LineIndex};
 use navyspindle_programs::rl_tokens::Lines;
 
-/// The place of each character and of the end, in characters as the proved code has it, and in bytes of the line. A byte order mark
-/// at the front has no column.
+/// Checks the line and column of each character and of the end, in characters beside the proved `Lines`, and in bytes. A byte order mark
+/// at the start has no column.
 pub fn check(text: &str) {
     let index = LineIndex::new(text);
     let read = text.strip_prefix('\u{feff}').unwrap_or(text);

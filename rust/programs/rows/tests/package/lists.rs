@@ -1,4 +1,4 @@
-//! Lists of literals, and the literals of sources: each with its bytes, and what ends them.
+//! Lists of literals, and the literals of sources: their ranges, and the errors that end them.
 
 use crate::literals::{check_closely, check_same, proved_of, Proved};
 use navyspindle::{literals, source, ListError, Lit, Literals, Recover, Source};
@@ -8,7 +8,7 @@ use std::ops::Range;
 
 type Item<'t> = Result<(Range<usize>, Lit<'t>), ListError>;
 
-/// The next item, which a copy that is made before gives too; after an error, and at the end, there is none.
+/// Returns the next item, which a copy of the iterator returns too. Nothing follows an error or the end.
 macro_rules! next_of {
     ($name:ident, $iterator:ty) => {
         fn $name<'t>(items: &mut $iterator, copy: $iterator) -> Option<Item<'t>> {
@@ -24,7 +24,7 @@ macro_rules! next_of {
 next_of!(next_of_list, Literals<'t>);
 next_of!(next_of_source, Source<'t>);
 
-/// The next item of what is recovered, which a copy that is made before gives too.
+/// Returns the next item of a recovering iterator, which its copy returns too.
 fn next_recovered<'t>(items: &mut Recover<'t>) -> Option<Item<'t>> {
     let mut copy = items.clone();
     let item = items.next();
@@ -32,7 +32,7 @@ fn next_recovered<'t>(items: &mut Recover<'t>) -> Option<Item<'t>> {
     item
 }
 
-/// A literal of a text, that of it closely which isn't as it stands there.
+/// Checks a literal and its range, closely where its text isn't that of the range.
 fn check_item(text: &str, range: Range<usize>, ours: &Lit, proved: &Proved, span: Range<usize>) {
     assert_eq!(range, span, "{text:?}");
     if text[range] == *ours.text() {
@@ -42,7 +42,7 @@ fn check_item(text: &str, range: Range<usize>, ours: &Lit, proved: &Proved, span
     }
 }
 
-/// Where the proved list stops, up to the end of the token there, and the name of why.
+/// Returns the range and the name of the error that ends the proved list.
 fn rejection_in(text: &str) -> (Range<usize>, String) {
     let mut tokens = rl_tokens::Tokens::new(text);
     let rejection = loop {
@@ -64,7 +64,7 @@ fn rejection_in(text: &str) -> (Range<usize>, String) {
     (range_at(text, rejection.at, &name), name)
 }
 
-/// From a byte up to the end of the token there; of what isn't closed, up to the text's.
+/// Returns the range of the token at a position. A token that isn't closed extends to the end of the text.
 pub fn range_at(text: &str, at: usize, name: &str) -> Range<usize> {
     let rest = &text[at..];
     let len = match rl_tokens::Tokens::new(rest).next() {
@@ -76,7 +76,7 @@ pub fn range_at(text: &str, at: usize, name: &str) -> Range<usize> {
     at..at + len.unwrap_or(rest.len())
 }
 
-/// The package's own words for why a list, a source or settings end.
+/// Returns the package's message for an error in a list, a source or settings.
 pub fn words_of(name: &str) -> &'static str {
     match name {
         "NoLiteral" => "not a literal",
@@ -157,7 +157,7 @@ pub fn check_source(text: &str) {
     }
 }
 
-/// What is recovered is what a source of its own has, after each error the lines after it.
+/// Checks that recovery continues as a new source does, on the lines after each error.
 fn check_recovery(text: &str) {
     // Lines are joined there, or begin as a whole source alone may.
     if ["\\\n", "\n\u{feff}", "\n#!"]

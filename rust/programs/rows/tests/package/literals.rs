@@ -1,4 +1,4 @@
-//! One literal: its kind, contents, suffix and texts, and what those of each kind say besides.
+//! One literal: its kind, value, suffix and text, and the functions of each kind.
 
 use crate::{flaws, numbers, quoted};
 use navyspindle::{write_byte, write_byte_str, write_char, write_str, Lit, LitBool};
@@ -10,7 +10,7 @@ use std::hash::{BuildHasher, BuildHasherDefault};
 
 pub type Proved = rust_literals::Lit;
 
-/// The line of a literal, as the package has it.
+/// Shows a literal of the package as `rl_tool` prints it.
 fn line_of(literal: &Lit) -> String {
     let contents = match literal {
         Lit::Str(string) => write_str(&string.value()),
@@ -31,7 +31,7 @@ fn line_of(literal: &Lit) -> String {
     format!("{:?} {contents} {suffix}\n", literal.kind())
 }
 
-/// The same of the proved literal.
+/// Shows a proved literal as `rl_tool` prints it.
 fn proved_line(literal: &Proved) -> String {
     rl_commands::line_of(Global, literal)
         .unwrap()
@@ -48,7 +48,7 @@ pub fn proved_of(text: &str) -> Proved {
     literal
 }
 
-/// What all kinds have.
+/// Checks what literals of all kinds have.
 #[track_caller]
 pub fn check_same(ours: &Lit, proved: &Proved) {
     let text = proved.text();
@@ -60,7 +60,7 @@ pub fn check_same(ours: &Lit, proved: &Proved) {
     );
 }
 
-/// All that a literal says.
+/// Checks all functions of a literal.
 #[track_caller]
 pub fn check_closely(ours: &Lit, proved: &Proved) {
     check_same(ours, proved);
@@ -89,7 +89,7 @@ pub fn check_closely(ours: &Lit, proved: &Proved) {
     }
 }
 
-/// A text alone: as it is read, and as what Rust takes of it.
+/// Checks a text as one literal, by `syn`'s grammar and by Rust's.
 pub fn check_literal(text: &str) {
     let (ours, proved) = (Lit::new(text), proved_of(text));
     check_same(&ours, &proved);
@@ -97,7 +97,7 @@ pub fn check_literal(text: &str) {
     flaws::check_file(text);
 }
 
-/// The same closely, borrowed and owned.
+/// Checks all functions of a text as one literal, borrowed and owned.
 pub fn check_text(text: &str) {
     let proved = proved_of(text);
     check_closely(&Lit::new(text), &proved);
@@ -108,7 +108,7 @@ pub fn check_text(text: &str) {
     quoted::check_written(text);
 }
 
-/// Literals are equal where their texts are, however these are held.
+/// Checks that literals are equal if and only if their texts are, borrowed or owned.
 pub fn check_equal(a: &str, b: &str) {
     let hash_of = |literal: &Lit| BuildHasherDefault::<DefaultHasher>::default().hash_one(literal);
     let (ours, other) = (Lit::new(a), Lit::new(b.to_owned()));

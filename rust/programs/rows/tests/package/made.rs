@@ -1,8 +1,8 @@
-//! Texts that are made for one subject, from a fixed seed or one after another.
+//! Generated texts of settings, and all short texts of some pieces.
 
 use crate::asked::NAMES;
 
-/// Picks that look random.
+/// Pseudorandom choices.
 pub struct Picks(pub u64);
 
 impl Picks {
@@ -105,7 +105,7 @@ const ENDS: &[&str] = &[
     "", "", "", " ", "\n", ",", ", \t\r\n", " // a", "/* a */", "/* a", ")", ",,",
 ];
 
-/// A text of settings, in which some name, mark or value may be none; of two texts in three names, marks and commas are good.
+/// Makes a text of settings. In a third of the texts, names, punctuation and commas may be invalid.
 pub fn settings(r: &mut Picks) -> String {
     let mut text = String::new();
     let is_good = r.below(3) > 0;
@@ -131,7 +131,7 @@ pub fn settings(r: &mut Picks) -> String {
     text + r.of(ends)
 }
 
-/// Each text of up to so many of the pieces.
+/// Calls `check` with each text of up to `most` pieces.
 pub fn each(pieces: &[&str], most: usize, check: &mut dyn FnMut(&str)) {
     fn go_on(text: &mut String, pieces: &[&str], most: usize, check: &mut dyn FnMut(&str)) {
         check(text);

@@ -1,5 +1,5 @@
-//! Holds the types of the package `navyspindle`, which are written by hand, against the proved ones as they are rendered. What is
-//! expected comes of the rendered libraries, or is written here; `tools/package_wrong` tries whether wrong bodies are caught.
+//! Compares the types of the package `navyspindle`, which are written by hand, with the translated libraries. The expected answers come
+//! from these libraries, or are written here. `tools/package_wrong` tries whether the tests reject wrong bodies.
 
 mod asked;
 mod flaws;
@@ -13,12 +13,10 @@ mod quoted;
 use asked::check_settings;
 use lists::{check_list, check_source};
 use literals::{check_equal, check_literal, check_text};
+use navyspindle_rows::{settings, texts};
 use std::fs;
 use std::ops::Range;
-use std::path::Path;
-
-mod settings;
-mod texts;
+use std::path::{Path, PathBuf};
 
 fn check_all(text: &str) {
     check_text(text);
@@ -27,7 +25,7 @@ fn check_all(text: &str) {
     check_source(text);
 }
 
-/// As `check_all`, of many texts.
+/// Checks a text less closely than `check_all`, and in less time.
 fn check_most(text: &str) {
     check_literal(text);
     check_list(text);
@@ -35,10 +33,11 @@ fn check_most(text: &str) {
     check_source(text);
 }
 
-/// How many of the generated texts are tried by default: the first ones. The others are the gate's.
+/// The number of generated texts that are tried by default. Ignored tests, which `rust/check` runs, try the rest.
 const SAMPLE: usize = 2_000;
-const TEXTS: usize = 60_000;
+const TEXTS: usize = 200_000;
 const SETTINGS: usize = 100_000;
+const KNOWN_SETTINGS: usize = 200_000;
 
 fn check_texts(tried: Range<usize>) {
     let mut r = texts::Random::new(5);
@@ -69,9 +68,15 @@ fn generated_texts() {
 }
 
 #[test]
-#[ignore = "twenty seconds of a processor; rust/check runs it"]
-fn more_generated_texts() {
-    check_texts(SAMPLE..TEXTS);
+#[ignore = "half a minute of a processor; rust/check runs it"]
+fn generated_texts_of_the_first_half() {
+    check_texts(SAMPLE..TEXTS / 2);
+}
+
+#[test]
+#[ignore = "half a minute of a processor; rust/check runs it"]
+fn generated_texts_of_the_second_half() {
+    check_texts(TEXTS / 2..TEXTS);
 }
 
 fn check_generated_settings(tried: Range<usize>) {
@@ -105,13 +110,13 @@ fn more_generated_settings() {
     check_generated_settings(SAMPLE..SETTINGS);
 }
 
-/// Settings that are put together of parts, so that what is read is known.
+/// Settings that are put together from parts, so that their reading is known.
 fn check_known_settings(tried: Range<usize>) {
     let mut random = texts::Random::new(3);
     for n in 0..tried.end {
         let made = settings::made(&mut random);
         if tried.contains(&n) {
-            assert_eq!(settings::read(&made.text), made.answer, "{:?}", made.text);
+            assert_eq!(asked::reading(&made.text), made.answer, "{:?}", made.text);
         }
     }
 }
@@ -122,9 +127,9 @@ fn known_settings() {
 }
 
 #[test]
-#[ignore = "rust/check runs it"]
+#[ignore = "five seconds of a processor; rust/check runs it"]
 fn more_known_settings() {
-    check_known_settings(SAMPLE..200_000);
+    check_known_settings(SAMPLE..KNOWN_SETTINGS);
 }
 
 #[test]
@@ -348,8 +353,9 @@ fn lines_and_columns() {
     );
 }
 
+/// Checks a character in twelve places, and as it is written. Few characters are checked as closely as texts are.
 fn check_character(c: char) {
-    let number = c as u32;
+    let number = u32::from(c);
     quoted::check_written_character(c);
     if number < 0x250 {
         texts::alone(c).iter().for_each(|text| check_text(text));
@@ -357,49 +363,90 @@ fn check_character(c: char) {
         return;
     }
     texts::alone(c).iter().for_each(|text| check_literal(text));
-    if number < 0x3000 || number % 3 == 0 {
-        texts::among(c).iter().for_each(|text| check_most(text));
+    for text in &texts::among(c) {
+        if number < 0x3000 || number % 21 == 0 {
+            check_most(text);
+        } else {
+            check_list(text);
+            check_source(text);
+        }
     }
 }
 
-/// The characters that are tried: all below U+3000, and every seventh of the others; those of the sample, or those that it leaves out.
-fn check_characters(of_sample: bool) {
-    for c in '\0'..=char::MAX {
-        let number = c as u32;
-        let is_tried = number < 0x3000 || number % 7 == 0;
-        if is_tried && (number < 0x250 || number % 343 == 0) == of_sample {
-            check_character(c);
-        }
-    }
+/// Whether a character is tried by default.
+fn is_in_sample(c: &char) -> bool {
+    let number = u32::from(*c);
+    number < 0x250 || number % 343 == 0
 }
 
 #[test]
 fn characters() {
-    check_characters(true);
+    let sample = ('\0'..=char::MAX).filter(is_in_sample);
+    sample.for_each(check_character);
 }
 
 #[test]
-#[ignore = "twenty seconds of a processor; rust/check runs it"]
-fn more_characters() {
-    check_characters(false);
+#[ignore = "two minutes of a processor; rust/check runs it"]
+fn characters_of_the_lower_half() {
+    let others = ('\0'..'\u{88000}').filter(|c| !is_in_sample(c));
+    others.for_each(check_character);
 }
 
 #[test]
-fn sources_of_the_repository() {
-    let mut pending = vec![Path::new(env!("CARGO_MANIFEST_DIR")).join("..")];
-    let mut count = 0;
-    while let Some(folder) = pending.pop() {
-        for entry in fs::read_dir(folder).unwrap() {
-            let path = entry.unwrap().path();
-            if path.is_dir() && !path.ends_with("target") {
-                pending.push(path);
-            } else if path.extension().is_some_and(|it| it == "rs") {
-                let text = fs::read_to_string(&path).unwrap();
-                check_source(&text);
-                check_list(&text);
-                count += 1;
-            }
+#[ignore = "two minutes of a processor; rust/check runs it"]
+fn characters_of_the_upper_half() {
+    let others = ('\u{88000}'..=char::MAX).filter(|c| !is_in_sample(c));
+    others.for_each(check_character);
+}
+
+/// The paths of Rust and Rattle sources below a folder, without build folders and hidden ones.
+fn sources_below(folder: &Path) -> Vec<PathBuf> {
+    let mut found = Vec::new();
+    for entry in fs::read_dir(folder).unwrap() {
+        let path = entry.unwrap().path();
+        let name = path.file_name().unwrap_or_default().to_string_lossy();
+        let is_hidden = name.starts_with('.') || name == "target" || name == "out";
+        if path.is_dir() && !is_hidden {
+            found.extend(sources_below(&path));
+        } else if path.is_file() && (name.ends_with(".rs") || name.ends_with(".rt")) {
+            found.push(path);
         }
     }
-    assert!(count > 100, "{count}");
+    found
+}
+
+/// Checks a source, its literals, and both with errors put in.
+fn check_file(random: &mut texts::Random, text: &str) {
+    check_source(text);
+    check_list(text);
+    for (range, _) in navyspindle::source(text).map_while(Result::ok) {
+        check_all(&text[range.clone()]);
+        check_all(&texts::broken(random, &text[range]));
+    }
+    for _ in 0..5 {
+        check_source(&texts::broken(random, text));
+    }
+}
+
+#[test]
+fn sources_of_the_programs() {
+    let paths = sources_below(&Path::new(env!("CARGO_MANIFEST_DIR")).join(".."));
+    assert!(paths.len() > 100, "{}", paths.len());
+    for path in paths {
+        let text = fs::read_to_string(path).unwrap();
+        check_source(&text);
+        check_list(&text);
+    }
+}
+
+#[test]
+#[ignore = "half a minute of a processor; rust/check runs it"]
+fn sources_of_the_repository() {
+    let paths = sources_below(&Path::new(env!("CARGO_MANIFEST_DIR")).join("../../.."));
+    assert!(paths.len() > 400, "{}", paths.len());
+    let mut random = texts::Random::new(1);
+    for path in paths {
+        let text = fs::read_to_string(path).unwrap();
+        check_file(&mut random, &text);
+    }
 }

@@ -14,13 +14,13 @@ fn shown<T: Display, E: Display>(answer: Result<T, E>) -> String {
     }
 }
 
-/// The type that a suffix names.
+/// Returns the type that a suffix names.
 fn type_of(suffix: &str) -> Option<&str> {
     let types = "u8 u16 u32 u64 u128 usize i8 i16 i32 i64 i128 isize f32 f64";
     types.split(' ').find(|name| *name == suffix)
 }
 
-/// What numbers of both kinds have.
+/// Checks what integers and floats have in common.
 macro_rules! check_number {
     ($ours:expr, $proved:expr, $found:expr) => {{
         let (ours, proved) = ($ours, $proved);

@@ -1,5 +1,4 @@
-//! What stands between quotes: contents, borrowed where the proved ones can be, parts, and where each byte comes from; and values as
-//! they are written.
+//! Quoted literals: values, borrowed where the proved ones are, parts, and the range that each byte comes from; and written literals.
 
 use crate::literals::Proved;
 use navyspindle::{
@@ -15,7 +14,7 @@ use std::ffi::CString;
 use std::fmt::Debug;
 use std::ops::Range;
 
-/// The contents, and whether they are borrowed exactly where they can be.
+/// Checks a value, and whether it is borrowed.
 #[track_caller]
 fn check_value<T: ?Sized + ToOwned + PartialEq + Debug>(
     ours: Cow<T>,
@@ -27,7 +26,7 @@ fn check_value<T: ?Sized + ToOwned + PartialEq + Debug>(
     assert_eq!(matches!(ours, Cow::Borrowed(_)), is_borrowed, "{text:?}");
 }
 
-/// A segment as the package has it.
+/// Shows a segment of the package.
 fn shown(segment: &Segment) -> String {
     let range = &segment.range;
     match segment.value {
@@ -39,7 +38,7 @@ fn shown(segment: &Segment) -> String {
     }
 }
 
-/// The same of the proved one.
+/// Shows a proved segment.
 fn shown_proved(segment: &rl_grammar::Segment) -> String {
     let range = segment.lo..segment.hi;
     match segment.value {
@@ -50,14 +49,14 @@ fn shown_proved(segment: &rl_grammar::Segment) -> String {
     }
 }
 
-/// The places of a quoted literal's contents, as the package tells them.
+/// The package's functions for positions in a quoted literal's value.
 struct Places<'p> {
     place_of: &'p dyn Fn(usize) -> usize,
     range_of: &'p dyn Fn(Range<usize>) -> Range<usize>,
     places: navyspindle::Places,
 }
 
-/// Of many places those of the first, of some in the middle, and of the last.
+/// Returns the first positions, some in the middle, and the last ones.
 fn some_of(len: usize) -> impl Iterator<Item = usize> {
     (0..=len + 1).filter(move |at| *at < 4 || (60..68).contains(at) || *at + 4 > len)
 }
@@ -87,7 +86,7 @@ fn check_places<K: QuotedKind>(ours: &Places, proved: &Quoted<K>) {
     }
 }
 
-/// What the five kinds have.
+/// Checks what quoted literals of all five kinds have.
 macro_rules! check_quoted {
     ($literal:expr, $ours:expr, $proved:expr, $found:expr) => {{
         let (literal, ours, proved) = ($literal, $ours, $proved);
@@ -114,7 +113,7 @@ macro_rules! check_quoted {
     }};
 }
 
-/// What the three kinds of strings have besides.
+/// Checks what strings of all three kinds have.
 macro_rules! check_string {
     ($ours:expr, $found:expr, $text:expr, $value:expr, $is_borrowed:expr) => {{
         let (ours, text, body) = ($ours, $text, $found.body);
@@ -169,7 +168,7 @@ pub fn check(ours: &Lit, proved: &Proved, found: &Found) {
     }
 }
 
-/// The text and its bytes, written as literals.
+/// Checks the text and its bytes, written as literals.
 pub fn check_written(text: &str) {
     let string = rl_tokens::Literal::string(Global, text).unwrap();
     assert_eq!(write_str(text), string.text());
@@ -189,7 +188,7 @@ pub fn check_written(text: &str) {
     }
 }
 
-/// A character, and of the first ones the byte of its number.
+/// Checks a written character, and the written byte of its number.
 pub fn check_written_character(c: char) {
     let character = rl_tokens::Literal::character(Global, c).unwrap();
     assert_eq!(write_char(c), character.text());

@@ -1,6 +1,8 @@
-//! Calls of `rl_scan` over a small tree in memory. `calls.txt` has each call after `==`, then what it writes, `--`, what it reports, and
-//! its status. Before the words may stand `^`, where the output takes colours, and after how many bytes the output is closed, as
-//! `@20`, or fails, as `!20`; before what is written stand the files that are written anew.
+//! Calls of `rl_scan` on a small directory in memory.
+//!
+//! `calls.txt` has a line `== ARGUMENTS` for each call. Below it are the files that the call rewrites (`> PATH`, the new text, `--`),
+//! standard output, `--`, standard error, and the exit status. Two marks may precede the arguments: `^` makes the output accept
+//! colours; `@20` closes the output after 20 bytes, and `!20` makes it fail after 20 bytes.
 
 mod tree;
 
@@ -14,7 +16,7 @@ use tree::{Sample, UNWRITABLE};
 
 const CALLS: &[u8] = include_bytes!("calls.txt");
 
-/// A writer that takes so many bytes, and then fails.
+/// A writer that fails after `left` bytes.
 struct Narrow {
     held: Vec<u8>,
     left: usize,
@@ -47,7 +49,7 @@ impl Write for Narrow {
     }
 }
 
-/// The writer that the first word asks for, and the other words.
+/// Makes the writer that a first mark requests, and returns the arguments after the mark.
 fn narrow_and_words(words: &str) -> (Narrow, &str) {
     let (first, rest) = words.split_once(' ').unwrap_or((words, ""));
     let kind = match first.chars().next() {
@@ -61,7 +63,7 @@ fn narrow_and_words(words: &str) -> (Narrow, &str) {
     }
 }
 
-/// What the program answers to a call.
+/// Runs a call, and returns its part of `calls.txt`.
 fn answer(line: &str) -> Vec<u8> {
     let plain = line.strip_prefix("^ ");
     let (mut out, words) = narrow_and_words(plain.unwrap_or(line));

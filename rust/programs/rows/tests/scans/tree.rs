@@ -1,15 +1,15 @@
-//! A small tree: standard input, files and directories, some of which can't be read or written.
+//! A small directory in memory, with files and directories that can't be read or written.
 
 use navyspindle_programs::rattle_std::alloc::Allocator;
 use navyspindle_programs::rattle_std::string::String;
 use navyspindle_programs::rattle_std::vec::Vec;
 use navyspindle_programs::rl_files::{PathError, Tree, Unwritable};
 
-/// Standard input, some files and directories, and some that can't be read.
+/// Standard input, files and directories, some of which can't be read.
 #[derive(Clone, Copy)]
 pub struct Sample;
 
-/// Literals that Rust rejects, a line each, and some that it takes.
+/// Literals that Rust rejects, a line each, and a line of literals that it accepts.
 const BAD: &str = "0x
 0b102
 0o9
@@ -25,31 +25,31 @@ b'\u{e9}'
 0x1F 'a' 1u9 1. r\"a\" \"a\"b true
 ";
 
-/// Literals whose texts and values have escapes in JSON, and a pair of these past FFFF; bytes, and digits.
+/// Literals whose texts and values need escapes in JSON, one of them a surrogate pair; bytes, and digits.
 const JSON: &str = "\"\\u{e0041}\u{e0041}\u{202e}\x7f\\0\\x1f/é😀\" '\\u{1f600}' '\"'
 '\\\\' c\"\\xff\\\"\" b'\\xff' b\"\\\\a\" b\"\" \"\"
 1_000.5e-3_f64 0b1111_0000 340282366920938463463374607431768211455 \"a\"b false r\"\\ \t\" \"\\q\"";
 
-/// Literals that hold `ab`, in one spelling or another, and some that don't.
+/// Literals whose values contain `ab`, written in several ways, and others.
 const HELD: &str = "\"\\u{61}b\" b\"ab\" c\"\\x61b\" 'a' b'a'
 \"x\\
    ab\" r#\"ab\"# \"äab\" \"\\\\u{61}\" // \"ab\"
 \"ba\" 'b'";
 
-/// Literals that hold `ab` in one case or another, as a word or not.
+/// Literals whose values contain `ab` in lower or upper case, as a word or as part of one.
 const WORDS: &str =
     "\"ab\" \"AB\" \"cab aB\" \"abc\" \"ab_\" \"éab ab.\" \"-ab-\" b\"ab\\xff ab\\n\"
 \"abab ab\" \"é e é\" '-' \"a-b\" \"3ab a b\" r\"\\ab\"";
 
-/// Characters that turn or hide text, in literals, comments, names and between tokens, and some that don't: escapes, tabs, a form
-/// feed, CR LF, a variation selector.
+/// Invisible and bidirectional characters in literals, comments, identifiers and between tokens; and text that isn't reported: escapes,
+/// tabs, a form feed, CR LF, a variation selector.
 const HIDES: &str = "\u{feff}\"a\\u{202e}b\" \"a\u{202e}b\"
 '\u{200b}' r\"ä\u{feff}\" b\"\u{202e}\" // \"\u{202e}\"
 \"a\tb\" 1 \"\u{fe0f}\" \"\u{1bca3}\"\r
 \u{c}let a\u{200b}b\u{ad}; \"\x1b[8m\" // a\rb\x07\x00\u{85}\u{2028}\r";
 
-/// What is published of Trojan Source (CVE-2021-42574) for Rust: a comment that is shown as code, a string whose end is shown
-/// elsewhere, a call that is shown as another.
+/// The published examples of Trojan Source (CVE-2021-42574) for Rust: a comment that is displayed as code, and a string whose end is
+/// displayed elsewhere.
 const TROJAN: &str = "fn main() {
     let is_admin = false;
     /*\u{202e} } \u{2066}if is_admin\u{2069} \u{2066} begin admins only */
@@ -62,10 +62,10 @@ const TROJAN: &str = "fn main() {
 }
 // \u{61c}\u{200e}\u{200f}\u{202a}\u{202b}\u{202c}\u{202d}\u{2067}\u{2068} \"";
 
-/// A byte order mark at the front, which has no column, and one that has.
+/// A byte order mark at the start, which has no column, and a second one, which has a column.
 const MARKED: &str = "\u{feff}\"a\" '\\q' 1\n\u{feff}2";
 
-/// Integers past 128 bits; two are floats by their suffix.
+/// Integers above 128 bits. Two are floats by their suffix.
 const LARGE: &str = "340282366920938463463374607431768211456f64
 -340282366920938463463374607431768211456_f32
 340282366920938463463374607431768211456f16
@@ -74,25 +74,25 @@ const LARGE: &str = "340282366920938463463374607431768211456f64
 /// Literals with several flaws, one of them across lines that end with CR LF.
 const MANY: &str = "\"\\xff \\q\\u{1234567}\" b\"é\\u{41}\"\r\n\"\\q\r\n\\xg é\\z\"";
 
-/// Suffixes that Rust takes, or only a macro, and values of their types and past them.
+/// Suffixes that Rust accepts, or only as macro input, and values in and out of their types' ranges.
 const TYPED: &str = "1u8 256u8 -128i8 129i8 1u9
 \"a\"x 'b'y b\"c\"d r\"e\"u8
 1.0u8 0b1f32 1e5f64 1_f32 0xFFi8 1f16 true";
 
-/// Words and hashes right before quotes, which Rust reserves or not, and the least number of a type with and without a minus.
+/// Identifiers and hashes directly before quotes, some of them reserved, and the least number of a type with and without a minus.
 const BEFORE: &str = "f\"a\" c'b' #\"c\"# 1u8\"d\" 128i8 -128i8
  -(128i8) /**/ 128i8 5 - 128i8";
 
-/// A word and hashes, and hashes after a number, right before quotes.
+/// An identifier and hashes, and hashes after a number, directly before quotes.
 const PREFIXED: &str = "é x_9##\"é\"## 1#\"c\"";
 
-/// Stray characters, one of them hidden, beside a literal and an open quote.
+/// Stray characters, one of them invisible, a literal and an unclosed quote.
 const STRAYS: &str = "a \\ 1u9 `\u{200b}`\n\t😀 \"b";
 
-/// Literals that the usual style writes otherwise, one of them in a macro call, and a field.
+/// Literals that the default style rewrites, one of them in a macro call, and a field.
 const FIXED: &str = "f(1., \"it\\'s\"); m!(1E5);\nt.0 1E5f32 r##\"a\"##\n";
 
-/// Files that can't be written anew.
+/// Files that can't be rewritten.
 pub const UNWRITABLE: [Unwritable<'static>; 2] = [
     Unwritable {
         path: "fix/full.rs",
@@ -104,7 +104,7 @@ pub const UNWRITABLE: [Unwritable<'static>; 2] = [
     },
 ];
 
-/// What a file of the tree holds that is a text.
+/// The contents of a file, where it is text.
 fn text_at(path: &str) -> Option<&'static str> {
     match path {
         "-" => Some("f(\"a\\n\", '\\q', 0xFF_u8)"),
@@ -165,7 +165,7 @@ fn text_at(path: &str) -> Option<&'static str> {
     }
 }
 
-/// What a file of the tree holds.
+/// The contents of a file.
 fn bytes_at(path: &str) -> Result<&'static [u8], PathError> {
     match path {
         "./b.rs" => Err(PathError::ReadFailed),
@@ -179,7 +179,7 @@ fn bytes_at(path: &str) -> Result<&'static [u8], PathError> {
     }
 }
 
-/// The names in a directory of the tree, with a bar between them.
+/// The names in a directory, with `|` between them.
 fn names_at(path: &str) -> Result<&'static str, PathError> {
     match path {
         "." => {

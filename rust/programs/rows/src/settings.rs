@@ -1,4 +1,4 @@
-//! Texts of settings that are put together of parts, so that what each has to read as is known without a reader.
+//! Generated texts of settings. Each is put together from parts, so that its reading is known without a reader.
 
 use crate::texts::Random;
 use std::fmt::Write;
@@ -19,7 +19,7 @@ const NAMES: &[&str] = &[
     "maximum_size_of_b",
 ];
 
-/// Literals, each with the text that it has where nothing stands after its minus.
+/// Literals, each with its text without white space and comments after the minus.
 const VALUES: &[(&str, &str)] = &[
     ("1", "1"),
     ("-0", "-0"),
@@ -52,7 +52,7 @@ const GAPS: &[&str] = &[
     "/*(*/",
 ];
 
-/// Trees that are no name, no `=`, no literal, and no comma; of the last two parts the bytes that are no part of the first tree.
+/// Token trees that aren't a name, `=`, a literal or a comma. The number is the length of what follows the first tree.
 const NO_NAMES: &[&str] = &["1", "\"a\"", "(a, b)", "[{} ()]", "-", ",", "=", "'a'"];
 const NO_EQUALS: &[&str] = &[":", "(=)", "b", "\"a\"", "-", "1", ",", "{}"];
 const NO_VALUES: &[(&str, usize)] = &[
@@ -67,7 +67,7 @@ const NO_VALUES: &[(&str, usize)] = &[
 ];
 const NO_COMMAS: &[&str] = &[";", "(,)", "b", "1", "'a'", "=", "[ , ]"];
 
-/// What the lexer rejects, where it stands in it, how long it is there (0: up to the end), and the words.
+/// Texts that the lexer rejects, with the error's position and length in the text (0: up to its end), and its message.
 const REJECTED: &[(&str, usize, usize, &str)] = &[
     ("\"a", 0, 0, "quoted literal isn't closed"),
     ("r#\"a\"", 0, 0, "quoted literal isn't closed"),
@@ -83,13 +83,13 @@ const REJECTED: &[(&str, usize, usize, &str)] = &[
     ("({}[]", 0, 1, "group isn't closed"),
 ];
 
-/// A text, and the lines of what it has to read as.
+/// A text of settings, and its reading: a line for each setting, or the error.
 pub struct Made {
     pub text: String,
     pub answer: String,
 }
 
-/// A part that is missed, and what comes before it.
+/// The part of a setting that is wrong.
 #[derive(Clone, Copy, PartialEq)]
 enum Missed {
     Nothing,
@@ -105,14 +105,14 @@ impl Made {
         self.text += r.of(GAPS);
     }
 
-    /// Puts a part last, and returns its bytes.
+    /// Appends a part, and returns its range.
     fn part(&mut self, part: &str) -> (usize, usize) {
         let lo = self.text.len();
         self.text += part;
         (lo, self.text.len())
     }
 
-    /// The answer is this error, and more may stand after it.
+    /// Makes an error the answer. More settings may follow it.
     fn fails(&mut self, r: &mut Random, (lo, hi): (usize, usize), words: &str) {
         self.answer = format!("{words} at {lo}..{hi}\n");
         if r.below(2) == 0 {
@@ -120,7 +120,7 @@ impl Made {
         }
     }
 
-    /// A tree stands where a part was expected, or the text ends there.
+    /// Appends a token tree where another part is expected, or ends the text there.
     fn misses(&mut self, r: &mut Random, tree: &str, others: usize, word: &str) {
         if r.below(4) == 0 {
             self.gap(r);
@@ -133,7 +133,7 @@ impl Made {
         self.fails(r, (lo, hi - others), &format!("expected {word}"));
     }
 
-    /// Puts a setting last, in which this part may be missed; says whether more may follow.
+    /// Appends a setting, in which a part may be wrong. Returns whether more settings may follow.
     fn setting(&mut self, r: &mut Random, names: &mut Vec<&'static str>, missed: Missed) -> bool {
         if missed == Missed::Name {
             let place = self.part(r.of(NO_NAMES));
@@ -179,7 +179,7 @@ impl Made {
         true
     }
 
-    /// Puts what the lexer rejects last: that is the answer, whatever stands before.
+    /// Appends a text that the lexer rejects. Its error is the answer, whatever precedes it.
     fn rejected(&mut self, r: &mut Random) {
         self.text += " ";
         if r.below(20) == 0 {
@@ -196,7 +196,7 @@ impl Made {
     }
 }
 
-/// A text of up to four settings, in half of them with one thing wrong.
+/// Makes a text of up to four settings. Half of the texts have an error.
 pub fn made(r: &mut Random) -> Made {
     let mut made = Made {
         text: String::new(),
@@ -229,21 +229,4 @@ pub fn made(r: &mut Random) -> Made {
         made.rejected(r);
     }
     made
-}
-
-/// What the package reads.
-pub fn read(text: &str) -> String {
-    match navyspindle::settings(text) {
-        Ok(entries) => entries.iter().fold(String::new(), |mut out, it| {
-            let (name, value) = (&it.name_range, &it.value_range);
-            let _ = writeln!(out, "{} {name:?} {} {value:?}", it.name, it.value.text());
-            out
-        }),
-        Err(error) => {
-            let range = error.range();
-            let words = error.to_string();
-            let words = words.trim_end_matches(&format!(" at byte {}", range.start));
-            format!("{words} at {range:?}\n")
-        }
-    }
 }

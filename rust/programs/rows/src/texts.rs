@@ -1,6 +1,6 @@
-//! Texts of every family, from a fixed seed.
+//! Generated texts: literals, broken literals, numbers, lists, and other characters.
 
-/// Numbers that look random.
+/// Pseudorandom numbers.
 pub struct Random(u64);
 
 impl Random {
@@ -157,7 +157,7 @@ const PIECES: &[&str] = &[
     "^",
 ];
 
-/// What may stand between quotes.
+/// Makes a piece of a quoted literal's body.
 fn unit(r: &mut Random) -> String {
     match r.below(12) {
         0..=4 => r
@@ -258,7 +258,7 @@ fn literal(r: &mut Random) -> String {
     }
 }
 
-/// The text with one to three things wrong.
+/// Changes a text in one to three places.
 pub fn broken(r: &mut Random, text: &str) -> String {
     let mut chars: Vec<char> = text.chars().collect();
     for _ in 0..1 + r.below(3) {
@@ -282,7 +282,7 @@ fn soup(r: &mut Random) -> String {
     repeated(r, count, |r| r.of(PIECES).to_owned())
 }
 
-/// Characters of all lengths.
+/// Makes a text of characters of all lengths in UTF-8.
 fn wild(r: &mut Random) -> String {
     let count = r.below(20);
     repeated(r, count, |r| {
@@ -300,7 +300,7 @@ fn list(r: &mut Random) -> String {
     })
 }
 
-/// The text of this number: the families take turns.
+/// Makes the text of number `n`. The families take turns.
 pub fn nth(r: &mut Random, n: usize) -> String {
     match n % 8 {
         0 | 7 => literal(r),
@@ -319,7 +319,7 @@ pub fn nth(r: &mut Random, n: usize) -> String {
     }
 }
 
-/// A character in each place where its class decides, in a text alone.
+/// Puts a character into each place of a literal where its class decides.
 pub fn alone(c: char) -> [String; 6] {
     [
         format!("{c}"),
@@ -331,7 +331,7 @@ pub fn alone(c: char) -> [String; 6] {
     ]
 }
 
-/// The same in a list and a source.
+/// Puts a character into each place of a list or a source where its class decides.
 pub fn among(c: char) -> [String; 6] {
     [
         format!("{c}"),
