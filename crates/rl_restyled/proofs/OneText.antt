@@ -79,7 +79,7 @@ one_edit style macros t seen w e f (front, rest, here, is) (g, r, there, other) 
     rests : r ≡ rest
     rests = one_rest here.after r rest
         (subst (λ z. Skipped z r) (append_cancel_left (source_text w.token) there.after here.after fronts.1)
-            there.skips)
+        there.skips)
         here.skips
 
     go : IsEdit front rest e → IsEdit front rest f → e ≡ f

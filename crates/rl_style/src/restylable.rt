@@ -136,19 +136,26 @@ impl<'t> Restylables<'t> {
         ensures shorter { IfSome result (λ l. length self.new.tokens.rest < length self.old.tokens.rest) }
         ensures none { IfNone result (GivesNone self.old self.new) }
     {
+        let (mut last, mut end, mut calls) = (self.last, self.end, self.calls);
         while let Some(token) = self.tokens.next() {
-            let (last, calls) = (self.last, self.calls);
-            self.last = last_after(last, self.end, token);
-            self.end = token.hi;
-            self.calls = calls_after(calls, token);
+            let (before, around) = (last, calls);
+            last = last_after(before, end, token);
+            end = token.hi;
+            calls = calls_after(around, token);
             if token.is_literal() {
+                self.last = last;
+                self.end = end;
+                self.calls = calls;
                 return Some(Restylable {
                     token,
-                    is_field: is_field(last, token, self.tokens.rest()),
-                    in_macro: is_in_call(calls),
+                    is_field: is_field(before, token, self.tokens.rest()),
+                    in_macro: is_in_call(around),
                 });
             }
         }
+        self.last = last;
+        self.end = end;
+        self.calls = calls;
         None
     }
 

@@ -14,13 +14,11 @@ abbrev pub invariant-loop-token : goal.invariant-loop-token
 invariant-loop-token l = record {
   nearer : length l.self-inside.tokens.rest ≤ length l.initial.self-inside.tokens.rest;
   literal : (it : Restylable) (new : RestylableState)
-      → GivesLiteral (state l.self-inside.tokens l.self-inside.last l.self-inside.end
-      (calls_seen l.self-inside.calls)) it new
+      → GivesLiteral (state l.self-inside.tokens l.last l.end (calls_seen l.calls)) it new
       → GivesLiteral (state l.initial.self-inside.tokens l.initial.self-inside.last l.initial.self-inside.end
       (calls_seen l.initial.self-inside.calls)) it new;
   none : (new : RestylableState)
-      → GivesNone (state l.self-inside.tokens l.self-inside.last l.self-inside.end
-      (calls_seen l.self-inside.calls)) new
+      → GivesNone (state l.self-inside.tokens l.last l.end (calls_seen l.calls)) new
       → GivesNone (state l.initial.self-inside.tokens l.initial.self-inside.last l.initial.self-inside.end
       (calls_seen l.initial.self-inside.calls)) new;
 }
