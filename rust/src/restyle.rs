@@ -60,8 +60,9 @@ pub struct Restyles<'t> {
 ///
 /// It is proved that the source is cut into the same tokens then, each literal aside, which is the same as [`rewrite`](crate::rewrite) says: of
 /// every source in which each character belongs to a token and each quote holds one character, as in all that rustc takes. These stay as
-/// they are: literals that Rust rejects, strings that hold a CR, numbers after one dot, which may be fields (`t.0`), and all
-/// of a source that begins with an interpreter's line (`#!`, and not `#![`). A macro sees how a literal is written, by `stringify!`, by
+/// they are: texts that are no literal tokens (`0b2`), strings that hold a CR, numbers that may be fields, and all of a source that
+/// begins with an interpreter's line (`#!`, and not `#![`). A number may be a field after one dot (`t.0`), and after `{`, `,`, `]` or a
+/// doc comment where a single `:` follows (`S { 0: x }`); white space and plain comments may stand between. A macro sees how a literal is written, by `stringify!`, by
 /// an arm of `macro_rules!` that names one, and by `concat!` of floats: to leave what is in macros alone, say [`Restyles::skip_macros`].
 ///
 /// ```
@@ -73,6 +74,10 @@ pub struct Restyles<'t> {
 /// assert_eq!((edits[0].range(), edits[0].text()), (9..13, "0xff"));
 /// assert_eq!(edits.len(), 3);
 /// assert_eq!(restyle(text, style).apply()?, r#"let a = (0xff, r"b", t.0, 1..0xabu8);"#);
+///
+/// // Fields keep their names.
+/// let style = Style::new().digit_groups(navyspindle::DigitGroups::new().decimal(1));
+/// assert_eq!(restyle("S { 10: 10, 11: t.10 }", style).apply()?, "S { 10: 1_0, 11: t.10 }");
 /// # Ok::<(), navyspindle::ListError>(())
 /// ```
 pub fn restyle(text: &str, style: Style) -> Restyles<'_> {

@@ -1,5 +1,5 @@
-//! Sources that are written anew, unless Rust rejects something of them; and what is printed of that: a line for each change, or a
-//! unified diff.
+//! Sources that are written anew, unless a token of them is bad or not closed; and what is printed of that: a line for each change, or
+//! a unified diff.
 #![tactic(auto)]
 
 mod change;

@@ -1,4 +1,4 @@
-//! A source that is written anew, unless Rust rejects something of it.
+//! A source that is written anew, unless a token of it is bad or not closed.
 
 ghost use Rattle.std.specs.Prelude.{◌≡◌, [], map, string_bytes, IfOk};
 ghost use Rattle.std.specs.Str.{chars};
@@ -14,7 +14,7 @@ use std::alloc::{AllocError, Allocator, Global};
 /// What becomes of a source.
 #[derive(Drop)]
 pub enum Outcome<A: Allocator = Global> {
-    /// Rust rejects it: a line for each reason.
+    /// A token of it is bad or not closed: a line for each reason.
     Rejected(Vec<u8, A>),
     /// It is left alone: it begins with `#!` and not with `#![`, as an interpreter's line does.
     Script,
@@ -46,7 +46,7 @@ pub fn judging(edition: Edition, by_line: bool, path: Option<&str>) -> Options<'
     }
 }
 
-/// The lines of what Rust rejects of a source.
+/// The lines of a source's bad tokens, and of a quote or a comment that isn't closed.
 fn rejections<A: Allocator + Copy>(
     alloc: A,
     options: Options<'_>,
@@ -81,7 +81,7 @@ fn restyled<A: Allocator + Copy>(
     }
 }
 
-/// What becomes of a source: it is written anew, unless Rust rejects something of it, or it begins as an interpreter's line does.
+/// What becomes of a source: it is written anew, unless a token of it is bad or not closed, or it begins as an interpreter's line does.
 ///
 /// # Errors
 ///

@@ -204,7 +204,7 @@ fn report_change<A: Allocator + Copy, F: Replace>(
     }
 }
 
-/// What is reported where Rust rejects this of a text: that alone, on standard error.
+/// What is reported where a text has these errors: their lines alone, on standard error.
 fn report_rejected<A: Allocator + Copy>(alloc: A, lines: Vec<u8, A>) -> Report<A>
     ensures { PrintsRejections lines.items (in_report result) }
 {
@@ -261,7 +261,7 @@ fn report_script<A: Allocator + Copy>(
     })
 }
 
-/// What is reported of a source in a style: what Rust rejects of it, else a warning where it is left alone, else what is new.
+/// What is reported of a source in a style: its errors, else a warning where it is left alone, else what is new.
 pub(crate) fn report_restyled<A: Allocator + Copy, F: Replace>(
     alloc: A,
     command: Command<'_>,

@@ -4,6 +4,7 @@ use Rattle.std.specs.Prelude.{◌⊎◌, OnOk}
 use Rattle.rl_text.specs.Texts.{IsTail, byte_len}
 use Rattle.rl_text.proofs.TailLemmas.{tail_step}
 use Rattle.rl_lexer.specs.Cursors.{CursorState, IsCursorState}
+use Rattle.rl_lexer.specs.Skipping.{Skipped}
 use Rattle.rl_lexer.specs.Sources.{BeginsNoSource, CutSource, IsBorrowedSource, IsCutUpTo, IsLiteralText, SourceBefore, SourceErrorAt, SourceKind, TakesSource, source_end, source_kind, source_text, source_view}
 use Rattle.rl_lexer.specs.declared.lex_error.LexError.{LexError}
 use Rattle.rl_lexer.specs.declared.sources.SourceToken.{SourceToken}
@@ -11,15 +12,15 @@ use Rattle.rl_lexer.proofs.CutLemmas.{byte_len-append}
 use Rattle.rl_lexer.proofs.ErrorKinds.{char_len}
 use Rattle.rl_style.specs.Calls.{CallState, Outside, calls_after, is_in_call}
 use Rattle.rl_style.specs.Recut.{begins_with_code}
-use Rattle.rl_style.specs.Restylable.{GivesLiteral, GivesNone, Here, Behind, Passes, Stops, IsLiteralOfSource, RestylableState, dots_after, is_field, passed}
+use Rattle.rl_style.specs.Restylable.{GivesLiteral, GivesNone, Here, Behind, Passes, Stops, IsLiteralOfSource, RestylableState, is_field, last_after, passed}
 use Rattle.rl_style.specs.Restyled.{IsEdited}
-use Rattle.rl_style.specs.declared.restylable.Dots.{Dots}
-use Rattle.rl_style.specs.declared.restylable.Dots.TheVariants.{No}
+use Rattle.rl_style.specs.declared.restylable.Last.{Last}
+use Rattle.rl_style.specs.declared.restylable.Last.TheVariants.{Other}
 use Rattle.rl_style.specs.declared.restylable.Restylable.{Restylable}
 use Rattle.rl_style.specs.declared.style.Style.{Style}
 use Rattle.rl_style.proofs.Places.{same_place}
 use Rattle.rl_restyled.specs.Places.{StandsBetween}
-use Rattle.rl_restyled.specs.Edits.{IsEditOf, IsRestyleError, IsRewritten, IsTextOf, Restyles, Seen, cut_bytes, edit_in, is_chosen, nothing_seen, placed_edits, seen_after}
+use Rattle.rl_restyled.specs.Edits.{IsEditOf, IsRestyleError, IsRewritten, IsTextOf, Restyles, Seen, Surrounds, cut_bytes, edit_in, is_chosen, nothing_seen, placed_edits, seen_after}
 use Rattle.rl_restyled.specs.Mirrors.{IsDraft, IsNextIn, seen_all, seen_of}
 use Rattle.rl_restyled.specs.declared.edit.Macros.{Macros}
 use Rattle.rl_restyled.specs.declared.edit.Restyled.{Restyled}
@@ -33,11 +34,11 @@ Told = List (ℕ × ℕ × List ℕ)
 
 pub draft_start : (style : Style) (macros : Macros) (text : List ℕ) (s : RestylableState) (at : ℕ) (out : List ℕ)
     (edits : List (ℕ × ℕ × List ℕ)) → s.tokens.text ≡ text → IsCursorState text s.tokens.rest
-    → IsCutUpTo (chars text) [] (chars s.tokens.rest) → s.dots ≡ No → s.end ≡ 0 → s.calls ≡ Outside → at ≡ 0
+    → IsCutUpTo (chars text) [] (chars s.tokens.rest) → s.last ≡ Other → s.end ≡ 0 → s.calls ≡ Outside → at ≡ 0
     → out ≡ [] → edits ≡ [] → IsDraft style macros (chars text) s at out edits
-draft_start style macros text s at out edits same cursor cut dots end calls begin none nothing =
+draft_start style macros text s at out edits same cursor cut last end calls begin none nothing =
     let found = none_cut (chars text) (chars s.tokens.rest) cut in
-    let seen : Dots → ℕ → CallState → Seen = λ d e k. record { dots = d; end = e; calls = k } in
+    let seen : Last → ℕ → CallState → Seen = λ d e k. record { last = d; end = e; calls = k } in
     record {
       whole = ap chars same;
       cursor = subst (λ z. IsCursorState z s.tokens.rest) (sym same) cursor;
@@ -45,8 +46,8 @@ draft_start style macros text s at out edits same cursor cut dots end calls begi
       texts = [];
       are_cuts = cut;
       are_edits = tt;
-      seen_is = ap (λ d. seen d 0 Outside) (sym dots) ∙ ap (λ e. seen s.dots e Outside) (sym end)
-          ∙ ap (λ k. seen s.dots s.end k) (sym calls);
+      seen_is = ap (λ d. seen d 0 Outside) (sym last) ∙ ap (λ e. seen s.last e Outside) (sym end)
+          ∙ ap (λ k. seen s.last s.end k) (sym calls);
       front = [];
       tail = [];
       gap = found.0;
@@ -63,6 +64,7 @@ record Next (style : Style) (macros : Macros) (t : List ℕ) (s : RestylableStat
   later : List ℕ
   text_is : t ≡ ((d.front ++ d.tail) ++ d.gap) ++ (source_text w.token ++ (later ++ chars tokens.rest))
   place_is : w.at ≡ byte_len ((d.front ++ d.tail) ++ d.gap)
+  skips : Skipped (later ++ chars tokens.rest) (chars tokens.rest)
   cut : IsCutUpTo t (d.cuts ++ w ∷ []) (chars tokens.rest)
   cursor : IsCursorState tokens.text tokens.rest
   whole : chars tokens.text ≡ t
@@ -96,6 +98,7 @@ next_token style macros t s at out edits d token tokens takes =
       later = last.gap;
       text_is = last.text_is ∙ ap (λ z. z ++ (source_text w.token ++ (last.gap ++ chars tokens.rest))) same.0;
       place_is = place;
+      skips = last.skips;
       cut = cut;
       cursor = record {
         is_text = subst IsUtf8 (sym takes.same) d.cursor.is_text;
@@ -105,12 +108,21 @@ next_token style macros t s at out edits d token tokens takes =
       whole = ap chars takes.same ∙ d.whole;
     }
 
+-- what is around it
+surrounds : (style : Style) (macros : Macros) (t : List ℕ) (s : RestylableState) (at : ℕ) (out : List ℕ) (edits : Told)
+    (d : IsDraft style macros t s at out edits) (token : SourceToken) (tokens : CursorState)
+    → (takes : TakesSource s.tokens token tokens)
+    → Surrounds t takes.cut ((d.front ++ d.tail) ++ d.gap) (chars tokens.rest)
+surrounds style macros t s at out edits d token tokens takes =
+    let n = next_token style macros t s at out edits d token tokens takes in
+    record { after = n.later ++ chars tokens.rest; text_is = n.text_is; at_is = n.place_is; skips = n.skips }
+
 -- what the tokens say after it
 seen_passed : (s : RestylableState) (token : SourceToken) (tokens : CursorState) (w : CutSource)
     → IsBorrowedSource token w → seen_after (seen_of s) w ≡ seen_of (passed s token tokens)
 seen_passed s token tokens w is =
     let seen : SourceKind → ℕ → ℕ → List ℕ → Seen = λ k lo hi b. record {
-      dots = dots_after s.dots s.end k lo;
+      last = last_after s.last s.end k lo;
       end = hi;
       calls = calls_after s.calls k b;
     } in
@@ -228,7 +240,7 @@ record AtLiteral (style : Style) (macros : Macros) (t : List ℕ) (at : ℕ) (ou
   draft : IsDraft style macros t s at out edits
   takes : TakesSource s.tokens l.token tokens
   is_literal : IsLiteralOfSource l.token
-  field_is : l.is_field ≡ is_field s.dots l.token.text.now
+  field_is : l.is_field ≡ is_field s.last l.token.text.now (chars tokens.rest)
   inside_is : l.in_macro ≡ is_in_call s.calls
   new_is : new ≡ passed s l.token tokens
 
@@ -242,6 +254,18 @@ cut_literal : (token : SourceToken) (w : CutSource) → IsBorrowedSource token w
     → IsLiteralText (source_kind w.token) (source_text w.token)
 cut_literal token w is h = subst (λ (k : SourceKind). IsLiteralText k (source_text w.token)) (sym is.kind_is)
     (subst (λ z. IsLiteralText (source_view token.form) z) (sym is.chars_are) h)
+
+-- no literal is written anew
+other_edit : (style : Style) (macros : Macros) (t : List ℕ) (s : RestylableState) (at : ℕ) (out : List ℕ) (edits : Told)
+    → IsDraft style macros t s at out edits → (token : SourceToken) (tokens : CursorState)
+    → (takes : TakesSource s.tokens token tokens) → (IsLiteralOfSource token → ⊥)
+    → IsEditOf style macros t (seen_of s) takes.cut None
+other_edit style macros t s at out edits d token tokens takes none = (
+  (d.front ++ d.tail) ++ d.gap,
+  chars tokens.rest,
+  surrounds style macros t s at out edits d token tokens takes,
+  inr (λ taken. none (told_literal token takes.cut takes.is_cut taken.0), refl),
+)
 
 to_literal : (style : Style) (macros : Macros) (t : List ℕ) (at : ℕ) (out : List ℕ) (edits : Told)
     {old new : RestylableState} {l : Restylable} → IsDraft style macros t old at out edits → GivesLiteral old l new
@@ -259,7 +283,7 @@ to_literal style macros t at out edits d (Here {s = s} {l = l} {tokens = tokens}
 to_literal style macros t at out edits d (Behind {s = s} {token = token} {tokens = tokens} takes none g) =
     to_literal style macros t at out edits
     (draft_past style macros t s at out edits d token tokens takes
-    (inr (λ taken. none (told_literal token takes.cut takes.is_cut taken.0), refl))) g
+    (other_edit style macros t s at out edits d token tokens takes none)) g
 
 pub to_none : (style : Style) (macros : Macros) (t : List ℕ) (at : ℕ) (out : List ℕ) (edits : List (ℕ × ℕ × List ℕ))
     {old new : RestylableState} → IsDraft style macros t old at out edits → GivesNone old new
@@ -268,7 +292,7 @@ to_none style macros t at out edits d (Stops none) = (d, none)
 to_none style macros t at out edits d (Passes {s = s} {token = token} {tokens = tokens} takes none g) =
     to_none style macros t at out edits
     (draft_past style macros t s at out edits d token tokens takes
-    (inr (λ taken. none (told_literal token takes.cut takes.is_cut taken.0), refl))) g
+    (other_edit style macros t s at out edits d token tokens takes none)) g
 
 -- what stands before the literal
 literal_front : (style : Style) (macros : Macros) (t : List ℕ) (at : ℕ) (out : List ℕ) (edits : Told) (l : Restylable)
@@ -321,30 +345,33 @@ edit_of : (style : Style) (macros : Macros) (t : List ℕ) (at : ℕ) (out : Lis
     → IsTextOf style macros t l e → IsEditOf style macros t (seen_of a.s) a.takes.cut e
 edit_of style macros t at out edits l new e a is = go is
   where
-    n : Next style macros t a.s at out edits a.draft a.takes.cut a.tokens
-    n = next_token style macros t a.s at out edits a.draft l.token a.tokens a.takes
-
     before : List ℕ
     before = (a.draft.front ++ a.draft.tail) ++ a.draft.gap
 
+    rest : List ℕ
+    rest = chars a.tokens.rest
+
     same : is_chosen macros l.is_field l.in_macro
-        ≡ is_chosen macros (is_field a.s.dots (cut_bytes a.takes.cut)) (is_in_call a.s.calls)
-    same = ap (λ z. is_chosen macros z l.in_macro) (a.field_is ∙ ap (is_field a.s.dots) (sym a.takes.is_cut.bytes_are))
-        ∙ ap (λ z. is_chosen macros (is_field a.s.dots (cut_bytes a.takes.cut)) z) a.inside_is
+        ≡ is_chosen macros (is_field a.s.last (cut_bytes a.takes.cut) rest) (is_in_call a.s.calls)
+    same = ap (λ z. is_chosen macros z l.in_macro)
+        (a.field_is ∙ ap (λ z. is_field a.s.last z rest) (sym a.takes.is_cut.bytes_are))
+        ∙ ap (λ z. is_chosen macros (is_field a.s.last (cut_bytes a.takes.cut) rest) z) a.inside_is
+
+    around : Surrounds t a.takes.cut before rest
+    around = surrounds style macros t a.s at out edits a.draft l.token a.tokens a.takes
 
     go : IsTextOf style macros t l e → IsEditOf style macros t (seen_of a.s) a.takes.cut e
-    go (inl (taken, writes)) = inl (
-      (cut_literal l.token a.takes.cut a.takes.is_cut a.is_literal, sym same ∙ taken),
-      (
-        before,
-        n.later ++ chars a.tokens.rest,
-        n.text_is,
-        n.place_is,
+    go (inl (taken, writes)) = (
+      before,
+      rest,
+      around,
+      inl (
+        (cut_literal l.token a.takes.cut a.takes.is_cut a.is_literal, sym same ∙ taken),
         subst (λ z. IsRewritten style before z e) (sym a.takes.is_cut.chars_are)
             (writes before (literal_front style macros t at out edits l new a)),
       ),
     )
-    go (inr (off, none)) = inr (λ taken. both_ways _ (sym same ∙ off) taken.1, none)
+    go (inr (off, none)) = (before, rest, around, inr (λ taken. both_ways _ (sym same ∙ off) taken.1, none))
 
 pub put_none : (style : Style) (macros : Macros) (t : List ℕ) (at : ℕ) (out : List ℕ) (edits : List (ℕ × ℕ × List ℕ))
     (l : Restylable) → IsTextOf style macros t l None → (old new : RestylableState)

@@ -39,12 +39,12 @@ in_style style macros t seen (w ∷ ws) [] sound are = absurd are
 in_style style macros t seen (w ∷ ws) (None ∷ es) (first, sound) (is, are) =
     (tt, in_style style macros t (seen_after seen w) ws es sound are)
 in_style style macros t seen (w ∷ ws) (Some new ∷ es) (first, sound)
-    (inl ((is, taken), (front, rest, text, place, (rewrites, differs))), are) = (
-      literal_in_style style t w.token w.at new front rest first is text place rewrites,
+    ((front, rest, around, inl ((is, taken), (rewrites, differs))), are) = (
+      literal_in_style style t w.token w.at new front around.after first is around.text_is around.at_is rewrites,
       in_style style macros t (seen_after seen w) ws es sound are,
     )
-in_style style macros t seen (w ∷ ws) (Some new ∷ es) (first, sound) (inr (not_taken, none), are) =
-    absurd (none-some new (sym none))
+in_style style macros t seen (w ∷ ws) (Some new ∷ es) (first, sound)
+    ((front, rest, around, inr (not_taken, none)), are) = absurd (none-some new (sym none))
 
 pub keeps_the_restyled_source : KeepsTheWholeSource
 keeps_the_restyled_source style macros t new edits r sound = keeps_the_edited_source style t r.cuts r.texts new []

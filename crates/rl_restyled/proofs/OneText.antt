@@ -1,18 +1,21 @@
 -- A source is one text in a style.
 use Rattle.rl_text.proofs.Common.{◌≡◌, ℕ, ◌+◌, inl, inr, List, [], ◌∷◌, ◌++◌, Option, Some, None, refl, sym, ◌∙◌, ap, subst, map, arith, encode_utf8_all, IsTrue}
+use Rattle.std.specs.Prelude.{◌⊎◌}
 use Rattle.rl_text.specs.Texts.{byte_len}
 use Rattle.std.proofs.lemmas.List.{append_cancel_left}
 use Rattle.rl_lexer.specs.BadQuotes.{WordQuote, RawWordQuote, DigitQuote, OtherQuote, ByteQuote}
+use Rattle.rl_lexer.specs.Skipping.{Skipped}
 use Rattle.rl_lexer.specs.Sources.{BadQuoteToken, BeginsNoSource, CutSource, DocBlockToken, DocLineToken, IsLiteralText, LifetimeToken, PlainToken, RawIdentifierToken, RawLifetimeToken, SourceKind, SourceLexeme, StrayToken, source_end, source_text, told}
+use Rattle.rl_lexer.proofs.Pieces.{one_rest}
 use Rattle.rl_lexer.proofs.SourceLaws.{one_cutting}
 use Rattle.rl_style.specs.Calls.{calls_after, is_in_call}
-use Rattle.rl_style.specs.Restylable.{dots_after, is_field}
+use Rattle.rl_style.specs.Restylable.{is_field, last_after}
 use Rattle.rl_style.specs.Restyled.{IsEdited, edited_text}
 use Rattle.rl_style.specs.declared.style.Style.{Style}
 use Rattle.rl_style.proofs.OneAnswer.{one_answer}
 use Rattle.rl_style.proofs.Places.{same_place}
 use Rattle.rl_style.proofs.Recut.{IsFull, lexeme_full}
-use Rattle.rl_restyled.specs.Edits.{AreEdits, HasOneText, IsEditOf, IsRewritten, Seen, is_chosen, nothing_seen, placed_edits, seen_after}
+use Rattle.rl_restyled.specs.Edits.{AreEdits, HasOneText, IsChosen, IsEditOf, IsRewritten, Seen, Surrounds, is_chosen, nothing_seen, placed_edits, seen_after}
 use Rattle.rl_restyled.specs.declared.edit.Macros.{Macros}
 
 -- ---- no token begins the end
@@ -46,7 +49,7 @@ end_of p = p.2 + byte_len p.1
 seen_same : (seen : Seen) (v w : CutSource) → told v ≡ told w → seen_after seen v ≡ seen_after seen w
 seen_same seen v w e =
     let after : Token → Seen = λ p. record {
-      dots = dots_after seen.dots seen.end p.0 p.2;
+      last = last_after seen.last seen.end p.0 p.2;
       end = end_of p;
       calls = calls_after seen.calls p.0 (encode_utf8_all p.1);
     } in
@@ -62,34 +65,55 @@ one_rewriting style front old None (Some y) r s = absurd (s.1 (r y s.0))
 
 one_edit : (style : Style) (macros : Macros) (t : List ℕ) (seen : Seen) (w : CutSource) (e f : Option (List ℕ))
     → IsEditOf style macros t seen w e → IsEditOf style macros t seen w f → e ≡ f
-one_edit style macros t seen w e f (inl (c, (front, rest, text, at, r))) (inl (d, (g, after, whole, place, s))) =
-    let same = same_place g front (source_text w.token ++ after) (source_text w.token ++ rest) (sym whole ∙ text)
-    (sym place ∙ at) in
-    one_rewriting style front (source_text w.token) e f r
-    (subst (λ z. IsRewritten style z (source_text w.token) f) same.0 s)
-one_edit style macros t seen w e f (inl (c, more)) (inr (stays, none)) = absurd (stays c)
-one_edit style macros t seen w e f (inr (stays, none)) (inl (c, more)) = absurd (stays c)
-one_edit style macros t seen w e f (inr (stays, none)) (inr (other, nothing)) = none ∙ sym nothing
+one_edit style macros t seen w e f (front, rest, here, is) (g, r, there, other) = go is
+    (subst (λ z. IsEdit z rest f) fronts.0 (subst (λ z. IsEdit g z f) rests other))
+  where
+    IsEdit : List ℕ → List ℕ → Option (List ℕ) → Type 0
+    IsEdit front rest e = (IsChosen macros seen w rest × IsRewritten style front (source_text w.token) e)
+        ⊎ ((IsChosen macros seen w rest → ⊥) × (e ≡ None))
+
+    fronts : (g ≡ front) × (source_text w.token ++ there.after ≡ source_text w.token ++ here.after)
+    fronts = same_place g front (source_text w.token ++ there.after) (source_text w.token ++ here.after)
+        (sym there.text_is ∙ here.text_is) (sym there.at_is ∙ here.at_is)
+
+    rests : r ≡ rest
+    rests = one_rest here.after r rest
+        (subst (λ z. Skipped z r) (append_cancel_left (source_text w.token) there.after here.after fronts.1)
+        there.skips)
+        here.skips
+
+    go : IsEdit front rest e → IsEdit front rest f → e ≡ f
+    go (inl (c, a)) (inl (d, b)) = one_rewriting style front (source_text w.token) e f a b
+    go (inl (c, a)) (inr (stays, none)) = absurd (stays c)
+    go (inr (stays, none)) (inl (c, b)) = absurd (stays c)
+    go (inr (stays, none)) (inr (other, nothing)) = none ∙ sym nothing
 
 -- of a token that is told alike
 edit_alike : (style : Style) (macros : Macros) (t : List ℕ) (seen : Seen) (v w : CutSource) (e : Option (List ℕ))
     → told v ≡ told w → IsEditOf style macros t seen v e → IsEditOf style macros t seen w e
-edit_alike style macros t seen v w e same (inl ((is, chosen), (front, rest, text, at, r))) =
-    let Is : Token → Type 0 = λ p. IsLiteralText p.0 p.1 in
-    let Chosen : Token → Type 0 = λ p. IsTrue (is_chosen macros (is_field seen.dots (encode_utf8_all p.1))
-    (is_in_call seen.calls)) in
-    let Stands : Token → Type 0 = λ p. t ≡ front ++ (p.1 ++ rest) in
-    let At : Token → Type 0 = λ p. p.2 ≡ byte_len front in
-    let Written : Token → Type 0 = λ p. IsRewritten style front p.1 e in
-    inl (
-      (subst Is same is, subst Chosen same chosen),
-      (front, rest, subst Stands same text, subst At same at, subst Written same r),
-    )
-edit_alike style macros t seen v w e same (inr (stays, none)) =
-    let Is : Token → Type 0 = λ p. IsLiteralText p.0 p.1 in
-    let Chosen : Token → Type 0 = λ p. IsTrue (is_chosen macros (is_field seen.dots (encode_utf8_all p.1))
-    (is_in_call seen.calls)) in
-    inr (λ chosen. stays (subst Is (sym same) chosen.0, subst Chosen (sym same) chosen.1), none)
+edit_alike style macros t seen v w e same (front, rest, around, is) = (front, rest, there, go is)
+  where
+    there : Surrounds t w front rest
+    there = record {
+      after = around.after;
+      text_is = subst (λ (p : Token). t ≡ front ++ (p.1 ++ around.after)) same around.text_is;
+      at_is = subst (λ (p : Token). p.2 ≡ byte_len front) same around.at_is;
+      skips = around.skips;
+    }
+
+    Chosen : Token → Type 0
+    Chosen p = IsLiteralText p.0 p.1
+        × IsTrue (is_chosen macros (is_field seen.last (encode_utf8_all p.1) rest) (is_in_call seen.calls))
+
+    Written : Token → Type 0
+    Written p = IsRewritten style front p.1 e
+
+    go : (IsChosen macros seen v rest × IsRewritten style front (source_text v.token) e)
+        ⊎ ((IsChosen macros seen v rest → ⊥) × (e ≡ None))
+        → (IsChosen macros seen w rest × IsRewritten style front (source_text w.token) e)
+        ⊎ ((IsChosen macros seen w rest → ⊥) × (e ≡ None))
+    go (inl (chosen, r)) = inl (subst Chosen same chosen, subst Written same r)
+    go (inr (stays, none)) = inr (λ chosen. stays (subst Chosen (sym same) chosen), none)
 
 -- ---- all of them
 

@@ -1,5 +1,5 @@
 -- Where the tokens of a source stand in it, and edits one after another.
-use Rattle.rl_text.proofs.Common.{◌≡◌, ℕ, ◌+◌, inl, inr, Bool, true, false, cond, ◌==◌, List, [], ◌∷◌, ◌++◌, Option, Some, None, refl, sym, ◌∙◌, ap, arith, append_assoc, append-nil}
+use Rattle.rl_text.proofs.Common.{◌≡◌, ℕ, ◌+◌, inl, inr, Bool, true, false, cond, ◌==◌, List, [], ◌∷◌, ◌++◌, Option, Some, None, refl, sym, ◌∙◌, ap, subst, arith, append_assoc, append-nil}
 use Rattle.rl_text.specs.Texts.{byte_len}
 use Rattle.rl_lexer.specs.Skipping.{Skipped}
 use Rattle.rl_lexer.specs.Sources.{CutSource, IsCutUpTo, IsWithoutLine, IsWithoutPreamble, SourcesUpTo, source_end, source_text, without_mark}
@@ -50,6 +50,7 @@ pub record LastAt (at : ℕ) (t : List ℕ) (w : CutSource) (r : List ℕ) : Typ
   pub gap : List ℕ
   pub text_is : t ≡ front ++ (source_text w.token ++ (gap ++ r))
   pub place_is : w.at ≡ at + byte_len front
+  pub skips : Skipped (gap ++ r) r
 
 -- after a front
 later : (from at : ℕ) (front t u : List ℕ) (w : CutSource) (r : List ℕ) → t ≡ front ++ u → from ≡ at + byte_len front
@@ -60,6 +61,7 @@ later from at front t u w r text place l = record {
   text_is = text ∙ ap (λ z. front ++ z) l.text_is
       ∙ sym (append_assoc front l.front (source_text w.token ++ (l.gap ++ r)));
   place_is = omega (arith, place, l.place_is, byte_len-append front l.front);
+  skips = l.skips;
 }
 
 -- a token at the front
@@ -88,6 +90,7 @@ last_cut at t [] w r (after, skipped, is, place, end) =
       gap = last.0;
       text_is = found.1 ∙ ap (λ z. found.0 ++ (source_text w.token ++ z)) last.1;
       place_is = found.2;
+      skips = subst (λ z. Skipped z r) last.1 end;
     }
 last_cut at t (v ∷ cuts) w r (after, skipped, is, place, more) =
     let s : List ℕ = source_text v.token in

@@ -1,16 +1,18 @@
--- A whole source in a style: which literals are written anew, and what the source is then. Texts are lists of characters.
+-- A whole source in a style: which literals are written anew, and what the source is then. Texts are lists of
+-- characters.
 use Rattle.std.specs.Prelude.{◌≡◌, ◌≢◌, ◌⊎◌, ℕ, Bool, not, ◌&&◌, List, [], ◌∷◌, ◌++◌, Option, Some, None, option_map, encode_utf8_all, String, string_bytes, IsFalse, IsTrue, ⊤}
 use Rattle.std.specs.List.{AllByRecursion}
 use Rattle.std.specs.Str.{chars}
 use Rattle.rl_text.specs.Texts.{byte_len}
+use Rattle.rl_lexer.specs.Skipping.{Skipped}
 use Rattle.rl_lexer.specs.Sources.{CutSource, IsCutUpTo, IsLiteralText, SourceError, source_end, source_kind, source_text}
 use Rattle.rl_style.specs.Calls.{CallState, Outside, calls_after, is_in_call}
 use Rattle.rl_style.specs.Recut.{IsSound, begins_with_code}
-use Rattle.rl_style.specs.Restylable.{dots_after, is_field}
+use Rattle.rl_style.specs.Restylable.{is_field, last_after}
 use Rattle.rl_style.specs.Restyled.{IsEdited, IsEditedSource}
 use Rattle.rl_style.specs.Rewriting.{Rewrites}
-use Rattle.rl_style.specs.declared.restylable.Dots.{Dots}
-use Rattle.rl_style.specs.declared.restylable.Dots.TheVariants.{No}
+use Rattle.rl_style.specs.declared.restylable.Last.{Last}
+use Rattle.rl_style.specs.declared.restylable.Last.TheVariants.{Other}
 use Rattle.rl_style.specs.declared.restylable.Restylable.{Restylable}
 use Rattle.rl_style.specs.declared.style.Style.{Style}
 use Rattle.rl_restyled.specs.Places.{StandsBetween}
@@ -22,21 +24,21 @@ use Rattle.rl_restyled.specs.declared.edit.RestyleError.TheVariants.{Script, Sou
 
 -- ---- which literals
 
--- What the tokens so far say of the next: how many dots end them, where the last ends, and what they say of a macro call.
+-- What the tokens so far say of the next: the last of them, where it ends, and what they say of a macro call.
 pub record Seen : Type 0 where
-  pub dots : Dots
+  pub last : Last
   pub end : ℕ
   pub calls : CallState
 
 abbrev pub nothing_seen : Seen
-nothing_seen = record { dots = No; end = 0; calls = Outside }
+nothing_seen = record { last = Other; end = 0; calls = Outside }
 
 abbrev pub cut_bytes : CutSource → List ℕ
 cut_bytes w = encode_utf8_all (source_text w.token)
 
 abbrev pub seen_after : Seen → CutSource → Seen
 seen_after seen w = record {
-  dots = dots_after seen.dots seen.end (source_kind w.token) w.at;
+  last = last_after seen.last seen.end (source_kind w.token) w.at;
   end = source_end w;
   calls = calls_after seen.calls (source_kind w.token) (cut_bytes w);
 }
@@ -46,11 +48,19 @@ abbrev pub is_chosen : Macros → Bool → Bool → Bool
 is_chosen Skip field inside = not field && not inside
 is_chosen All field inside = not field
 
--- the token is a literal that is to be written anew
-abbrev pub IsChosen : Macros → Seen → CutSource → Type 0
-IsChosen macros seen w =
+-- The token is a literal that is to be written anew, where this rest of the text follows it and the white space and
+-- comments after it.
+abbrev pub IsChosen : Macros → Seen → CutSource → List ℕ → Type 0
+IsChosen macros seen w rest =
     IsLiteralText (source_kind w.token) (source_text w.token)
-    × IsTrue (is_chosen macros (is_field seen.dots (cut_bytes w)) (is_in_call seen.calls))
+    × IsTrue (is_chosen macros (is_field seen.last (cut_bytes w) rest) (is_in_call seen.calls))
+
+-- The text is this front, the token, white space and comments, and this rest.
+pub record Surrounds (t : List ℕ) (w : CutSource) (front rest : List ℕ) : Type 0 where
+  pub after : List ℕ
+  pub text_is : t ≡ front ++ (source_text w.token ++ after)
+  pub at_is : w.at ≡ byte_len front
+  pub skips : Skipped after rest
 
 -- ---- what is written
 
@@ -60,16 +70,12 @@ abbrev pub IsRewritten : Style → List ℕ → List ℕ → Option (List ℕ) �
 IsRewritten style front old (Some new) = Rewrites style front old new × (new ≢ old)
 IsRewritten style front old None = (new : List ℕ) → Rewrites style front old new → new ≡ old
 
--- the same of a token of the text
-abbrev pub IsRewrittenAt : Style → List ℕ → CutSource → Option (List ℕ) → Type 0
-IsRewrittenAt style t w e =
-    (front rest : List ℕ) × (t ≡ front ++ (source_text w.token ++ rest)) × (w.at ≡ byte_len front)
-    × IsRewritten style front (source_text w.token) e
-
--- what is written in the place of any token
+-- what is written in the place of a token of the text
 abbrev pub IsEditOf : Style → Macros → List ℕ → Seen → CutSource → Option (List ℕ) → Type 0
 IsEditOf style macros t seen w e =
-    (IsChosen macros seen w × IsRewrittenAt style t w e) ⊎ ((IsChosen macros seen w → ⊥) × (e ≡ None))
+    (front rest : List ℕ) × Surrounds t w front rest
+    × ((IsChosen macros seen w rest × IsRewritten style front (source_text w.token) e)
+    ⊎ ((IsChosen macros seen w rest → ⊥) × (e ≡ None)))
 
 abbrev pub AreEdits : Style → Macros → List ℕ → Seen → List CutSource → List (Option (List ℕ)) → Type 0
 AreEdits style macros t seen [] [] = ⊤

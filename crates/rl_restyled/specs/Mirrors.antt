@@ -16,7 +16,7 @@ seen_all seen [] = seen
 seen_all seen (w ∷ ws) = seen_all (seen_after seen w) ws
 
 abbrev pub seen_of : RestylableState → Seen
-seen_of s = record { dots = s.dots; end = s.end; calls = s.calls }
+seen_of s = record { last = s.last; end = s.end; calls = s.calls }
 
 -- The literals were gone through up to this state. The text is the front up to a place, a tail up to the last token's end,
 -- white space and comments, and what is left; the new text is `out` up to that place, and the same tail.

@@ -4,63 +4,67 @@ use Rattle.rl_lexer.specs.Cursors.{CursorState}
 use Rattle.rl_lexer.specs.Sources.{BeginsNoSource, TakesSource, source_view}
 use Rattle.rl_lexer.specs.declared.sources.SourceToken.{SourceToken}
 use Rattle.rl_style.specs.Calls.{CallState, calls_after, is_in_call}
-use Rattle.rl_style.specs.declared.restylable.Dots.{Dots}
+use Rattle.rl_style.specs.declared.restylable.Last.{Last}
 use Rattle.rl_style.specs.declared.restylable.Restylable.{Restylable}
-use Rattle.rl_style.specs.Restylable.{GivesLiteral, GivesNone, Here, Behind, Passes, Stops, IsLiteralOfSource, RestylableState, dots_after, is_field, passed}
+use Rattle.rl_style.specs.Restylable.{GivesLiteral, GivesNone, Here, Behind, Passes, Stops, IsLiteralOfSource, RestylableState, is_field, last_after, passed}
 
-abbrev pub state : CursorState → Dots → ℕ → CallState → RestylableState
-state tokens dots end calls = record { tokens = tokens; dots = dots; end = end; calls = calls }
+abbrev pub state : CursorState → Last → ℕ → CallState → RestylableState
+state tokens last end calls = record { tokens = tokens; last = last; end = end; calls = calls }
 
 -- what the code keeps after a token of a state
-pub record Steps (s : RestylableState) (token : SourceToken) (dots : Dots) (calls : CallState) : Type 0 where
-  pub dots_are : dots ≡ dots_after s.dots s.end (source_view token.form) token.lo
+pub record Steps (s : RestylableState) (token : SourceToken) (last : Last) (calls : CallState) : Type 0 where
+  pub last_is : last ≡ last_after s.last s.end (source_view token.form) token.lo
   pub calls_are : calls ≡ calls_after s.calls (source_view token.form) token.text.now
 
 -- which is what was passed
-stepped : (P : RestylableState → Type 0) (s : RestylableState) (token : SourceToken) (tokens : CursorState) (dots : Dots)
-    (calls : CallState) → Steps s token dots calls → P (passed s token tokens) → P (state tokens dots token.hi calls)
-stepped P s token tokens dots calls steps h =
-    subst (λ (d : Dots). P (state tokens d token.hi calls)) (sym steps.dots_are)
-    (subst (λ (k : CallState). P (state tokens (dots_after s.dots s.end (source_view token.form) token.lo) token.hi k))
+stepped : (P : RestylableState → Type 0) (s : RestylableState) (token : SourceToken) (tokens : CursorState)
+    (last : Last)
+    (calls : CallState) → Steps s token last calls → P (passed s token tokens) → P (state tokens last token.hi calls)
+stepped P s token tokens last calls steps h =
+    subst (λ (d : Last). P (state tokens d token.hi calls)) (sym steps.last_is)
+    (subst (λ (k : CallState). P (state tokens (last_after s.last s.end (source_view token.form) token.lo) token.hi k))
     (sym steps.calls_are) h)
 
 unstepped : (P : RestylableState → Type 0) (s : RestylableState) (token : SourceToken) (tokens : CursorState)
-    (dots : Dots) (calls : CallState) → Steps s token dots calls → P (state tokens dots token.hi calls)
+    (last : Last) (calls : CallState) → Steps s token last calls → P (state tokens last token.hi calls)
     → P (passed s token tokens)
-unstepped P s token tokens dots calls steps h =
-    subst (λ (k : CallState). P (state tokens (dots_after s.dots s.end (source_view token.form) token.lo) token.hi k))
-    steps.calls_are (subst (λ (d : Dots). P (state tokens d token.hi calls)) steps.dots_are h)
+unstepped P s token tokens last calls steps h =
+    subst (λ (k : CallState). P (state tokens (last_after s.last s.end (source_view token.form) token.lo) token.hi k))
+    steps.calls_are (subst (λ (d : Last). P (state tokens d token.hi calls)) steps.last_is h)
 
 -- a literal comes next, where the tokens so far were passed
-pub literal_here : (was start s : RestylableState) (l : Restylable) (tokens : CursorState) (dots : Dots)
-    (calls : CallState) → start ≡ was → Steps s l.token dots calls → TakesSource s.tokens l.token tokens
-    → IsLiteralOfSource l.token → l.is_field ≡ is_field s.dots l.token.text.now → l.in_macro ≡ is_in_call s.calls
+pub literal_here : (was start s : RestylableState) (l : Restylable) (tokens : CursorState) (last : Last)
+    (calls : CallState) → start ≡ was → Steps s l.token last calls → TakesSource s.tokens l.token tokens
+    → IsLiteralOfSource l.token → l.is_field ≡ is_field s.last l.token.text.now (chars tokens.rest) → l.in_macro
+        ≡ is_in_call s.calls
     → ((it : Restylable) (new : RestylableState) → GivesLiteral s it new → GivesLiteral start it new)
-    → GivesLiteral was l (state tokens dots l.token.hi calls)
-literal_here was start s l tokens dots calls same steps takes is field inside on =
-    subst (λ (z : RestylableState). GivesLiteral z l (state tokens dots l.token.hi calls)) same
-    (stepped (GivesLiteral start l) s l.token tokens dots calls steps
+    → GivesLiteral was l (state tokens last l.token.hi calls)
+literal_here was start s l tokens last calls same steps takes is field inside on =
+    subst (λ (z : RestylableState). GivesLiteral z l (state tokens last l.token.hi calls)) same
+    (stepped (GivesLiteral start l) s l.token tokens last calls steps
     (on l (passed s l.token tokens) (Here takes is field inside)))
 
 -- no token does
-pub none_here : (was start s : RestylableState) (tokens : CursorState) → start ≡ was → BeginsNoSource (chars s.tokens.rest)
+pub none_here : (was start s : RestylableState) (tokens : CursorState) → start ≡ was
+    → BeginsNoSource (chars s.tokens.rest)
     → tokens ≡ s.tokens → ((new : RestylableState) → GivesNone s new → GivesNone start new)
-    → GivesNone was (state tokens s.dots s.end s.calls)
+    → GivesNone was (state tokens s.last s.end s.calls)
 none_here was start s tokens same none stays on =
-    subst (λ (z : RestylableState). GivesNone z (state tokens s.dots s.end s.calls)) same
-    (subst (λ (t : CursorState). GivesNone start (state t s.dots s.end s.calls)) (sym stays) (on s (Stops none)))
+    subst (λ (z : RestylableState). GivesNone z (state tokens s.last s.end s.calls)) same
+    (subst (λ (t : CursorState). GivesNone start (state t s.last s.end s.calls)) (sym stays) (on s (Stops none)))
 
 -- a token that is none comes first
-pub literal_behind : (s : RestylableState) (token : SourceToken) (tokens : CursorState) (dots : Dots) (calls : CallState)
-    → Steps s token dots calls → TakesSource s.tokens token tokens → (IsLiteralOfSource token → ⊥)
-    → (it : Restylable) (new : RestylableState) → GivesLiteral (state tokens dots token.hi calls) it new
+pub literal_behind : (s : RestylableState) (token : SourceToken) (tokens : CursorState) (last : Last)
+    (calls : CallState)
+    → Steps s token last calls → TakesSource s.tokens token tokens → (IsLiteralOfSource token → ⊥)
+    → (it : Restylable) (new : RestylableState) → GivesLiteral (state tokens last token.hi calls) it new
     → GivesLiteral s it new
-literal_behind s token tokens dots calls steps takes no_literal it new g =
+literal_behind s token tokens last calls steps takes no_literal it new g =
     Behind takes no_literal
-    (unstepped (λ (z : RestylableState). GivesLiteral z it new) s token tokens dots calls steps g)
+    (unstepped (λ (z : RestylableState). GivesLiteral z it new) s token tokens last calls steps g)
 
-pub none_behind : (s : RestylableState) (token : SourceToken) (tokens : CursorState) (dots : Dots) (calls : CallState)
-    → Steps s token dots calls → TakesSource s.tokens token tokens → (IsLiteralOfSource token → ⊥)
-    → (new : RestylableState) → GivesNone (state tokens dots token.hi calls) new → GivesNone s new
-none_behind s token tokens dots calls steps takes no_literal new g =
-    Passes takes no_literal (unstepped (λ (z : RestylableState). GivesNone z new) s token tokens dots calls steps g)
+pub none_behind : (s : RestylableState) (token : SourceToken) (tokens : CursorState) (last : Last) (calls : CallState)
+    → Steps s token last calls → TakesSource s.tokens token tokens → (IsLiteralOfSource token → ⊥)
+    → (new : RestylableState) → GivesNone (state tokens last token.hi calls) new → GivesNone s new
+none_behind s token tokens last calls steps takes no_literal new g =
+    Passes takes no_literal (unstepped (λ (z : RestylableState). GivesNone z new) s token tokens last calls steps g)

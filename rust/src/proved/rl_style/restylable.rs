@@ -3,13 +3,19 @@
 
 use crate::rl_style::calls::{Calls, calls_after, is_in_call};
 use crate::rl_lexer::{Form, LexError, SourceForm, SourceToken, Sources};
+use crate::rl_text::text::{begins_with, strip_byte};
 
-/// How many dots end the tokens so far, one right after the other.
+/// The last token, by what it says of a number that follows.
 #[derive(Clone, Copy)]
-pub(crate) enum Dots {
-    No,
-    One,
-    More,
+pub(crate) enum Last {
+    /// Another token, or none.
+    Other,
+    /// One dot: the number is a field, as in `t.0`.
+    Dot,
+    /// A dot right after a dot.
+    Dots,
+    /// `{`, `,`, the `]` that ends an attribute, or a doc comment: the number is a field where one colon follows, as in `S { 0: x }`.
+    Opening,
 }
 
 /// A literal of a source.
@@ -17,8 +23,9 @@ pub(crate) enum Dots {
 pub struct Restylable<'t> {
     /// Its token. What stands in front of it in the source, up to its `lo`, [`rewrite_into`](crate::rl_style::rewrite_into) takes too.
     pub token: SourceToken<'t>,
-    /// Whether it may be a field of a tuple, as in `t.0`: a number after one dot. Then it isn't to be written anew, since a field has
-    /// one name.
+    /// Whether it may be a field of a tuple: a number after one dot, as in `t.0`, or one that a single `:` follows, after `{`, `,`, `]`
+    /// or a doc comment, as in `S { 0: x }` and `S { #[a] 0: x }`. White space and plain comments may stand between. A field has one
+    /// name: it isn't to be written anew.
     pub is_field: bool,
     /// Whether it stands inside of a macro call, a macro's definition or an attribute, where a macro may see how it is written. By
     /// tokens alone: after a word, `!` and a bracket, other words between the two as in `macro_rules! m {`, or after `#[` and `#![`,
@@ -30,26 +37,50 @@ pub struct Restylable<'t> {
 /// It takes no memory.
 pub struct Restylables<'t> {
     tokens: Sources<'t>,
-    dots: Dots,
+    last: Last,
     // the place after the last token
     end: usize,
     calls: Calls<'t>,
 }
 
-/// How many dots end the tokens after one more.
-fn dots_after(dots: Dots, end: usize, token: SourceToken<'_>) -> Dots {
-    if !matches!(token.form, SourceForm::Token(Form::Mark('.'))) {
-        return Dots::No;
-    }
-    match dots {
-        Dots::One | Dots::More if token.lo == end => Dots::More,
-        _ => Dots::One,
+/// One dot more, which may be joined to the token before it.
+fn one_more(last: Last, is_joined: bool) -> Last {
+    match last {
+        Last::Dot | Last::Dots if is_joined => Last::Dots,
+        _ => Last::Dot,
     }
 }
 
-/// Whether a literal after so many dots may be a field.
-fn is_field(dots: Dots, token: SourceToken<'_>) -> bool {
-    matches!(dots, Dots::One) && matches!(token.text.as_bytes(), [b'0'..=b'9', ..])
+/// The last token, after one more, where the one before it ends at `end`.
+fn last_after(last: Last, end: usize, token: SourceToken<'_>) -> Last {
+    match token.form {
+        SourceForm::Token(Form::Mark('.')) => one_more(last, token.lo == end),
+        SourceForm::Token(Form::Mark(',') | Form::Delimiter('{' | ']')) | SourceForm::DocComment =>
+            Last::Opening,
+        _ => Last::Other,
+    }
+}
+
+/// Whether a text begins with one colon: `::` is another token.
+fn begins_one_colon(text: &str) -> bool {
+    match strip_byte(text, b':') {
+        Some(following) => !begins_with(following, ':'),
+        None => false,
+    }
+}
+
+/// Whether a number is a field after the last token, where `rest` follows it and the white space and comments after it.
+fn names_field(last: Last, rest: &str) -> bool {
+    match last {
+        Last::Dot => true,
+        Last::Opening => begins_one_colon(rest),
+        Last::Other | Last::Dots => false,
+    }
+}
+
+/// Whether a literal may be a field.
+fn is_field(last: Last, token: SourceToken<'_>, rest: &str) -> bool {
+    matches!(token.text.as_bytes(), [b'0'..=b'9', ..]) && names_field(last, rest)
 }
 
 impl<'t> Restylables<'t> {
@@ -57,7 +88,7 @@ impl<'t> Restylables<'t> {
     pub fn new(text: &'t str) -> Restylables<'t> {
         Restylables {
             tokens: Sources::new(text),
-            dots: Dots::No,
+            last: Last::Other,
             end: 0,
             calls: Calls::Outside,
         }
@@ -66,19 +97,26 @@ impl<'t> Restylables<'t> {
     /// The next literal: a literal token, whether it reads or not, or one of the words `true` and `false`. `None` at the end of the
     /// source and at its first error, which [`Restylables::error`] tells.
     pub fn next(&mut self) -> Option<Restylable<'t>> {
+        let (mut last, mut end, mut calls) = (self.last, self.end, self.calls);
         while let Some(token) = self.tokens.next() {
-            let (dots, calls) = (self.dots, self.calls);
-            self.dots = dots_after(dots, self.end, token);
-            self.end = token.hi;
-            self.calls = calls_after(calls, token);
+            let (before, around) = (last, calls);
+            last = last_after(before, end, token);
+            end = token.hi;
+            calls = calls_after(around, token);
             if token.is_literal() {
+                self.last = last;
+                self.end = end;
+                self.calls = calls;
                 return Some(Restylable {
                     token,
-                    is_field: is_field(dots, token),
-                    in_macro: is_in_call(calls),
+                    is_field: is_field(before, token, self.tokens.rest()),
+                    in_macro: is_in_call(around),
                 });
             }
         }
+        self.last = last;
+        self.end = end;
+        self.calls = calls;
         None
     }
 

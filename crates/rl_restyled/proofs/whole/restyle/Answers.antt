@@ -7,7 +7,7 @@ pub loop-literal-init : goal.loop-literal-init
 loop-literal-init g c =
     let start = c.new-literals.ensures in
     draft_start c.args.style c.args.macros c.args.text.now c.new-literals.result 0 (chars (string_bytes c.new.result))
-    (map edit_in c.new-2.result.items) start.text start.following start.begun start.no_dots start.end start.no_call refl
+    (map edit_in c.new-2.result.items) start.text start.following start.begun start.nothing start.end start.no_call refl
     (ap chars c.new.ensures.bytes ∙ chars-nil) (ap (map edit_in) c.new-2.ensures.items)
 
 pub loop-literal-preserved : goal.loop-literal-preserved

@@ -1,6 +1,6 @@
 // Rendered from crates/rl_fixes/src/lib.rt by tools/render, which erases contracts: change that file, and render anew.
-//! Sources that are written anew, unless Rust rejects something of them; and what is printed of that: a line for each change, or a
-//! unified diff.
+//! Sources that are written anew, unless a token of them is bad or not closed; and what is printed of that: a line for each change, or
+//! a unified diff.
 
 mod change;
 mod changes;

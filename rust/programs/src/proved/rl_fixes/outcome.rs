@@ -1,5 +1,5 @@
 // Rendered from crates/rl_fixes/src/outcome.rt by tools/render, which erases contracts: change that file, and render anew.
-//! A source that is written anew, unless Rust rejects something of it.
+//! A source that is written anew, unless a token of it is bad or not closed.
 
 use crate::rattle_std::prelude::{String, Vec};
 use crate::rl_output::Form;
@@ -10,7 +10,7 @@ use crate::rattle_std::alloc::{AllocError, Allocator, Global};
 
 /// What becomes of a source.
 pub enum Outcome<A: Allocator = Global> {
-    /// Rust rejects it: a line for each reason.
+    /// A token of it is bad or not closed: a line for each reason.
     Rejected(Vec<u8, A>),
     /// It is left alone: it begins with `#!` and not with `#![`, as an interpreter's line does.
     Script,
@@ -40,7 +40,7 @@ pub fn judging(edition: Edition, by_line: bool, path: Option<&str>) -> Options<'
     }
 }
 
-/// The lines of what Rust rejects of a source.
+/// The lines of a source's bad tokens, and of a quote or a comment that isn't closed.
 fn rejections<A: Allocator + Copy>(
     alloc: A,
     options: Options<'_>,
@@ -70,7 +70,7 @@ fn restyled<A: Allocator + Copy>(
     }
 }
 
-/// What becomes of a source: it is written anew, unless Rust rejects something of it, or it begins as an interpreter's line does.
+/// What becomes of a source: it is written anew, unless a token of it is bad or not closed, or it begins as an interpreter's line does.
 ///
 /// # Errors
 ///

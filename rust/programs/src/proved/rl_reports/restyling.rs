@@ -167,7 +167,7 @@ fn report_change<A: Allocator + Copy, F: Replace>(
     }
 }
 
-/// What is reported where Rust rejects this of a text: that alone, on standard error.
+/// What is reported where a text has these errors: their lines alone, on standard error.
 fn report_rejected<A: Allocator + Copy>(alloc: A, lines: Vec<u8, A>) -> Report<A> {
     Report {
         out: Vec::new(alloc),
@@ -216,7 +216,7 @@ fn report_script<A: Allocator + Copy>(
     })
 }
 
-/// What is reported of a source in a style: what Rust rejects of it, else a warning where it is left alone, else what is new.
+/// What is reported of a source in a style: its errors, else a warning where it is left alone, else what is new.
 pub(crate) fn report_restyled<A: Allocator + Copy, F: Replace>(
     alloc: A,
     command: Command<'_>,

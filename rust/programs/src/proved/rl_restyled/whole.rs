@@ -20,9 +20,10 @@ fn finished<A: Allocator>(source: &str, draft: Draft<A>) -> Result<Restyled<A>, 
     }
 }
 
-/// The source in the style, and what is new in it: each literal that the style writes otherwise. As they are stay literals that Rust
-/// rejects, numbers after one dot, which may be fields (`t.0`), and with `Macros::Skip` what stands inside of macro calls,
-/// `macro_rules!` and attributes. The new text is cut into the same tokens, but for what was written, which is of the same kind.
+/// The source in the style, and what is new in it: each literal that the style writes otherwise. These stay as they are: texts that are
+/// no literal tokens, numbers that may be fields (`t.0`, `S { 0: x }`), and with `Macros::Skip` literals inside
+/// of macro calls, `macro_rules!` and attributes. The new text is cut into the same tokens, but for what was written, which is of the
+/// same kind.
 ///
 /// # Errors
 ///

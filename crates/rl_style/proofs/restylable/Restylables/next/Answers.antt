@@ -1,20 +1,21 @@
-use Rattle.rl_text.proofs.Common.{ap, arith, both_ways, length}
+use Rattle.rl_text.proofs.Common.{◌∙◌, ap, arith, both_ways, chars, length}
 use Rattle.rl_style.specs.Calls.{calls_seen}
-use Rattle.rl_style.specs.Restylable.{IsLiteralOfSource, RestylableState}
+use Rattle.rl_style.specs.Restylable.{IsLiteralOfSource, RestylableState, is_field}
 use Rattle.rl_style.proofs.RestylableLemmas.{Steps, literal_behind, literal_here, none_behind, none_here, state}
 use Rattle.rl_style.proofs.restylable.Restylables.next.Goals as goal
 
 pub returns-then-is_literal-clause-found : goal.returns-then-is_literal-clause-found
 returns-then-is_literal-clause-found c =
-    let now = c.loop-token.self-inside in
-    literal_here c.args.self.now (state c.self.inside.tokens c.self.inside.dots c.self.inside.end (calls_seen c.self.inside.calls))
-    (state now.tokens now.dots now.end (calls_seen now.calls))
+    let first = c.self.inside in
+    let now = c.loop-token in
+    literal_here c.args.self.now (state first.tokens first.last first.end (calls_seen first.calls))
+    (state now.self-inside.tokens now.last now.end (calls_seen now.calls))
     (record { token = c.in-Some.token; is_field = c.is_field.result; in_macro = c.is_in_call.result })
-    c.next.new.self c.dots_after-self-inside.result (calls_seen c.calls_after-self-inside.result) c.self.view_is
-    (record { dots_are = c.dots_after-self-inside.ensures; calls_are = c.calls_after-self-inside.ensures })
-    c.in-Some.ensures.next
-    (c.is_literal.ensures.0 c.if-is_literal.true) c.is_field.ensures c.is_in_call.ensures
-    c.loop-token.invariant.literal
+    c.next.new.self c.last_after-last.result (calls_seen c.calls_after-calls.result) c.self.view_is
+    (record { last_is = c.last_after-last.ensures; calls_are = c.calls_after-calls.ensures })
+    c.in-Some.ensures.next (c.is_literal.ensures.0 c.if-is_literal.true)
+    (c.is_field.ensures ∙ ap (λ z. is_field now.last c.in-Some.token.text.now (chars z)) c.rest.ensures)
+    c.is_in_call.ensures c.loop-token.invariant.literal
 
 pub returns-then-is_literal-clause-shorter : goal.returns-then-is_literal-clause-shorter
 returns-then-is_literal-clause-shorter c = omega (
@@ -26,25 +27,26 @@ returns-then-is_literal-clause-shorter c = omega (
 
 pub loop-token-preserved : goal.loop-token-preserved
 loop-token-preserved c =
-    let now = c.loop-token.self-inside in
-    let was = state now.tokens now.dots now.end (calls_seen now.calls) in
-    let steps : Steps was c.in-Some.token c.dots_after-self-inside.result (calls_seen c.calls_after-self-inside.result) =
-    record { dots_are = c.dots_after-self-inside.ensures; calls_are = c.calls_after-self-inside.ensures } in
-    let no_literal : IsLiteralOfSource c.in-Some.token → ⊥ = λ is. both_ways _ c.if-is_literal.false (c.is_literal.ensures.1 is) in
+    let now = c.loop-token in
+    let was = state now.self-inside.tokens now.last now.end (calls_seen now.calls) in
+    let last = c.last_after-last.result in
+    let calls = calls_seen c.calls_after-calls.result in
+    let steps : Steps was c.in-Some.token last calls =
+    record { last_is = c.last_after-last.ensures; calls_are = c.calls_after-calls.ensures } in
+    let no_literal : IsLiteralOfSource c.in-Some.token → ⊥ = λ is. both_ways _ c.if-is_literal.false
+    (c.is_literal.ensures.1 is) in
     record {
       nearer = omega (arith, c.in-Some.ensures.shorter, c.loop-token.invariant.nearer);
-      literal = λ it new g. c.loop-token.invariant.literal it new (literal_behind was
-          c.in-Some.token c.next.new.self c.dots_after-self-inside.result (calls_seen c.calls_after-self-inside.result) steps
-          c.in-Some.ensures.next no_literal it new g);
-      none = λ new g. c.loop-token.invariant.none new (none_behind was c.in-Some.token
-          c.next.new.self c.dots_after-self-inside.result (calls_seen c.calls_after-self-inside.result) steps
-          c.in-Some.ensures.next no_literal new g);
+      literal = λ it new g. c.loop-token.invariant.literal it new
+          (literal_behind was c.in-Some.token c.next.new.self last calls steps c.in-Some.ensures.next no_literal it new g);
+      none = λ new g. c.loop-token.invariant.none new
+          (none_behind was c.in-Some.token c.next.new.self last calls steps c.in-Some.ensures.next no_literal new g);
     }
 
 pub returns-clause-none : goal.returns-clause-none
 returns-clause-none c =
-    let now = c.loop-token.self-inside in
-    none_here c.args.self.now (state c.self.inside.tokens c.self.inside.dots c.self.inside.end (calls_seen c.self.inside.calls))
-    (state now.tokens now.dots now.end (calls_seen now.calls)) c.next.new.self c.self.view_is c.in_default.ensures.none
-    c.in_default.ensures.stays
-    c.loop-token.invariant.none
+    let first = c.self.inside in
+    let now = c.loop-token in
+    none_here c.args.self.now (state first.tokens first.last first.end (calls_seen first.calls))
+    (state now.self-inside.tokens now.last now.end (calls_seen now.calls)) c.next.new.self c.self.view_is
+    c.in_default.ensures.none c.in_default.ensures.stays c.loop-token.invariant.none

@@ -2,26 +2,24 @@
 use Rattle.std.proofs.Common.{ℕ, ◌≤◌, length}
 use Rattle.rl_lexer.specs.Cursors.{CursorState}
 use Rattle.rl_style.specs.Calls.{CallState, calls_seen}
-use Rattle.rl_style.specs.declared.restylable.Dots.{Dots}
+use Rattle.rl_style.specs.declared.restylable.Last.{Last}
 use Rattle.rl_style.specs.declared.restylable.Restylable.{Restylable}
 use Rattle.rl_style.specs.Restylable.{GivesLiteral, GivesNone, RestylableState}
 use Rattle.rl_style.proofs.restylable.Restylables.next.Given as goal
 
-abbrev state : CursorState → Dots → ℕ → CallState → RestylableState
-state tokens dots end calls = record { tokens = tokens; dots = dots; end = end; calls = calls }
+abbrev state : CursorState → Last → ℕ → CallState → RestylableState
+state tokens last end calls = record { tokens = tokens; last = last; end = end; calls = calls }
 
 abbrev pub invariant-loop-token : goal.invariant-loop-token
 invariant-loop-token l = record {
   nearer : length l.self-inside.tokens.rest ≤ length l.initial.self-inside.tokens.rest;
   literal : (it : Restylable) (new : RestylableState)
-      → GivesLiteral (state l.self-inside.tokens l.self-inside.dots l.self-inside.end
-      (calls_seen l.self-inside.calls)) it new
-      → GivesLiteral (state l.initial.self-inside.tokens l.initial.self-inside.dots l.initial.self-inside.end
+      → GivesLiteral (state l.self-inside.tokens l.last l.end (calls_seen l.calls)) it new
+      → GivesLiteral (state l.initial.self-inside.tokens l.initial.self-inside.last l.initial.self-inside.end
       (calls_seen l.initial.self-inside.calls)) it new;
   none : (new : RestylableState)
-      → GivesNone (state l.self-inside.tokens l.self-inside.dots l.self-inside.end
-      (calls_seen l.self-inside.calls)) new
-      → GivesNone (state l.initial.self-inside.tokens l.initial.self-inside.dots l.initial.self-inside.end
+      → GivesNone (state l.self-inside.tokens l.last l.end (calls_seen l.calls)) new
+      → GivesNone (state l.initial.self-inside.tokens l.initial.self-inside.last l.initial.self-inside.end
       (calls_seen l.initial.self-inside.calls)) new;
 }
 
