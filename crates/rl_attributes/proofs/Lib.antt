@@ -3,3 +3,4 @@ pub mod EntryLemmas
 pub mod FlatEntries
 pub mod FlatSettings
 pub mod NameKeys
+pub mod TextLemmas

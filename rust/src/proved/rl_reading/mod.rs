@@ -11,6 +11,8 @@ pub mod quoted_forms;
 mod segments;
 mod source_literals;
 pub mod units;
+#[cfg(feature = "rendered")]
+mod values;
 
 pub use crate::rl_reading::contents::bytes_into;
 #[cfg(feature = "rendered")]
