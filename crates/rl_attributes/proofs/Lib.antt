@@ -4,3 +4,4 @@ pub mod FlatEntries
 pub mod FlatSettings
 pub mod NameKeys
 pub mod TextLemmas
+pub mod Theorems

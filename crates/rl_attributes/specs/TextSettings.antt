@@ -79,10 +79,6 @@ pub record IsNumberOf (digits : List ℕ) (a : Attribute) : Type 0 where
   pub number : HasContents IntKind (chars a.literal.text) (Digits (chars digits))
       ⊎ HasContents FloatKind (chars a.literal.text) (Digits (chars digits))
 
--- the literal is a number, and the number type makes this value of its digits
-abbrev pub IsNumberMade : {N E : Type 0} → (List ℕ → Result N E → Type 0) → N → Attribute → Type 0
-IsNumberMade gives value a = (digits : List ℕ) × IsNumberOf digits a × gives digits (Ok value)
-
 -- the name is set to a string of these bytes
 abbrev pub IsStringAt : List ℕ → List ℕ → List Attribute → Type 0
 IsStringAt name value list = IsSetTo name (IsStringOf value) list
@@ -95,9 +91,9 @@ IsTruthAt name value list = IsSetTo name (IsTruthOf value) list
 abbrev pub AreDigitsAt : List ℕ → List ℕ → List Attribute → Type 0
 AreDigitsAt name digits list = IsSetTo name (IsNumberOf digits) list
 
--- the name is set to a number of which the type makes this value
+-- the name is set to a number of whose digits the number type makes this value
 abbrev pub IsNumberAt : {N E : Type 0} → (List ℕ → Result N E → Type 0) → List ℕ → N → List Attribute → Type 0
-IsNumberAt gives name value list = IsSetTo name (IsNumberMade gives value) list
+IsNumberAt gives name value list = (digits : List ℕ) × AreDigitsAt name digits list × gives digits (Ok value)
 
 -- the name is set to this truth value, or isn't set, and this is the default
 abbrev pub IsTruthOr : List ℕ → Truth → Truth → List Attribute → Type 0

@@ -109,9 +109,9 @@ impl<A: Allocator> Attrs<A> {
         ensures rejected { IfErr result
             (RejectsSetValue setting (entries_of self.now) (RejectsTruth setting)) }
     {
-        match self.truth(setting) {
-            Ok(Some(truth)) => Ok(truth),
-            Ok(None) => Ok(default),
+        let found = self.truth(setting);
+        match found {
+            Ok(found) => Ok(found.unwrap_or(default)),
             Err(error) => Err(error),
         }
     }

@@ -83,6 +83,60 @@ where
 }
 
 impl<A: Allocator> Attrs<A> {
+    /// The string that a setting is set to.
+    fn found_string(&self, alloc: A, setting: Setting) -> Result<Option<String<A>>, SettingError<A>>
+        ensures set { IfOk result (IsSetAs setting (entries_of self.now) IsStringSet) }
+        ensures rejected { IfErr result
+            (RejectsSetValue setting (entries_of self.now) (RejectsString setting)) }
+    {
+        let Some(value) = self.get(setting.name) else {
+            return Ok(None);
+        };
+        match string_of(alloc, setting, value) {
+            Ok(text) => Ok(Some(text)),
+            Err(error) => Err(error),
+        }
+    }
+
+    /// The number that a setting is set to.
+    fn found_number<N: FromStr>(
+        &self,
+        alloc: A,
+        setting: Setting,
+    ) -> Result<Option<N>, SettingError<A>>
+    where
+        N::Err: Display + Drop,
+        ensures set { IfOk result
+            (IsSetAs setting (entries_of self.now) (IsNumberSet N.from_str_gives)) }
+        ensures rejected { IfErr result (RejectsSetValue setting (entries_of self.now)
+            (RejectsNumber N.from_str_gives N.Err.output setting)) }
+    {
+        let Some(value) = self.get(setting.name) else {
+            return Ok(None);
+        };
+        match number_of(alloc, setting, value) {
+            Ok(number) => Ok(Some(number)),
+            Err(error) => Err(error),
+        }
+    }
+
+    /// The truth value that a setting is set to.
+    fn found_truth(&self, setting: Setting) -> Result<Option<bool>, SettingError<A>>
+        ensures set { IfOk result (IsSetAs setting (entries_of self.now) IsTruthSet) }
+        ensures rejected { IfErr result
+            (RejectsSetValue setting (entries_of self.now) (RejectsTruth setting)) }
+    {
+        let Some(value) = self.get(setting.name) else {
+            return Ok(None);
+        };
+        match truth_of(setting, value) {
+            Ok(truth) => Ok(Some(truth)),
+            Err(error) => Err(error),
+        }
+    }
+}
+
+impl<A: Allocator> Attrs<A> {
     /// The string that a setting is set to, decoded; `None` where it isn't set.
     ///
     /// # Errors
@@ -117,13 +171,7 @@ impl<A: Allocator> Attrs<A> {
             → IsSomeStringOrMemory value result }
         ensures unset { IsUnset setting.name.now (list_of self.now) → IsOkAnd result (λ found. found ≡ None) }
     {
-        let Some(value) = self.get(setting.name) else {
-            return Ok(None);
-        };
-        match string_of(alloc, setting, value) {
-            Ok(text) => Ok(Some(text)),
-            Err(error) => Err(error),
-        }
+        self.found_string(alloc, setting)
     }
 
     /// The number that a setting is set to, as its type makes one of the digits in base ten; `None` where it isn't set. Of
@@ -153,13 +201,7 @@ impl<A: Allocator> Attrs<A> {
             → IsSomeNumberOrRejected N.from_str_gives digits result }
         ensures unset { IsUnset setting.name.now (list_of self.now) → IsOkAnd result (λ found. found ≡ None) }
     {
-        let Some(value) = self.get(setting.name) else {
-            return Ok(None);
-        };
-        match number_of(alloc, setting, value) {
-            Ok(number) => Ok(Some(number)),
-            Err(error) => Err(error),
-        }
+        self.found_number(alloc, setting)
     }
 
     /// The truth value that a setting is set to; `None` where it isn't set. It takes no memory.
@@ -180,13 +222,7 @@ impl<A: Allocator> Attrs<A> {
             → result ≡ Ok (Some value) }
         ensures unset { IsUnset setting.name.now (list_of self.now) → IsOkAnd result (λ found. found ≡ None) }
     {
-        let Some(value) = self.get(setting.name) else {
-            return Ok(None);
-        };
-        match truth_of(setting, value) {
-            Ok(truth) => Ok(Some(truth)),
-            Err(error) => Err(error),
-        }
+        self.found_truth(setting)
     }
 
     /// The error that a setting has to be set and isn't, where the settings end: what a reader returns who was given `None`

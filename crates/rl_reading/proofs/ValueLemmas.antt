@@ -1,5 +1,5 @@
 -- The value of an integer that was found.
-use Rattle.rl_text.proofs.Common.{◌≡◌, ℕ, ◌<◌, ◌≤◌, ◌^◌, ◌-◌, ◌⊎◌, inl, inr, Bool, true, false, List, [], ◌∷◌, length, drop, refl, sym, ap, subst, ◌∙◌, arith, rules, chars, chars-nil, encodes-chars, encode_utf8_all, both_ways, eqb, eqb-true, not, ◌≢◌, IsUtf8, IsUtf8-drop, IsCharBoundary, IsTrue}
+use Rattle.rl_text.proofs.Common.{◌≡◌, ℕ, ◌<◌, ◌≤◌, ◌^◌, ◌-◌, ◌⊎◌, inl, inr, Bool, true, false, List, [], ◌∷◌, ◌++◌, length, drop, refl, sym, ap, subst, ◌∙◌, arith, rules, chars, chars-nil, encodes-chars, encode_utf8_all, both_ways, eqb, eqb-true, not, ◌≢◌, IsUtf8, IsUtf8-drop, IsCharBoundary, IsTrue}
 use Rattle.std.proofs.Common.{Option, Some, None, ℤ}
 use Rattle.std.specs.Prelude.{IfSome, IfNone, MatchBool}
 use Rattle.std.proofs.Math.Seq.{drop-length}
@@ -187,7 +187,7 @@ found_suffix : (t : List ℕ) (f : Found) → IsFound t f → (k : Kind) (v : Co
     → x ≡ chars (suffix_in t f.body)
 found_suffix t f h k v x r = (one_reading (chars t) k f.kind v h.reads.0 x _ r h.reads.1).2
 
-pub ends_bare : (t : List ℕ) (f : Found) → IsFound t f → f.body.suffix_at ≡ length t
+ends_bare : (t : List ℕ) (f : Found) → IsFound t f → f.body.suffix_at ≡ length t
     → (k : Kind) (v : Contents) (x : List ℕ) → Reads (chars t) k v x → x ≡ []
 ends_bare t f h at k v x r = found_suffix t f h k v x r ∙ bare t f.body.suffix_at at
 
@@ -201,7 +201,13 @@ pub whole_utf8 : (o : Option ℕ) (t : List ℕ) → IsUtf8 t → IsUtf8 (with_m
 whole_utf8 (Some place) t u = IsUtf8-append (45 ∷ []) t (IsUtf8-from_ascii (45 ∷ []) (search rules)) u
 whole_utf8 None t u = u
 
-pub ends_suffixed : (t : List ℕ) (f : Found) → IsUtf8 t → IsFound t f → (f.body.suffix_at ≡ length t → ⊥)
+ends_suffixed : (t : List ℕ) (f : Found) → IsUtf8 t → IsFound t f → (f.body.suffix_at ≡ length t → ⊥)
     → (k : Kind) (v : Contents) (x : List ℕ) → Reads (chars t) k v x → x ≢ []
 ends_suffixed t f u h ne k v x r e =
     not_bare t f.body.suffix_at u h.stands.following ne (sym (found_suffix t f h k v x r) ∙ e)
+
+pub suffix_told : (t : List ℕ) (f : Found) (ends : Bool) → IsUtf8 t → IsFound t f
+    → MatchBool ends (f.body.suffix_at ≡ length t) (f.body.suffix_at ≢ length t)
+    → (k : Kind) (v : Contents) (x : List ℕ) → Reads (chars t) k v x → MatchBool (not ends) (x ≢ []) (x ≡ [])
+suffix_told t f true u h at k v x r = ends_bare t f h at k v x r
+suffix_told t f false u h ne k v x r = ends_suffixed t f u h ne k v x r

@@ -8,7 +8,7 @@ ghost use Rattle.rl_forms.specs.Reading.{Characters, Contents, HasNoReading, Rea
 ghost use Rattle.rl_forms.specs.Numbers.{NoSign, Minus};
 ghost use Rattle.rl_reading.specs.Founds.{IsFound, StandsIn, body_in, suffix_in};
 ghost use Rattle.rl_reading.specs.Mirrors.NumberAt.{sign_at};
-ghost use Rattle.rl_reading.specs.Values.{HasIntegerValue, HasNoValue, IsPastSigned, IsReadLiteral, signed, whole_text};
+ghost use Rattle.rl_reading.specs.Values.{HasIntegerValue, HasNoValue, IsPastSigned, IsReadLiteral, signed, whole_text, with_minus};
 
 use crate::contents::str_into;
 use crate::digit_runs::is_negative;
@@ -102,6 +102,18 @@ impl Found {
     }
 }
 
+/// Whether the text of a literal ends at this byte: its token's, after the minus where there is one.
+fn ends_at(text: &str, minus_at: Option<usize>, at: usize) -> bool
+    ensures ends { MatchBool result (at ≡ length (with_minus minus_at text.now))
+        (at ≢ length (with_minus minus_at text.now)) }
+    ensures utf8 { IsUtf8 (with_minus minus_at text.now) }
+{
+    match minus_at {
+        Some(_) => at == text.len() + 1,
+        None => at == text.len(),
+    }
+}
+
 impl NextLiteral<'_> {
     /// Whether the literal is a negative number.
     fn is_minus(&self) -> bool
@@ -110,17 +122,6 @@ impl NextLiteral<'_> {
         match self.minus_at {
             Some(_) => true,
             None => is_negative(self.token.text),
-        }
-    }
-
-    /// Whether the literal's text ends at this byte.
-    fn ends_at(&self, at: usize) -> bool
-        ensures { MatchBool result (at ≡ length (whole_text self.now))
-            (at ≢ length (whole_text self.now)) }
-    {
-        match self.minus_at {
-            Some(_) => at == self.token.text.len() + 1,
-            None => at == self.token.text.len(),
         }
     }
 
@@ -133,7 +134,7 @@ impl NextLiteral<'_> {
         ensures unread { HasNoReading (chars (whole_text self.now)) → result ≡ false }
     {
         match self.found {
-            Some(found) => !self.ends_at(found.body.suffix_at),
+            Some(found) => !ends_at(self.token.text, self.minus_at, found.body.suffix_at),
             None => false,
         }
     }

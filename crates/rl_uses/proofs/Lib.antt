@@ -4,3 +4,4 @@ pub mod ReasonLemmas
 pub mod RewriteLemmas
 pub mod CountLemmas
 pub mod ShortageLemmas
+mod TreeLemmas

@@ -1,26 +1,42 @@
 // Rendered from crates/rl_reading/src/values.rt by tools/render, which erases contracts: change that file, and render anew.
-//! The value of an integer literal, with its sign, and whether a suffix stands after it.
+//! The value of an integer literal, with its sign; whether a literal has a suffix; and the text of a string literal.
 
+use crate::rl_reading::contents::str_into;
 use crate::rl_reading::digit_runs::is_negative;
 use crate::rl_reading::found::Found;
 use crate::rl_reading::next_literals::NextLiteral;
 use crate::rl_forms::Kind;
+use crate::rl_text::room::put;
 
-/// The greatest magnitude that a number of 128 bits with a sign can have, but for the least number.
+/// The greatest number of 128 bits with a sign, as a magnitude.
 const GREATEST: u128 = 0x7fff_ffff_ffff_ffff_ffff_ffff_ffff_ffff;
 
-/// The number of this magnitude.
+/// The magnitude of the least number of 128 bits with a sign.
+const LEAST: u128 = 0x8000_0000_0000_0000_0000_0000_0000_0000;
+
+/// The number of a magnitude below 2^127.
 fn number(magnitude: u128, negative: bool) -> i128 {
     let number = magnitude as i128;
     if negative { 0 - number } else { number }
 }
 
-/// The number that was found, if it is an integer of 127 bits.
+/// The number of a magnitude, if it has 128 bits with a sign.
+fn number_of(magnitude: u128, negative: bool) -> Option<i128> {
+    if magnitude <= GREATEST {
+        Some(number(magnitude, negative))
+    } else if negative && magnitude == LEAST {
+        Some(i128::MIN)
+    } else {
+        None
+    }
+}
+
+/// The number that was found, if it is an integer of 128 bits with a sign.
 fn number_found(found: &Found, negative: bool) -> Option<i128> {
-    if found.kind != Kind::Int || found.magnitude > GREATEST {
+    if found.kind != Kind::Int {
         return None;
     }
-    Some(number(found.magnitude, negative))
+    number_of(found.magnitude, negative)
 }
 
 impl Found {
@@ -29,10 +45,28 @@ impl Found {
         !self.suffix_in(text).is_empty()
     }
 
-    /// The value of an integer with its sign, whatever its suffix; `None` of any other literal, and of an integer whose
-    /// magnitude is past 127 bits.
+    /// Writes the text of a string literal, decoded, and returns its length in bytes. It is never longer than the body.
+    pub fn str_into(&self, text: &str, out: &mut [u8]) -> usize {
+        let body = self.body_in(text);
+        if self.body.plain {
+            put(out, 0, body.as_bytes())
+        } else {
+            str_into(body, out)
+        }
+    }
+
+    /// The value of an integer with its sign, whatever its suffix. `None` for any other literal, and for an integer that
+    /// an `i128` can't hold.
     pub fn signed(&self, text: &str) -> Option<i128> {
         number_found(self, is_negative(text))
+    }
+}
+
+/// Whether the text of a literal ends at this byte: its token's, after the minus where there is one.
+fn ends_at(text: &str, minus_at: Option<usize>, at: usize) -> bool {
+    match minus_at {
+        Some(_) => at == text.len() + 1,
+        None => at == text.len(),
     }
 }
 
@@ -45,24 +79,29 @@ impl NextLiteral<'_> {
         }
     }
 
-    /// Whether nothing stands after what was found.
-    fn ends_at(&self, suffix_at: usize) -> bool {
-        match self.minus_at {
-            Some(_) => suffix_at == self.token.text.len() + 1,
-            None => suffix_at == self.token.text.len(),
+    /// Whether the literal has a suffix. `false` for a literal token without a reading.
+    pub fn has_suffix(&self) -> bool {
+        match self.found {
+            Some(found) => !ends_at(self.token.text, self.minus_at, found.body.suffix_at),
+            None => false,
         }
     }
 
-    /// The value of an integer with its sign and without suffix; `None` of any other literal, and of an integer whose
-    /// magnitude is past 127 bits.
+    /// The value of an integer with its sign, whatever its suffix. `None` for any other literal, and for an integer that
+    /// an `i128` can't hold.
+    pub fn signed(&self) -> Option<i128> {
+        match self.found {
+            Some(found) => number_found(&found, self.is_minus()),
+            None => None,
+        }
+    }
+
+    /// The value of an integer without suffix, with its sign. `None` for any other literal, and for an integer that an
+    /// `i128` can't hold.
     pub fn value(&self) -> Option<i128> {
-        let found = match self.found {
-            Some(found) => found,
-            None => return None,
-        };
-        if !self.ends_at(found.body.suffix_at) {
+        if self.has_suffix() {
             return None;
         }
-        number_found(&found, self.is_minus())
+        self.signed()
     }
 }

@@ -1,5 +1,5 @@
-use Rattle.rl_attributes.proofs.TextLemmas.{knows_one, one_known}
+use Rattle.rl_attributes.proofs.Theorems.{known_names_are_the_settings as law}
 use Rattle.rl_attributes.proofs.laws.known_names_are_the_settings.Goals as goal
 
 pub returns : goal.returns
-returns c settings name = (knows_one settings name, one_known settings name)
+returns c = law

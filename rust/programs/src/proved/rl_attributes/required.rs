@@ -1,5 +1,5 @@
 // Rendered from crates/rl_attributes/src/required.rt by tools/render, which erases contracts: change that file, and render anew.
-//! What a setting that has to be there is set to, and what one is that may be left out.
+//! The value of a setting that has to be set, and of one with a default.
 
 use crate::rattle_std::prelude::{Drop, String};
 use crate::rl_attributes::attributes::Attrs;
@@ -9,11 +9,11 @@ use crate::rattle_std::fmt::Display;
 use crate::rattle_std::str::FromStr;
 
 impl<A: Allocator> Attrs<A> {
-    /// The string that a setting has to be set to, decoded.
+    /// The string of a setting that has to be set, decoded.
     ///
     /// # Errors
     ///
-    /// As [`Attrs::string`]; and `Missing`, where the settings end, where it isn't set.
+    /// The errors of [`Attrs::string`], and `Missing` at the end of the settings if it isn't set.
     pub fn required_string(&self, alloc: A, setting: Setting) -> Result<String<A>, SettingError<A>> {
         match self.string(alloc, setting) {
             Ok(Some(text)) => Ok(text),
@@ -22,11 +22,11 @@ impl<A: Allocator> Attrs<A> {
         }
     }
 
-    /// The number that a setting has to be set to.
+    /// The number of a setting that has to be set.
     ///
     /// # Errors
     ///
-    /// As [`Attrs::number`]; and `Missing`, where the settings end, where it isn't set.
+    /// The errors of [`Attrs::number`], and `Missing` at the end of the settings if it isn't set.
     pub fn required_number<N: FromStr>(
         &self,
         alloc: A,
@@ -41,13 +41,27 @@ impl<A: Allocator> Attrs<A> {
         }
     }
 
-    /// The truth value that a setting is set to, or this one where it isn't set.
+    /// The truth value of a setting that has to be set.
     ///
     /// # Errors
     ///
-    /// As [`Attrs::truth`].
-    pub fn truth_or(&self, setting: Setting, default: bool) -> Result<bool, SettingError<A>> {
+    /// The errors of [`Attrs::truth`], and `Missing` at the end of the settings if it isn't set.
+    pub fn required_truth(&self, setting: Setting) -> Result<bool, SettingError<A>> {
         match self.truth(setting) {
+            Ok(Some(truth)) => Ok(truth),
+            Ok(None) => Err(self.missing(setting)),
+            Err(error) => Err(error),
+        }
+    }
+
+    /// The truth value of a setting, or this one if it isn't set.
+    ///
+    /// # Errors
+    ///
+    /// The errors of [`Attrs::truth`].
+    pub fn truth_or(&self, setting: Setting, default: bool) -> Result<bool, SettingError<A>> {
+        let found = self.truth(setting);
+        match found {
             Ok(found) => Ok(found.unwrap_or(default)),
             Err(error) => Err(error),
         }

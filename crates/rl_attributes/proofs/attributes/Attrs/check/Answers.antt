@@ -50,7 +50,7 @@ returns-clause-bare g c k d h =
     (all k d h).bare
 
 pub returns-in_err-check_entry-clause-exactly : goal.returns-in_err-check_entry-clause-exactly
-returns-in_err-check_entry-clause-exactly g c rd named bare =
+returns-in_err-check_entry-clause-exactly g c named bare =
     let entries = c.args.self.now.entries.items in
     let i = c.loop-entry.entry-index in
     absurd (check_accepts c.args.settings.now entries _ (record {
@@ -62,7 +62,7 @@ returns-in_err-check_entry-clause-exactly g c rd named bare =
           (rw c.entries-entry-items.ensures.entries at c.entry-item.is);
       accepted = c.loop-entry.invariant;
       rejected = c.in_err-check_entry.ensures.rejected;
-    }) rd named bare)
+    }) c.args.self.now.read named bare)
 
 pub returns-clause-names : goal.returns-clause-names
 returns-clause-names g c =
@@ -73,9 +73,9 @@ returns-clause-names g c =
     are_named c.args.settings.now entries (λ k d h. (all k d h).known)
 
 pub returns-clause-bare_texts : goal.returns-clause-bare_texts
-returns-clause-bare_texts g c rd =
+returns-clause-bare_texts g c =
     let entries = c.args.self.now.entries.items in
     let all = subst (λ l. All (IsAccepted c.args.settings.now) l)
     (take_all c.loop-entry.entry-index entries (omega (arith, ap length c.entries-entry-items.ensures.entries)))
     c.loop-entry.invariant in
-    are_bare entries rd (λ k d h. (all k d h).bare)
+    are_bare entries c.args.self.now.read (λ k d h. (all k d h).bare)

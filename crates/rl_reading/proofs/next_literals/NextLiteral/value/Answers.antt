@@ -8,7 +8,7 @@ returns-then-has_suffix-clause-none c = suffixed_none (chars (whole_text c.args.
 
 pub returns-clause-some : goal.returns-clause-some
 returns-clause-some c =
-    bare_value (chars (whole_text c.args.self.now)) c.signed.result c.signed.ensures.some c.if-not-has_suffix.ensures.reads
+    bare_value (chars (whole_text c.args.self.now)) c.signed.result c.signed.ensures.some c.if-has_suffix.ensures.reads
 
 pub returns-clause-none : goal.returns-clause-none
 returns-clause-none c =
