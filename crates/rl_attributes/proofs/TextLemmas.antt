@@ -447,6 +447,13 @@ kind_number (Some IntKind) = true
 kind_number (Some FloatKind) = true
 kind_number _ = false
 
+abbrev is_int_kind : Option Kind → Bool
+is_int_kind (Some IntKind) = true
+is_int_kind _ = false
+
+int_no_float : (o : Option Kind) → o ≡ Some IntKind → o ≡ Some FloatKind → ⊥
+int_no_float o a b = false≢true (sym (ap is_int_kind b) ∙ ap is_int_kind a)
+
 number_kind : {A : Type 0} (l : Lit A) → IsReadLit l → (ds : List ℕ) → Number (chars (token_of l).text) ds
     → kind_number (kind_of l) ≡ true
 number_kind l rd ds (inl c) = ap kind_number (is_kind l rd IntKind (Digits (chars ds)) c.0 c.1)
@@ -458,9 +465,9 @@ same_made {N = N} {E = E} gives (Int l) n rd ds u (inl c) h =
     subst (λ (y : List ℕ). gives y (Ok n))
     (digits_once IntKind (chars l.text) h.digits ds h.are.is_text u h.are.digits_are c) h.made
 same_made gives (Int l) n rd ds u (inr c) h =
-    absurd (let k = is_kind (Int l) rd FloatKind (Digits (chars ds)) c.0 c.1 in cc)
+    absurd (int_no_float (kind_of (Int l)) refl (is_kind (Int l) rd FloatKind (Digits (chars ds)) c.0 c.1))
 same_made gives (Float l) n rd ds u (inl c) h =
-    absurd (let k = is_kind (Float l) rd IntKind (Digits (chars ds)) c.0 c.1 in cc)
+    absurd (int_no_float (kind_of (Float l)) (is_kind (Float l) rd IntKind (Digits (chars ds)) c.0 c.1) refl)
 same_made {N = N} {E = E} gives (Float l) n rd ds u (inr c) h =
     subst (λ (y : List ℕ). gives y (Ok n))
     (digits_once FloatKind (chars l.text) h.digits ds h.are.is_text u
@@ -483,9 +490,9 @@ same_rejected gives output p (Int l) err rd ds u (inl c) j =
           (digits_once IntKind (chars l.text) r.digits ds r.are.is_text u r.are.digits_are c) r.rejected,
     )
 same_rejected gives output p (Int l) err rd ds u (inr c) j =
-    absurd (let k = is_kind (Int l) rd FloatKind (Digits (chars ds)) c.0 c.1 in cc)
+    absurd (int_no_float (kind_of (Int l)) refl (is_kind (Int l) rd FloatKind (Digits (chars ds)) c.0 c.1))
 same_rejected gives output p (Float l) err rd ds u (inl c) j =
-    absurd (let k = is_kind (Float l) rd IntKind (Digits (chars ds)) c.0 c.1 in cc)
+    absurd (int_no_float (kind_of (Float l)) (is_kind (Float l) rd IntKind (Digits (chars ds)) c.0 c.1) refl)
 same_rejected gives output p (Float l) err rd ds u (inr c) j =
     let r = j.2 in (
       r.error,
