@@ -6,7 +6,9 @@ use navyspindle_programs::rattle_std::alloc::Global;
 use navyspindle_programs::rl_grammar::{find, next_literal};
 use navyspindle_programs::rl_tokens::{parse_all, ParseBuffer, Span, Tokens};
 use navyspindle_programs::rust_literals::read_all;
-use navyspindle_rows::rl_uses::examples::attributes::{host_in, host_of, missing_at, string_setting};
+use navyspindle_rows::rl_uses::examples::attributes::{
+    host_in, host_of, missing_at, string_setting,
+};
 use navyspindle_rows::rl_uses::examples::buffers::{
     first_in_group, mark_after_name, port, trees_left, trees_of,
 };
