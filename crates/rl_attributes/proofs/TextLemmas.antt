@@ -461,14 +461,14 @@ number_kind l rd ds (inr c) = ap kind_number (is_kind l rd FloatKind (Digits (ch
 
 same_made : {A N E : Type 0} (gives : List ℕ → Result N E → Type 0) (l : Lit A) (n : N) → IsReadLit l → (ds : List ℕ)
     → IsUtf8 ds → Number (chars (token_of l).text) ds → IsNumberSet gives l n → gives ds (Ok n)
-same_made {N = N} {E = E} gives (Int l) n rd ds u (inl c) h =
+same_made {A = A} {N = N} {E = E} gives (Int l) n rd ds u (inl c) h =
     subst (λ (y : List ℕ). gives y (Ok n))
     (digits_once IntKind (chars l.text) h.digits ds h.are.is_text u h.are.digits_are c) h.made
-same_made gives (Int l) n rd ds u (inr c) h =
-    absurd (int_no_float (kind_of (Int l)) refl (is_kind (Int l) rd FloatKind (Digits (chars ds)) c.0 c.1))
-same_made gives (Float l) n rd ds u (inl c) h =
-    absurd (int_no_float (kind_of (Float l)) (is_kind (Float l) rd IntKind (Digits (chars ds)) c.0 c.1) refl)
-same_made {N = N} {E = E} gives (Float l) n rd ds u (inr c) h =
+same_made {A = A} gives (Int l) n rd ds u (inr c) h =
+    absurd (int_no_float (kind_of {A = A} (Int l)) refl (is_kind {A = A} (Int l) rd FloatKind (Digits (chars ds)) c.0 c.1))
+same_made {A = A} gives (Float l) n rd ds u (inl c) h =
+    absurd (int_no_float (kind_of {A = A} (Float l)) (is_kind {A = A} (Float l) rd IntKind (Digits (chars ds)) c.0 c.1) refl)
+same_made {A = A} {N = N} {E = E} gives (Float l) n rd ds u (inr c) h =
     subst (λ (y : List ℕ). gives y (Ok n))
     (digits_once FloatKind (chars l.text) h.digits ds h.are.is_text u
     (float_contents (chars l.text) h.digits c.1.no_integer h.are.digits_are) c) h.made
@@ -483,30 +483,30 @@ same_made gives (Verbatim l) n rd ds u c h = absurd h
 same_rejected : {A N E : Type 0} (gives : List ℕ → Result N E → Type 0) (output : E → Option (List ℕ)) (p : Setting)
     (l : Lit A) (err : SettingError A) → IsReadLit l → (ds : List ℕ) → IsUtf8 ds → Number (chars (token_of l).text) ds
     → RejectsNumber gives output p l err → (error : E) × gives ds (Err error)
-same_rejected gives output p (Int l) err rd ds u (inl c) j =
+same_rejected {A = A} gives output p (Int l) err rd ds u (inl c) j =
     let r = j.2 in (
       r.error,
       subst (λ (y : List ℕ). gives y (Err r.error))
           (digits_once IntKind (chars l.text) r.digits ds r.are.is_text u r.are.digits_are c) r.rejected,
     )
-same_rejected gives output p (Int l) err rd ds u (inr c) j =
-    absurd (int_no_float (kind_of (Int l)) refl (is_kind (Int l) rd FloatKind (Digits (chars ds)) c.0 c.1))
-same_rejected gives output p (Float l) err rd ds u (inl c) j =
-    absurd (int_no_float (kind_of (Float l)) (is_kind (Float l) rd IntKind (Digits (chars ds)) c.0 c.1) refl)
-same_rejected gives output p (Float l) err rd ds u (inr c) j =
+same_rejected {A = A} gives output p (Int l) err rd ds u (inr c) j =
+    absurd (int_no_float (kind_of {A = A} (Int l)) refl (is_kind {A = A} (Int l) rd FloatKind (Digits (chars ds)) c.0 c.1))
+same_rejected {A = A} gives output p (Float l) err rd ds u (inl c) j =
+    absurd (int_no_float (kind_of {A = A} (Float l)) (is_kind {A = A} (Float l) rd IntKind (Digits (chars ds)) c.0 c.1) refl)
+same_rejected {A = A} gives output p (Float l) err rd ds u (inr c) j =
     let r = j.2 in (
       r.error,
       subst (λ (y : List ℕ). gives y (Err r.error))
           (digits_once FloatKind (chars l.text) r.digits ds r.are.is_text u
           (float_contents (chars l.text) r.digits c.1.no_integer r.are.digits_are) c) r.rejected,
     )
-same_rejected gives output p (Str l) err rd ds u c j = absurd (false≢true (number_kind (Str l) rd ds c))
-same_rejected gives output p (ByteStr l) err rd ds u c j = absurd (false≢true (number_kind (ByteStr l) rd ds c))
-same_rejected gives output p (CStr l) err rd ds u c j = absurd (false≢true (number_kind (CStr l) rd ds c))
-same_rejected gives output p (Byte l) err rd ds u c j = absurd (false≢true (number_kind (Byte l) rd ds c))
-same_rejected gives output p (Char l) err rd ds u c j = absurd (false≢true (number_kind (Char l) rd ds c))
-same_rejected gives output p (BoolLit l) err rd ds u c j = absurd (false≢true (number_kind (BoolLit l) rd ds c))
-same_rejected gives output p (Verbatim l) err rd ds u c j = absurd (false≢true (number_kind (Verbatim l) rd ds c))
+same_rejected {A = A} gives output p (Str l) err rd ds u c j = absurd (false≢true (number_kind {A = A} (Str l) rd ds c))
+same_rejected {A = A} gives output p (ByteStr l) err rd ds u c j = absurd (false≢true (number_kind {A = A} (ByteStr l) rd ds c))
+same_rejected {A = A} gives output p (CStr l) err rd ds u c j = absurd (false≢true (number_kind {A = A} (CStr l) rd ds c))
+same_rejected {A = A} gives output p (Byte l) err rd ds u c j = absurd (false≢true (number_kind {A = A} (Byte l) rd ds c))
+same_rejected {A = A} gives output p (Char l) err rd ds u c j = absurd (false≢true (number_kind {A = A} (Char l) rd ds c))
+same_rejected {A = A} gives output p (BoolLit l) err rd ds u c j = absurd (false≢true (number_kind {A = A} (BoolLit l) rd ds c))
+same_rejected {A = A} gives output p (Verbatim l) err rd ds u c j = absurd (false≢true (number_kind {A = A} (Verbatim l) rd ds c))
 
 pub number_exactly : {A N E : Type 0} (gives : List ℕ → Result N E → Type 0) (output : E → Option (List ℕ))
     (p : Setting) (es : List (Entry A)) (r : Result (Option N) (SettingError A)) → AreRead es
