@@ -1,6 +1,7 @@
 -- The laws (src/laws.rt), as lemmas that callers may cite; that a fact of all entries, or of some, is one of their
--- attributes; and how a setting with a default follows from one that is set or isn't, and back.
-pub use Rattle.rl_attributes.proofs.TextLemmas.{set_or_of_set, set_or_of_unset, set_of_set_or, default_of_set_or, rejected_named}
+-- attributes; how a setting with a default follows from one that is set or isn't, and back; and an optional
+-- answer by its case.
+pub use Rattle.rl_attributes.proofs.TextLemmas.{set_or_of_set, set_or_of_unset, set_of_set_or, default_of_set_or, rejected_named, in_some, in_none}
 use Rattle.std.proofs.Common.{◌↔◌, List, All, Any}
 use Rattle.rl_attributes.specs.declared.attributes.Entry.{Entry}
 use Rattle.rl_attributes.specs.Attributes.{Attribute}

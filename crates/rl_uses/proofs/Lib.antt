@@ -5,3 +5,4 @@ pub mod RewriteLemmas
 pub mod CountLemmas
 pub mod ShortageLemmas
 mod TreeLemmas
+mod ConfigLemmas

@@ -42,8 +42,7 @@ fn port_of<A: Allocator + Copy>(alloc: A, attrs: &Attrs<A>) -> Result<u16, Setti
     ensures exactly { (port : ℕ) → IsPort port (list_of attrs.now) → result ≡ Ok port }
 {
     match attrs.number::<u16>(alloc, PORT) {
-        Ok(Some(port)) => Ok(port),
-        Ok(None) => Ok(80),
+        Ok(port) => Ok(port.unwrap_or(80)),
         Err(error) => Err(error),
     }
 }
