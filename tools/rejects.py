@@ -31,7 +31,7 @@ TRIED = [
     (UNCALLED, 'Kind::word', 'Kind::words', 'Kind::words'),
     (UNCALLED, 'Kind::word', 'Sort::word', 'Sort::word'),
     (UNCALLED, 'contents.rs body_unit', 'contents.rs body_units', 'body_units'),
-    (UNCALLED, '- rl_reading/contents.rs str_into', '- rl_reading/contents.rs text_into', 'text_into'),
+    (UNCALLED, '- rl_reasons/flaws.rs Flaw::piece_in_span', '- rl_reasons/flaws.rs Flaw::text_in_span', 'text_in_span'),
     (UNCALLED, 'rl_text/span.rs *', 'rl_text/spans.rs *', 'spans.rs'),
     (UNCALLED, 'LexKind::{Memory}', 'LexKind::{Room}', 'Room'),
     (UNCALLED, 'LexKind::{Memory}', 'Lex::{Memory}', 'Lex::'),

@@ -3,3 +3,5 @@ pub mod EntryLemmas
 pub mod FlatEntries
 pub mod FlatSettings
 pub mod NameKeys
+pub mod TextLemmas
+pub mod Theorems

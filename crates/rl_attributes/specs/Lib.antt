@@ -5,3 +5,5 @@ pub mod AttributeParsing
 pub mod AttributeSteps
 pub mod NextEntries
 pub mod Settings
+pub mod TextSettings
+pub mod Laws

@@ -9,14 +9,14 @@ use Rattle.rl_forms.specs.declared.kind.Kind.TheVariants.{Str as StrKind, Int as
 use Rattle.rl_tokens.specs.Errors.{message_of, memory_at}
 use Rattle.rl_forms.specs.Reading.{Characters, HasContents}
 use Rattle.rust_literals.specs.declared.lit.Lit.{Lit}
-use Rattle.rust_literals.specs.declared.lit.Lit.TheVariants.{Str, Int, Float, Bool}
+use Rattle.rust_literals.specs.declared.lit.Lit.TheVariants.{Str, Int, Float, Bool, Verbatim}
 use Rattle.rust_literals.specs.Base10.{AreBase10Digits, IsMadeOf, IsRejectedBy}
 use Rattle.rust_literals.specs.LitParts.{HasLitSuffix, lit_span}
 use Rattle.rl_attributes.specs.declared.attributes.Entry.{Entry}
 use Rattle.rl_attributes.specs.Entries.{HasName}
 use Rattle.rl_attributes.specs.declared.settings.Setting.{Setting}
 use Rattle.rl_attributes.specs.declared.settings.SettingError.{SettingError}
-use Rattle.rl_attributes.specs.declared.settings.SettingError.TheVariants.{Text, Unknown, Suffix, Kind, Value, Missing}
+use Rattle.rl_attributes.specs.declared.settings.SettingError.TheVariants.{Text, Unknown, Suffix, Kind, Malformed, Value, Missing}
 
 -- whether one of the settings has this name
 abbrev pub knows : List Setting → List ℕ → Truth
@@ -92,15 +92,20 @@ IsNumberSet gives (Int l) value = IsMadeOf gives (AreBase10Digits IntKind l.text
 IsNumberSet gives (Float l) value = IsMadeOf gives (AreBase10Digits FloatKind l.text) value
 IsNumberSet gives _ value = ⊥
 
+-- The literal is of another kind than was expected, or has none: this is reported at it.
+abbrev pub IsOtherKind : {A : Type 0} → Setting → Lit A → SettingError A → Type 0
+IsOtherKind setting (Verbatim l) e = e ≡ Malformed setting l.span
+IsOtherKind setting other e = e ≡ Kind setting (lit_span other)
+
 -- the literal is no string; or one, and an allocation failed for its contents
 abbrev pub RejectsString : {A : Type 0} → Setting → Lit A → SettingError A → Type 0
 RejectsString setting (Str l) e = e ≡ Text (memory_at l.span)
-RejectsString setting other e = e ≡ Kind setting (lit_span other)
+RejectsString setting other e = IsOtherKind setting other e
 
 -- the literal is no truth value
 abbrev pub RejectsTruth : {A : Type 0} → Setting → Lit A → SettingError A → Type 0
 RejectsTruth setting (Bool l) e = ⊥
-RejectsTruth setting other e = e ≡ Kind setting (lit_span other)
+RejectsTruth setting other e = IsOtherKind setting other e
 
 -- The number type rejects the digits of a literal of this kind, and its error is reported at the literal.
 abbrev pub RejectsNumberDigits : {A N E : Type 0} → (List ℕ → Result N E → Type 0)
@@ -115,7 +120,7 @@ RejectsNumber gives output setting (Int l) e =
     RejectsNumberDigits gives output setting (AreBase10Digits IntKind l.text) l.span e
 RejectsNumber gives output setting (Float l) e =
     RejectsNumberDigits gives output setting (AreBase10Digits FloatKind l.text) l.span e
-RejectsNumber gives output setting other e = e ≡ Kind setting (lit_span other)
+RejectsNumber gives output setting other e = IsOtherKind setting other e
 
 -- ---- what an error says
 
@@ -125,6 +130,7 @@ span_of (Text e) = e.span
 span_of (Unknown span) = span
 span_of (Suffix span) = span
 span_of (Kind setting span) = span
+span_of (Malformed setting span) = span
 span_of (Value setting e) = e.span
 span_of (Missing setting span) = span
 
@@ -138,5 +144,6 @@ setting_message (Text e) = message_of e.kind
 setting_message (Unknown span) = codes "unknown name"
 setting_message (Suffix span) = codes "unexpected suffix"
 setting_message (Kind setting span) = expectation setting
+setting_message (Malformed setting span) = setting.name.now ++ codes ": malformed literal"
 setting_message (Value setting e) = expectation setting ++ (codes ": " ++ message_of e.kind)
 setting_message (Missing setting span) = codes "missing " ++ expectation setting

@@ -1,7 +1,7 @@
 //! Attributes, and what they hold.
 
 ghost use Rattle.std.proofs.Props.{props};
-ghost use Rattle.rl_attributes.specs.Entries.{EntriesDiffer};
+ghost use Rattle.rl_attributes.specs.Entries.{AreRead, EntriesDiffer};
 
 mod name;
 mod take;
@@ -23,7 +23,7 @@ pub struct Entry<A: Allocator = Global> {
     pub value: Lit<A>,
 }
 
-/// Attributes in their order. No two have one name.
+/// Attributes in their order. No two have one name, and each value is the reading of its literal.
 ///
 /// See the example of [`Attrs::get`].
 #[derive(Drop)]
@@ -31,6 +31,7 @@ pub struct Attrs<A: Allocator = Global> {
     entries: Vec<Entry<A>, A>,
     end: Span,
     ghost differ: { EntriesDiffer entries.items } by { Prim.hlevel props },
+    ghost read: { AreRead entries.items } by { Prim.hlevel props },
 }
 
 impl<A: Allocator> Attrs<A> {
@@ -43,6 +44,7 @@ impl<A: Allocator> Attrs<A> {
     pub fn entries(&self) -> &[Entry<A>]
         ensures entries { result.now ≡ entries_of self.now }
         ensures differ { EntriesDiffer result.now }
+        ensures read { AreRead result.now }
     {
         self.entries.as_slice()
     }

@@ -2,6 +2,8 @@
 #![tactic(auto)]
 
 mod attributes;
+pub mod laws;
+mod required;
 mod settings;
 mod values;
 

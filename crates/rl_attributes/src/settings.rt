@@ -1,10 +1,11 @@
 //! What a reader asks of settings: which names are known, that no value has a suffix, and what a value has to be.
 
-ghost use Rattle.std.specs.Prelude.{◌≡◌, ◌≢◌, [], All, IfErr, IsTrue, OnOk, MatchBool, string_bytes};
+ghost use Rattle.std.specs.Prelude.{◌≡◌, ◌≢◌, [], All, IfErr, IsOk, IsTrue, OnOk, MatchBool, string_bytes};
 ghost use Rattle.std.specs.Str.{chars};
 ghost use Rattle.rust_literals.specs.LitParts.{HasLitSuffix};
 ghost use Rattle.rl_attributes.specs.AttributeParsing.{entries_of};
 ghost use Rattle.rl_attributes.specs.Settings.{knows, HasSomeLitSuffix, IsAccepted, IsRejectedEntry, RejectsFirst, span_of};
+ghost use Rattle.rl_attributes.specs.TextSettings.{HaveBareTexts, AreNamedOf, list_of, setting_names};
 
 use crate::attributes::{Attrs, Entry};
 use rl_tokens::{Error, Span};
@@ -46,6 +47,9 @@ pub enum SettingError<A: Allocator = Global> {
     Suffix(Span),
     /// The setting's value, at this span, is a literal of another kind than was expected.
     Kind(Setting, Span),
+    /// The setting's value, at this span, has no reading: a malformed literal, or an integer above 128 bits. Rust's grammar has
+    /// the reason (`explain_value` of `rl_grammar`, of the literal's text).
+    Malformed(Setting, Span),
     /// The setting's value was rejected for this error, as `base10_parse` reports one.
     Value(Setting, Error<A>),
     /// The setting has to be set and isn't; this is where the settings end.
@@ -62,6 +66,7 @@ impl<A: Allocator> SettingError<A> {
             SettingError::Unknown(span) => *span,
             SettingError::Suffix(span) => *span,
             SettingError::Kind(_, span) => *span,
+            SettingError::Malformed(_, span) => *span,
             SettingError::Value(_, error) => error.span,
             SettingError::Missing(_, span) => *span,
         }
@@ -80,6 +85,10 @@ impl<A: Allocator> fmt::Display for SettingError<A> {
             SettingError::Unknown(_) => f.write_str("unknown name"),
             SettingError::Suffix(_) => f.write_str("unexpected suffix"),
             SettingError::Kind(setting, _) => write!(f, "{setting}"),
+            SettingError::Malformed(setting, _) => {
+                let name = setting.name;
+                write!(f, "{name}: malformed literal")
+            }
             SettingError::Value(setting, error) => write!(f, "{setting}: {error}"),
             SettingError::Missing(setting, _) => write!(f, "missing {setting}"),
         }
@@ -160,6 +169,11 @@ impl<A: Allocator> Attrs<A> {
             (entries_of self.now)) }
         ensures bare { OnOk result
             (All (λ entry. HasLitSuffix entry.value []) (entries_of self.now)) }
+        // The same in words of the text, and attributes of which it is so are accepted.
+        ensures names { OnOk result (AreNamedOf (setting_names settings.now) (list_of self.now)) }
+        ensures bare_texts { OnOk result (HaveBareTexts (list_of self.now)) }
+        ensures exactly { AreNamedOf (setting_names settings.now) (list_of self.now)
+            → HaveBareTexts (list_of self.now) → IsOk result }
         // Else the first entry that isn't accepted, at its place.
         ensures first { IfErr result (RejectsFirst settings.now (entries_of self.now)) }
     {

@@ -1,17 +1,19 @@
 //! What a setting is set to: a string, a number or a truth value.
 
-ghost use Rattle.std.specs.Prelude.{◌≡◌, IfOk, IfErr};
+ghost use Rattle.std.specs.Prelude.{◌≡◌, ℕ, List, Bool, Some, None, Ok, IfOk, IfErr, IsOkAnd, MatchOption, string_bytes};
 ghost use Rattle.rl_attributes.specs.AttributeParsing.{entries_of, attrs_end};
 ghost use Rattle.rl_attributes.specs.Settings.{
   IsSetAs,
   IsStringSet,
   IsTruthSet,
   IsNumberSet,
+  IsOtherKind,
   RejectsSetValue,
   RejectsString,
   RejectsTruth,
   RejectsNumber,
 };
+ghost use Rattle.rl_attributes.specs.TextSettings.{AreDigitsAt, IsNumberAt, IsSomeNumberOrRejected, IsSomeStringOrMemory, IsStringAt, IsTruthAt, IsUnset, list_of};
 ghost use Rattle.rl_attributes.specs.declared.settings.SettingError.TheVariants.{Missing};
 
 use crate::attributes::Attrs;
@@ -20,6 +22,16 @@ use rust_literals::Lit;
 use std::alloc::Allocator;
 use std::fmt::Display;
 use std::str::FromStr;
+
+/// The error that the literal is of another kind than the setting expects, or has no reading.
+fn other_kind<A: Allocator>(setting: Setting, value: &Lit<A>) -> SettingError<A>
+    ensures { IsOtherKind setting value.now result }
+{
+    match value {
+        Lit::Verbatim(literal) => SettingError::Malformed(setting, literal.span()),
+        other => SettingError::Kind(setting, other.span()),
+    }
+}
 
 /// The contents of a string that a setting is set to.
 fn string_of<A: Allocator>(
@@ -32,7 +44,7 @@ fn string_of<A: Allocator>(
 {
     match value {
         Lit::Str(literal) => Ok(literal.value(alloc)?),
-        other => Err(SettingError::Kind(setting, other.span())),
+        other => Err(other_kind(setting, other)),
     }
 }
 
@@ -43,7 +55,7 @@ fn truth_of<A: Allocator>(setting: Setting, value: &Lit<A>) -> Result<bool, Sett
 {
     match value {
         Lit::Bool(literal) => Ok(literal.value()),
-        other => Err(SettingError::Kind(setting, other.span())),
+        other => Err(other_kind(setting, other)),
     }
 }
 
@@ -62,7 +74,7 @@ where
     let parsed = match value {
         Lit::Int(literal) => literal.base10_parse(alloc),
         Lit::Float(literal) => literal.base10_parse(alloc),
-        other => return Err(SettingError::Kind(setting, other.span())),
+        other => return Err(other_kind(setting, other)),
     };
     match parsed {
         Ok(number) => Ok(number),
@@ -71,11 +83,66 @@ where
 }
 
 impl<A: Allocator> Attrs<A> {
+    /// The string that a setting is set to.
+    fn found_string(&self, alloc: A, setting: Setting) -> Result<Option<String<A>>, SettingError<A>>
+        ensures set { IfOk result (IsSetAs setting (entries_of self.now) IsStringSet) }
+        ensures rejected { IfErr result
+            (RejectsSetValue setting (entries_of self.now) (RejectsString setting)) }
+    {
+        let Some(value) = self.get(setting.name) else {
+            return Ok(None);
+        };
+        match string_of(alloc, setting, value) {
+            Ok(text) => Ok(Some(text)),
+            Err(error) => Err(error),
+        }
+    }
+
+    /// The number that a setting is set to.
+    fn found_number<N: FromStr>(
+        &self,
+        alloc: A,
+        setting: Setting,
+    ) -> Result<Option<N>, SettingError<A>>
+    where
+        N::Err: Display + Drop,
+        ensures set { IfOk result
+            (IsSetAs setting (entries_of self.now) (IsNumberSet N.from_str_gives)) }
+        ensures rejected { IfErr result (RejectsSetValue setting (entries_of self.now)
+            (RejectsNumber N.from_str_gives N.Err.output setting)) }
+    {
+        let Some(value) = self.get(setting.name) else {
+            return Ok(None);
+        };
+        match number_of(alloc, setting, value) {
+            Ok(number) => Ok(Some(number)),
+            Err(error) => Err(error),
+        }
+    }
+
+    /// The truth value that a setting is set to.
+    fn found_truth(&self, setting: Setting) -> Result<Option<bool>, SettingError<A>>
+        ensures set { IfOk result (IsSetAs setting (entries_of self.now) IsTruthSet) }
+        ensures rejected { IfErr result
+            (RejectsSetValue setting (entries_of self.now) (RejectsTruth setting)) }
+    {
+        let Some(value) = self.get(setting.name) else {
+            return Ok(None);
+        };
+        match truth_of(setting, value) {
+            Ok(truth) => Ok(Some(truth)),
+            Err(error) => Err(error),
+        }
+    }
+}
+
+impl<A: Allocator> Attrs<A> {
     /// The string that a setting is set to, decoded; `None` where it isn't set.
     ///
     /// # Errors
     ///
-    /// `Kind` at the value, where it is no string; its allocation failure as `Text`, there too.
+    /// `Malformed` at a value without a reading, `Kind` at another value that isn't a string, and `Text` there if an allocation
+    /// fails.
     ///
     /// # Example
     ///
@@ -97,14 +164,14 @@ impl<A: Allocator> Attrs<A> {
         ensures set { IfOk result (IsSetAs setting (entries_of self.now) IsStringSet) }
         ensures rejected { IfErr result
             (RejectsSetValue setting (entries_of self.now) (RejectsString setting)) }
+        // The same in words of the text, and the way back.
+        ensures text { IfOk result (λ found. MatchOption found (IsUnset setting.name.now (list_of self.now))
+            (λ text. IsStringAt setting.name.now (string_bytes text) (list_of self.now))) }
+        ensures exactly { (value : List ℕ) → IsStringAt setting.name.now value (list_of self.now)
+            → IsSomeStringOrMemory value result }
+        ensures unset { IsUnset setting.name.now (list_of self.now) → IsOkAnd result (λ found. found ≡ None) }
     {
-        let Some(value) = self.get(setting.name) else {
-            return Ok(None);
-        };
-        match string_of(alloc, setting, value) {
-            Ok(text) => Ok(Some(text)),
-            Err(error) => Err(error),
-        }
+        self.found_string(alloc, setting)
     }
 
     /// The number that a setting is set to, as its type makes one of the digits in base ten; `None` where it isn't set. Of
@@ -112,8 +179,8 @@ impl<A: Allocator> Attrs<A> {
     ///
     /// # Errors
     ///
-    /// `Kind` at the value, where it is neither an integer nor a float; else `Value` with the error that `base10_parse`
-    /// reports.
+    /// `Malformed` at a value without a reading, `Kind` at another value that is neither an integer nor a float, and else
+    /// `Value` with the error that `base10_parse` reports.
     ///
     /// See the example of [`Attrs::string`].
     pub fn number<N: FromStr>(
@@ -127,35 +194,35 @@ impl<A: Allocator> Attrs<A> {
             (IsSetAs setting (entries_of self.now) (IsNumberSet N.from_str_gives)) }
         ensures rejected { IfErr result (RejectsSetValue setting (entries_of self.now)
             (RejectsNumber N.from_str_gives N.Err.output setting)) }
+        // The same in words of the text, and the way back.
+        ensures text { IfOk result (λ found. MatchOption found (IsUnset setting.name.now (list_of self.now))
+            (λ number. IsNumberAt N.from_str_gives setting.name.now number (list_of self.now))) }
+        ensures exactly { (digits : List ℕ) → AreDigitsAt setting.name.now digits (list_of self.now)
+            → IsSomeNumberOrRejected N.from_str_gives digits result }
+        ensures unset { IsUnset setting.name.now (list_of self.now) → IsOkAnd result (λ found. found ≡ None) }
     {
-        let Some(value) = self.get(setting.name) else {
-            return Ok(None);
-        };
-        match number_of(alloc, setting, value) {
-            Ok(number) => Ok(Some(number)),
-            Err(error) => Err(error),
-        }
+        self.found_number(alloc, setting)
     }
 
     /// The truth value that a setting is set to; `None` where it isn't set. It takes no memory.
     ///
     /// # Errors
     ///
-    /// `Kind` at the value, where it is neither `true` nor `false`.
+    /// `Malformed` at a value without a reading, and `Kind` at another value that is neither `true` nor `false`.
     ///
     /// See the example of [`Attrs::string`].
     pub fn truth(&self, setting: Setting) -> Result<Option<bool>, SettingError<A>>
         ensures set { IfOk result (IsSetAs setting (entries_of self.now) IsTruthSet) }
         ensures rejected { IfErr result
             (RejectsSetValue setting (entries_of self.now) (RejectsTruth setting)) }
+        // The same in words of the text, and the way back.
+        ensures text { IfOk result (λ found. MatchOption found (IsUnset setting.name.now (list_of self.now))
+            (λ truth. IsTruthAt setting.name.now truth (list_of self.now))) }
+        ensures exactly { (value : Bool) → IsTruthAt setting.name.now value (list_of self.now)
+            → result ≡ Ok (Some value) }
+        ensures unset { IsUnset setting.name.now (list_of self.now) → IsOkAnd result (λ found. found ≡ None) }
     {
-        let Some(value) = self.get(setting.name) else {
-            return Ok(None);
-        };
-        match truth_of(setting, value) {
-            Ok(truth) => Ok(Some(truth)),
-            Err(error) => Err(error),
-        }
+        self.found_truth(setting)
     }
 
     /// The error that a setting has to be set and isn't, where the settings end: what a reader returns who was given `None`

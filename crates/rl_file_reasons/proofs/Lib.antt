@@ -6,3 +6,4 @@ pub mod FileUnits
 pub mod FileForms
 pub mod FilePlaces
 pub mod OneFileFlaw
+pub mod Theorems

@@ -1,3 +1,4 @@
 pub mod DiffLemmas
 pub mod ChangeLemmas
 pub mod PatchLemmas
+pub mod Theorems

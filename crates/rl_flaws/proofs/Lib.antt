@@ -8,3 +8,4 @@ pub mod FlawLemmas
 pub mod StandLemmas
 pub mod FlawLaws
 pub mod PieceLemmas
+pub mod Theorems

@@ -6,3 +6,4 @@ pub mod Flawed
 pub mod Left
 pub mod Pieces
 pub mod PiecesLeft
+pub mod Laws

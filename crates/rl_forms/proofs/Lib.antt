@@ -11,3 +11,6 @@ pub mod WrittenForms
 pub mod StrictReturns
 pub mod TruthLemmas
 pub mod CStringContents
+pub mod SignLemmas
+pub mod ReadingRecords
+pub mod Theorems

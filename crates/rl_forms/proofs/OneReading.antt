@@ -160,3 +160,12 @@ one_strict t k l v w x y a b =
     let p = strict_seen t k v x a in
     let q = strict_seen t l w y b in
     once_at p.front t k l v w x y p.shown (subst (Shown t l w y) (sym q.front_is ∙ p.front_is) q.shown)
+
+-- ---- a text that reads, and is strict
+
+pub read_and_strict : (t : List ℕ) (k l : Kind) (v w : Contents) (x y : List ℕ) → Reads t k v x → Strict t l w y → (k ≡ l)
+    × (v ≡ w) × (x ≡ y)
+read_and_strict t k l v w x y a b =
+    let p = seen t k v x a in
+    let q = strict_seen t l w y b in
+    once_at p.front t k l v w x y p.shown (subst (Shown t l w y) (sym q.front_is ∙ p.front_is) q.shown)

@@ -8,3 +8,5 @@ pub mod Strict
 pub mod Agreeing
 pub mod Trivia
 pub mod Printed
+pub mod Readings
+pub mod Laws

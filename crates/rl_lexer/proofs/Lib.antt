@@ -25,3 +25,5 @@ pub mod LiteralSteps
 pub mod CommentsPassed
 pub mod UnlikelyFronts
 pub mod TruthWords
+pub mod MinusLaw
+pub mod Theorems

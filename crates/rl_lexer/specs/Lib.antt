@@ -7,3 +7,4 @@ pub mod BadQuotes
 pub mod Sources
 pub mod Lines
 pub mod Mirrors
+pub mod Laws

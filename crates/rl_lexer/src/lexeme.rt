@@ -26,7 +26,7 @@ pub(crate) use suffix::after_suffix;
 
 /// What a token is to a parser: what [`Tokens`](crate::Tokens) cuts off, by its first
 /// characters. Whether a literal reads isn't judged.
-#[derive(Clone, Copy)]
+#[derive(Clone, Copy, PartialEq, Eq, Debug)]
 pub enum Form {
     /// A literal of any kind.
     Literal,

@@ -1,3 +1,4 @@
 pub mod Mirrors
 pub mod NumberParts
 pub mod Ranges
+pub mod Laws

@@ -44,3 +44,5 @@ pub mod SegmentLemmas
 pub mod SegmentStarts
 pub mod SegmentLawLemmas
 pub mod OpenerLemmas
+pub mod ValueLemmas
+pub mod Theorems

@@ -14,3 +14,5 @@ pub mod SegmentLaws
 pub mod NextLiterals
 pub mod SourceLiterals
 pub mod Mirrors
+pub mod Laws
+pub mod Values

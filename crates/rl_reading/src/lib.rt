@@ -12,6 +12,7 @@ pub mod quoted_forms;
 mod segments;
 mod source_literals;
 pub mod units;
+mod values;
 
 pub use crate::contents::{
     byte_of, byte_of_body, bytes_into, char_of, char_of_body, is_plain, str_into,

@@ -3,6 +3,7 @@
 ghost use Rattle.std.specs.Prelude.{◌≡◌, ◌≢◌, ◌<◌, [], None, length, IfSome, IfNone};
 ghost use Rattle.rl_lexer.specs.Cursors.{form_view};
 ghost use Rattle.rl_reading.specs.NextLiterals.{FindsReading, TakesNextLiteral, HasNoNextLiteral, token_rejection, RejectsNext, StepsList};
+ghost use Rattle.rl_reading.specs.Values.{IsReadLiteral};
 
 use crate::found::{Found, find, find_negative, find_truth};
 use rl_lexer::{Form, LexKind, Lexeme, Tokens};
@@ -100,6 +101,7 @@ fn take_literal<'t>(tokens: &mut Tokens<'t>) -> Option<NextLiteral<'t>>
 pub fn next_literal<'t>(tokens: &mut Tokens<'t>) -> Option<NextLiteral<'t>>
     ensures next { IfSome result (λ l. TakesNextLiteral tokens.old l tokens.new) }
     ensures shorter { IfSome result (λ l. length tokens.new.rest < length tokens.old.rest) }
+    ensures read { IfSome result IsReadLiteral }
     ensures none { IfNone result (HasNoNextLiteral tokens.old) }
     ensures stays { IfNone result (tokens.new ≡ tokens.old) }
 {

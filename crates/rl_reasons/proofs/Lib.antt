@@ -28,3 +28,4 @@ pub mod ReadLemmas
 pub mod FrontLemmas
 pub mod OneSignedFlaw
 pub mod BadQuoteReads
+pub mod Theorems

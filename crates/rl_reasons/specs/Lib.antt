@@ -12,3 +12,4 @@ pub mod QuotedRead
 pub mod StrictRead
 pub mod Fronts
 pub mod Mirrors
+pub mod Laws

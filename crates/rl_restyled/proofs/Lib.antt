@@ -5,3 +5,4 @@ pub mod Drafts
 pub mod KeptCuts
 pub mod EditPlaces
 pub mod OneText
+pub mod Theorems

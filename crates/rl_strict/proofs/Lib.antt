@@ -7,3 +7,4 @@ pub mod StrictRawLemmas
 pub mod StrictLemmas
 pub mod InsideRuns
 pub mod PlaceUnits
+pub mod Theorems

@@ -1,2 +1,3 @@
 pub mod StrictShapes
 pub mod Mirrors
+pub mod Laws

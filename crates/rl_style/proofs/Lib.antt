@@ -40,3 +40,5 @@ pub mod RestyledCuts
 mod RestylableLemmas
 mod Keywords
 pub mod EditedCuts
+pub mod ReadsAlike
+pub mod Theorems

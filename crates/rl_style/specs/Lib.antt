@@ -8,3 +8,4 @@ pub mod Calls
 pub mod Mirrors
 pub mod Restylable
 pub mod Rules
+pub mod Laws

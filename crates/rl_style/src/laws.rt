@@ -1,36 +1,41 @@
 //! Laws of the definitions: each function does nothing, and its contract is the law.
 
-ghost use Rattle.std.specs.Prelude.{List, ℕ, ◌≡◌, IsFalse};
-ghost use Rattle.rl_style.specs.declared.style.Style.{Style};
 ghost use Rattle.rl_style.specs.Around.{StaysAround, StaysBeforeQuote, KeepsItsEnds};
 ghost use Rattle.rl_style.specs.Recut.{KeepsTheCut, KeepsTheCutUnraw, KeepsTheSource};
 ghost use Rattle.rl_style.specs.Restyled.{KeepsTheEditedCut, KeepsTheEditedSource, KeepsTheRestyledCut, KeepsTheRestyledSource};
-ghost use Rattle.rl_style.specs.Rewriting.{HasNoRule, SameLiteral, SameNumber, Rewrites};
+ghost use Rattle.rl_style.specs.Laws.{ARewrittenLiteralIsTheSame, ARewrittenLiteralIsTheSameNumber, ARewrittenTextStays, ALiteralHasOneTextInAStyle, NoRuleChangesNothing, TheSameLiteralReadsAlike, TheSameLiteralIsStrictAlike};
 
 /// A literal that is written anew is the same literal, where the style puts no zero after a float's dot: its kind, its contents and its
 /// suffix are what they were.
 pub fn a_rewritten_literal_is_the_same()
-    ensures { (style : Style) (front t u : List ℕ) → IsFalse style.float_zero → Rewrites style front t u → SameLiteral t u }
+    ensures { ARewrittenLiteralIsTheSame }
 {}
 
 /// In any style it is the same literal, but that the contents of a float that ended with its dot may end with `.0`.
 pub fn a_rewritten_literal_is_the_same_number()
-    ensures { (style : Style) (front t u : List ℕ) → Rewrites style front t u → SameNumber style t u }
+    ensures { ARewrittenLiteralIsTheSameNumber }
+{}
+
+/// A text that is the same literal as another reads as the other does, and is strict as the other is: with one kind, the same
+/// contents and the same suffix. An integer above 128 bits has no reading, in either text.
+pub fn the_same_literal_reads_alike()
+    ensures reads { TheSameLiteralReadsAlike }
+    ensures strict { TheSameLiteralIsStrictAlike }
 {}
 
 /// What was written in a style, that style leaves as it is.
 pub fn what_was_written_stays()
-    ensures { (style : Style) (front t u : List ℕ) → Rewrites style front t u → Rewrites style front u u }
+    ensures { ARewrittenTextStays }
 {}
 
 /// A literal is one text in a style: whatever is the literal in the style is what [`rewrite_into`](crate::rewrite_into) writes.
 pub fn a_literal_has_one_text_in_a_style()
-    ensures { (style : Style) (front t u w : List ℕ) → Rewrites style front t u → Rewrites style front t w → u ≡ w }
+    ensures { ALiteralHasOneTextInAStyle }
 {}
 
 /// A style without rules changes nothing.
 pub fn no_rule_changes_nothing()
-    ensures { (style : Style) (front t u : List ℕ) → HasNoRule style → Rewrites style front t u → u ≡ t }
+    ensures { NoRuleChangesNothing }
 {}
 
 /// A token of a source stays one before a literal that begins as the old one did. Bad quotes and stray characters aside: no source

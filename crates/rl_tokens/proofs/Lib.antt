@@ -18,3 +18,4 @@ pub mod PrintedAnswers
 pub mod TreeRests
 pub mod MarkLemmas
 pub mod BorrowedTokens
+pub mod Theorems

@@ -1,3 +1,4 @@
 pub mod TypeLemmas
 pub mod Exclusions
 pub mod FloatLemmas
+pub mod Theorems

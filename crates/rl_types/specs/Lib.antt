@@ -4,3 +4,4 @@ pub mod ErrorWords
 pub mod Before
 pub mod FloatRange
 pub mod Mirrors
+pub mod Laws

@@ -4,3 +4,5 @@ pub mod ReasonLemmas
 pub mod RewriteLemmas
 pub mod CountLemmas
 pub mod ShortageLemmas
+mod TreeLemmas
+mod ConfigLemmas

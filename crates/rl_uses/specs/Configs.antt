@@ -1,53 +1,45 @@
--- What a server's settings are.
-use Rattle.std.specs.Prelude.{◌≡◌, ℕ, Bool as Truth, List, [], All, codes}
+-- What a server's settings are. Texts are bytes, except under `chars`.
+use Rattle.std.specs.Prelude.{◌≡◌, ◌⊎◌, ◌<◌, ◌^◌, ℕ, Bool as Truth, false, List, [], ◌∷◌, Result, Ok, Err, codes, string_bytes}
 use Rattle.std.specs.Str.{chars}
-use Rattle.std.specs.Str.Parse.{digits_value, without_leading_plus}
-use Rattle.rl_forms.specs.declared.kind.Kind.TheVariants.{Str as StrKind, Int as IntKind}
-use Rattle.rl_forms.specs.Reading.{Characters, HasContents}
-use Rattle.rust_literals.specs.declared.lit.Lit.{Lit}
-use Rattle.rust_literals.specs.declared.lit.Lit.TheVariants.{Str, Int, Bool}
-use Rattle.rust_literals.specs.Base10.{AreBase10Digits}
-use Rattle.rust_literals.specs.LitParts.{HasLitSuffix}
-use Rattle.rl_attributes.specs.declared.attributes.Entry.{Entry}
-use Rattle.rl_attributes.specs.Attributes.{AreAttributesOf}
-use Rattle.rl_attributes.specs.Entries.{HasName, attributes_of}
+use Rattle.std.specs.Str.Parse.{IsNumeral, digits_value, without_leading_plus}
+use Rattle.rl_attributes.specs.declared.settings.SettingError.{SettingError}
+use Rattle.rl_attributes.specs.Attributes.{Attribute, AreAttributesOf}
+use Rattle.rl_attributes.specs.TextSettings.{AreDigitsAt, AreNamedOf, HaveBareTexts, IsMemoryError, IsSetOr, IsStringOf, IsTruthOr, IsUnset}
+use Rattle.rl_uses.specs.declared.config.Config.{Config}
 
--- the literal is this truth value
-abbrev pub IsTruth : {A : Type 0} → Lit A → Truth → Type 0
-IsTruth (Bool l) value = l.value ≡ value
-IsTruth _ value = ⊥
+-- The digits, perhaps after a plus, are those of this number, which has 16 bits.
+pub record IsPortOf (digits : List ℕ) (port : ℕ) : Type 0 where
+  pub digits_are : IsNumeral 10 (without_leading_plus digits)
+  pub small : digits_value 10 (without_leading_plus digits) < 2 ^ 16
+  pub port_is : port ≡ digits_value 10 (without_leading_plus digits)
 
--- the literal is a string of these contents
-abbrev pub IsText : {A : Type 0} → Lit A → List ℕ → Type 0
-IsText (Str l) value = HasContents StrKind (chars l.text) (Characters (chars value))
-IsText _ value = ⊥
+-- `port` is set to this number, or isn't set, and the port is 80
+abbrev pub IsPort : ℕ → List Attribute → Type 0
+IsPort port list =
+    ((digits : List ℕ) × AreDigitsAt (codes "port") digits list × IsPortOf digits port)
+    ⊎ (IsUnset (codes "port") list × (port ≡ 80))
 
--- the literal is an integer whose digits make this number of 16 bits
-abbrev pub IsPortNumber : {A : Type 0} → Lit A → ℕ → Type 0
-IsPortNumber (Int l) port =
-    (digits : List ℕ) × AreBase10Digits IntKind l.text digits
-    × (port ≡ digits_value 10 (without_leading_plus digits))
-IsPortNumber _ port = ⊥
+-- `name` is set to this string, or isn't set, and the name is `server`
+abbrev pub IsServerName : List ℕ → List Attribute → Type 0
+IsServerName name list = IsSetOr (codes "name") (IsStringOf name) (name ≡ codes "server") list
 
--- what is named `port` is set to this number
-abbrev pub IsPort : {A : Type 0} → List (Entry A) → ℕ → Type 0
-IsPort entries port = All (λ e. HasName (codes "port") e → IsPortNumber e.value port) entries
+-- The attributes are settings of a server and nothing else, without suffixes, and these are their values.
+pub record IsConfig (list : List Attribute) (port : ℕ) (name : List ℕ) (verbose : Truth) : Type 0 where
+  pub known : AreNamedOf (codes "port" ∷ codes "name" ∷ codes "verbose" ∷ []) list
+  pub bare : HaveBareTexts list
+  pub port_is : IsPort port list
+  pub name_is : IsServerName name list
+  pub verbose_is : IsTruthOr (codes "verbose") false verbose list
 
--- what is named `verbose` is set to this truth value
-abbrev pub IsVerbose : {A : Type 0} → List (Entry A) → Truth → Type 0
-IsVerbose entries value = All (λ e. HasName (codes "verbose") e → IsTruth e.value value) entries
+-- The text is such attributes.
+pub record IsConfigText (text : List ℕ) (file port : ℕ) (name : List ℕ) (verbose : Truth)
+    : Type 0 where
+  pub list : List Attribute
+  pub are : AreAttributesOf (chars text) file list
+  pub config : IsConfig list port name verbose
 
--- what is named `name` is set to this string
-abbrev pub IsServerName : {A : Type 0} → List (Entry A) → List ℕ → Type 0
-IsServerName entries name = All (λ e. HasName (codes "name") e → IsText e.value name) entries
-
--- The text is settings, none of whose values has a suffix; `port`, `name` and `verbose` are these,
--- where they are set.
-pub record IsConfigText (A : Type 0) (text : List ℕ) (file port : ℕ) (name : List ℕ)
-    (verbose : Truth) : Type 0 where
-  pub entries : List (Entry A)
-  pub are : AreAttributesOf (chars text) file (attributes_of entries)
-  pub bare : All (λ e. HasLitSuffix e.value []) entries
-  pub port_is : IsPort entries port
-  pub name_is : IsServerName entries name
-  pub verbose_is : IsVerbose entries verbose
+-- the answer is these settings, or an allocation failed
+abbrev pub IsConfigOrMemory : {A : Type 0} → ℕ → List ℕ → Truth → Result (Config A) (SettingError A) → Type 0
+IsConfigOrMemory port name verbose (Ok c) =
+    (c.port ≡ port) × (chars (string_bytes c.name) ≡ chars name) × (c.verbose ≡ verbose)
+IsConfigOrMemory port name verbose (Err e) = IsMemoryError e

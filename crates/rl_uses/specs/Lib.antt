@@ -8,3 +8,7 @@ pub mod Reasons
 pub mod Rewrites
 pub mod Counts
 pub mod Configs
+pub mod Mounts
+pub mod Sums
+pub mod Raws
+pub mod Uppers

@@ -1,15 +1,10 @@
-//! A server's settings: three names, and what each is where it isn't set.
+//! A server's settings: three names, and their defaults.
 
-ghost use Rattle.std.specs.Prelude.{◌≡◌, List, [], ℕ, All, IfOk, string_bytes};
-ghost use Rattle.std.specs.Str.Parse.{digits_value, without_leading_plus};
-ghost use Rattle.rl_forms.specs.declared.kind.Kind.TheVariants.{Int};
-ghost use Rattle.rust_literals.specs.Base10.{AreBase10Digits};
-ghost use Rattle.rust_literals.specs.LitParts.{HasLitSuffix};
-ghost use Rattle.rl_attributes.specs.AttributeParsing.{entries_of};
-ghost use Rattle.rl_uses.specs.Configs.{IsVerbose, IsServerName, IsPort, IsConfigText};
+ghost use Rattle.std.specs.Prelude.{◌≡◌, ℕ, List, Bool, IfOk, Ok, string_bytes};
+ghost use Rattle.rl_attributes.specs.TextSettings.{IsStringOrMemory, list_of};
+ghost use Rattle.rl_uses.specs.Configs.{IsServerName, IsPort, IsConfig, IsConfigText, IsConfigOrMemory};
 
 use rl_attributes::{Attrs, Setting, SettingError, read};
-use rust_literals::{Lit, LitInt};
 use std::alloc::{Allocator, Global};
 
 /// The port, 80 where it isn't set.
@@ -41,69 +36,55 @@ pub struct Config<A: Allocator = Global> {
     pub verbose: bool,
 }
 
-/// The number that a literal sets the port to.
-fn port_number<A: Allocator + Copy>(alloc: A, literal: &LitInt<A>) -> Result<u16, SettingError<A>>
-    ensures { IfOk result (λ port. (digits : List ℕ)
-        × AreBase10Digits Int literal.now.text digits
-        × (port ≡ digits_value 10 (without_leading_plus digits))) }
-{
-    match literal.base10_parse(alloc) {
-        Ok(port) => Ok(port),
-        Err(error) => Err(SettingError::Value(PORT, error)),
-    }
-}
-
-/// The port that is set.
+/// The port that is set, or 80.
 fn port_of<A: Allocator + Copy>(alloc: A, attrs: &Attrs<A>) -> Result<u16, SettingError<A>>
-    ensures { IfOk result (IsPort (entries_of attrs.now)) }
+    ensures set { IfOk result (λ port. IsPort port (list_of attrs.now)) }
+    ensures exactly { (port : ℕ) → IsPort port (list_of attrs.now) → result ≡ Ok port }
 {
-    match attrs.get(PORT.name) {
-        None => Ok(80),
-        Some(Lit::Int(literal)) => port_number(alloc, literal),
-        Some(other) => Err(SettingError::Kind(PORT, other.span())),
+    match attrs.number::<u16>(alloc, PORT) {
+        Ok(port) => Ok(port.unwrap_or(80)),
+        Err(error) => Err(error),
     }
 }
 
-/// The name that is set.
+/// The name that is set, or `server`.
 fn name_of<A: Allocator + Copy>(alloc: A, attrs: &Attrs<A>) -> Result<String<A>, SettingError<A>>
-    ensures { IfOk result (λ name. IsServerName (entries_of attrs.now) (string_bytes name)) }
+    ensures set { IfOk result (λ name. IsServerName (string_bytes name) (list_of attrs.now)) }
+    ensures exactly { (name : List ℕ) → IsServerName name (list_of attrs.now) → IsStringOrMemory name result }
 {
-    match attrs.get(NAME.name) {
-        None => Ok(String::from_str(alloc, "server")?),
-        Some(Lit::Str(literal)) => Ok(literal.value(alloc)?),
-        Some(other) => Err(SettingError::Kind(NAME, other.span())),
-    }
-}
-
-/// Whether the settings ask for more.
-fn is_verbose<A: Allocator>(attrs: &Attrs<A>) -> Result<bool, SettingError<A>>
-    ensures { IfOk result (IsVerbose (entries_of attrs.now)) }
-{
-    match attrs.get(VERBOSE.name) {
-        None => Ok(false),
-        Some(Lit::Bool(literal)) => Ok(literal.value()),
-        Some(other) => Err(SettingError::Kind(VERBOSE, other.span())),
+    match attrs.string(alloc, NAME) {
+        Ok(Some(name)) => Ok(name),
+        Ok(None) => Ok(String::from_str(alloc, "server")?),
+        Err(error) => Err(error),
     }
 }
 
 /// The settings that attributes are.
 fn config_of<A: Allocator + Copy>(alloc: A, attrs: &Attrs<A>) -> Result<Config<A>, SettingError<A>>
-    ensures bare { IfOk result
-        (λ config. All (λ e. HasLitSuffix e.value []) (entries_of attrs.now)) }
-    ensures port { IfOk result (λ config. IsPort (entries_of attrs.now) config.port) }
-    ensures name { IfOk result (λ config. IsServerName (entries_of attrs.now) (string_bytes config.name)) }
-    ensures verbose { IfOk result (λ config. IsVerbose (entries_of attrs.now) config.verbose) }
+    ensures set { IfOk result (λ config.
+        IsConfig (list_of attrs.now) config.port (string_bytes config.name) config.verbose) }
+    ensures exactly { (port : ℕ) (name : List ℕ) (verbose : Bool)
+        → IsConfig (list_of attrs.now) port name verbose → IsConfigOrMemory port name verbose result }
 {
-    attrs.check(&[PORT, NAME, VERBOSE])?;
-    let port = port_of(alloc, attrs)?;
-    let name = name_of(alloc, attrs)?;
-    match is_verbose(attrs) {
+    match attrs.check(&[PORT, NAME, VERBOSE]) {
+        Err(error) => return Err(error),
+        Ok(()) => {}
+    }
+    let port = match port_of(alloc, attrs) {
+        Err(error) => return Err(error),
+        Ok(port) => port,
+    };
+    let name = match name_of(alloc, attrs) {
+        Err(error) => return Err(error),
+        Ok(name) => name,
+    };
+    match attrs.truth_or(VERBOSE, false) {
+        Err(error) => Err(error),
         Ok(verbose) => Ok(Config {
             port,
             name,
             verbose,
         }),
-        Err(error) => Err(error),
     }
 }
 
@@ -117,9 +98,15 @@ pub fn read_config<A: Allocator + Copy>(
     text: &str,
     file: u32,
 ) -> Result<Config<A>, SettingError<A>>
+    // The text is settings, and the answer is what they set.
     ensures set { IfOk result
-        (λ config. IsConfigText A text.now file config.port (string_bytes config.name) config.verbose) }
+        (λ config. IsConfigText text.now file config.port (string_bytes config.name) config.verbose) }
+    // Whatever settings a text is, they are the answer, or an allocation failed.
+    ensures exactly { (port : ℕ) (name : List ℕ) (verbose : Bool)
+        → IsConfigText text.now file port name verbose → IsConfigOrMemory port name verbose result }
 {
-    let attrs = read(alloc, text, file)?;
-    config_of(alloc, &attrs)
+    match read(alloc, text, file) {
+        Ok(attrs) => config_of(alloc, &attrs),
+        Err(error) => Err(SettingError::Text(error)),
+    }
 }

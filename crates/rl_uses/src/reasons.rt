@@ -7,7 +7,7 @@ ghost use Rattle.rust_literals.specs.Parsing.{AreRead};
 ghost use Rattle.rl_uses.specs.Shortage.{IsShortOf, RejectsTextOrMemory};
 ghost use Rattle.rl_uses.specs.Reasons.{HasValue, IsReasonOf, AreReasons};
 
-use rl_grammar::FlawKind;
+use rl_grammar::{FlawKind, explain_value};
 use rl_tokens::{Error, Span};
 use rust_literals::{Lit, read_all};
 use std::alloc::Allocator;
@@ -26,7 +26,7 @@ fn reason_of<A: Allocator>(literal: &Lit<A>) -> Option<Reason>
     ensures none { IfNone result (HasValue literal.now) }
     ensures some { IfSome result (IsReasonOf literal.now) }
 {
-    let flaw = literal.explain()?;
+    let flaw = explain_value(literal.text())?;
     Some(Reason {
         span: flaw.in_span(literal.span()),
         kind: flaw.kind,

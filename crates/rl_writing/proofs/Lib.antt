@@ -7,3 +7,4 @@ pub mod HashLemmas
 pub mod RawLaws
 pub mod UnicodeLemmas
 pub mod AsciiLaws
+pub mod Theorems

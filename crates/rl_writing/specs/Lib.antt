@@ -4,3 +4,4 @@ pub mod Integers
 pub mod Mirrors
 pub mod RawStrings
 pub mod WrittenIntegers
+pub mod Laws

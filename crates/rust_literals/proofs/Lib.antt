@@ -11,3 +11,4 @@ pub mod FlatLemmas
 pub mod ReadLemmas
 pub mod BegunLemmas
 pub mod IteratingLemmas
+pub mod Theorems

@@ -10,3 +10,4 @@ pub mod Flat
 pub mod Iterating
 pub mod LitParts
 pub mod Reprints
+pub mod Laws

@@ -20,4 +20,3 @@ pub use crate::literals::Literals;
 pub use crate::number::{Number, NumberKind};
 pub use crate::read::read_all;
 pub use rl_quoted::{LitByte, LitByteStr, LitCStr, LitChar, LitStr};
-pub use rl_reasons::{Flaw, FlawKind};

@@ -1,11 +1,9 @@
 //! `Lit`, and what its nine variants have in common.
 
-ghost use Rattle.std.specs.Prelude.{◌≡◌, ◌⊎◌, IfOk, IfErr, IfSome, IfNone, Some};
+ghost use Rattle.std.specs.Prelude.{◌≡◌, IfOk, IfErr, IfSome, IfNone, Some};
 ghost use Rattle.std.specs.Str.{chars};
 ghost use Rattle.rl_tokens.specs.Errors.{memory_at};
-ghost use Rattle.rl_forms.specs.Reading.{HasNoReading, HasReading, HasSuffix};
-ghost use Rattle.rl_reasons.specs.Limits.{ExplainsValue, IsFloatBySuffix};
-ghost use Rattle.rl_reasons.specs.SignedFlaws.{IsSignedToken};
+ghost use Rattle.rl_forms.specs.Reading.{HasNoReading, HasSuffix};
 ghost use Rattle.rl_reading.specs.Founds.{IsFound};
 ghost use Rattle.rl_fronts.specs.FrontTokens.{front_token};
 ghost use Rattle.rust_literals.specs.Held.{HasOwnSuffix};
@@ -21,7 +19,6 @@ use rl_forms::Kind;
 use rl_fronts::Front;
 use rl_quoted::{LitByte, LitByteStr, LitCStr, LitChar, LitStr, Quoted, QuotedKind};
 use rl_reading::{Found, find};
-use rl_reasons::{Flaw, explain_value};
 use rl_tokens::{Error, Kept, Literal, Parse, ParseBuffer, Span, Token};
 use std::alloc::{Allocator, Global};
 
@@ -239,23 +236,6 @@ impl<A: Allocator> Lit<A> {
         ensures { result ≡ lit_span self.now }
     {
         self.view().span
-    }
-
-    /// Why the literal's text has no value in Rust, and where, in bytes of the text; `None` exactly where it is a literal
-    /// token, or a minus and a number, and has a reading, or is a float by its suffix ([`is_float_by_suffix`]). So it is the
-    /// reason of `Verbatim`, and of a literal that `syn` reads and rustc rejects. [`Flaw::in_span`] gives the place in the
-    /// file. No memory is taken.
-    ///
-    /// [`is_float_by_suffix`]: rl_grammar::is_float_by_suffix
-    ///
-    /// See the example of [`read_all`].
-    pub fn explain(&self) -> Option<Flaw>
-        ensures token { IfNone result (IsSignedToken (chars (token_of self.now).text)) }
-        ensures none { IfNone result (HasReading (chars (token_of self.now).text)
-            ⊎ IsFloatBySuffix (chars (token_of self.now).text)) }
-        ensures some { IfSome result (ExplainsValue (chars (token_of self.now).text)) }
-    {
-        explain_value(self.text())
     }
 
     /// Puts the literal elsewhere: its span becomes this one, and all else stays.

@@ -108,13 +108,14 @@ pub(crate) fn read_after<A: Allocator + Copy>(
 /// # Example
 ///
 /// ```
+/// use rl_grammar::explain_value;
 /// use rust_literals::read_all;
 /// use std::alloc::Global;
 ///
 /// pub fn first_flaw(alloc: Global, text: &str) -> Option<(&'static str, usize)> {
 ///     let literals = read_all(alloc, text, 0).ok()?;
 ///     let literal = literals.as_slice().first()?;
-///     let flaw = literal.explain()?;
+///     let flaw = explain_value(literal.text())?;
 ///     Some((flaw.kind.words(), flaw.in_span(literal.span()).lo))
 /// }
 /// // first_flaw(alloc, "\"a\\q\" 1") == Some(("unknown escape", 3))

@@ -23,6 +23,15 @@ pub fn host_of(alloc: Global, text: &str) -> Option<String> {
     attrs.string(alloc, host).ok()?
 }
 
+/// The string that a text has to set `host` to.
+pub fn host_in(alloc: Global, text: &str) -> Option<String> {
+    let host = Setting {
+        name: "host",
+        expected: "a string",
+    };
+    read(alloc, text, 0).ok()?.required_string(alloc, host).ok()
+}
+
 /// Where a text ends that sets no `host`.
 pub fn missing_at(alloc: Global, text: &str) -> Option<usize> {
     let host = Setting {

@@ -1,5 +1,6 @@
 //! Examples of `rust_literals`: literals of any kind, numbers, and lists.
 
+use rl_grammar::explain_value;
 use rl_tokens::{Literal, Span, Tokens};
 use rust_literals::{Lit, LitFloat, Literals, read_all, read_next};
 use std::alloc::Global;
@@ -28,7 +29,7 @@ pub fn digits_or_text(alloc: Global, text: &str) -> Option<String> {
 pub fn first_flaw(alloc: Global, text: &str) -> Option<(&'static str, usize)> {
     let literals = read_all(alloc, text, 0).ok()?;
     let literal = literals.as_slice().first()?;
-    let flaw = literal.explain()?;
+    let flaw = explain_value(literal.text())?;
     Some((flaw.kind.words(), flaw.in_span(literal.span()).lo))
 }
 

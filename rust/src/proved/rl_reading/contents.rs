@@ -45,6 +45,13 @@ pub fn decode_into(kind: Kind, text: &str, out: &mut [u8]) -> usize {
     }
 }
 
+/// Writes the text that a string literal with this body stands for, and returns how many bytes it is long. The body
+/// isn't plain ([`Body::plain`](crate::rl_reading::Body::plain)); a plain one is what the literal stands for. No memory is taken.
+#[cfg(feature = "rendered")]
+pub fn str_into(body: &str, out: &mut [u8]) -> usize {
+    decode_into(Kind::Str, body, out)
+}
+
 /// Writes the bytes that a byte string or a C string literal with this body stands for, and returns how many they are.
 /// The body isn't plain ([`Body::plain`](crate::rl_reading::Body::plain)). No memory is taken.
 pub fn bytes_into(kind: Kind, body: &str, out: &mut [u8]) -> usize {

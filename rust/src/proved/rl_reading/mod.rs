@@ -11,10 +11,14 @@ pub mod quoted_forms;
 mod segments;
 mod source_literals;
 pub mod units;
+#[cfg(feature = "rendered")]
+mod values;
 
 pub use crate::rl_reading::contents::bytes_into;
 #[cfg(feature = "rendered")]
-pub use crate::rl_reading::contents::{byte_of, byte_of_body, char_of, char_of_body, is_plain};
+pub use crate::rl_reading::contents::{
+    byte_of, byte_of_body, char_of, char_of_body, is_plain, str_into,
+};
 pub use crate::rl_reading::digits::{is_plain_integer, numeral_into};
 pub use crate::rl_reading::found::{Body, Found, find, find_negative, truth_of};
 #[cfg(feature = "rendered")]

@@ -1,5 +1,5 @@
-use Rattle.rl_file_reasons.proofs.OneFileFlaw.{value_file_once}
+use Rattle.rl_file_reasons.proofs.Theorems.{a_text_in_a_file_has_one_value_flaw}
 use Rattle.rl_file_reasons.proofs.laws.a_text_in_a_file_has_one_value_flaw.Goals as goal
 
 pub returns : goal.returns
-returns c = value_file_once
+returns c = a_text_in_a_file_has_one_value_flaw

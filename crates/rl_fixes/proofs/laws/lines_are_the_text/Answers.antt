@@ -1,5 +1,5 @@
-use Rattle.rl_fixes.proofs.PatchLemmas.{lines_are}
+use Rattle.rl_fixes.proofs.Theorems.{lines_are_text}
 use Rattle.rl_fixes.proofs.laws.lines_are_the_text.Goals as goal
 
 pub returns : goal.returns
-returns c = lines_are
+returns c = lines_are_text

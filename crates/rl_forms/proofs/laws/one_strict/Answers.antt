@@ -1,5 +1,5 @@
-use Rattle.rl_forms.proofs.OneReading.{one_strict as law}
+use Rattle.rl_forms.proofs.Theorems.{a_text_is_strict_in_one_way}
 use Rattle.rl_forms.proofs.laws.one_strict.Goals as goal
 
 pub returns : goal.returns
-returns c = law
+returns c = a_text_is_strict_in_one_way

@@ -1,5 +1,5 @@
-use Rattle.rl_forms.proofs.TruthLemmas.{words_strict as law}
+use Rattle.rl_forms.proofs.Theorems.{the_truth_words_are_strict}
 use Rattle.rl_forms.proofs.laws.words_strict.Goals as goal
 
 pub returns : goal.returns
-returns c = law
+returns c = the_truth_words_are_strict

@@ -1,5 +1,5 @@
-use Rattle.rl_forms.proofs.WrittenLaws.{written_strict as law}
+use Rattle.rl_forms.proofs.Theorems.{a_written_value_is_strict}
 use Rattle.rl_forms.proofs.laws.written_strict.Goals as goal
 
 pub returns : goal.returns
-returns c = law
+returns c = a_written_value_is_strict

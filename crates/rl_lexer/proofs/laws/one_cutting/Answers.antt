@@ -1,5 +1,5 @@
-use Rattle.rl_lexer.proofs.SourceLaws.{one_cutting as law}
+use Rattle.rl_lexer.proofs.Theorems.{one_cutting}
 use Rattle.rl_lexer.proofs.laws.one_cutting.Goals as goal
 
 pub returns : goal.returns
-returns c = law
+returns c = one_cutting

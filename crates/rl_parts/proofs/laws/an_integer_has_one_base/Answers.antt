@@ -1,5 +1,5 @@
-use Rattle.rl_parts.proofs.PartLemmas.{one_integer_of as law}
+use Rattle.rl_parts.proofs.Theorems.{an_integer_has_one_base}
 use Rattle.rl_parts.proofs.laws.an_integer_has_one_base.Goals as goal
 
 pub returns : goal.returns
-returns c = law
+returns c = an_integer_has_one_base

@@ -1,5 +1,5 @@
-use Rattle.rl_reading.proofs.SegmentLawLemmas.{stands_in}
+use Rattle.rl_reading.proofs.Theorems.{the_places_of_bytes_are_in_the_body}
 use Rattle.rl_reading.proofs.laws.places_stand_in_the_body.Goals as goal
 
 pub returns : goal.returns
-returns c = stands_in
+returns c = the_places_of_bytes_are_in_the_body

@@ -1,5 +1,5 @@
-use Rattle.rl_reading.proofs.SegmentValues.{one_segment}
+use Rattle.rl_reading.proofs.Theorems.{units_are_one_segment}
 use Rattle.rl_reading.proofs.laws.units_are_one_segment.Goals as goal
 
 pub returns : goal.returns
-returns c = one_segment
+returns c = units_are_one_segment

@@ -1,5 +1,5 @@
-use Rattle.rl_reasons.proofs.OneSignedFlaw.{signed_once}
+use Rattle.rl_reasons.proofs.Theorems.{a_text_has_one_signed_flaw}
 use Rattle.rl_reasons.proofs.laws.a_text_has_one_signed_flaw.Goals as goal
 
 pub returns : goal.returns
-returns c = signed_once
+returns c = a_text_has_one_signed_flaw

@@ -1,5 +1,5 @@
-use Rattle.rl_style.proofs.SameLiterals.{same}
+use Rattle.rl_style.proofs.Theorems.{a_rewritten_literal_is_the_same}
 use Rattle.rl_style.proofs.laws.a_rewritten_literal_is_the_same.Goals as goal
 
 pub returns : goal.returns
-returns c = same
+returns c = a_rewritten_literal_is_the_same

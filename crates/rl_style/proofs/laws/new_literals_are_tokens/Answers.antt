@@ -1,4 +1,4 @@
-use Rattle.rl_style.proofs.Ends.{keeps_its_ends}
+use Rattle.rl_style.proofs.Theorems.{keeps_its_ends}
 use Rattle.rl_style.proofs.laws.new_literals_are_tokens.Goals as goal
 
 pub returns : goal.returns

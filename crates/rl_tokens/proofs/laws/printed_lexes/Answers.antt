@@ -1,5 +1,5 @@
-use Rattle.rl_tokens.proofs.PrintedLaws.{printed_lexes as law}
+use Rattle.rl_tokens.proofs.Theorems.{printed_lexes}
 use Rattle.rl_tokens.proofs.laws.printed_lexes.Goals as goal
 
 pub returns : goal.returns
-returns c = law
+returns c = printed_lexes

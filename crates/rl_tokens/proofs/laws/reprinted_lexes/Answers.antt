@@ -1,5 +1,5 @@
-use Rattle.rl_tokens.proofs.PrintedLaws.{reprinted_lexes as law}
+use Rattle.rl_tokens.proofs.Theorems.{reprinted_lexes}
 use Rattle.rl_tokens.proofs.laws.reprinted_lexes.Goals as goal
 
 pub returns : goal.returns
-returns c = law
+returns c = reprinted_lexes

@@ -1,5 +1,5 @@
-use Rattle.rust_literals.proofs.LeadsLemmas.{lit_shorter}
+use Rattle.rust_literals.proofs.Theorems.{a_literal_leaves_fewer_trees}
 use Rattle.rust_literals.proofs.laws.literal_is_taken.Goals as goal
 
 pub returns : goal.returns
-returns g c = lit_shorter
+returns g c = a_literal_leaves_fewer_trees

@@ -1,11 +1,11 @@
-use Rattle.rust_literals.proofs.PeekLemmas.{literal_tells, truth_tells, typed_tells}
+use Rattle.rust_literals.proofs.Theorems.{a_peek_tells_a_literal, a_peek_tells_a_truth_value, a_peek_tells_the_kind}
 use Rattle.rust_literals.proofs.laws.peeks_tell.Goals as goal
 
 pub returns-clause-literal : goal.returns-clause-literal
-returns-clause-literal g c = literal_tells
+returns-clause-literal g c = a_peek_tells_a_literal
 
 pub returns-clause-truth : goal.returns-clause-truth
-returns-clause-truth g c = truth_tells
+returns-clause-truth g c = a_peek_tells_a_truth_value
 
 pub returns-clause-typed : goal.returns-clause-typed
-returns-clause-typed g c = typed_tells
+returns-clause-typed g c = a_peek_tells_the_kind

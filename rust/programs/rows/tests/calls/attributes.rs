@@ -24,26 +24,57 @@ fn set<T: Display>(value: Result<Option<T>, SettingError>, missing: SettingError
     }
 }
 
+/// The settings that the rows have.
+const NAME: Setting = Setting {
+    name: "name",
+    expected: "a string",
+};
+const PORT: Setting = Setting {
+    name: "port",
+    expected: "an integer from 0 to 65535",
+};
+const VERBOSE: Setting = Setting {
+    name: "verbose",
+    expected: "`true` or `false`",
+};
+
 /// Three settings, by name and type.
 #[test]
 fn settings() {
-    let name = Setting {
-        name: "name",
-        expected: "a string",
-    };
-    let port = Setting {
-        name: "port",
-        expected: "an integer from 0 to 65535",
-    };
-    let verbose = Setting {
-        name: "verbose",
-        expected: "`true` or `false`",
-    };
     check(TABLE, "attr_settings", |text| {
         value_or_error(read(Global, text, 4), |attrs| {
-            set(attrs.string(Global, name), attrs.missing(name))
-                + &set(attrs.number::<u16>(Global, port), attrs.missing(port))
-                + &set(attrs.truth(verbose), attrs.missing(verbose))
+            set(attrs.string(Global, NAME), attrs.missing(NAME))
+                + &set(attrs.number::<u16>(Global, PORT), attrs.missing(PORT))
+                + &set(attrs.truth(VERBOSE), attrs.missing(VERBOSE))
+        })
+    });
+}
+
+/// What a required setting is set to, or the error.
+fn required<T: Display>(value: Result<T, SettingError>) -> String {
+    match value {
+        Ok(value) => format!("{value}\n"),
+        Err(error) => format!("{} {error}\n", place(error.span())),
+    }
+}
+
+#[test]
+fn required_settings() {
+    check(TABLE, "attr_settings", |text| {
+        value_or_error(read(Global, text, 4), |attrs| {
+            required(attrs.required_string(Global, NAME))
+                + &required(attrs.required_number::<u16>(Global, PORT))
+                + &required(attrs.required_truth(VERBOSE))
+        })
+    });
+}
+
+/// A truth value by each of the two defaults.
+#[test]
+fn truth_or() {
+    check(TABLE, "attr_truth_or", |text| {
+        value_or_error(read(Global, text, 4), |attrs| {
+            required(attrs.truth_or(VERBOSE, true)) + &required(attrs.truth_or(VERBOSE, false))
         })
     });
 }

@@ -3,9 +3,12 @@
 use crate::rows::{check, check_headings};
 use crate::shown::{self, at, debug_or_error, value_or_error};
 use navyspindle_programs::rattle_std::alloc::Global;
-use navyspindle_programs::rl_tokens::{parse_all, ParseBuffer, Span};
+use navyspindle_programs::rl_grammar::{find, next_literal};
+use navyspindle_programs::rl_tokens::{parse_all, ParseBuffer, Span, Tokens};
 use navyspindle_programs::rust_literals::read_all;
-use navyspindle_rows::rl_uses::examples::attributes::{host_of, missing_at, string_setting};
+use navyspindle_rows::rl_uses::examples::attributes::{
+    host_in, host_of, missing_at, string_setting,
+};
 use navyspindle_rows::rl_uses::examples::buffers::{
     first_in_group, mark_after_name, port, trees_left, trees_of,
 };
@@ -25,8 +28,9 @@ use navyspindle_rows::rl_uses::examples::tokens::{
     text_at,
 };
 use navyspindle_rows::rl_uses::{
-    backslash_in_path, bad_literals, control_strings, count_literals, format as formatted,
-    read_attribute, read_config, read_number, Attribute, Item, ItemList,
+    backslash_in_path, bad_literals, control_strings, count_literals, evaluate,
+    format as formatted, read_attribute, read_config, read_mount, read_number, write_raw,
+    write_upper, Attribute, Item, ItemList,
 };
 use std::fmt::Debug;
 
@@ -164,6 +168,56 @@ fn config() {
     });
 }
 
+/// The path, and whether nothing may be written.
+#[test]
+fn mount() {
+    check(TABLE, "mount", |text| match read_mount(Global, text) {
+        Ok(it) => format!("{} {}", it.path.as_str(), it.read_only),
+        Err(error) => format!("{} {error}", at(error.span())),
+    });
+}
+
+/// The number of the literal that is next, whether it has a suffix, and its number without one; and of the whole text's literal
+/// its number, and whether it has a suffix.
+#[test]
+fn values() {
+    check(TABLE, "values", |text| {
+        let literal = next_literal(&mut Tokens::new(text)).unwrap();
+        let found = find(text).map(|found| (found.signed(text), found.has_suffix(text)));
+        let (signed, value) = (literal.signed(), literal.value());
+        format!("{signed:?} {} {value:?}\n{found:?}", literal.has_suffix())
+    });
+}
+
+#[test]
+fn sums() {
+    check(TABLE, "sums", |text| format!("{:?}", evaluate(text)));
+}
+
+/// A string literal as a raw one.
+#[test]
+fn raw() {
+    check(TABLE, "raw", |text| {
+        let (mut room, mut out) = ([0; 64], [0; 64]);
+        match write_raw(text, &mut room, &mut out) {
+            Some(len) => String::from_utf8(out[..len].to_vec()).unwrap(),
+            None => "none".to_owned(),
+        }
+    });
+}
+
+/// A literal with its hexadecimal digits in upper case.
+#[test]
+fn upper() {
+    check(TABLE, "upper", |text| {
+        let mut out = [0; 64];
+        match write_upper(text, &mut out) {
+            Some(len) => String::from_utf8(out[..len].to_vec()).unwrap(),
+            None => "none".to_owned(),
+        }
+    });
+}
+
 /// The span of the first backslash of a path's value.
 #[test]
 fn path() {
@@ -248,6 +302,8 @@ fn examples() {
             after_literal(Global, "1.5, 2");
             second_string(Global, "1 \"a\" 'b'");
             host_of(Global, "host = \"a\", port = 80");
+            host_in(Global, "host = \"a\", port = 80");
+            host_in(Global, "port = 80");
             missing_at(Global, "port = 80");
             string_setting(Global, "host = \"a\", port = 80", "host");
         }

@@ -6,7 +6,7 @@ use navyspindle::{
     ParseError, ParseErrorKind,
 };
 use navyspindle_programs::rl_grammar::{
-    explain, explain_in_file, explain_limit, explain_signed, explain_value_in_file,
+    explain, explain_in_file, explain_limit, explain_signed, explain_value, explain_value_in_file,
     is_float_by_suffix, strict, Flaw,
 };
 
@@ -56,7 +56,7 @@ pub fn check_verbatim(ours: &Lit, proved: &Proved) {
     let Lit::Verbatim(literal) = ours else {
         panic!()
     };
-    match (literal.explain(), proved.explain()) {
+    match (literal.explain(), explain_value(proved.text())) {
         (None, None) => assert!(is_float_by_suffix(ours.text()), "{:?}", ours.text()),
         (Some(error), Some(flaw)) => check_flaw(ours.text(), error, flaw),
         (_, flaw) => panic!("{:?}: {:?}", ours.text(), flaw.map(|it| it.kind)),

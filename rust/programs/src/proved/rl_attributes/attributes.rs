@@ -21,7 +21,7 @@ pub struct Entry<A: Allocator = Global> {
     pub value: Lit<A>,
 }
 
-/// Attributes in their order. No two have one name.
+/// Attributes in their order. No two have one name, and each value is the reading of its literal.
 pub struct Attrs<A: Allocator = Global> {
     entries: Vec<Entry<A>, A>,
     end: Span,

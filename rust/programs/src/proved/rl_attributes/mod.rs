@@ -2,6 +2,7 @@
 //! Attributes, `name = literal` with commas between: a layer above the literals, by their public calls alone.
 
 mod attributes;
+mod required;
 mod settings;
 mod values;
 

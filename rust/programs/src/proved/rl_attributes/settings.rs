@@ -35,6 +35,9 @@ pub enum SettingError<A: Allocator = Global> {
     Suffix(Span),
     /// The setting's value, at this span, is a literal of another kind than was expected.
     Kind(Setting, Span),
+    /// The setting's value, at this span, has no reading: a malformed literal, or an integer above 128 bits. Rust's grammar has
+    /// the reason (`explain_value` of `rl_grammar`, of the literal's text).
+    Malformed(Setting, Span),
     /// The setting's value was rejected for this error, as `base10_parse` reports one.
     Value(Setting, Error<A>),
     /// The setting has to be set and isn't; this is where the settings end.
@@ -49,6 +52,7 @@ impl<A: Allocator> SettingError<A> {
             SettingError::Unknown(span) => *span,
             SettingError::Suffix(span) => *span,
             SettingError::Kind(_, span) => *span,
+            SettingError::Malformed(_, span) => *span,
             SettingError::Value(_, error) => error.span,
             SettingError::Missing(_, span) => *span,
         }
@@ -62,6 +66,10 @@ impl<A: Allocator> fmt::Display for SettingError<A> {
             SettingError::Unknown(_) => f.write_str("unknown name"),
             SettingError::Suffix(_) => f.write_str("unexpected suffix"),
             SettingError::Kind(setting, _) => write!(f, "{setting}"),
+            SettingError::Malformed(setting, _) => {
+                let name = setting.name;
+                write!(f, "{name}: malformed literal")
+            }
             SettingError::Value(setting, error) => write!(f, "{setting}: {error}"),
             SettingError::Missing(setting, _) => write!(f, "missing {setting}"),
         }

@@ -9,6 +9,14 @@ use crate::rattle_std::alloc::Allocator;
 use crate::rattle_std::fmt::Display;
 use crate::rattle_std::str::FromStr;
 
+/// The error that the literal is of another kind than the setting expects, or has no reading.
+fn other_kind<A: Allocator>(setting: Setting, value: &Lit<A>) -> SettingError<A> {
+    match value {
+        Lit::Verbatim(literal) => SettingError::Malformed(setting, literal.span()),
+        other => SettingError::Kind(setting, other.span()),
+    }
+}
+
 /// The contents of a string that a setting is set to.
 fn string_of<A: Allocator>(
     alloc: A,
@@ -17,7 +25,7 @@ fn string_of<A: Allocator>(
 ) -> Result<String<A>, SettingError<A>> {
     match value {
         Lit::Str(literal) => Ok(literal.value(alloc)?),
-        other => Err(SettingError::Kind(setting, other.span())),
+        other => Err(other_kind(setting, other)),
     }
 }
 
@@ -25,7 +33,7 @@ fn string_of<A: Allocator>(
 fn truth_of<A: Allocator>(setting: Setting, value: &Lit<A>) -> Result<bool, SettingError<A>> {
     match value {
         Lit::Bool(literal) => Ok(literal.value()),
-        other => Err(SettingError::Kind(setting, other.span())),
+        other => Err(other_kind(setting, other)),
     }
 }
 
@@ -40,7 +48,7 @@ where
     let parsed = match value {
         Lit::Int(literal) => literal.base10_parse(alloc),
         Lit::Float(literal) => literal.base10_parse(alloc),
-        other => return Err(SettingError::Kind(setting, other.span())),
+        other => return Err(other_kind(setting, other)),
     };
     match parsed {
         Ok(number) => Ok(number),
@@ -49,12 +57,8 @@ where
 }
 
 impl<A: Allocator> Attrs<A> {
-    /// The string that a setting is set to, decoded; `None` where it isn't set.
-    ///
-    /// # Errors
-    ///
-    /// `Kind` at the value, where it is no string; its allocation failure as `Text`, there too.
-    pub fn string(&self, alloc: A, setting: Setting) -> Result<Option<String<A>>, SettingError<A>> {
+    /// The string that a setting is set to.
+    fn found_string(&self, alloc: A, setting: Setting) -> Result<Option<String<A>>, SettingError<A>> {
         let Some(value) = self.get(setting.name) else {
             return Ok(None);
         };
@@ -64,14 +68,8 @@ impl<A: Allocator> Attrs<A> {
         }
     }
 
-    /// The number that a setting is set to, as its type makes one of the digits in base ten; `None` where it isn't set. Of
-    /// `0x50` as a `u16` it is 80.
-    ///
-    /// # Errors
-    ///
-    /// `Kind` at the value, where it is neither an integer nor a float; else `Value` with the error that `base10_parse`
-    /// reports.
-    pub fn number<N: FromStr>(
+    /// The number that a setting is set to.
+    fn found_number<N: FromStr>(
         &self,
         alloc: A,
         setting: Setting,
@@ -87,12 +85,8 @@ impl<A: Allocator> Attrs<A> {
         }
     }
 
-    /// The truth value that a setting is set to; `None` where it isn't set. It takes no memory.
-    ///
-    /// # Errors
-    ///
-    /// `Kind` at the value, where it is neither `true` nor `false`.
-    pub fn truth(&self, setting: Setting) -> Result<Option<bool>, SettingError<A>> {
+    /// The truth value that a setting is set to.
+    fn found_truth(&self, setting: Setting) -> Result<Option<bool>, SettingError<A>> {
         let Some(value) = self.get(setting.name) else {
             return Ok(None);
         };
@@ -100,6 +94,44 @@ impl<A: Allocator> Attrs<A> {
             Ok(truth) => Ok(Some(truth)),
             Err(error) => Err(error),
         }
+    }
+}
+
+impl<A: Allocator> Attrs<A> {
+    /// The string that a setting is set to, decoded; `None` where it isn't set.
+    ///
+    /// # Errors
+    ///
+    /// `Malformed` at a value without a reading, `Kind` at another value that isn't a string, and `Text` there if an allocation
+    /// fails.
+    pub fn string(&self, alloc: A, setting: Setting) -> Result<Option<String<A>>, SettingError<A>> {
+        self.found_string(alloc, setting)
+    }
+
+    /// The number that a setting is set to, as its type makes one of the digits in base ten; `None` where it isn't set. Of
+    /// `0x50` as a `u16` it is 80.
+    ///
+    /// # Errors
+    ///
+    /// `Malformed` at a value without a reading, `Kind` at another value that is neither an integer nor a float, and else
+    /// `Value` with the error that `base10_parse` reports.
+    pub fn number<N: FromStr>(
+        &self,
+        alloc: A,
+        setting: Setting,
+    ) -> Result<Option<N>, SettingError<A>>
+    where
+        N::Err: Display + Drop, {
+        self.found_number(alloc, setting)
+    }
+
+    /// The truth value that a setting is set to; `None` where it isn't set. It takes no memory.
+    ///
+    /// # Errors
+    ///
+    /// `Malformed` at a value without a reading, and `Kind` at another value that is neither `true` nor `false`.
+    pub fn truth(&self, setting: Setting) -> Result<Option<bool>, SettingError<A>> {
+        self.found_truth(setting)
     }
 
     /// The error that a setting has to be set and isn't, where the settings end: what a reader returns who was given `None`

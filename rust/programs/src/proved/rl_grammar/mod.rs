@@ -15,7 +15,7 @@ pub use crate::rl_reading::{
     Body, Found, ListStep, NextLiteral, Parts, Rejection, RejectionKind, Segment, SegmentValue,
     Segments, SourceStep, byte_of, byte_of_body, bytes_into, char_of, char_of_body, find,
     find_float, find_int, find_negative, float_shape, int_shape, is_plain, list_step, next_literal,
-    numeral_into, place_of, shape, shape_negative, source_step, truth_of,
+    numeral_into, place_of, shape, shape_negative, source_step, str_into, truth_of,
 };
 pub use crate::rl_reasons::{
     Flaw, FlawKind, explain, explain_limit, explain_signed, explain_value, is_float_by_suffix,

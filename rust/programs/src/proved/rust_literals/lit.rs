@@ -11,7 +11,6 @@ use crate::rl_forms::Kind;
 use crate::rl_fronts::Front;
 use crate::rl_quoted::{LitByte, LitByteStr, LitCStr, LitChar, LitStr, Quoted, QuotedKind};
 use crate::rl_reading::{Found, find};
-use crate::rl_reasons::{Flaw, explain_value};
 use crate::rl_tokens::{Error, Kept, Literal, Parse, ParseBuffer, Span, Token};
 use crate::rattle_std::alloc::{Allocator, Global};
 
@@ -158,16 +157,6 @@ impl<A: Allocator> Lit<A> {
     /// Where the literal stands, as its token was given.
     pub fn span(&self) -> Span {
         self.view().span
-    }
-
-    /// Why the literal's text has no value in Rust, and where, in bytes of the text; `None` exactly where it is a literal
-    /// token, or a minus and a number, and has a reading, or is a float by its suffix ([`is_float_by_suffix`]). So it is the
-    /// reason of `Verbatim`, and of a literal that `syn` reads and rustc rejects. [`Flaw::in_span`] gives the place in the
-    /// file. No memory is taken.
-    ///
-    /// [`is_float_by_suffix`]: crate::rl_grammar::is_float_by_suffix
-    pub fn explain(&self) -> Option<Flaw> {
-        explain_value(self.text())
     }
 
     /// Puts the literal elsewhere: its span becomes this one, and all else stays.

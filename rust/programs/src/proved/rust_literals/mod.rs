@@ -19,4 +19,3 @@ pub use crate::rust_literals::literals::Literals;
 pub use crate::rust_literals::number::{Number, NumberKind};
 pub use crate::rust_literals::read::read_all;
 pub use crate::rl_quoted::{LitByte, LitByteStr, LitCStr, LitChar, LitStr};
-pub use crate::rl_reasons::{Flaw, FlawKind};

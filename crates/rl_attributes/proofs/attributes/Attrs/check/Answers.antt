@@ -4,6 +4,7 @@ use Rattle.std.proofs.lemmas.List.Elements.{All-push}
 use Rattle.std.proofs.lemmas.Result.{err_from_is_err_and}
 use Rattle.rl_attributes.specs.Settings.{IsAccepted}
 use Rattle.rl_attributes.proofs.EntryLemmas.{parted_at}
+use Rattle.rl_attributes.proofs.TextLemmas.{are_named, are_bare, check_accepts}
 use Rattle.rl_attributes.proofs.attributes.Attrs.check.Goals as goal
 
 pub returns-in_err-check_entry-clause-first : goal.returns-in_err-check_entry-clause-first
@@ -47,3 +48,34 @@ returns-clause-bare g c k d h =
     (take_all c.loop-entry.entry-index entries (omega (arith, ap length c.entries-entry-items.ensures.entries)))
     c.loop-entry.invariant in
     (all k d h).bare
+
+pub returns-in_err-check_entry-clause-exactly : goal.returns-in_err-check_entry-clause-exactly
+returns-in_err-check_entry-clause-exactly g c named bare =
+    let entries = c.args.self.now.entries.items in
+    let i = c.loop-entry.entry-index in
+    absurd (check_accepts c.args.settings.now entries _ (record {
+      earlier = take i entries;
+      entry = c.entry-item.result;
+      later = drop (i + 1) entries;
+      entries_are = parted_at entries i c.entry-item.result (omega
+          (arith, ap length c.entries-entry-items.ensures.entries))
+          (rw c.entries-entry-items.ensures.entries at c.entry-item.is);
+      accepted = c.loop-entry.invariant;
+      rejected = c.in_err-check_entry.ensures.rejected;
+    }) c.args.self.now.read named bare)
+
+pub returns-clause-names : goal.returns-clause-names
+returns-clause-names g c =
+    let entries = c.args.self.now.entries.items in
+    let all = subst (λ l. All (IsAccepted c.args.settings.now) l)
+    (take_all c.loop-entry.entry-index entries (omega (arith, ap length c.entries-entry-items.ensures.entries)))
+    c.loop-entry.invariant in
+    are_named c.args.settings.now entries (λ k d h. (all k d h).known)
+
+pub returns-clause-bare_texts : goal.returns-clause-bare_texts
+returns-clause-bare_texts g c =
+    let entries = c.args.self.now.entries.items in
+    let all = subst (λ l. All (IsAccepted c.args.settings.now) l)
+    (take_all c.loop-entry.entry-index entries (omega (arith, ap length c.entries-entry-items.ensures.entries)))
+    c.loop-entry.invariant in
+    are_bare entries c.args.self.now.read (λ k d h. (all k d h).bare)

@@ -54,7 +54,8 @@ loop-alloc-preserved g c =
     }
 
 pub invariant_of-result : goal.invariant_of-result
-invariant_of-result g c = record { differ = c.loop-alloc.invariant.at.differ }
+invariant_of-result g c =
+    let at = c.loop-alloc.invariant.at in record { differ = at.differ; read = λ k d lt. ∣ at.read k d lt ∣₁ }
 
 pub returns-clause-taken : goal.returns-clause-taken
 returns-clause-taken g c = at_end _ c.loop-alloc.entries.items c.loop-alloc.names (trees_in c.loop-alloc.input)

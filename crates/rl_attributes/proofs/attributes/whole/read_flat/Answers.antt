@@ -35,3 +35,7 @@ returns-clause-attributes g c =
     ∙ empty_text c.rest.result.now (sym c.is_empty.ensures ∙ c.loop-tokens-test.false) in
     flat_end c.args.text.now c.loop-tokens.tokens.rest c.args.file c.loop-tokens.entries.items c.loop-tokens.names
     c.loop-tokens.invariant.at ends
+
+pub invariant_of-result : goal.invariant_of-result
+invariant_of-result g c =
+    let at = c.loop-tokens.invariant.at in record { differ = at.differ; read = λ k d lt. ∣ at.read k d lt ∣₁ }

@@ -1,0 +1,21 @@
+use Rattle.std.proofs.Common.{◌≡◌, List, ℕ, Option, Some, None, inl, subst}
+use Rattle.std.specs.Prelude.{Ok, String, string_bytes}
+use Rattle.rl_attributes.proofs.TextLemmas.{in_some, in_none}
+use Rattle.rl_attributes.specs.TextSettings.{IsSomeStringOrMemory}
+use Rattle.rl_attributes.proofs.attributes.Attrs.required_string.Goals as goal
+
+pub returns-in-Ok-Some-clause-set : goal.returns-in-Ok-Some-clause-set
+returns-in-Ok-Some-clause-set g c =
+    in_some c.in-Ok-Some.field-0 c.in-Ok-Some.text _ _ c.in-Ok-Some.field-0-is c.in-Ok-Some.ensures.text
+
+pub returns-in-Ok-Some-clause-exactly : goal.returns-in-Ok-Some-clause-exactly
+returns-in-Ok-Some-clause-exactly g c w at =
+    subst (λ y. IsSomeStringOrMemory w (Ok y)) c.in-Ok-Some.field-0-is (c.in-Ok-Some.ensures.exactly w at)
+
+pub returns-in-Ok-None-clause-exactly : goal.returns-in-Ok-None-clause-exactly
+returns-in-Ok-None-clause-exactly g c w at =
+    absurd (subst (λ y. IsSomeStringOrMemory w (Ok y)) c.in-Ok-None.field-0-is (c.in-Ok-None.ensures.exactly w at))
+
+pub returns-in-Ok-None-clause-rejected : goal.returns-in-Ok-None-clause-rejected
+returns-in-Ok-None-clause-rejected g c =
+    inl (in_none c.in-Ok-None.field-0 _ _ c.in-Ok-None.field-0-is c.in-Ok-None.ensures.text, c.missing.ensures)

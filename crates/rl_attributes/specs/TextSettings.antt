@@ -1,0 +1,138 @@
+-- What settings are set to, in words of the text: of the attributes, and of their literals' texts.
+use Rattle.std.specs.Prelude.{◌≡◌, ◌⊎◌, ℕ, Bool as Truth, List, [], ◌∷◌, All, Any, map, Option, Some, None, Result, Ok, Err, String, string_bytes}
+use Rattle.std.specs.Str.{chars, IsUtf8}
+use Rattle.rl_forms.specs.declared.kind.Kind.{Kind}
+use Rattle.rl_forms.specs.declared.kind.Kind.TheVariants.{Str as StrKind, Int as IntKind, Float as FloatKind, Bool as BoolKind}
+use Rattle.rl_forms.specs.Reading.{Contents, Characters, Digits, Truth as TruthContents, Reads, HasContents}
+use Rattle.rl_text.specs.Texts.{SpannedText}
+use Rattle.rl_tokens.specs.declared.error.ErrorKind.TheVariants.{Memory}
+use Rattle.rust_literals.specs.declared.lit.Lit.{Lit}
+use Rattle.rl_attributes.specs.declared.attributes.Attrs.{Attrs}
+use Rattle.rl_attributes.specs.declared.settings.Setting.{Setting}
+use Rattle.rl_attributes.specs.declared.settings.SettingError.{SettingError}
+use Rattle.rl_attributes.specs.declared.settings.SettingError.TheVariants.{Text, Missing}
+use Rattle.rl_attributes.specs.AttributeParsing.{entries_of, attrs_end}
+use Rattle.rl_attributes.specs.Attributes.{Attribute}
+use Rattle.rl_attributes.specs.Entries.{attributes_of}
+use Rattle.rl_attributes.specs.Settings.{RejectsSetValue}
+
+-- the attributes of all entries
+abbrev pub list_of : {A : Type 0} → Attrs A → List Attribute
+list_of attrs = attributes_of (entries_of attrs)
+
+-- ---- which names, and no suffix
+
+-- the attribute has this name
+abbrev pub IsNamed : List ℕ → Attribute → Type 0
+IsNamed name attribute = attribute.name.text ≡ name
+
+-- the name is one of these
+abbrev pub IsOneOf : List (List ℕ) → List ℕ → Type 0
+IsOneOf [] name = ⊥
+IsOneOf (n ∷ ns) name = (name ≡ n) ⊎ IsOneOf ns name
+
+abbrev pub setting_names : List Setting → List (List ℕ)
+setting_names settings = map (λ s. s.name.now) settings
+
+-- each attribute's name is one of these
+abbrev pub AreNamedOf : List (List ℕ) → List Attribute → Type 0
+AreNamedOf names list = All (λ a. IsOneOf names a.name.text) list
+
+-- the literal's text has no suffix, if it has a reading
+abbrev pub HasBareText : SpannedText → Type 0
+HasBareText literal =
+    (kind : Kind) (contents : Contents) (suffix : List ℕ)
+    → Reads (chars literal.text) kind contents suffix → suffix ≡ []
+
+-- no value has a suffix
+abbrev pub HaveBareTexts : List Attribute → Type 0
+HaveBareTexts list = All (λ a. HasBareText a.literal) list
+
+-- ---- what a name is set to
+
+-- no attribute has the name
+abbrev pub IsUnset : List ℕ → List Attribute → Type 0
+IsUnset name list = All (λ a. IsNamed name a → ⊥) list
+
+-- An attribute has the name, and this is so of each that has it.
+pub record IsSetTo (name : List ℕ) (Is : Attribute → Type 0) (list : List Attribute) : Type 0 where
+  pub named : Any (IsNamed name) list
+  pub every : All (λ a. IsNamed name a → Is a) list
+
+-- This is so of each attribute with the name. Where none has it, the default is taken.
+pub record IsSetOr (name : List ℕ) (Is : Attribute → Type 0) (IsDefault : Type 0) (list : List Attribute)
+    : Type 0 where
+  pub every : All (λ a. IsNamed name a → Is a) list
+  pub unset : Any (IsNamed name) list ⊎ IsDefault
+
+-- the literal is a string of these bytes
+abbrev pub IsStringOf : List ℕ → Attribute → Type 0
+IsStringOf value a = HasContents StrKind (chars a.literal.text) (Characters (chars value))
+
+-- the literal is this truth value
+abbrev pub IsTruthOf : Truth → Attribute → Type 0
+IsTruthOf value a = HasContents BoolKind (chars a.literal.text) (TruthContents value)
+
+-- The literal is a number with these digits in base ten, as bytes.
+pub record IsNumberOf (digits : List ℕ) (a : Attribute) : Type 0 where
+  pub is_text : IsUtf8 digits
+  pub number : HasContents IntKind (chars a.literal.text) (Digits (chars digits))
+      ⊎ HasContents FloatKind (chars a.literal.text) (Digits (chars digits))
+
+-- the name is set to a string of these bytes
+abbrev pub IsStringAt : List ℕ → List ℕ → List Attribute → Type 0
+IsStringAt name value list = IsSetTo name (IsStringOf value) list
+
+-- the name is set to this truth value
+abbrev pub IsTruthAt : List ℕ → Truth → List Attribute → Type 0
+IsTruthAt name value list = IsSetTo name (IsTruthOf value) list
+
+-- the name is set to a number with these digits
+abbrev pub AreDigitsAt : List ℕ → List ℕ → List Attribute → Type 0
+AreDigitsAt name digits list = IsSetTo name (IsNumberOf digits) list
+
+-- the name is set to a number of whose digits the number type makes this value
+abbrev pub IsNumberAt : {N E : Type 0} → (List ℕ → Result N E → Type 0) → List ℕ → N → List Attribute → Type 0
+IsNumberAt gives name value list = (digits : List ℕ) × AreDigitsAt name digits list × gives digits (Ok value)
+
+-- the name is set to this truth value, or isn't set, and this is the default
+abbrev pub IsTruthOr : List ℕ → Truth → Truth → List Attribute → Type 0
+IsTruthOr name default value list = IsSetOr name (IsTruthOf value) (value ≡ default) list
+
+-- ---- answers
+
+-- an allocation failed
+abbrev pub IsMemoryError : {A : Type 0} → SettingError A → Type 0
+IsMemoryError (Text e) = e.kind ≡ Memory
+IsMemoryError _ = ⊥
+
+-- the answer is a string of these characters, or an allocation failed
+abbrev pub IsStringOrMemory : {A : Type 0} → List ℕ → Result (String A) (SettingError A) → Type 0
+IsStringOrMemory value (Ok s) = chars (string_bytes s) ≡ chars value
+IsStringOrMemory value (Err e) = IsMemoryError e
+
+-- the answer is some string of these characters, or an allocation failed
+abbrev pub IsSomeStringOrMemory : {A : Type 0} → List ℕ → Result (Option (String A)) (SettingError A) → Type 0
+IsSomeStringOrMemory value (Ok (Some s)) = chars (string_bytes s) ≡ chars value
+IsSomeStringOrMemory value (Ok None) = ⊥
+IsSomeStringOrMemory value (Err e) = IsMemoryError e
+
+-- the answer is a number that the type makes of the digits, or the type rejects them
+abbrev pub IsNumberOrRejected : {A N E : Type 0} → (List ℕ → Result N E → Type 0) → List ℕ
+    → Result N (SettingError A) → Type 0
+IsNumberOrRejected gives digits (Ok n) = gives digits (Ok n)
+IsNumberOrRejected {E = E} gives digits (Err e) = (error : E) × gives digits (Err error)
+
+-- the answer is some number that the type makes of the digits, or the type rejects them
+abbrev pub IsSomeNumberOrRejected : {A N E : Type 0} → (List ℕ → Result N E → Type 0) → List ℕ
+    → Result (Option N) (SettingError A) → Type 0
+IsSomeNumberOrRejected gives digits (Ok (Some n)) = gives digits (Ok n)
+IsSomeNumberOrRejected gives digits (Ok None) = ⊥
+IsSomeNumberOrRejected {E = E} gives digits (Err e) = (error : E) × gives digits (Err error)
+
+-- A required setting is rejected: no attribute has its name, or its value is rejected.
+abbrev pub RejectsRequired : {A : Type 0} → Setting → Attrs A
+    → (Lit A → SettingError A → Type 0) → SettingError A → Type 0
+RejectsRequired setting attrs Rejects e =
+    (IsUnset setting.name.now (list_of attrs) × (e ≡ Missing setting (attrs_end attrs)))
+    ⊎ RejectsSetValue setting (entries_of attrs) Rejects e

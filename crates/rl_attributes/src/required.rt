@@ -1,0 +1,118 @@
+//! The value of a setting that has to be set, and of one with a default.
+
+ghost use Rattle.std.specs.Prelude.{◌≡◌, ℕ, List, Bool, IfOk, IfErr, Ok, string_bytes};
+ghost use Rattle.rl_attributes.specs.AttributeParsing.{entries_of};
+ghost use Rattle.rl_attributes.specs.Settings.{RejectsSetValue, RejectsString, RejectsTruth, RejectsNumber};
+ghost use Rattle.rl_attributes.specs.TextSettings.{AreDigitsAt, IsNumberAt, IsNumberOrRejected, IsStringAt, IsStringOrMemory, IsTruthAt, IsTruthOr, RejectsRequired, list_of};
+
+use crate::attributes::Attrs;
+use crate::settings::{Setting, SettingError};
+use std::alloc::Allocator;
+use std::fmt::Display;
+use std::str::FromStr;
+
+impl<A: Allocator> Attrs<A> {
+    /// The string of a setting that has to be set, decoded.
+    ///
+    /// # Errors
+    ///
+    /// The errors of [`Attrs::string`], and `Missing` at the end of the settings if it isn't set.
+    ///
+    /// # Example
+    ///
+    /// ```
+    /// use rl_attributes::{Setting, read};
+    /// use std::alloc::Global;
+    ///
+    /// pub fn host_in(alloc: Global, text: &str) -> Option<String> {
+    ///     let host = Setting {
+    ///         name: "host",
+    ///         expected: "a string",
+    ///     };
+    ///     read(alloc, text, 0).ok()?.required_string(alloc, host).ok()
+    /// }
+    /// // host_in(alloc, "host = \"a\", port = 80") == Some("a")
+    /// ```
+    pub fn required_string(&self, alloc: A, setting: Setting) -> Result<String<A>, SettingError<A>>
+        ensures set { IfOk result
+            (λ text. IsStringAt setting.name.now (string_bytes text) (list_of self.now)) }
+        ensures exactly { (value : List ℕ) → IsStringAt setting.name.now value (list_of self.now)
+            → IsStringOrMemory value result }
+        ensures rejected { IfErr result (RejectsRequired setting self.now (RejectsString setting)) }
+    {
+        match self.string(alloc, setting) {
+            Ok(Some(text)) => Ok(text),
+            Ok(None) => Err(self.missing(setting)),
+            Err(error) => Err(error),
+        }
+    }
+
+    /// The number of a setting that has to be set.
+    ///
+    /// # Errors
+    ///
+    /// The errors of [`Attrs::number`], and `Missing` at the end of the settings if it isn't set.
+    ///
+    /// See the example of [`Attrs::required_string`].
+    pub fn required_number<N: FromStr>(
+        &self,
+        alloc: A,
+        setting: Setting,
+    ) -> Result<N, SettingError<A>>
+    where
+        N::Err: Display + Drop,
+        ensures set { IfOk result
+            (λ number. IsNumberAt N.from_str_gives setting.name.now number (list_of self.now)) }
+        ensures exactly { (digits : List ℕ) → AreDigitsAt setting.name.now digits (list_of self.now)
+            → IsNumberOrRejected N.from_str_gives digits result }
+        ensures rejected { IfErr result (RejectsRequired setting self.now
+            (RejectsNumber N.from_str_gives N.Err.output setting)) }
+    {
+        match self.number::<N>(alloc, setting) {
+            Ok(Some(number)) => Ok(number),
+            Ok(None) => Err(self.missing(setting)),
+            Err(error) => Err(error),
+        }
+    }
+
+    /// The truth value of a setting that has to be set.
+    ///
+    /// # Errors
+    ///
+    /// The errors of [`Attrs::truth`], and `Missing` at the end of the settings if it isn't set.
+    ///
+    /// See the example of [`Attrs::required_string`].
+    pub fn required_truth(&self, setting: Setting) -> Result<bool, SettingError<A>>
+        ensures set { IfOk result (λ truth. IsTruthAt setting.name.now truth (list_of self.now)) }
+        ensures exactly { (value : Bool) → IsTruthAt setting.name.now value (list_of self.now)
+            → result ≡ Ok value }
+        ensures rejected { IfErr result (RejectsRequired setting self.now (RejectsTruth setting)) }
+    {
+        match self.truth(setting) {
+            Ok(Some(truth)) => Ok(truth),
+            Ok(None) => Err(self.missing(setting)),
+            Err(error) => Err(error),
+        }
+    }
+
+    /// The truth value of a setting, or this one if it isn't set.
+    ///
+    /// # Errors
+    ///
+    /// The errors of [`Attrs::truth`].
+    ///
+    /// See the example of [`Attrs::required_string`].
+    pub fn truth_or(&self, setting: Setting, default: bool) -> Result<bool, SettingError<A>>
+        ensures set { IfOk result (λ truth. IsTruthOr setting.name.now default truth (list_of self.now)) }
+        ensures exactly { (value : Bool) → IsTruthOr setting.name.now default value (list_of self.now)
+            → result ≡ Ok value }
+        ensures rejected { IfErr result
+            (RejectsSetValue setting (entries_of self.now) (RejectsTruth setting)) }
+    {
+        let found = self.truth(setting);
+        match found {
+            Ok(found) => Ok(found.unwrap_or(default)),
+            Err(error) => Err(error),
+        }
+    }
+}

@@ -1,0 +1,32 @@
+//! A string literal written as a raw one.
+
+ghost use Rattle.std.specs.Prelude.{IfSome, take};
+ghost use Rattle.rl_uses.specs.Raws.{IsSameString};
+
+use rl_forms::Kind;
+use rl_reading::find;
+use rl_writing::{raw_hashes, write_raw_into};
+
+/// Writes a string literal as a raw one, and returns its length in bytes. `None` if the text isn't a string literal without
+/// suffix, if it can't be raw, and if `room` or `out` is too short.
+pub fn write_raw(literal: &str, room: &mut [u8], out: &mut [u8]) -> Option<usize>
+    ensures same { IfSome result (λ n. IsSameString literal.now (take n out.new)) }
+{
+    let found = find(literal)?;
+    if found.kind != Kind::Str || found.has_suffix(literal) {
+        return None;
+    }
+    if room.len() < found.body_in(literal).len() {
+        return None;
+    }
+    let n = found.str_into(literal, room);
+    let value = match str::from_utf8(&room[..n]) {
+        Ok(value) => value,
+        Err(_) => return None,
+    };
+    let hashes = raw_hashes(Kind::Str, value)?;
+    if hashes > 255 || out.len() < value.len() || out.len() - value.len() < 2 * hashes + 4 {
+        return None;
+    }
+    Some(write_raw_into(Kind::Str, hashes, value, out))
+}

@@ -1,0 +1,23 @@
+-- The laws (src/laws.rt), as lemmas that callers may cite.
+use Rattle.rl_writing.specs.Laws.{ANumeralHasDigitsOfItsBase, ANumeralSpellsItsNumber, ANumeralHasNoZeroInFront, FewDigitsAreNotGrouped, EnoughDigitsAreGrouped, ARawStringHasOneTextInside}
+use Rattle.rl_writing.proofs.NumeralLemmas.{numeral_digits, numeral_value, numeral_no_zero}
+use Rattle.rl_writing.proofs.GroupLemmas.{few_ungrouped, others_grouped}
+use Rattle.rl_writing.proofs.RawLaws.{one_inside}
+
+pub a_numeral_has_digits_of_its_base : ANumeralHasDigitsOfItsBase
+a_numeral_has_digits_of_its_base = numeral_digits
+
+pub a_numeral_spells_its_number : ANumeralSpellsItsNumber
+a_numeral_spells_its_number = λ base n upper low high. numeral_value base upper n low high
+
+pub a_numeral_has_no_zero_in_front : ANumeralHasNoZeroInFront
+a_numeral_has_no_zero_in_front = numeral_no_zero
+
+pub few_digits_are_not_grouped : FewDigitsAreNotGrouped
+few_digits_are_not_grouped = few_ungrouped
+
+pub enough_digits_are_grouped : EnoughDigitsAreGrouped
+enough_digits_are_grouped = others_grouped
+
+pub a_raw_string_has_one_text_inside : ARawStringHasOneTextInside
+a_raw_string_has_one_text_inside = one_inside
