@@ -1,5 +1,6 @@
 //! Procedural macros that read literals, for the tests.
 
+mod growth;
 mod written;
 
 use navyspindle::{
@@ -232,4 +233,10 @@ pub fn joined_slashes(_: TokenStream) -> TokenStream {
     let input = tokens_of("a = 1,").into_iter().chain(slashes);
     let input = input.chain(tokens_of("b = 2")).collect();
     tokens_of(&write_str(&macro_settings(input).unwrap_err().to_string()))
+}
+
+/// The calls of the package that take more time for each setting of a long input than of a short one, as a string.
+#[proc_macro]
+pub fn slow_calls(_: TokenStream) -> TokenStream {
+    growth::slow_calls()
 }

@@ -1,8 +1,8 @@
 //! Literals as rustc hands them to procedural macros.
 
 use navyspindle_macros::{
-    again, hex_bytes, joined_slashes, literals, named, settings, strings, strings_errors, sum,
-    sum_error, written,
+    again, hex_bytes, joined_slashes, literals, named, settings, slow_calls, strings,
+    strings_errors, sum, sum_error, written,
 };
 use std::ffi::CStr;
 use std::fmt::Debug;
@@ -227,4 +227,9 @@ fn settings_by_name() {
         named!(size = 1),
         ("missing name: expected a string", "1", "1")
     );
+}
+
+#[test]
+fn the_time_grows_with_the_input() {
+    assert_eq!(slow_calls!(), "");
 }
