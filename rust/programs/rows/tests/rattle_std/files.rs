@@ -7,14 +7,14 @@ use crate::rattle_std::fs::{
     canonicalize, metadata, read_dir, remove_file, rename, symlink_metadata, File, OpenFile,
     OpenOptions, Permissions,
 };
-use crate::rattle_std::io::{Read, Result, Write};
+use crate::rattle_std::io::{Error, ErrorKind, Read, Result, Write};
 use crate::rattle_std::os::unix::fs::{chown, OpenOptionsExt};
 use crate::rattle_std::rt::HostRuntime;
 use std::ffi::OsStr;
 use std::os::unix::ffi::OsStrExt;
 use std::os::unix::fs::{symlink, MetadataExt, PermissionsExt};
 use std::path::Path;
-use std::{fs, vec};
+use std::{fs, io, vec};
 
 /// An empty directory of this test's.
 fn directory(name: &str) -> Directory {
@@ -252,6 +252,34 @@ fn variables_that_are_not_texts() {
     assert!(value.is_ok_and(|value| value.as_str() == "a\u{e9}"));
 }
 
+/// Linux's numbers, as Rattle's std has them; the kinds that the sources don't tell apart are `Other`.
+#[test]
+fn kinds_of_the_systems_errors() {
+    for (number, kind) in [
+        (1, ErrorKind::PermissionDenied),
+        (2, ErrorKind::NotFound),
+        (4, ErrorKind::Interrupted),
+        (12, ErrorKind::OutOfMemory),
+        (13, ErrorKind::PermissionDenied),
+        (17, ErrorKind::AlreadyExists),
+        (20, ErrorKind::NotADirectory),
+        (21, ErrorKind::IsADirectory),
+        (22, ErrorKind::InvalidInput),
+        (27, ErrorKind::Other),
+        (28, ErrorKind::StorageFull),
+        (30, ErrorKind::ReadOnlyFilesystem),
+        (32, ErrorKind::BrokenPipe),
+        (36, ErrorKind::InvalidFilename),
+        (39, ErrorKind::Other),
+        (40, ErrorKind::Other),
+        (122, ErrorKind::Other),
+        (9999, ErrorKind::Other),
+    ] {
+        let error = Error::from(io::Error::from_raw_os_error(number));
+        assert_eq!((error.kind(), error.raw_os_error()), (kind, Some(number)));
+    }
+}
+
 /// What opening a new file at the path answers.
 fn made(path: &str) -> String {
     let rt = HostRuntime::new();
@@ -354,6 +382,10 @@ fn paths_that_change() {
     assert_eq!(
         (is_link(&link).as_str(), is_link(&a).as_str()),
         ("Ok(true)", "Ok(false)")
+    );
+    assert_eq!(
+        told(metadata(&rt, &link).map(|about| about.is_file())),
+        "Ok(true)"
     );
     let real = canonicalize(&rt, &link).expect("the file is there");
     assert_eq!(Path::new(real.as_str()).file_name(), Some(OsStr::new("a")));
