@@ -1,6 +1,7 @@
 //! Procedural macros that read literals, for the tests.
 
 mod growth;
+mod places;
 mod written;
 
 use navyspindle::{
@@ -239,4 +240,22 @@ pub fn joined_slashes(_: TokenStream) -> TokenStream {
 #[proc_macro]
 pub fn slow_calls(_: TokenStream) -> TokenStream {
     growth::slow_calls()
+}
+
+/// Of each literal its text, the source where it stands, and those of its own tokens there.
+#[proc_macro]
+pub fn placed(input: TokenStream) -> TokenStream {
+    or_error(places::literals(input))
+}
+
+/// The errors of trees that are no bytes, and all of them as one: of each the message, the source where it is, and how many it is.
+#[proc_macro]
+pub fn byte_errors(input: TokenStream) -> TokenStream {
+    places::errors(&input)
+}
+
+/// Errors that are made of the places of two trees, as those of `byte_errors`, and two messages in a width.
+#[proc_macro]
+pub fn made_errors(input: TokenStream) -> TokenStream {
+    places::made_errors(input)
 }
