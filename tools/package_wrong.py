@@ -285,6 +285,11 @@ WRONG = [Wrong(*row) for row in [
      'a column inside a character of two units is a place'),
     ('line_index.rs', "Some(text.strip_suffix('\\r').unwrap_or(text))", "Some(text)",
      'a line ends with its CR'),
+    ('line_index.rs', "Some(text.strip_suffix('\\r').unwrap_or(text))", "Some(text.trim_end_matches('\\r'))",
+     'a line loses each CR at its end'),
+    # source.rs
+    ('source.rs', "            is_done: self.is_done,\n", "            is_done: false,\n",
+     'a clone of a source goes on after an error'),
     ('parse_error.rs', "from: self.from + by,", "from: self.from,",
      'the piece that a shifted error spoils begins where it did'),
     # kind.rs

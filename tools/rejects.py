@@ -1,12 +1,16 @@
-"""Tries whether tools/render rejects calls that could mean something else in Rust than in Rattle, types that the core can't have, and
-entries of its lists that name nothing. Each change is made to a file's text when it is read; no file is written.
+"""Tries what tools/render rejects: calls that could mean something else in Rust than in Rattle, words, macros and impls that its output
+can't have, words that an eraser adds, entries of its lists that name nothing, and files of its two folders that it doesn't write. Each
+changed text takes the place of a file when it is read, and changed folders are copies; no file of the repository is written.
 
     tools/rejects.py     prints each change that is rejected without a reason, or isn't rejected; the last line counts both
 """
+import contextlib
 import importlib.machinery
 import importlib.util
+import io
 import pathlib
 import sys
+import tempfile
 
 sys.dont_write_bytecode = True
 
@@ -44,6 +48,100 @@ TRIED = [
     (INLINING, 'skip_inside: ', 'skip_inside ', 'no entry'),
 ]
 
+# What rustc's own meaning, memory, linkage or layout decides, as items: the word of each is rejected wherever it stands.
+WORDS = {
+    'dyn': 'fn odd(it: &dyn Fn()) {}',
+    'unsafe': 'unsafe fn odd() {}',
+    'extern': 'extern fn odd() {}',
+    'static': 'static ODD: u8 = 1;',
+    'union': 'union Odd { odd: u8 }',
+    'async': 'async fn odd() {}',
+    'await': 'fn odd() { odd.await }',
+    'macro_rules': 'macro_rules! odd { () => {} }',
+    'size_of': 'const ODD: usize = size_of::<u8>();',
+    'align_of': 'const ODD: usize = align_of::<u8>();',
+    'transmute': 'const ODD: usize = transmute(1);',
+}
+CORE_MEMORY = ['Allocator', 'AllocError', 'Global', 'String', 'Vec', 'Box']
+RUSTS_OWN = ['Box', 'Rc', 'Arc', 'Cow', 'ToString', 'ToOwned']
+CORE_MACROS = ['assert', 'format', 'write', 'vec', 'include', 'panic', 'println', 'prove']
+MACROS = ['assert', 'include', 'panic', 'println', 'dbg', 'env']
+CORE_IMPLS = {
+    'Clone': 'impl Clone for Odd {\n}',
+    'Drop': 'impl<T> core::ops::Drop for Odd<T> {\n}',
+    'From': 'impl From<u8> for Odd {\n}',
+    'PartialEq': 'impl<T: Fn(u8) -> u8> PartialEq<Odd<T>> for Odd<T> {\n}',
+    'Add': 'impl<T>\nops::Add<T>\nfor Odd {\n}',
+}
+LEFT = {"{'ghost'}": 'fn ghost() {}', "{'requires'}": 'fn requires() {}', "{'ensures'}": 'fn ensures() {}', "{'Model'}": 'fn odd(it: Model) {}',
+        'True': 'fn \u00e9() {}'}
+# Items that aren't rejected: in the core, and above it.
+CORE_FINE = ['fn odd() -> bool { matches!(1, 1) }', 'impl fmt::Display for Odd {\n}', "impl<'t> Iterator for Odd<'t> {\n}",
+             'impl core::error::Error for Odd {\n}', '// unsafe\nconst ODD: &str = "static";']
+FINE = ['trait Odd {}', 'impl From<u8> for Odd {\n}', 'fn odd() { write!(format!(in 1; "")) }', 'fn odd(it: String, all: Vec<Global>) {}']
+
+# An item, and why it is rejected; nothing where it isn't.
+CORE_ITEMS = [
+    *((item, f"rejected: {{'{word}'}}") for word, item in WORDS.items()),
+    ('trait Odd {}', "rejected: {'trait'}"),
+    *((f'fn odd(it: {word}) {{}}', f"takes memory: {{'{word}'}}") for word in CORE_MEMORY),
+    *((f'fn odd() {{ {word}!(1) }}', f"macros: {{'{word}'}}") for word in CORE_MACROS),
+    *((item, f"impls: {{'{word}'}}") for word, item in CORE_IMPLS.items()),
+    *((item, f'left: {words}') for words, item in LEFT.items()),
+    *((item, None) for item in CORE_FINE),
+]
+ITEMS = [
+    *((item, f"rejected: {{'{word}'}}") for word, item in WORDS.items()),
+    *((f'fn odd(it: {word}) {{}}', f"rejected: {{'{word}'}}") for word in RUSTS_OWN),
+    *((f'fn odd() {{ {word}!(1) }}', f"macros: {{'{word}'}}") for word in MACROS),
+    *((item, f'left: {words}') for words, item in LEFT.items()),
+    *((item, None) for item in FINE),
+]
+# Before what the items are put.
+CORE_PLACE, PLACE = '/// Whether each character may go on', '/// Appends a piece.'
+
+# What the last eraser makes of a text that it got, and why it is rejected.
+ERASERS = [
+    (lambda text: text, None),
+    (lambda text: text + 'odd', "added: 'odd'"),
+    (lambda text: text.replace('|c|', '|c| !'), "added: '!'"),
+    (lambda text: text.replace('pub fn xid_ok', 'fn pub xid_ok'), "added: 'pub'"),
+]
+
+
+def path_elsewhere(folder):
+    """One module of the folder comes from another file."""
+    path = folder / 'mod.rs'
+    path.write_text(path.read_text().replace('pub mod', '#[path = "../odd/mod.rs"]\npub mod', 1))
+
+
+def without_module(folder):
+    path = folder / 'mod.rs'
+    path.write_text(path.read_text().rsplit('pub mod', 1)[0])
+
+
+def linked(folder):
+    """A folder is a link to another one with the same files."""
+    one = next(path for path in sorted(folder.iterdir()) if path.is_dir())
+    one.rename(folder.parent / f'{folder.name}.{one.name}')
+    one.symlink_to(folder.parent / f'{folder.name}.{one.name}')
+
+
+# What is done to a folder of rendered files, and a word of what is reported; nothing where nothing is.
+FOLDERS = [
+    (lambda folder: None, None),
+    (lambda folder: (folder / 'odd.rs').write_text(''), 'odd.rs'),
+    (lambda folder: (folder / 'odd.txt').write_text(''), 'odd.txt'),
+    (lambda folder: (next(folder.glob('*/')) / 'odd.rs').write_text(''), 'odd.rs'),
+    (lambda folder: (folder / 'odd').symlink_to(folder), 'odd'),
+    (lambda folder: (folder / 'mod.rs').unlink(), 'mod.rs'),
+    (lambda folder: next(folder.glob('*/mod.rs')).unlink(), 'mod.rs'),
+    (lambda folder: next(folder.glob('*/mod.rs')).write_text(''), 'mod.rs'),
+    (path_elsewhere, 'mod.rs'),
+    (without_module, 'mod.rs'),
+    (linked, 'mod.rs'),
+]
+
 
 def render_itself():
     """tools/render, as a module."""
@@ -69,32 +167,105 @@ class Reading:
         self.path, self.text = TOP / file, source.replace(old, new, 1)
 
 
-def main():
-    render, reading, wrong = render_itself(), Reading(), 0
+def said_of(call):
+    """Returns the error, or None where the call accepts the texts."""
+    try:
+        call()
+    except SystemExit as end:
+        return str(end.code)
+    return None
+
+
+class Tried:
+    """Counts the changes that were tried, and those with another result than expected."""
+
+    def __init__(self):
+        self.tried = self.wrong = 0
+
+    def expect(self, what, said, word):
+        """Expects an error with this word, or none where the word is None."""
+        self.tried += 1
+        if said is not None if word is None else word not in (said or ''):
+            self.wrong += 1
+            print(f'{what}: {said or "it is not rejected"}')
+
+
+def try_texts(render, reading, tried):
+    """Calls, and entries of the lists."""
     core = render.files_of(render.crates_below('# The core'), render.rendered)
 
-    def said_of(file):
-        """Returns the error, or None where the texts are accepted."""
-        try:
-            if file == LINE:
-                render.files_of(['rl_lines'], render.rendered_program)
-            elif file == IDENT:
-                render.files_of(['rl_text'], render.rendered)
-            else:
-                uncalled, inlining = render.Uncalled(), render.Inlining()
-                inlining.core(uncalled.core(core))
-        except SystemExit as end:
-            return str(end.code)
-        return None
+    def read(file):
+        if file == LINE:
+            render.files_of(['rl_lines'], render.rendered_program)
+        elif file == IDENT:
+            render.files_of(['rl_text'], render.rendered)
+        else:
+            uncalled, inlining = render.Uncalled(), render.Inlining()
+            inlining.core(uncalled.core(core))
 
     for file, old, new, word in TRIED:
         reading.put(file, old, new)
-        said = said_of(file)
-        if said is not None if word is None else word not in (said or ''):
-            wrong += 1
-            print(f'{file}: {new}: {said or "it is rendered"}')
-    print(f'rejects: {len(TRIED)} tried, {wrong} wrong')
-    sys.exit(wrong > 0)
+        tried.expect(f'{file}: {new}', said_of(lambda: read(file)), word)
+
+
+def try_items(render, reading, tried):
+    """Items of files, and what an eraser adds."""
+    rows = [(IDENT, CORE_PLACE, *row) for row in CORE_ITEMS] + [(LINE, PLACE, *row) for row in ITEMS]
+    for file, place, item, word in rows:
+        crate = file.split('/')[1]
+        call = render.rendered if file == IDENT else render.rendered_program
+        reading.put(file, place, f'{item}\n\n{place}')
+        tried.expect(f'{file}: {item}', said_of(lambda: call(crate, TOP / file)), word)
+    reading.put(IDENT, CORE_PLACE, CORE_PLACE)
+    last = render.erase_models
+    for eraser, word in ERASERS:
+        render.erase_models = lambda text: eraser(last(text))
+        tried.expect(f'an eraser before {word}', said_of(lambda: render.rendered('rl_text', TOP / IDENT)), word)
+    render.erase_models = last
+
+
+def reported(render, folders, change):
+    """What --check reports of these copies of the two folders, of which the change was done to one; nothing where it passes."""
+    with contextlib.redirect_stdout(io.StringIO()) as printed:
+        change()
+        render.OUT, render.PROGRAMS_OUT = folders
+        code = said_of(render.main)
+    reports = [line for line in printed.getvalue().split('\n') if line.endswith("isn't what tools/render writes")]
+    if code == 'False' and not reports:
+        return None
+    return '; '.join(reports) if code == 'True' else f'status {code}; {reports}'
+
+
+def try_folders(render, tried):
+    """Copies of the two folders, each with one change."""
+    with contextlib.redirect_stdout(io.StringIO()):
+        both = [render.core_files(), render.program_files()]
+    render.core_files, render.program_files = (lambda: both[0]), (lambda: both[1])
+    sys.argv = ['render', '--check']
+    for at, (change, word) in enumerate(FOLDERS):
+        for changed in 0, 1:
+            with tempfile.TemporaryDirectory() as temporary:
+                folders = [pathlib.Path(temporary) / name for name in ('core', 'programs')]
+                for folder, files in zip(folders, both):
+                    put_all(folder, files)
+                said = reported(render, folders, lambda: change(folders[changed]))
+            tried.expect(f'{folders[changed].name}, change {at}', said, word)
+
+
+def put_all(folder, files):
+    for name, text in files.items():
+        (folder / name).parent.mkdir(parents=True, exist_ok=True)
+        (folder / name).write_text(text)
+
+
+def main():
+    render, reading, tried = render_itself(), Reading(), Tried()
+    try_texts(render, reading, tried)
+    try_items(render, reading, tried)
+    reading.put(IDENT, CORE_PLACE, CORE_PLACE)
+    try_folders(render, tried)
+    print(f'rejects: {tried.tried} tried, {tried.wrong} wrong')
+    sys.exit(tried.wrong > 0)
 
 
 if __name__ == '__main__':

@@ -63,6 +63,8 @@ mod parse_error;
 mod places;
 #[cfg(feature = "proc-macro")]
 mod proc_macros;
+#[cfg(any(test, all(feature = "proc-macro", feature = "settings")))]
+mod ranges;
 #[cfg_attr(feature = "rendered", allow(missing_docs))]
 // The sources give out names that the package reaches by other ways, and have parameters of which contracts alone speak.
 #[allow(unused_imports, unused_variables)]

@@ -335,7 +335,18 @@ mod tests {
             .map(|n| ["a", "é", "\n", "😀", "語", "\r\n"][n * n % 6])
             .collect();
         let ascii = "ab\n\ncd".repeat(100);
-        for text in ["", "\n", "a", "é\n", "\n\né", "a\r\nb", &long, &ascii] {
+        for text in [
+            "",
+            "\n",
+            "a",
+            "é\n",
+            "\n\né",
+            "a\r\nb",
+            "a\r\r\nb",
+            "\r\n\r\r\r\n\r",
+            &long,
+            &ascii,
+        ] {
             let index = LineIndex::new(text);
             for at in (0..=text.len()).filter(|&at| text.is_char_boundary(at)) {
                 let (place, in_bytes) = counted(text, at);

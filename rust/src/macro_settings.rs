@@ -1,5 +1,6 @@
 //! Settings of procedural macros and attributes.
 
+use crate::ranges::touched;
 use crate::{settings, Lit, MacroError, SettingError, Settings, SettingsSyntaxError};
 use alloc::string::{String, ToString};
 use alloc::vec::Vec;
@@ -46,14 +47,17 @@ pub struct MacroEntry {
 #[derive(Clone, Debug, Default)]
 pub struct MacroText {
     text: String,
-    places: Vec<(Range<usize>, Span)>,
+    /// The bytes of each token, and where it stands.
+    places: Vec<Range<usize>>,
+    spans: Vec<Span>,
 }
 
 impl MacroText {
     fn push(&mut self, token: &str, span: Span) {
         let start = self.text.len();
         self.text.push_str(token);
-        self.places.push((start..self.text.len(), span));
+        self.places.push(start..self.text.len());
+        self.spans.push(span);
     }
 
     /// A token, and a space after it.
@@ -154,18 +158,9 @@ impl MacroText {
     /// ```
     #[must_use]
     pub fn spans(&self, bytes: Range<usize>) -> (Span, Span) {
-        let from = self
-            .places
-            .iter()
-            .find(|(place, _)| place.end > bytes.start);
-        let last = self
-            .places
-            .iter()
-            .rfind(|(place, _)| place.start < bytes.end.max(1));
-        match (from, last) {
-            (Some((_, from)), Some((place, last))) if place.end > bytes.start => (*from, *last),
-            (Some((_, span)), _) | (None, Some((_, span))) => (*span, *span),
-            (None, None) => (Span::call_site(), Span::call_site()),
+        match touched(&self.places, &bytes) {
+            Some((first, last)) => (self.spans[first], self.spans[last]),
+            None => (Span::call_site(), Span::call_site()),
         }
     }
 }

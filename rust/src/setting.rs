@@ -526,6 +526,34 @@ mod tests {
     }
 
     #[test]
+    fn the_first_unknown_name_is_reported() {
+        let read =
+            Settings::read("a = 1, port = 2, Port = 3, por = 4, ports = 5").expect("settings");
+        for (known, unknown, range) in [
+            (&["port"][..], "a", 0..1),
+            (&["port", "a"], "Port", 17..21),
+            (&["ports", "Port", "port", "a"], "por", 27..30),
+        ] {
+            let known: Vec<Key> = known.iter().map(|name| Key::new(name, "")).collect();
+            let error = read.check(&known).expect_err("an unknown name");
+            let kind = SettingErrorKind::Unknown(unknown.to_string());
+            assert_eq!((error.kind(), error.range()), (&kind, range));
+        }
+        let known = ["por", "ports", "Port", "port", "a"].map(|name| Key::new(name, ""));
+        assert_eq!(read.check(&known), Ok(()));
+    }
+
+    #[test]
+    fn a_shifted_error_has_its_name() {
+        let error = settings("a = 1, b = 2, a = 3").expect_err("a name twice");
+        let error = error.shifted(100);
+        assert_eq!(error.to_string(), "repeated name `a` at byte 114");
+        let error = SettingError::from(error);
+        let kind = SettingErrorKind::Repeated("a".to_string());
+        assert_eq!((error.kind(), error.range()), (&kind, 114..115));
+    }
+
+    #[test]
     fn a_value_that_is_no_literal_says_why() {
         let read = Settings::read(r#"port = "a\u{D800}""#).expect("settings");
         let error = read.string(PORT).expect_err("a surrogate");

@@ -62,6 +62,28 @@ fn after_each_error() {
     }
 }
 
+/// A clone goes on where its source stands, and is at the end where that is: after the last literal, and after an error.
+#[test]
+fn clones() {
+    for (text, count) in [("1 2", 2), ("1 \"a", 2), ("'", 1), ("/*", 1), ("", 0)] {
+        let mut items = source(text);
+        for taken in 0..count {
+            assert_eq!(items.clone().count(), count - taken, "{text:?}");
+            assert!(items.next().is_some(), "{text:?}");
+        }
+        let mut before_the_end = items.clone();
+        assert!(items.next().is_none(), "{text:?}");
+        let mut after_it = items.clone();
+        assert!(before_the_end.next().is_none() && before_the_end.next().is_none());
+        assert!(after_it.next().is_none() && after_it.next().is_none());
+        assert_eq!(
+            shown(after_it.recover()),
+            shown(items.recover()),
+            "{text:?}"
+        );
+    }
+}
+
 #[test]
 fn from_where_a_source_stands() {
     let text = "1 2 'a \"b\n3 \\\"c\n4";

@@ -214,6 +214,17 @@ fn macros_are_skipped() {
 }
 
 #[test]
+fn macros_are_skipped_where_the_last_word_is_true() {
+    let text = "m!(0xA) #[a(0xB)] 0xC";
+    let edits = || restyle(text, STYLE);
+    let all = "m!(0xa) #[a(0xb)] 0xc";
+    assert_eq!(edits().skip_macros(false).apply().unwrap(), all);
+    let edits = || edits().skip_macros(true);
+    assert_eq!(edits().apply().unwrap(), "m!(0xA) #[a(0xB)] 0xc");
+    assert_eq!(edits().skip_macros(false).apply().unwrap(), all);
+}
+
+#[test]
 fn what_looks_like_a_macro_is_not_skipped() {
     for (text, written) in [
         ("a != (0xA)", "a != (0xa)"),

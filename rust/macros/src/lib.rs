@@ -1,5 +1,7 @@
 //! Procedural macros that read literals, for the tests.
 
+mod growth;
+mod places;
 mod written;
 
 use navyspindle::{
@@ -232,4 +234,28 @@ pub fn joined_slashes(_: TokenStream) -> TokenStream {
     let input = tokens_of("a = 1,").into_iter().chain(slashes);
     let input = input.chain(tokens_of("b = 2")).collect();
     tokens_of(&write_str(&macro_settings(input).unwrap_err().to_string()))
+}
+
+/// The calls of the package that take more time for each setting of a long input than of a short one, as a string.
+#[proc_macro]
+pub fn slow_calls(_: TokenStream) -> TokenStream {
+    growth::slow_calls()
+}
+
+/// Of each literal its text, the source where it stands, and those of its own tokens there.
+#[proc_macro]
+pub fn placed(input: TokenStream) -> TokenStream {
+    or_error(places::literals(input))
+}
+
+/// The errors of trees that are no bytes, and all of them as one: of each the message, the source where it is, and how many it is.
+#[proc_macro]
+pub fn byte_errors(input: TokenStream) -> TokenStream {
+    places::errors(&input)
+}
+
+/// Errors that are made of the places of two trees, as those of `byte_errors`, and two messages in a width.
+#[proc_macro]
+pub fn made_errors(input: TokenStream) -> TokenStream {
+    places::made_errors(input)
 }

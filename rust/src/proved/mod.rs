@@ -1,4 +1,5 @@
-//! What `tools/render` makes of the core crates: their functions without the contracts.
+// Rendered from crates.txt by tools/render: change that file, and render again.
+//! The crates of the core as `tools/render` writes them: their functions without the contracts.
 
 pub mod rl_file_reasons;
 pub mod rl_flaws;

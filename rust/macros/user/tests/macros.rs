@@ -1,8 +1,8 @@
 //! Literals as rustc hands them to procedural macros.
 
 use navyspindle_macros::{
-    again, hex_bytes, joined_slashes, literals, named, settings, strings, strings_errors, sum,
-    sum_error, written,
+    again, byte_errors, hex_bytes, joined_slashes, literals, made_errors, named, placed, settings,
+    slow_calls, strings, strings_errors, sum, sum_error, written,
 };
 use std::ffi::CStr;
 use std::fmt::Debug;
@@ -106,6 +106,68 @@ fn errors() {
     );
 }
 
+/// A group without delimiters has its own minus, or more than a literal.
+#[test]
+fn errors_inside_of_groups() {
+    macro_rules! negative {
+        ($name:ident: $e:literal) => {
+            $name!(-$e)
+        };
+    }
+    macro_rules! passed_expression {
+        ($name:ident: $e:expr) => {
+            $name!($e)
+        };
+    }
+    assert_eq!(negative!(sum: 1), -1);
+    assert_eq!(
+        negative!(sum_error: -1),
+        "expected a number after the minus"
+    );
+    assert_eq!(passed_expression!(sum: 0x10), 16);
+    assert_eq!(passed_expression!(sum_error: 1 + 2), "expected literal");
+}
+
+#[test]
+fn places() {
+    let found = placed!(1, -1.5, true, "a", false);
+    assert_eq!(found[0], ("1", "1", &["1"] as &[&str]));
+    assert_eq!(found[1], ("-1.5", "1.5", &["1.5", "1.5"] as &[&str]));
+    assert_eq!(found[2], ("true", "true", &["true"] as &[&str]));
+    assert_eq!(found[3], ("\"a\"", "\"a\"", &["\"a\""] as &[&str]));
+    assert_eq!(found[4], ("false", "false", &["false"] as &[&str]));
+}
+
+#[test]
+fn errors_have_a_place_and_others_after_them() {
+    let found = byte_errors!(b'a' 1 'a' true word);
+    let expected = "expected byte literal, found ";
+    assert_eq!(
+        found,
+        [
+            (&*format!("{expected}integer literal"), "1", 1),
+            (&*format!("{expected}character literal"), "'a'", 1),
+            (&*format!("{expected}boolean literal"), "true", 1),
+            ("expected literal", "word", 1),
+            (&*format!("{expected}integer literal"), "1", 4),
+        ]
+    );
+    let (made, padded) = made_errors!(first second);
+    assert_eq!(
+        made,
+        [
+            ("one", "second", 1),
+            ("two", "first", 1),
+            (
+                "expected C string literal, found floating point literal",
+                "second",
+                1
+            ),
+        ]
+    );
+    assert_eq!(padded, "[ one] [one ] [t]");
+}
+
 #[test]
 fn several_errors() {
     strings!("a", r"b", "c");
@@ -185,6 +247,9 @@ fn settings_of_a_macro() {
     assert_eq!(entries[0], ("name", r#""x""#, "name", "", r#""x""#));
     assert_eq!(entries[1], ("size", "-0x10i8", "size", "-", "0x10i8"));
     assert_eq!(entries[2], ("on", "true", "on", "", "true"));
+    let entries = settings!(size = -1, name = "-1");
+    assert_eq!(entries[0], ("size", "-1", "size", "-", "1"));
+    assert_eq!(entries[1], ("name", r#""-1""#, "name", "", r#""-1""#));
     let none: [(&str, &str, &str, &str, &str); 0] = settings!();
     assert_eq!(none, []);
     macro_rules! passed {
@@ -227,4 +292,9 @@ fn settings_by_name() {
         named!(size = 1),
         ("missing name: expected a string", "1", "1")
     );
+}
+
+#[test]
+fn the_time_grows_with_the_input() {
+    assert_eq!(slow_calls!(), "");
 }

@@ -1,4 +1,5 @@
-//! What `tools/render` makes of the crates above the core: their functions without the contracts.
+// Rendered from crates.txt by tools/render: change that file, and render again.
+//! The crates above the core as `tools/render` writes them: their functions without the contracts.
 
 pub mod rl_attributes;
 pub mod rl_commands;

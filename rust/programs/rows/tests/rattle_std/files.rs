@@ -7,14 +7,14 @@ use crate::rattle_std::fs::{
     canonicalize, metadata, read_dir, remove_file, rename, symlink_metadata, File, OpenFile,
     OpenOptions, Permissions,
 };
-use crate::rattle_std::io::{Read, Write};
-use crate::rattle_std::os::unix::fs::OpenOptionsExt;
+use crate::rattle_std::io::{Error, ErrorKind, Read, Result, Write};
+use crate::rattle_std::os::unix::fs::{chown, OpenOptionsExt};
 use crate::rattle_std::rt::HostRuntime;
 use std::ffi::OsStr;
 use std::os::unix::ffi::OsStrExt;
-use std::os::unix::fs::{symlink, PermissionsExt};
+use std::os::unix::fs::{symlink, MetadataExt, PermissionsExt};
 use std::path::Path;
-use std::{fs, vec};
+use std::{fs, io, vec};
 
 /// An empty directory of this test's.
 fn directory(name: &str) -> Directory {
@@ -241,6 +241,45 @@ fn variables_that_are_not_there() {
     }
 }
 
+#[test]
+fn variables_that_are_not_texts() {
+    let rt = HostRuntime::new();
+    std::env::set_var("NAVYSPINDLE_NO_TEXT", OsStr::from_bytes(b"a\xff"));
+    let value = env::var(&rt, "NAVYSPINDLE_NO_TEXT");
+    assert!(matches!(value, Err(VarError::NotUnicode)));
+    std::env::set_var("NAVYSPINDLE_TEXT", "a\u{e9}");
+    let value = env::var(&rt, "NAVYSPINDLE_TEXT");
+    assert!(value.is_ok_and(|value| value.as_str() == "a\u{e9}"));
+}
+
+/// Linux's numbers, as Rattle's std has them; the kinds that the sources don't tell apart are `Other`.
+#[test]
+fn kinds_of_the_systems_errors() {
+    for (number, kind) in [
+        (1, ErrorKind::PermissionDenied),
+        (2, ErrorKind::NotFound),
+        (4, ErrorKind::Interrupted),
+        (12, ErrorKind::OutOfMemory),
+        (13, ErrorKind::PermissionDenied),
+        (17, ErrorKind::AlreadyExists),
+        (20, ErrorKind::NotADirectory),
+        (21, ErrorKind::IsADirectory),
+        (22, ErrorKind::InvalidInput),
+        (27, ErrorKind::Other),
+        (28, ErrorKind::StorageFull),
+        (30, ErrorKind::ReadOnlyFilesystem),
+        (32, ErrorKind::BrokenPipe),
+        (36, ErrorKind::InvalidFilename),
+        (39, ErrorKind::Other),
+        (40, ErrorKind::Other),
+        (122, ErrorKind::Other),
+        (9999, ErrorKind::Other),
+    ] {
+        let error = Error::from(io::Error::from_raw_os_error(number));
+        assert_eq!((error.kind(), error.raw_os_error()), (kind, Some(number)));
+    }
+}
+
 /// What opening a new file at the path answers.
 fn made(path: &str) -> String {
     let rt = HostRuntime::new();
@@ -279,6 +318,54 @@ fn files_that_are_filled() {
     assert_eq!(about.permissions().mode() & 0o7777, 0o640);
 }
 
+/// What the system says of a file that is opened for writing.
+fn of_device(path: &str, ask: impl Fn(&mut File) -> Result<()>) -> String {
+    let rt = HostRuntime::new();
+    match OpenOptions::new().write(true).open(&rt, path) {
+        Ok(mut file) => told(ask(&mut file)),
+        Err(error) => told::<()>(Err(error)),
+    }
+}
+
+#[test]
+fn files_without_room() {
+    let written = of_device("/dev/full", |file| file.write_all(b"fn"));
+    assert_eq!(written, "Err(StorageFull, Some(28))");
+}
+
+/// Linux stores nothing of such a file, and says so.
+#[test]
+fn files_are_stored() {
+    let stored = of_device("/dev/null", |file| file.sync_all());
+    assert_eq!(stored, "Err(InvalidInput, Some(22))");
+}
+
+/// Root may give a file to any user, another user may give it to nobody.
+#[test]
+fn owners_that_change() {
+    let here = directory("owners");
+    let path = path_in(&here, "file");
+    fs::write(&path, "fn").expect("the file can be written");
+    let rt = HostRuntime::new();
+    let owner = || {
+        let about = fs::metadata(&path).expect("the file is there");
+        (about.uid(), about.gid())
+    };
+    let (uid, gid) = owner();
+    assert_eq!(told(chown(&rt, &path, None, None)), "Ok(())");
+    assert_eq!(owner(), (uid, gid));
+    let changed = told(chown(&rt, &path, Some(uid + 1), None));
+    if uid == 0 {
+        assert_eq!((changed.as_str(), owner()), ("Ok(())", (1, gid)));
+        let changed = told(chown(&rt, &path, None, Some(gid + 2)));
+        assert_eq!((changed.as_str(), owner()), ("Ok(())", (1, gid + 2)));
+    } else {
+        assert_eq!(changed, "Err(PermissionDenied, Some(1))");
+    }
+    let missing = path_in(&here, "no");
+    assert_eq!(told(chown(&rt, &missing, None, None)), MISSING);
+}
+
 #[test]
 fn paths_that_change() {
     let here = directory("changed");
@@ -295,6 +382,10 @@ fn paths_that_change() {
     assert_eq!(
         (is_link(&link).as_str(), is_link(&a).as_str()),
         ("Ok(true)", "Ok(false)")
+    );
+    assert_eq!(
+        told(metadata(&rt, &link).map(|about| about.is_file())),
+        "Ok(true)"
     );
     let real = canonicalize(&rt, &link).expect("the file is there");
     assert_eq!(Path::new(real.as_str()).file_name(), Some(OsStr::new("a")));

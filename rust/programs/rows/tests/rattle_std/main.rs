@@ -12,6 +12,8 @@ mod files;
 mod memory;
 mod pieces;
 mod reading;
+#[cfg(target_os = "linux")]
+mod streams;
 mod writing;
 
 #[path = "../../src/failing.rs"]
