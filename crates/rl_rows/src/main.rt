@@ -4,11 +4,17 @@
 
 mod answer;
 mod borrowed;
-mod calls;
 mod flaws;
 mod lists;
+mod literals;
+mod noted;
+mod pairs;
+mod parsers;
 mod row;
 mod sources;
+mod trees;
+mod values;
+mod words;
 
 use std::alloc::Global;
 use std::io;

@@ -19,16 +19,16 @@ pub(crate) fn told(alloc: Global, line: &[u8]) -> Result<String, AllocError> {
 fn tell_row(alloc: Global, row: &str, out: &mut Page) {
     let (name, digits) = row.split_once(' ').unwrap_or((row, ""));
     match decoded(alloc, digits.as_bytes()) {
-        Ok(Some(bytes)) => tell_bytes(alloc, name, bytes.as_slice(), out),
+        Ok(Some(bytes)) => tell_bytes(name, bytes.as_slice(), out),
         Ok(None) => out.put("error: input is not hexadecimal\n"),
         Err(_) => out.fail(),
     }
 }
 
 /// Prints what a command answers to the text that the bytes are, or that they are none.
-fn tell_bytes(alloc: Global, name: &str, bytes: &[u8], out: &mut Page) {
+fn tell_bytes(name: &str, bytes: &[u8], out: &mut Page) {
     match std::str::from_utf8(bytes) {
-        Ok(text) => answer::told(alloc, name, text, out),
+        Ok(text) => answer::told(name, text, out),
         Err(_) => out.put("error: input is not UTF-8\n"),
     }
 }
