@@ -1,6 +1,7 @@
 //! Words that call the literal that a text is.
 
 use crate::borrowed::put_borrowed;
+use crate::hostile::put_brief;
 use crate::noted::{HERE, literal_of, noted, put_answer, put_error, put_places};
 use crate::trees::put_trees;
 use rl_attributes::Attrs;
@@ -33,6 +34,7 @@ impl Called for Lit {
         match word {
             "text" => put_line(self, out),
             "value" => put_borrowed(self, out),
+            "brief" => put_brief_line(self, out),
             "placed" => put_placed(self, out),
             "literal" => put_appended(self, out),
             "borrows" => put_contents(self, out),
@@ -45,6 +47,13 @@ impl Called for Lit {
 fn put_line(literal: &Lit, out: &mut Page) {
     if let Some(line) = noted(line_of(out.alloc(), literal), out) {
         out.put(line.as_str())
+    }
+}
+
+/// Prints the literal's line without its end, or where that is long its kind and how many bytes it has.
+fn put_brief_line(literal: &Lit, out: &mut Page) {
+    if let Some(line) = noted(line_of(out.alloc(), literal), out) {
+        put_brief(line.as_str(), out)
     }
 }
 

@@ -5,13 +5,17 @@
 mod answer;
 mod borrowed;
 mod flaws;
+mod hostile;
 mod lists;
 mod literals;
+mod memory;
 mod noted;
 mod pairs;
 mod parsers;
+mod plain;
 mod row;
 mod sources;
+mod streams;
 mod trees;
 mod values;
 mod words;
