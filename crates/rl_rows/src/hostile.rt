@@ -18,7 +18,7 @@ const MOST: usize = 4;
 
 /// Prints a literal's line without its end, or where that is long its kind and how many bytes it has.
 pub(crate) fn put_brief(line: &str, out: &mut Page) {
-    let line = line.trim_end();
+    let (line, _) = line.split_once('\n').unwrap_or((line, ""));
     if line.len() <= LONGEST {
         return out.put(line);
     }

@@ -3,7 +3,7 @@
 use crate::noted::{HERE, literal_of, noted};
 use rl_failing::Page;
 use rl_tokens::{CString, Kept, Literal, Span};
-use rust_literals::{LitByteStr, LitChar, LitInt, LitStr};
+use rust_literals::{Lit, LitByteStr, LitChar, LitFloat, LitInt, LitStr};
 use std::alloc::Global;
 use std::fmt::Display;
 use std::hash::{DefaultHasher, Hash, Hasher};
@@ -51,7 +51,7 @@ fn put_character(c: char, out: &mut Page) {
     }
 }
 
-/// Prints a byte string of the bytes that the characters number, and where a C string of them has a zero.
+/// Prints a byte string of the bytes that the characters number, and where a C string of them has a zero, and of which bytes it is not made then.
 pub(crate) fn bytes(text: &str, out: &mut Page) {
     let mut bytes = Vec::new(out.alloc());
     for c in text.chars() {
@@ -64,7 +64,8 @@ pub(crate) fn bytes(text: &str, out: &mut Page) {
         Ok(_) => out.put(" without a zero\n"),
         Err(error) => {
             out.put(" zero at ");
-            out.show(&error.nul_position(), "\n")
+            out.show(&error.nul_position(), " of ");
+            out.debug(&error.into_vec().as_slice(), "\n")
         }
     }
 }
@@ -93,6 +94,16 @@ pub(crate) fn equal(text: &str, out: &mut Page) {
     let (first, second) = text.split_once('\n').unwrap_or((text, text));
     let first = literal_of(first, HERE, out);
     put_equal(first, literal_of(second, Span::new(3, 1, 2), out), out)
+}
+
+/// Prints whether the text's integer equals the text's float, and whether they hash alike.
+pub(crate) fn across(text: &str, out: &mut Page) {
+    let Some(integer) = noted(LitInt::new(out.alloc(), text, HERE), out) else {
+        return;
+    };
+    if let Some(float) = noted(LitFloat::new(out.alloc(), text, HERE), out) {
+        put_equal(Lit::Int(integer), Lit::Float(float), out)
+    }
 }
 
 /// Prints whether two values are equal, and whether they hash alike.

@@ -4,7 +4,7 @@ use crate::literals::call_literal;
 use crate::pairs::{lists, pairs};
 use crate::parsers::{parsed, turns};
 use crate::trees::{put_cut, put_respanned, two_files};
-use crate::values::{bytes, equal, kept, small, written};
+use crate::values::{across, bytes, equal, kept, small, written};
 use rl_failing::Page;
 use rl_grammar::{Parts, shape, shape_negative};
 use rust_literals::{
@@ -25,6 +25,7 @@ pub(crate) fn told(word: &str, text: &str, out: &mut Page) {
         "bytes" => bytes(text, out),
         "kept" => kept(text, out),
         "equal" => equal(text, out),
+        "across" => across(text, out),
         "pairs" => pairs(text, out),
         "lists" => lists(text, out),
         _ => of_type(word, text, out),

@@ -1,4 +1,4 @@
-//! The programs that print rows of tests: the stored runs of `rl_rows` and `rl_failures`, by Cargo.
+//! The programs that print rows of tests: the stored run of `rl_rows`, by Cargo.
 #![forbid(unsafe_code)]
 
 pub mod failing;
