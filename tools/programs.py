@@ -1,7 +1,7 @@
 #!/usr/bin/env python3
 """Finds the programs that comparisons run: those that Cargo builds of rust/programs, or the proved ones.
 
-  tools/programs.py NAME [--proved]   prints the path of NAME, one of rl_tool, rl_scan, rl_rows, rl_failures
+  tools/programs.py NAME [--proved]   prints the path of NAME, one of rl_tool, rl_scan, rl_rows
 
 Without --proved Cargo builds the whole workspace first, which a line on standard error says; with it the program is
 crates/NAME/out/NAME. The status is 2 where a program can't be had.
@@ -16,7 +16,7 @@ import sys
 TOP = os.path.dirname(os.path.dirname(os.path.abspath(__file__)))
 FOLDER = os.path.join(TOP, 'rust/programs')
 BY_BUILD = ('rl_tool', 'rl_scan')
-NAMES = (*BY_BUILD, 'rl_rows', 'rl_failures')
+NAMES = (*BY_BUILD, 'rl_rows')
 HELP = "run the proved programs, crates/NAME/out/NAME, in place of those that Cargo builds"
 
 

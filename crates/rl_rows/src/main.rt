@@ -4,11 +4,21 @@
 
 mod answer;
 mod borrowed;
-mod calls;
 mod flaws;
+mod hostile;
 mod lists;
+mod literals;
+mod memory;
+mod noted;
+mod pairs;
+mod parsers;
+mod plain;
 mod row;
 mod sources;
+mod streams;
+mod trees;
+mod values;
+mod words;
 
 use std::alloc::Global;
 use std::io;

@@ -13,7 +13,7 @@ pub(crate) fn put_source(alloc: Global, text: &str, out: &mut Page) {
 }
 
 /// Prints the text that bytes are.
-fn put_bytes(bytes: &[u8], out: &mut Page) {
+pub(crate) fn put_bytes(bytes: &[u8], out: &mut Page) {
     match std::str::from_utf8(bytes) {
         Ok(text) => out.put(text),
         Err(_) => out.fail(),

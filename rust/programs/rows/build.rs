@@ -16,7 +16,7 @@ fn main() {
         ran.is_ok_and(|status| status.success()),
         "tools/render, which needs Python 3, didn't render the rows"
     );
-    for name in ["rl_uses", "rl_failing", "rl_rows", "rl_failures"] {
+    for name in ["rl_uses", "rl_failing", "rl_rows"] {
         println!(
             "cargo::rerun-if-changed={}",
             top.join("crates").join(name).join("src").display()

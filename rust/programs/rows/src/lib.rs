@@ -1,4 +1,4 @@
-//! The programs for development, `rl_rows` and `rl_failures`, translated when they are built; and generated texts.
+//! `rl_rows`, the program for development, translated when it is built; and generated texts.
 #![forbid(unsafe_code)]
 
 pub mod failing;

@@ -1,15 +1,18 @@
-//! The translated programs for development print the stored output of the proved ones.
+//! The translated program for development prints the stored output of the proved one.
 
 #[path = "../../tests/stored/mod.rs"]
 mod stored;
 
+const PROGRAM: &str = env!("CARGO_BIN_EXE_rl_rows");
+
+/// All rows but those of long texts, and of many names.
 #[test]
-fn rows_of_commands() {
-    stored::check("rl_rows", env!("CARGO_BIN_EXE_rl_rows"));
+fn rows() {
+    stored::check_but("rl_rows", PROGRAM, &["long ", "names "]);
 }
 
 #[test]
 #[ignore = "ten seconds of a processor, for texts of a million characters; rust/check runs it"]
-fn rows_of_failing_memory() {
-    stored::check("rl_failures", env!("CARGO_BIN_EXE_rl_failures"));
+fn all_rows() {
+    stored::check("rl_rows", PROGRAM);
 }

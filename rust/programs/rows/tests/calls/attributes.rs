@@ -54,7 +54,7 @@ fn settings() {
 fn required<T: Display>(value: Result<T, SettingError>) -> String {
     match value {
         Ok(value) => format!("{value}\n"),
-        Err(error) => format!("{} {error}\n", place(error.span())),
+        Err(error) => format!("{} {error}\n", range(error.span())),
     }
 }
 

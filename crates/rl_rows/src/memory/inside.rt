@@ -1,9 +1,7 @@
 //! Calls of the three kinds of strings that go into what a string stands for.
 
-ghost use Rattle.std.specs.Prelude.{⊤};
-
-use crate::held::NO_CALL;
-use crate::trial::{Scarce, Trial};
+use crate::memory::tell::tell_answer;
+use crate::memory::trial::Scarce;
 use rl_failing::Page;
 use rl_tokens::{Error, Literal, ParseBuffer, Parser};
 use rust_literals::{Lit, LitStr};
@@ -15,6 +13,8 @@ use std::alloc::Allocator;
 struct CopyOfToken;
 
 impl<A: Allocator> Parser<A> for CopyOfToken {
+    ghost use Rattle.std.specs.Prelude.{⊤};
+
     type Output = Literal<A>;
 
     ghost runs = { λ parser trees scope answer rest. ⊤ };
@@ -28,22 +28,21 @@ impl<A: Allocator> Parser<A> for CopyOfToken {
 }
 
 /// Makes the call of this name, and puts its answer last.
-pub fn call<A: Scarce>(literal: &Lit<A>, name: &str, trial: &Trial<'_, A>, page: &mut Page) {
+pub(crate) fn call<A: Scarce>(literal: &Lit<A>, name: &str, scant: A, page: &mut Page) {
     match literal {
-        Lit::Str(string) => in_string(string, name, trial, page),
-        Lit::ByteStr(string) if name == "value" => trial.ends(string.value(trial.begins()), page),
-        Lit::CStr(string) if name == "value" => trial.ends(string.value(trial.begins()), page),
-        _ => page.put(NO_CALL),
+        Lit::Str(string) => in_string(string, name, scant, page),
+        Lit::ByteStr(string) => tell_answer(string.value(scant), page),
+        Lit::CStr(string) => tell_answer(string.value(scant), page),
+        _ => page.fail(),
     }
 }
 
 /// Makes the call of this name of a string, and puts its answer last.
-fn in_string<A: Scarce>(string: &LitStr<A>, name: &str, trial: &Trial<'_, A>, page: &mut Page) {
+fn in_string<A: Scarce>(string: &LitStr<A>, name: &str, scant: A, page: &mut Page) {
     match name {
-        "value" => trial.ends(string.value(trial.begins()), page),
-        "parse" => trial.ends(string.parse::<Lit<A>, _>(trial.begins()), page),
-        "parse_with" => trial.ends(string.parse_with(trial.begins(), CopyOfToken), page),
-        "parse_in_file" => trial.ends(string.parse_in_file(trial.begins(), CopyOfToken), page),
-        _ => page.put(NO_CALL),
+        "value" => tell_answer(string.value(scant), page),
+        "parse" => tell_answer(string.parse::<Lit<A>, _>(scant), page),
+        "parse_with" => tell_answer(string.parse_with(scant, CopyOfToken), page),
+        _ => tell_answer(string.parse_in_file(scant, CopyOfToken), page),
     }
 }

@@ -1,0 +1,157 @@
+//! Calls whose allocations fail: whose call it is, the call's name, and a text, with a space between.
+
+use crate::hostile::put_times;
+use crate::memory::held::{Held, run_held};
+use crate::memory::tell::Tell;
+use crate::memory::tokens::parsed;
+use crate::memory::trial::{Scarce, Trial};
+use crate::memory::{free, made, runs, tokens};
+use rl_failing::{Failing, Page};
+use rl_tokens::Parse;
+use rust_literals::{
+    Lit, LitBool, LitByte, LitByteStr, LitCStr, LitChar, LitFloat, LitInt, LitStr,
+};
+use std::cell::Cell;
+
+/// A call, and the text that it is tried on.
+#[derive(Clone, Copy)]
+pub(crate) struct Row<'t> {
+    /// Whose call it is.
+    pub(crate) of: &'t str,
+    /// The call's name.
+    pub(crate) call: &'t str,
+    /// The text.
+    pub(crate) text: &'t str,
+}
+
+/// Runs the call once, and puts last what came of it.
+fn run<A: Scarce>(row: Row<'_>, trial: &Trial<A>, page: &mut Page) {
+    match row.of {
+        "free" => free::call(row.call, trial, row.text, page),
+        "run" => runs::command(row.call, trial, row.text, page),
+        "attributes" => runs::attributes(trial, row.text, page),
+        "Literal" => tokens::literal_call(row.call, trial, row.text, page),
+        "Ident" => tokens::word(trial, row.text, page),
+        "TokenStream" => tokens::append(trial, row.text, page),
+        _ => run_named(row, trial, page),
+    }
+}
+
+/// Runs a call of a literal, by its name.
+fn run_named<A: Scarce>(row: Row<'_>, trial: &Trial<A>, page: &mut Page) {
+    match row.call {
+        "new" => made::new(row.of, trial, row.text, page),
+        "from_token" => made::from_token(row.of, trial, row.text, page),
+        "value" | "parse" | "parse_with" | "parse_in_file" => {
+            run_type::<Lit<A>, A>(row.call, trial, row.text, page)
+        }
+        _ => run_literal(row, trial, page),
+    }
+}
+
+/// Runs a call of a literal of this type; a truth value is true where the text is `true`.
+fn run_literal<A: Scarce>(row: Row<'_>, trial: &Trial<A>, page: &mut Page) {
+    let (call, text) = (row.call, row.text);
+    match row.of {
+        "LitInt" => run_type::<LitInt<A>, A>(call, trial, text, page),
+        "LitFloat" => run_type::<LitFloat<A>, A>(call, trial, text, page),
+        "LitBool" => run_type::<LitBool, A>(call, trial, text, page),
+        "LitStr" => run_type::<LitStr<A>, A>(call, trial, text, page),
+        "LitByteStr" => run_type::<LitByteStr<A>, A>(call, trial, text, page),
+        "LitCStr" => run_type::<LitCStr<A>, A>(call, trial, text, page),
+        "LitByte" => run_type::<LitByte<A>, A>(call, trial, text, page),
+        "LitChar" => run_type::<LitChar<A>, A>(call, trial, text, page),
+        _ => run_type::<Lit<A>, A>(call, trial, text, page),
+    }
+}
+
+/// Runs a call of a literal of one type, of which the text may be one.
+fn run_type<T: Held<A> + Parse<A> + Tell + Drop, A: Scarce>(
+    call: &str,
+    trial: &Trial<A>,
+    text: &str,
+    page: &mut Page,
+) {
+    if call == "Parse::parse" {
+        parsed::<T, A>(trial, text, page)
+    } else {
+        run_held::<T, A>(call, trial, text, page)
+    }
+}
+
+/// What came of the call while these allocations failed; how many were asked for is stored.
+pub(crate) fn tried(row: Row<'_>, first: u64, last: u64, asked: &Cell<u64>, page: &Page) -> Page {
+    let failing = Failing::new(page.alloc());
+    let mut told = page.another();
+    let trial = Trial {
+        scant: &failing,
+        first,
+        last,
+    };
+    run(row, &trial, &mut told);
+    asked.set(failing.succeed());
+    if failing.held() > 0 {
+        told.put("; kept memory");
+    }
+    told
+}
+
+/// Whether it is told that memory is wanted, and that all is left as it was.
+fn is_failure(told: &str) -> bool {
+    told.starts_with("out of memory") && !told.contains("; now") && !told.contains("; kept")
+}
+
+/// Puts last what is printed of the call while these allocations fail, but not again, where the call with ample memory told the
+/// other text.
+pub(crate) fn put_tried(row: Row<'_>, first: u64, last: u64, ample: &str, page: &mut Page) {
+    let told = tried(row, first, last, &Cell::new(0), page);
+    let mut line = page.another();
+    if told.text() == ample {
+        line.put("  failed: the same answer\n")
+    } else if is_failure(told.text()) {
+        put_line("  failed: ", told.text(), &mut line)
+    } else {
+        put_line("  OTHER: ", told.text(), &mut line)
+    }
+    if !page.text().contains(line.text()) {
+        page.put(line.text())
+    }
+}
+
+/// Puts a line last.
+pub(crate) fn put_line(front: &str, told: &str, page: &mut Page) {
+    page.put(front);
+    page.say(told, "\n")
+}
+
+/// Prints what came of the call with ample memory, and then with each allocation failing in turn, alone and with all after it, each
+/// answer once.
+pub(crate) fn told(of: &str, rest: &str, page: &mut Page) {
+    let (call, text) = rest.split_once(' ').unwrap_or((rest, ""));
+    let row = Row { of, call, text };
+    let asked = Cell::new(0);
+    let ample = tried(row, 1, 0, &asked, page);
+    put_line("  ample: ", ample.text(), page);
+    for n in 1..=asked.get().max(1) {
+        put_tried(row, n, n, ample.text(), page);
+        put_tried(row, n, u64::MAX, ample.text(), page)
+    }
+}
+
+/// Prints how many bytes are told of the value of a string of the text ten thousand times over, and what comes of it where all
+/// allocations but the first fail.
+pub(crate) fn lent(text: &str, page: &mut Page) {
+    let mut quoted = page.another();
+    quoted.put("\"");
+    put_times(10_000, text, &mut quoted);
+    quoted.put("\"");
+    let row = Row {
+        of: "LitStr",
+        call: "value",
+        text: quoted.text(),
+    };
+    let ample = tried(row, 1, 0, &Cell::new(0), page);
+    page.put("  ");
+    page.show(&ample.text().len(), " bytes\n");
+    put_tried(row, 2, u64::MAX, ample.text(), page)
+}

@@ -1,0 +1,89 @@
+//! Runs of a command over streams that fail after some bytes.
+
+use crate::sources::put_bytes;
+use rl_commands::Command;
+use rl_commands::run::run;
+use rl_failing::Page;
+use rl_program::RunError;
+use std::io::{self, ErrorKind, Read, Write};
+
+/// An input that fails after some bytes.
+#[derive(Drop)]
+struct Input<'a> {
+    bytes: &'a [u8],
+    left: usize,
+}
+
+impl Read for Input<'_> {
+    fn read(&mut self, buf: &mut [u8]) -> io::Result<usize> {
+        if self.left == 0 {
+            return Err(ErrorKind::Interrupted.into());
+        }
+        let count = self.left.min(buf.len());
+        self.left -= count;
+        self.bytes.read(&mut buf[..count])
+    }
+}
+
+/// An output that fails, or takes no byte, after some bytes.
+#[derive(Drop)]
+struct Output<'a> {
+    held: &'a mut Vec<u8>,
+    left: usize,
+    is_full: bool,
+}
+
+impl Write for Output<'_> {
+    fn write(&mut self, buf: &[u8]) -> io::Result<usize> {
+        if self.left == 0 && !self.is_full {
+            return Err(ErrorKind::BrokenPipe.into());
+        }
+        let count = self.left.min(buf.len());
+        self.left -= count;
+        self.held.extend_from_slice(&buf[..count])?;
+        Ok(count)
+    }
+
+    fn flush(&mut self) -> io::Result<()> {
+        Ok(())
+    }
+}
+
+/// The number that a word spells, and no limit where it spells none.
+fn limit_of(word: &str) -> usize {
+    word.parse::<usize>().unwrap_or(usize::MAX)
+}
+
+/// Prints what a run writes, its status and its error. The words are those of the row's name, with a colon between: the command's name;
+/// after how many bytes reading fails; after how many writing does; and `full` where then no byte is taken in place of an error.
+pub(crate) fn told(words: &str, bytes: &[u8], out: &mut Page) {
+    let (name, rest) = words.split_once(':').unwrap_or((words, ""));
+    let (readable, rest) = rest.split_once(':').unwrap_or((rest, ""));
+    let (writable, end) = rest.split_once(':').unwrap_or((rest, ""));
+    let mut held = Vec::new(out.alloc());
+    let mut input = Input {
+        bytes,
+        left: limit_of(readable),
+    };
+    let mut output = Output {
+        held: &mut held,
+        left: limit_of(writable),
+        is_full: end == "full",
+    };
+    if let Some(command) = Command::from_name(name) {
+        let answer = run(out.alloc(), command, &mut input, &mut output);
+        put_bytes(held.as_slice(), out);
+        put_ended(answer, out)
+    }
+}
+
+/// Prints the status that a run ends with, and its error.
+fn put_ended<E: RunError + Drop>(answer: Result<(), E>, out: &mut Page) {
+    match answer {
+        Ok(()) => out.put("0\n"),
+        Err(error) => {
+            out.show(&error.status(), " ");
+            out.show(&error, "\n")
+        }
+    }
+}
