@@ -24,8 +24,10 @@ use alloc::vec::Vec;
 /// # Errors
 ///
 /// The first place where the text can't be cut into tokens, or a group isn't closed as it should be; else, from left to right,
-/// what is missed first: a name, one that didn't stand before, `=`, a literal, or a comma where the line goes on. After a dot a name is
-/// missed where none stands directly after it; a dot with white space or a comment beside it stands itself where a name is missed.
+/// what is missed first: a name, one that didn't stand before, `=`, a literal, or a comma where the line goes on. At a dot a name is
+/// missed in three cases. Where white space, a comment or another token is before the dot, the error is at the dot (`a .b`). Where no
+/// identifier follows, it is at what follows, or at the text's end (`a. = 1`). Where white space or a comment is between the dot and an
+/// identifier, it is at the dot (`a. b`).
 ///
 /// ```
 /// use navyspindle::{config, LineIndex, Lit};
@@ -45,8 +47,10 @@ use alloc::vec::Vec;
 ///
 /// let error = config("a = 1 b = 2").unwrap_err();
 /// assert_eq!((error.kind(), error.range()), (SyntaxErrorKind::Expected(Part::Comma), 6..7));
-/// let error = config("a. = 1").unwrap_err();
-/// assert_eq!((error.kind(), error.range()), (SyntaxErrorKind::Expected(Part::Name), 3..4));
+/// for (text, range) in [("a .b = 1", 2..3), ("a. = 1", 3..4), ("a. b = 1", 1..2)] {
+///     let error = config(text).unwrap_err();
+///     assert_eq!((error.kind(), error.range()), (SyntaxErrorKind::Expected(Part::Name), range));
+/// }
 /// ```
 pub fn config(text: &str) -> Result<Vec<Entry<'_>>, SettingsSyntaxError> {
     let body = without_mark(text);

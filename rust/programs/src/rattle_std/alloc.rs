@@ -5,6 +5,7 @@
 
 use core::fmt;
 use core::hash::Hash;
+use core::hint;
 use std::collections::TryReserveError;
 
 /// What collections are passed to take memory from. All take it from Rust's own allocator; another one may fail, and count.
@@ -48,6 +49,16 @@ pub(super) fn asks<A: Allocator>(
 /// Whether a block may hold so many values. For a larger one no allocator is asked.
 pub(super) fn may_hold<T>(count: Option<usize>) -> bool {
     count.is_some_and(|count| count <= isize::MAX as usize / size_of::<T>().max(1))
+}
+
+/// Returns `true` if a block of so many bytes can be had now. It goes back at once, for a call of Rust's own that takes up to as many
+/// and ends the process where that fails. Nothing else runs that could take them first.
+pub(super) fn has_room(len: usize) -> bool {
+    let mut tried = std::vec::Vec::<u8>::new();
+    let has_room = tried.try_reserve_exact(len).is_ok();
+    // Else the compiler may leave the block out.
+    hint::black_box(&tried);
+    has_room
 }
 
 /// An allocation failed.

@@ -1,8 +1,9 @@
 //! Stands for `std::env` of Rattle: a program's arguments, and the variables of its environment.
 //!
-//! Narrower: arguments and variables are this process's own, and what Rust's own calls take to copy them can't fail.
+//! Narrower: arguments and variables are this process's own. Rust's own calls copy them, and end the process where there is no
+//! memory for that: for arguments, and for a variable of more than [`VALUE`] bytes.
 
-use super::alloc::{AllocError, Global};
+use super::alloc::{has_room, AllocError, Global};
 use super::io;
 use super::rt::HostRuntime;
 use super::string::String;
@@ -37,8 +38,14 @@ impl From<AllocError> for VarError {
     }
 }
 
+/// Up to how many bytes of a variable's value it is tried first whether there is room.
+const VALUE: usize = 4096;
+
 /// The variable's value.
 pub fn var(_rt: &HostRuntime, name: &str) -> Result<String, VarError> {
+    if !has_room(VALUE + name.len()) {
+        return Err(VarError::OutOfMemory);
+    }
     match env::var_os(name) {
         None => Err(VarError::NotPresent),
         Some(value) => match value.to_str() {

@@ -1,10 +1,10 @@
 //! Stands for `std::fs` of Rattle: files that are read, new ones, what takes another's path, and the entries of directories. Paths
 //! and names are texts.
 //!
-//! Narrower: there is one file system, and files are opened in the ways that the sources ask for. What Rust's own calls take for a
-//! long path or a name can't fail.
+//! Narrower: there is one file system, and files are opened in the ways that the sources ask for. Where Rust's own calls copy a path or
+//! a name, it is tried first whether there is room, since they end the process where there is none.
 
-use super::alloc::{AllocError, Allocator, Global};
+use super::alloc::{has_room, AllocError, Allocator, Global};
 use super::io::{Error, ErrorKind, Read, Result, Write};
 use super::path::PathBuf;
 use super::rt::{Alloc, Files};
@@ -16,13 +16,27 @@ use std::io::{Read as _, Write as _};
 
 pub use std::fs::{Metadata, Permissions};
 
+/// The longest path that Linux takes, more than its longest name, and more than an open directory takes before its path is copied.
+const PATH: usize = 4096;
+const NAME: usize = 1024;
+const DIRECTORY: usize = 40_000;
+
+/// The path, where there is room for a copy.
+pub(super) fn copied(path: &str) -> Result<&str> {
+    if has_room(path.len() + NAME) {
+        Ok(path)
+    } else {
+        Err(Error::of(ErrorKind::OutOfMemory))
+    }
+}
+
 /// An open file.
 pub struct File(std::fs::File);
 
 impl File {
     /// Opens the file to read it. A directory can be opened too; the first read fails then.
     pub fn open<R: Files>(_rt: &R, path: &str) -> Result<File> {
-        Ok(File(std::fs::File::open(path)?))
+        Ok(File(std::fs::File::open(copied(path)?)?))
     }
 }
 
@@ -89,22 +103,25 @@ impl OpenOptions {
     }
 
     pub fn open<R: Files>(&self, rt: &R, path: &str) -> Result<R::File> {
-        Ok(rt.opened(File(self.0.open(path)?)))
+        Ok(rt.opened(File(self.0.open(copied(path)?)?)))
     }
 }
 
 /// What the system knows of what is at the path; of a link, of what it leads to.
 pub fn metadata<R: Files>(_rt: &R, path: &str) -> Result<Metadata> {
-    Ok(std::fs::metadata(path)?)
+    Ok(std::fs::metadata(copied(path)?)?)
 }
 
 /// The same; of a link, of itself.
 pub fn symlink_metadata<R: Files>(_rt: &R, path: &str) -> Result<Metadata> {
-    Ok(std::fs::symlink_metadata(path)?)
+    Ok(std::fs::symlink_metadata(copied(path)?)?)
 }
 
 /// The path with no link in it.
 pub fn canonicalize<R: Files + Alloc>(rt: &R, path: &str) -> Result<PathBuf<R::A>> {
+    if !has_room(path.len() + PATH) {
+        return Err(Error::of(ErrorKind::OutOfMemory));
+    }
     let path = std::fs::canonicalize(path)?;
     match path.to_str() {
         Some(path) => Ok(PathBuf::of(String::from_str(rt.alloc(), path)?)),
@@ -114,11 +131,14 @@ pub fn canonicalize<R: Files + Alloc>(rt: &R, path: &str) -> Result<PathBuf<R::A
 
 /// Gives what is at a path another one, in place of a file that is there.
 pub fn rename<R: Files>(_rt: &R, from: &str, to: &str) -> Result<()> {
+    if !has_room(from.len() + to.len() + NAME) {
+        return Err(Error::of(ErrorKind::OutOfMemory));
+    }
     Ok(std::fs::rename(from, to)?)
 }
 
 pub fn remove_file<R: Files>(_rt: &R, path: &str) -> Result<()> {
-    Ok(std::fs::remove_file(path)?)
+    Ok(std::fs::remove_file(copied(path)?)?)
 }
 
 /// An entry of a directory.
@@ -131,7 +151,7 @@ impl<R, A: Allocator> DirEntry<R, A> {
     /// What the entry is; of a link that it is one. The system is asked anew, by the entry's path, so it fails where the entry
     /// vanished or the directory can't be searched.
     pub fn file_type(&self) -> Result<FileType> {
-        Ok(std::fs::symlink_metadata(self.path.as_str())?.file_type())
+        Ok(std::fs::symlink_metadata(copied(self.path.as_str())?)?.file_type())
     }
 
     /// The entry's name, without its directory.
@@ -159,17 +179,28 @@ pub fn read_dir<R: Files + Alloc>(rt: &R, path: &str) -> Result<ReadDir<R, R::A>
         with_slash.push('/')?;
     }
     Ok(ReadDir {
-        entries: std::fs::read_dir(with_slash.as_str())?,
+        entries: listed(with_slash.as_str())?,
         path: with_slash,
         alloc,
         of: PhantomData,
     })
 }
 
+/// Opens the directory where there is room for two copies of its path.
+fn listed(path: &str) -> Result<std::fs::ReadDir> {
+    if !has_room(2 * path.len() + DIRECTORY) {
+        return Err(Error::of(ErrorKind::OutOfMemory));
+    }
+    Ok(std::fs::read_dir(path)?)
+}
+
 impl<R, A: Allocator> Iterator for ReadDir<R, A> {
     type Item = Result<DirEntry<R, A>>;
 
     fn next(&mut self) -> Option<Self::Item> {
+        if !has_room(NAME) {
+            return Some(Err(Error::of(ErrorKind::OutOfMemory)));
+        }
         Some(match self.entries.next()? {
             Ok(entry) => match entry.file_name().to_str() {
                 Some(name) => joined(self.alloc, &self.path, name).map_err(Error::from),

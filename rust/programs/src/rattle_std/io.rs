@@ -1,15 +1,17 @@
 //! Stands for `std::io` of Rattle: readers, writers, the standard streams, and why a call failed.
 //!
 //! Narrower: an error has a kind and the system's number, and no message; kinds that the sources don't tell apart are `Other`. A
-//! `Take` is read to its end alone. Nothing gives up after 2^64 tries. The standard streams stand on Rust's own, which take a few
-//! kilobytes that can't fail; one that is closed reads as empty, and takes all that is written.
+//! `Take` is read to its end alone. Nothing gives up after 2^64 tries. The standard streams stand on Rust's own. These take a
+//! few kilobytes when one is used first, and end the process where there are none; so it is tried first whether there is room.
+//! A stream that is closed reads as empty, and takes all that is written.
 
-use super::alloc::{AllocError, AllocFailed, Allocator};
+use super::alloc::{has_room, AllocError, AllocFailed, Allocator};
 use super::rt::HostRuntime;
 use super::string::String;
 use super::vec::Vec;
 use core::fmt;
 use core::fmt::Write as _;
+use core::sync::atomic::{AtomicBool, Ordering::Relaxed};
 use std::io::{IsTerminal as TerminalOfStd, Read as _, Write as _};
 
 pub type Result<T> = core::result::Result<T, Error>;
@@ -294,19 +296,55 @@ pub trait IsTerminal {
     fn is_terminal(&self) -> bool;
 }
 
+/// What Rust takes when a standard stream is used first.
+struct Front {
+    len: usize,
+    is_there: AtomicBool,
+}
+
+impl Front {
+    const fn new(len: usize) -> Front {
+        Front {
+            len,
+            is_there: AtomicBool::new(false),
+        }
+    }
+
+    /// Returns `true` if it is taken, or there is room for it.
+    fn is_there(&self) -> bool {
+        if !self.is_there.load(Relaxed) && has_room(self.len) {
+            self.is_there.store(true, Relaxed);
+        }
+        self.is_there.load(Relaxed)
+    }
+
+    fn take(&self) -> Result<()> {
+        if self.is_there() {
+            Ok(())
+        } else {
+            Err(Error::of(ErrorKind::OutOfMemory))
+        }
+    }
+}
+
+/// Rust's are 8,192 and 1,024 bytes.
+static INPUT: Front = Front::new(10_000);
+static OUTPUT: Front = Front::new(2_000);
+
 /// Standard input.
 #[derive(Clone, Copy)]
 pub struct Stdin;
 
 impl Read for Stdin {
     fn read(&mut self, buf: &mut [u8]) -> Result<usize> {
+        INPUT.take()?;
         Ok(std::io::stdin().read(buf)?)
     }
 }
 
 impl IsTerminal for Stdin {
     fn is_terminal(&self) -> bool {
-        TerminalOfStd::is_terminal(&std::io::stdin())
+        INPUT.is_there() && TerminalOfStd::is_terminal(&std::io::stdin())
     }
 }
 
@@ -316,6 +354,7 @@ pub struct Stdout;
 
 impl Write for Stdout {
     fn write(&mut self, bytes: &[u8]) -> Result<usize> {
+        OUTPUT.take()?;
         let mut out = std::io::stdout().lock();
         let count = out.write(bytes)?;
         out.flush()?;
@@ -325,7 +364,7 @@ impl Write for Stdout {
 
 impl IsTerminal for Stdout {
     fn is_terminal(&self) -> bool {
-        TerminalOfStd::is_terminal(&std::io::stdout())
+        OUTPUT.is_there() && TerminalOfStd::is_terminal(&std::io::stdout())
     }
 }
 

@@ -2,7 +2,7 @@
 
 pub mod unix {
     pub mod fs {
-        use crate::rattle_std::fs::OpenOptions;
+        use crate::rattle_std::fs::{copied, OpenOptions};
         use crate::rattle_std::io::Result;
         use crate::rattle_std::rt::Files;
 
@@ -15,7 +15,7 @@ pub mod unix {
             uid: Option<u32>,
             gid: Option<u32>,
         ) -> Result<()> {
-            Ok(std::os::unix::fs::chown(path, uid, gid)?)
+            Ok(std::os::unix::fs::chown(copied(path)?, uid, gid)?)
         }
 
         /// How a file is opened.
