@@ -2,7 +2,7 @@
 //! whose names were chosen.
 
 use crate::literals::{Called, call_literal};
-use crate::noted::put_places;
+use crate::noted::{parts_of, put_places};
 use rl_attributes::read;
 use rl_failing::Page;
 use rl_grammar::strict;
@@ -18,11 +18,11 @@ const MOST: usize = 4;
 
 /// Prints a literal's line without its end, or where that is long its kind and how many bytes it has.
 pub(crate) fn put_brief(line: &str, out: &mut Page) {
-    let (line, _) = line.split_once('\n').unwrap_or((line, ""));
+    let (line, _) = parts_of(line, '\n');
     if line.len() <= LONGEST {
         return out.put(line);
     }
-    let (kind, _) = line.split_once(' ').unwrap_or((line, ""));
+    let (kind, _) = parts_of(line, ' ');
     out.say(kind, " in a line of ");
     out.put_number(line.len())
 }
@@ -87,6 +87,13 @@ fn unpictured(c: char) -> char {
     }
 }
 
+/// Puts a text last whose line ends, tabs and zeros are written as pictures.
+pub(crate) fn put_unpictured(text: &str, out: &mut Page) {
+    for c in text.chars() {
+        out.put_char(unpictured(c))
+    }
+}
+
 /// Prints what the five calls return of the text cut at each place; in the row pictures stand for line ends, tabs and zeros.
 pub(crate) fn cuts(row: &str, out: &mut Page) {
     let mut text = out.another();
@@ -102,7 +109,7 @@ pub(crate) fn cuts(row: &str, out: &mut Page) {
 pub(crate) fn long(row: &str, out: &mut Page) {
     let mut text = out.another();
     for part in row.split('\t') {
-        let (count, piece) = part.split_once(' ').unwrap_or(("", part));
+        let (count, piece) = parts_of(part, ' ');
         put_times(number_of(count), piece, &mut text)
     }
     put_text(text.text(), out)
@@ -126,7 +133,7 @@ const FIRST: usize = 10_000_000;
 /// Prints how many attributes are read whose names are a front and a number each, and then what comes of them with
 /// the first one once more. A row is how many they are, a space and the front.
 pub(crate) fn names(row: &str, out: &mut Page) {
-    let (count, front) = row.split_once(' ').unwrap_or((row, ""));
+    let (count, front) = parts_of(row, ' ');
     let mut text = out.another();
     for number in FIRST..FIRST.saturating_add(number_of(count)) {
         put_setting(front, number, &mut text)

@@ -11,12 +11,11 @@ mod literals;
 mod memory;
 mod noted;
 mod pairs;
-mod parsers;
 mod plain;
 mod row;
 mod sources;
 mod streams;
-mod trees;
+mod turns;
 mod values;
 mod words;
 

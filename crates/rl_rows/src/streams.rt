@@ -1,5 +1,6 @@
 //! Runs of a command over streams that fail after some bytes.
 
+use crate::noted::parts_of;
 use crate::sources::put_bytes;
 use rl_commands::Command;
 use rl_commands::run::run;
@@ -57,9 +58,9 @@ fn limit_of(word: &str) -> usize {
 /// Prints what a run writes, its status and its error. The words are those of the row's name, with a colon between: the command's name;
 /// after how many bytes reading fails; after how many writing does; and `full` where then no byte is taken in place of an error.
 pub(crate) fn told(words: &str, bytes: &[u8], out: &mut Page) {
-    let (name, rest) = words.split_once(':').unwrap_or((words, ""));
-    let (readable, rest) = rest.split_once(':').unwrap_or((rest, ""));
-    let (writable, end) = rest.split_once(':').unwrap_or((rest, ""));
+    let (name, rest) = parts_of(words, ':');
+    let (readable, rest) = parts_of(rest, ':');
+    let (writable, end) = parts_of(rest, ':');
     let mut held = Vec::new(out.alloc());
     let mut input = Input {
         bytes,

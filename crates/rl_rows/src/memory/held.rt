@@ -5,13 +5,12 @@ use crate::memory::tell::{Tell, tell_answer};
 use crate::memory::trial::{Scarce, Trial, tell_left, told_of};
 use crate::noted::{HERE, noted};
 use rl_failing::Page;
-use rl_grammar::shape;
 use rl_quoted::{Quoted, QuotedKind};
-use rl_tokens::{Literal, ToTokens};
+use rl_tokens::{Parse, ParseBuffer, ToTokens, Token, TokenStream};
 use rust_literals::{Lit, LitBool, Number, NumberKind};
 
-/// A value that calls borrow.
-pub(crate) trait Held<A: Scarce>: Sized {
+/// A literal that calls borrow.
+pub(crate) trait Held<A: Scarce>: Parse<A> + Token + Tell {
     /// The value that the text is, if it is one.
     fn of_text(trial: &Trial<A>, text: &str, page: &mut Page) -> Option<Self>;
 
@@ -20,7 +19,7 @@ pub(crate) trait Held<A: Scarce>: Sized {
 }
 
 /// The call of this name of the value that the text is, and what is left of the value.
-pub(crate) fn run_held<T: Held<A> + Tell + Drop, A: Scarce>(
+pub(crate) fn run_held<T: Held<A> + Drop, A: Scarce>(
     name: &str,
     trial: &Trial<A>,
     text: &str,
@@ -33,45 +32,25 @@ pub(crate) fn run_held<T: Held<A> + Tell + Drop, A: Scarce>(
 }
 
 /// The call of this name of a value, and what is left of the value.
-fn call_held<T: Held<A> + Tell, A: Scarce>(
-    value: &T,
-    name: &str,
-    trial: &Trial<A>,
-    page: &mut Page,
-) {
+fn call_held<T: Held<A>, A: Scarce>(value: &T, name: &str, trial: &Trial<A>, page: &mut Page) {
     let before = told_of(value, page);
     value.call(name, trial, page);
     tell_left(value, &before, page)
 }
 
-impl<A: Scarce> Held<A> for Literal<A> {
-    fn of_text(trial: &Trial<A>, text: &str, page: &mut Page) -> Option<Literal<A>> {
-        trial.token(text, page)
-    }
-
-    fn call(&self, name: &str, trial: &Trial<A>, page: &mut Page) {
-        let scant = trial.begins();
-        match name {
-            "clone" => tell_answer(self.clone(scant), page),
-            _ => tell_answer(self.after_minus(scant, HERE), page),
-        }
-    }
-}
-
 impl<K: QuotedKind, A: Scarce> Held<A> for Quoted<K, A> {
     fn of_text(trial: &Trial<A>, text: &str, page: &mut Page) -> Option<Quoted<K, A>> {
-        let token = trial.token(text, page)?;
-        match shape(token.text()) {
-            Some(parts) if parts.kind == K::KIND => Some(Quoted::of_token(token)),
-            _ => None,
-        }
+        let mut stream = trial.trees(text, page)?;
+        stream.respan(HERE);
+        let mut input = ParseBuffer::new(stream.trees(), HERE);
+        noted(input.parse::<Quoted<K, A>>(trial.scant), page)
     }
 
     fn call(&self, name: &str, trial: &Trial<A>, page: &mut Page) {
         match name {
             "clone" => tell_answer(self.clone(trial.begins()), page),
             "token" => tell_answer(self.token(trial.begins()), page),
-            _ => appended(self, trial, page),
+            _ => appended(self, name, trial, page),
         }
     }
 }
@@ -87,7 +66,7 @@ impl<K: NumberKind, A: Scarce> Held<A> for Number<K, A> {
             "clone" => tell_answer(self.clone(trial.begins()), page),
             "token" => tell_answer(self.token(trial.begins()), page),
             "base10_parse" => tell_answer(self.base10_parse::<i8, A>(trial.begins()), page),
-            _ => appended(self, trial, page),
+            _ => appended(self, name, trial, page),
         }
     }
 }
@@ -102,7 +81,7 @@ impl<A: Scarce> Held<A> for LitBool {
         match name {
             "clone" => tell_answer(self.clone(trial.begins()), page),
             "token" => tell_answer(self.token(trial.begins()), page),
-            _ => appended(self, trial, page),
+            _ => appended(self, name, trial, page),
         }
     }
 }
@@ -116,7 +95,7 @@ impl<A: Scarce> Held<A> for Lit<A> {
     fn call(&self, name: &str, trial: &Trial<A>, page: &mut Page) {
         match name {
             "clone" => tell_answer(self.clone(trial.begins()), page),
-            "to_tokens" => appended(self, trial, page),
+            "to_tokens" => appended(self, name, trial, page),
             _ => inside::call(self, name, trial.begins(), page),
         }
     }
@@ -125,11 +104,22 @@ impl<A: Scarce> Held<A> for Lit<A> {
 /// As many trees as a stream takes before it has to grow.
 const FULL: &str = "(1) a 2 +";
 
-/// `to_tokens` into a stream that is full, and what is left of the stream.
-fn appended<T: ToTokens, A: Scarce>(literal: &T, trial: &Trial<A>, page: &mut Page) {
-    if let Some(mut stream) = trial.trees(FULL, page) {
-        let before = told_of(&stream, page);
-        tell_answer(literal.to_tokens(trial.begins(), &mut stream), page);
-        tell_left(&stream, &before, page)
+/// `to_tokens` into a stream that is full, or under any other name into an empty one, and what is left of the stream.
+fn appended<T: ToTokens, A: Scarce>(literal: &T, name: &str, trial: &Trial<A>, page: &mut Page) {
+    let trees = if name == "to_tokens" { FULL } else { "" };
+    if let Some(mut stream) = trial.trees(trees, page) {
+        append_to(literal, &mut stream, trial, page)
     }
+}
+
+/// `to_tokens` into a stream, and what is left of the stream.
+fn append_to<T: ToTokens, A: Scarce>(
+    literal: &T,
+    stream: &mut TokenStream<A>,
+    trial: &Trial<A>,
+    page: &mut Page,
+) {
+    let before = told_of(stream, page);
+    tell_answer(literal.to_tokens(trial.begins(), stream), page);
+    tell_left(stream, &before, page)
 }

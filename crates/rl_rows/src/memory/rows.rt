@@ -1,13 +1,12 @@
 //! Calls whose allocations fail: whose call it is, the call's name, and a text, with a space between.
 
-use crate::hostile::put_times;
+use crate::hostile::{put_times, put_unpictured};
 use crate::memory::held::{Held, run_held};
-use crate::memory::tell::Tell;
 use crate::memory::tokens::parsed;
 use crate::memory::trial::{Scarce, Trial};
 use crate::memory::{free, made, runs, tokens};
+use crate::noted::parts_of;
 use rl_failing::{Failing, Page};
-use rl_tokens::Parse;
 use rust_literals::{
     Lit, LitBool, LitByte, LitByteStr, LitCStr, LitChar, LitFloat, LitInt, LitStr,
 };
@@ -24,6 +23,20 @@ pub(crate) struct Row<'t> {
     pub(crate) text: &'t str,
 }
 
+impl<'t> Row<'t> {
+    /// A row without a call's name.
+    pub(crate) fn of_text(of: &'t str, text: &'t str) -> Row<'t> {
+        Row { of, call: "", text }
+    }
+
+    /// The row that these words are, with a space between.
+    pub(crate) fn of_words(words: &'t str) -> Row<'t> {
+        let (of, rest) = parts_of(words, ' ');
+        let (call, text) = parts_of(rest, ' ');
+        Row { of, call, text }
+    }
+}
+
 /// Runs the call once, and puts last what came of it.
 fn run<A: Scarce>(row: Row<'_>, trial: &Trial<A>, page: &mut Page) {
     match row.of {
@@ -32,7 +45,7 @@ fn run<A: Scarce>(row: Row<'_>, trial: &Trial<A>, page: &mut Page) {
         "attributes" => runs::attributes(trial, row.text, page),
         "Literal" => tokens::literal_call(row.call, trial, row.text, page),
         "Ident" => tokens::word(trial, row.text, page),
-        "TokenStream" => tokens::append(trial, row.text, page),
+        "TokenStream" => tokens::stream_call(row.call, trial, row.text, page),
         _ => run_named(row, trial, page),
     }
 }
@@ -42,9 +55,8 @@ fn run_named<A: Scarce>(row: Row<'_>, trial: &Trial<A>, page: &mut Page) {
     match row.call {
         "new" => made::new(row.of, trial, row.text, page),
         "from_token" => made::from_token(row.of, trial, row.text, page),
-        "value" | "parse" | "parse_with" | "parse_in_file" => {
-            run_type::<Lit<A>, A>(row.call, trial, row.text, page)
-        }
+        "value" => run_held::<Lit<A>, A>(row.call, trial, row.text, page),
+        call if call.starts_with("parse") => run_held::<Lit<A>, A>(call, trial, row.text, page),
         _ => run_literal(row, trial, page),
     }
 }
@@ -66,14 +78,14 @@ fn run_literal<A: Scarce>(row: Row<'_>, trial: &Trial<A>, page: &mut Page) {
 }
 
 /// Runs a call of a literal of one type, of which the text may be one.
-fn run_type<T: Held<A> + Parse<A> + Tell + Drop, A: Scarce>(
+fn run_type<T: Held<A> + Drop, A: Scarce>(
     call: &str,
     trial: &Trial<A>,
     text: &str,
     page: &mut Page,
 ) {
-    if call == "Parse::parse" {
-        parsed::<T, A>(trial, text, page)
+    if call == "Parse::parse" || call == "peek" {
+        parsed::<T, A>(call, trial, text, page)
     } else {
         run_held::<T, A>(call, trial, text, page)
     }
@@ -126,9 +138,8 @@ pub(crate) fn put_line(front: &str, told: &str, page: &mut Page) {
 
 /// Prints what came of the call with ample memory, and then with each allocation failing in turn, alone and with all after it, each
 /// answer once.
-pub(crate) fn told(of: &str, rest: &str, page: &mut Page) {
-    let (call, text) = rest.split_once(' ').unwrap_or((rest, ""));
-    let row = Row { of, call, text };
+pub(crate) fn told(words: &str, page: &mut Page) {
+    let row = Row::of_words(words);
     let asked = Cell::new(0);
     let ample = tried(row, 1, 0, &asked, page);
     put_line("  ample: ", ample.text(), page);
@@ -154,4 +165,12 @@ pub(crate) fn lent(text: &str, page: &mut Page) {
     page.put("  ");
     page.show(&ample.text().len(), " bytes\n");
     put_tried(row, 2, u64::MAX, ample.text(), page)
+}
+
+/// Prints what came of the call with ample memory; in the row pictures stand for line ends, tabs and zeros.
+pub(crate) fn ample(words: &str, page: &mut Page) {
+    let mut text = page.another();
+    put_unpictured(words, &mut text);
+    let row = Row::of_words(text.text());
+    runs::put_tried(row, 1, 0, &Cell::new(0), page)
 }

@@ -44,23 +44,18 @@ fn attributes_of<A: Scarce>(trial: &Trial<A>, trees: &[TokenTree<A>], page: &mut
 
 /// Puts last what comes of a run, or of the parser of attributes, with ample memory, and then with each allocation and all
 /// after it failing; of the parser also with each alone.
-pub(crate) fn told(of: &str, rest: &str, page: &mut Page) {
-    let (call, text) = if of == "run" {
-        rest.split_once(' ').unwrap_or((rest, ""))
-    } else {
-        ("", rest)
-    };
-    let row = Row { of, call, text };
+pub(crate) fn told(row: Row<'_>, page: &mut Page) {
     let asked = Cell::new(0);
-    put_line("  ", tried(row, 1, 0, &asked, page).text(), page);
+    put_tried(row, 1, 0, &asked, page);
     for n in 1..=asked.get() {
-        if of == "attributes" {
-            put_line("  ", tried(row, n, n, &Cell::new(0), page).text(), page)
+        if row.of == "attributes" {
+            put_tried(row, n, n, &Cell::new(0), page)
         }
-        put_line(
-            "  ",
-            tried(row, n, u64::MAX, &Cell::new(0), page).text(),
-            page,
-        )
+        put_tried(row, n, u64::MAX, &Cell::new(0), page)
     }
+}
+
+/// Puts last a line of what comes of the call while these allocations fail.
+pub(crate) fn put_tried(row: Row<'_>, first: u64, last: u64, asked: &Cell<u64>, page: &mut Page) {
+    put_line("  ", tried(row, first, last, asked, page).text(), page)
 }

@@ -1,6 +1,7 @@
 //! What is printed of answers and of what is left.
 
 use crate::noted::put_places;
+use rl_attributes::Attrs;
 use rl_failing::Page;
 use rl_program::ProgramError;
 use rl_quoted::{Quoted, QuotedKind};
@@ -174,34 +175,52 @@ impl<T: Tell, A: Allocator> Tell for Kept<T, A> {
 }
 
 /// Puts trees last, each after a space, and of a group all that is inside.
-fn tell_trees<A: Allocator>(trees: &[TokenTree<A>], page: &mut Page) {
+pub(crate) fn tell_trees<A: Allocator>(trees: &[TokenTree<A>], page: &mut Page) {
     for tree in trees {
         page.put(" ");
-        match tree {
-            TokenTree::Group(group) => {
-                page.put_debug(&group.delimiter());
-                tell_span(group.span(), page);
-                page.put(" of");
-                tell_trees(group.stream().trees(), page);
-                page.put(" end")
-            }
-            TokenTree::Ident(ident) => ident.tell(page),
-            TokenTree::Punct(punct) => {
-                page.put_char(punct.as_char());
-                tell_span(punct.span(), page)
-            }
-            TokenTree::Literal(literal) => literal.tell(page),
+        tell_tree(tree, page);
+        if let TokenTree::Group(group) = tree {
+            page.put(" of");
+            tell_trees(group.stream().trees(), page);
+            page.put(" end")
         }
     }
 }
 
-/// Of a literal, its token; no other tree is handed back.
+/// Puts a tree last, of a group its delimiter alone.
+fn tell_tree<A: Allocator>(tree: &TokenTree<A>, page: &mut Page) {
+    match tree {
+        TokenTree::Group(group) => {
+            page.put_debug(&group.delimiter());
+            tell_span(group.span(), page)
+        }
+        TokenTree::Ident(ident) => {
+            page.put("ident ");
+            tell_token(ident.text(), ident.span(), page)
+        }
+        TokenTree::Punct(punct) => {
+            page.put_char(punct.as_char());
+            tell_span(punct.span(), page)
+        }
+        TokenTree::Literal(literal) => tell_token(literal.text(), literal.span(), page),
+    }
+}
+
 impl<A: Allocator> Tell for TokenTree<A> {
     fn tell(&self, page: &mut Page) {
-        match self {
-            TokenTree::Literal(literal) => literal.tell(page),
-            _ => page.put("another tree"),
-        }
+        tell_tree(self, page)
+    }
+}
+
+impl Tell for Page {
+    fn tell(&self, page: &mut Page) {
+        page.put(self.text())
+    }
+}
+
+impl<A: Allocator> Tell for Attrs<A> {
+    fn tell(&self, page: &mut Page) {
+        page.put_number(self.entries().len())
     }
 }
 

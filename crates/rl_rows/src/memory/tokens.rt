@@ -1,11 +1,12 @@
 //! Calls of `rl_tokens`.
 
-use crate::memory::held::run_held;
-use crate::memory::tell::{Tell, tell_answer};
+use crate::memory::held::Held;
+use crate::memory::tell::{tell_answer, tell_trees};
 use crate::memory::trial::{Scarce, Trial, tell_left, told_of};
 use crate::noted::{HERE, noted};
 use rl_failing::Page;
-use rl_tokens::{CString, Ident, Literal, Parse, ParseBuffer, TokenStream, TokenTree, ident};
+use rl_tokens::{CString, Ident, Literal, ParseBuffer, Span, TokenStream, TokenTree, ident, lex};
+use rust_literals::Lit;
 
 /// Calls of `Literal`.
 pub(crate) fn literal_call<A: Scarce>(name: &str, trial: &Trial<A>, text: &str, page: &mut Page) {
@@ -18,8 +19,25 @@ pub(crate) fn literal_call<A: Scarce>(name: &str, trial: &Trial<A>, text: &str, 
         "c_string" => c_string(scant, text, page),
         "byte_character" => tell_answer(Literal::byte_character(scant, first_byte(text)), page),
         "character" => tell_answer(Literal::character(scant, first_character(text)), page),
-        _ => run_held::<Literal<A>, A>(name, trial, text, page),
+        _ => of_token(name, trial, text, page),
     }
+}
+
+/// `clone` or `after_minus` of a token of the text, and what is left of the token.
+fn of_token<A: Scarce>(name: &str, trial: &Trial<A>, text: &str, page: &mut Page) {
+    if let Some(token) = trial.token(text, page) {
+        copied(name, &token, trial, page)
+    }
+}
+
+/// `clone` or `after_minus` of a token, and what is left of the token.
+fn copied<A: Scarce>(name: &str, token: &Literal<A>, trial: &Trial<A>, page: &mut Page) {
+    let before = told_of(token, page);
+    match name {
+        "clone" => tell_answer(token.clone(trial.begins()), page),
+        _ => tell_answer(token.after_minus(trial.begins(), HERE), page),
+    }
+    tell_left(token, &before, page)
 }
 
 /// A C string of the text's bytes.
@@ -52,10 +70,43 @@ pub(crate) fn word<A: Scarce>(trial: &Trial<A>, text: &str, page: &mut Page) {
     }
 }
 
-/// `TokenStream::append` of a literal after the trees of the text.
-pub(crate) fn append<A: Scarce>(trial: &Trial<A>, text: &str, page: &mut Page) {
+/// Calls of `TokenStream`.
+pub(crate) fn stream_call<A: Scarce>(name: &str, trial: &Trial<A>, text: &str, page: &mut Page) {
+    match name {
+        "two_files" => two_files(trial, text, page),
+        _ => on_stream(name, trial, text, page),
+    }
+}
+
+/// `respan` of the trees of the text, or `append` of a literal after them.
+fn on_stream<A: Scarce>(name: &str, trial: &Trial<A>, text: &str, page: &mut Page) {
     if let Some(mut stream) = trial.trees(text, page) {
-        append_last(trial, &mut stream, page)
+        match name {
+            "respan" => respanned(&mut stream, page),
+            _ => append_last(trial, &mut stream, page),
+        }
+    }
+}
+
+/// `TokenStream::respan`.
+fn respanned<A: Scarce>(stream: &mut TokenStream<A>, page: &mut Page) {
+    stream.respan(HERE);
+    tell_trees(stream.trees(), page)
+}
+
+/// The parser of literals over a minus of a file, from the byte 3 to 4, and a number of another file.
+fn two_files<A: Scarce>(trial: &Trial<A>, number: &str, page: &mut Page) {
+    if let Some(mut stream) = noted(lex(trial.begins(), "   -", 0), page) {
+        append_number(trial.scant, number, &mut stream, page);
+        parsed_of::<Lit<A>, A>("", trial, stream.trees(), page)
+    }
+}
+
+/// Puts a number of the file 1 last.
+fn append_number<A: Scarce>(scant: A, number: &str, stream: &mut TokenStream<A>, page: &mut Page) {
+    let span = Span::new(1, 0, number.len());
+    if let Some(number) = noted(Literal::from_text(scant, number, span), page) {
+        noted(stream.append(TokenTree::Literal(number)), page);
     }
 }
 
@@ -69,25 +120,31 @@ fn append_last<A: Scarce>(trial: &Trial<A>, stream: &mut TokenStream<A>, page: &
     }
 }
 
-/// The parser of a type over the trees of the text, and what is left of the buffer.
-pub(crate) fn parsed<T: Parse<A> + Tell + Drop, A: Scarce>(
+/// The parser of a type over the trees of the text, or whether such a token stands there under `peek`, and what is left of the buffer.
+pub(crate) fn parsed<T: Held<A> + Drop, A: Scarce>(
+    call: &str,
     trial: &Trial<A>,
     text: &str,
     page: &mut Page,
 ) {
     if let Some(stream) = trial.trees(text, page) {
-        parsed_of::<T, A>(trial, stream.trees(), page)
+        parsed_of::<T, A>(call, trial, stream.trees(), page)
     }
 }
 
-/// The parser of a type over these trees, and what is left of the buffer.
-fn parsed_of<T: Parse<A> + Tell + Drop, A: Scarce>(
+/// The parser of a type over these trees, or `peek`, and what is left of the buffer.
+fn parsed_of<T: Held<A> + Drop, A: Scarce>(
+    call: &str,
     trial: &Trial<A>,
     trees: &[TokenTree<A>],
     page: &mut Page,
 ) {
     let before = told_of(&trees, page);
     let mut input = ParseBuffer::new(trees, HERE);
-    tell_answer(input.parse::<T>(trial.begins()), page);
+    if call == "peek" {
+        page.put_shown(&input.peek::<T>())
+    } else {
+        tell_answer(input.parse::<T>(trial.begins()), page)
+    }
     tell_left(&input.rest(), &before, page)
 }

@@ -14,7 +14,11 @@ pub fn check(name: &str, program: &str) {
 /// The bytes without the lines for which this is true.
 fn without(bytes: &[u8], mut is_out: impl FnMut(&[u8]) -> bool) -> Vec<u8> {
     let lines = bytes.split_inclusive(|byte| *byte == b'\n');
-    lines.filter(|line| !is_out(line)).flatten().copied().collect()
+    lines
+        .filter(|line| !is_out(line))
+        .flatten()
+        .copied()
+        .collect()
 }
 
 /// The same without the plain rows of these words. Each is printed before its lines, which begin with two spaces.
