@@ -26,7 +26,7 @@ EXAMPLES = {
         LitByteStr::value LitByteStr::value_ref LitCStr::value LitByte::value LitChar::value
         LitStr::parse LitStr::parse_with""",
     'rust_literals': """
-        Lit Lit::new Lit::explain LitInt LitFloat LitBool Number::base10_digits
+        Lit Lit::new LitInt LitFloat LitBool Number::base10_digits
         Number::base10_parse read_all read_next""",
     'rl_attributes': 'Attrs Attrs::get read',
 }

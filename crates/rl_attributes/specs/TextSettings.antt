@@ -55,7 +55,7 @@ abbrev pub IsUnset : List ℕ → List Attribute → Type 0
 IsUnset name list = All (λ a. IsNamed name a → ⊥) list
 
 -- An attribute has the name, and this is so of each that has it.
-pub record IsSetTo (name : List ℕ) (Is : Attribute → Type 0) (list : List Attribute) : Type 0 where
+pub record IsSetWith (name : List ℕ) (Is : Attribute → Type 0) (list : List Attribute) : Type 0 where
   pub named : Any (IsNamed name) list
   pub every : All (λ a. IsNamed name a → Is a) list
 
@@ -74,22 +74,22 @@ abbrev pub IsTruthOf : Truth → Attribute → Type 0
 IsTruthOf value a = HasContents BoolKind (chars a.literal.text) (TruthContents value)
 
 -- The literal is a number with these digits in base ten, as bytes.
-pub record IsNumberOf (digits : List ℕ) (a : Attribute) : Type 0 where
+pub record HasNumberDigits (digits : List ℕ) (a : Attribute) : Type 0 where
   pub is_text : IsUtf8 digits
   pub number : HasContents IntKind (chars a.literal.text) (Digits (chars digits))
       ⊎ HasContents FloatKind (chars a.literal.text) (Digits (chars digits))
 
 -- the name is set to a string of these bytes
 abbrev pub IsStringAt : List ℕ → List ℕ → List Attribute → Type 0
-IsStringAt name value list = IsSetTo name (IsStringOf value) list
+IsStringAt name value list = IsSetWith name (IsStringOf value) list
 
 -- the name is set to this truth value
 abbrev pub IsTruthAt : List ℕ → Truth → List Attribute → Type 0
-IsTruthAt name value list = IsSetTo name (IsTruthOf value) list
+IsTruthAt name value list = IsSetWith name (IsTruthOf value) list
 
 -- the name is set to a number with these digits
 abbrev pub AreDigitsAt : List ℕ → List ℕ → List Attribute → Type 0
-AreDigitsAt name digits list = IsSetTo name (IsNumberOf digits) list
+AreDigitsAt name digits list = IsSetWith name (HasNumberDigits digits) list
 
 -- the name is set to a number of whose digits the number type makes this value
 abbrev pub IsNumberAt : {N E : Type 0} → (List ℕ → Result N E → Type 0) → List ℕ → N → List Attribute → Type 0
