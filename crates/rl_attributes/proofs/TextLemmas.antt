@@ -26,9 +26,9 @@ use Rattle.rl_attributes.specs.declared.attributes.Entry.{Entry}
 use Rattle.rl_attributes.specs.declared.settings.Setting.{Setting}
 use Rattle.rl_attributes.specs.declared.settings.SettingError.{SettingError}
 use Rattle.rl_attributes.specs.Attributes.{Attribute}
-use Rattle.rl_attributes.specs.Entries.{attribute_of, attributes_of, HaveReadings, EntriesDiffer, IsReadLit, HasName}
+use Rattle.rl_attributes.specs.Entries.{attribute_of, attributes_of, AreReadValues, EntriesDiffer, IsReadLit, HasName}
 use Rattle.rl_attributes.specs.Settings.{knows, HasSomeLitSuffix, IsStringSet, IsTruthSet, IsNumberSet, RejectsString, RejectsTruth, RejectsNumber, RejectsFirst, RejectsSetValue, IsSetAs, IsRejectedEntry}
-use Rattle.rl_attributes.specs.TextSettings.{IsNamed, IsOneOf, setting_names, AreNamedOf, HasBareText, HaveBareTexts, IsUnset, IsSetWith, IsSetOr, IsStringOf, IsTruthOf, IsNumberWithDigits, IsStringAt, IsTruthAt, AreDigitsAt, IsNumberAt, IsTruthOr, IsMemoryError, IsSomeStringOrMemory, IsSomeNumberOrRejected}
+use Rattle.rl_attributes.specs.TextSettings.{IsNamed, IsOneOf, setting_names, AreNamedOf, HasBareText, HaveBareTexts, IsUnset, IsSetWith, IsSetOr, IsStringOf, IsTruthOf, HasNumberDigits, IsStringAt, IsTruthAt, AreDigitsAt, IsNumberAt, IsTruthOr, IsMemoryError, IsSomeStringOrMemory, IsSomeNumberOrRejected}
 use Rattle.rl_attributes.proofs.EntryLemmas.{value_lent}
 
 -- ---- mapped lists
@@ -208,7 +208,7 @@ are_named settings es h =
     All-map (λ a. IsOneOf (setting_names settings) a.name.text) attribute_of es
     (λ k d lt. knows_one settings (string_bytes (get_or es k d).name) (h k d lt))
 
-pub are_bare : {A : Type 0} (es : List (Entry A)) → HaveReadings es → All (λ e. HasLitSuffix e.value []) es
+pub are_bare : {A : Type 0} (es : List (Entry A)) → AreReadValues es → All (λ e. HasLitSuffix e.value []) es
     → HaveBareTexts (attributes_of es)
 are_bare es rd h =
     All-map (λ a. HasBareText a.literal) attribute_of es
@@ -230,7 +230,7 @@ not_rejected settings e err rd kn bare (inr s) =
     (λ is. some_suffix (kind_of e.value) (chars (token_of e.value).text) s.suffixed.suffix is s.suffixed.has bare))
 
 pub check_accepts : {A : Type 0} (settings : List Setting) (es : List (Entry A)) (err : SettingError A)
-    → RejectsFirst settings es err → HaveReadings es → AreNamedOf (setting_names settings) (attributes_of es)
+    → RejectsFirst settings es err → AreReadValues es → AreNamedOf (setting_names settings) (attributes_of es)
     → HaveBareTexts (attributes_of es) → ⊥
 check_accepts settings es err j rd kn bare =
     not_rejected settings j.entry err
@@ -245,7 +245,7 @@ check_accepts settings es err j rd kn bare =
 
 -- what is set, in words of the text
 pub set_in_text : {A V : Type 0} (p : Setting) (es : List (Entry A)) (Holds : Lit A → V → Type 0) (found : Option V)
-    (Is : V → Attribute → Type 0) → HaveReadings es
+    (Is : V → Attribute → Type 0) → AreReadValues es
     → ((e : Entry A) (v : V) → IsReadLit e.value → Holds e.value v → Is v (attribute_of e)) → IsSetAs p es Holds found
     → MatchOption found (IsUnset p.name.now (attributes_of es)) (λ v. IsSetWith p.name.now (Is v) (attributes_of es))
 set_in_text p es Holds (Some v) Is rd gives set =
@@ -272,7 +272,7 @@ text_at {A = A} p es Is set k x lt e n =
     (all_unmap attribute_of (λ a. IsNamed p.name.now a → Is a) es set.every k x lt) n
 
 some_at : {A V : Type 0} (p : Setting) (es : List (Entry A)) (Holds : Lit A → V → Type 0) (v : V)
-    (Is : Attribute → Type 0) → HaveReadings es → IsSetAs p es Holds (Some v) → IsSetWith p.name.now Is (attributes_of es)
+    (Is : Attribute → Type 0) → AreReadValues es → IsSetAs p es Holds (Some v) → IsSetWith p.name.now Is (attributes_of es)
     → SetEntry (λ l. Holds l v) Is
 some_at {A = A} p es Holds v Is rd set text =
     let a = set.named in
@@ -291,7 +291,7 @@ none_at {A = A} p es Holds Is set text =
     subst (λ (y : Entry A). HasName p.name.now y → ⊥) a.3 (set.every a.0 a.1 a.2) a.4
 
 rejected_at : {A : Type 0} (p : Setting) (es : List (Entry A)) (Rejects : Lit A → SettingError A → Type 0)
-    (err : SettingError A) (Is : Attribute → Type 0) → HaveReadings es → RejectsSetValue p es Rejects err
+    (err : SettingError A) (Is : Attribute → Type 0) → AreReadValues es → RejectsSetValue p es Rejects err
     → IsSetWith p.name.now Is (attributes_of es) → SetEntry (λ l. Rejects l err) Is
 rejected_at {A = A} p es Rejects err Is rd (k, x, lt, e, j) text =
     record {
@@ -323,7 +323,7 @@ unset_answer p es Holds Rejects (Ok found) set rejected none = unset_some p es H
 unset_answer p es Holds Rejects (Err e) set rejected none = unset_rejected p es Rejects e rejected none
 
 pub text_answer : {A V : Type 0} (p : Setting) (es : List (Entry A)) (Holds : Lit A → V → Type 0)
-    (r : Result (Option V) (SettingError A)) (Is : V → Attribute → Type 0) → HaveReadings es
+    (r : Result (Option V) (SettingError A)) (Is : V → Attribute → Type 0) → AreReadValues es
     → ((e : Entry A) (v : V) → IsReadLit e.value → Holds e.value v → Is v (attribute_of e)) → IfOk r (IsSetAs p es Holds)
     → IfOk r (λ found. MatchOption found (IsUnset p.name.now (attributes_of es))
     (λ v. IsSetWith p.name.now (Is v) (attributes_of es)))
@@ -344,7 +344,7 @@ same_string v w at =
     (Characters (chars w)) c.0 at.is.0 c.1 at.is.1).1 in cc
 
 pub string_exactly : {A : Type 0} (p : Setting) (es : List (Entry A)) (r : Result (Option (String A)) (SettingError A))
-    → HaveReadings es → IfOk r (IsSetAs p es IsStringSet) → IfErr r (RejectsSetValue p es (RejectsString p)) → (w : List ℕ)
+    → AreReadValues es → IfOk r (IsSetAs p es IsStringSet) → IfErr r (RejectsSetValue p es (RejectsString p)) → (w : List ℕ)
     → IsStringAt p.name.now w (attributes_of es) → IsSomeStringOrMemory w r
 string_exactly p es (Ok (Some v)) rd set rejected w text =
     same_string v w (some_at p es IsStringSet v (IsStringOf w) rd set text)
@@ -366,7 +366,7 @@ truths l b c h w =
     let same = (one_reading (chars (token_of l).text) BoolKind BoolKind (Truth b) (Truth c) [] w.0 (truth_reads l b h) w.1).1 in cc
 
 pub truth_exactly : {A : Type 0} (p : Setting) (es : List (Entry A)) (r : Result (Option Bool) (SettingError A))
-    → HaveReadings es → IfOk r (IsSetAs p es IsTruthSet) → IfErr r (RejectsSetValue p es (RejectsTruth p)) → (w : Bool)
+    → AreReadValues es → IfOk r (IsSetAs p es IsTruthSet) → IfErr r (RejectsSetValue p es (RejectsTruth p)) → (w : Bool)
     → IsTruthAt p.name.now w (attributes_of es) → r ≡ Ok (Some w)
 truth_exactly p es (Ok (Some b)) rd set rejected w text =
     let at = some_at p es IsTruthSet b (IsTruthOf w) rd set text in
@@ -414,7 +414,7 @@ number_made gives (BoolLit l) n rd h = absurd h
 number_made gives (Verbatim l) n rd h = absurd h
 
 number_in_text : {A N E : Type 0} (gives : List ℕ → Result N E → Type 0) (p : Setting) (es : List (Entry A)) (n : N)
-    → EntriesDiffer es → HaveReadings es → IsSetAs p es (IsNumberSet gives) (Some n)
+    → EntriesDiffer es → AreReadValues es → IsSetAs p es (IsNumberSet gives) (Some n)
     → IsNumberAt gives p.name.now n (attributes_of es)
 number_in_text {A = A} gives p es n differ rd set =
     let a = set.named in
@@ -425,7 +425,7 @@ number_in_text {A = A} gives p es n differ rd set =
       m.0,
       record {
         named = any_map attribute_of (IsNamed p.name.now) es a;
-        every = All-map (λ b. IsNamed p.name.now b → IsNumberWithDigits m.0 b) attribute_of es
+        every = All-map (λ b. IsNamed p.name.now b → HasNumberDigits m.0 b) attribute_of es
             (λ k d lt named.
             let is = subst Is (value_lent es p.name.now a.0 x differ a.2 (sym a.3) a.4 k d lt named) m.1 in
             record { is_text = is.0; number = is.1 });
@@ -434,7 +434,7 @@ number_in_text {A = A} gives p es n differ rd set =
     )
 
 pub number_text : {A N E : Type 0} (gives : List ℕ → Result N E → Type 0) (p : Setting) (es : List (Entry A))
-    (r : Result (Option N) (SettingError A)) → EntriesDiffer es → HaveReadings es → IfOk r (IsSetAs p es (IsNumberSet gives))
+    (r : Result (Option N) (SettingError A)) → EntriesDiffer es → AreReadValues es → IfOk r (IsSetAs p es (IsNumberSet gives))
     → IfOk r (λ found. MatchOption found (IsUnset p.name.now (attributes_of es))
     (λ n. IsNumberAt gives p.name.now n (attributes_of es)))
 number_text gives p es (Ok (Some n)) differ rd set = number_in_text gives p es n differ rd set
@@ -509,16 +509,16 @@ same_rejected {A = A} gives output p (BoolLit l) err rd ds u c j = absurd (false
 same_rejected {A = A} gives output p (Verbatim l) err rd ds u c j = absurd (false≢true (number_kind {A = A} (Verbatim l) rd ds c))
 
 pub number_exactly : {A N E : Type 0} (gives : List ℕ → Result N E → Type 0) (output : E → Option (List ℕ))
-    (p : Setting) (es : List (Entry A)) (r : Result (Option N) (SettingError A)) → HaveReadings es
+    (p : Setting) (es : List (Entry A)) (r : Result (Option N) (SettingError A)) → AreReadValues es
     → IfOk r (IsSetAs p es (IsNumberSet gives)) → IfErr r (RejectsSetValue p es (RejectsNumber gives output p))
     → (ds : List ℕ) → AreDigitsAt p.name.now ds (attributes_of es) → IsSomeNumberOrRejected gives ds r
 number_exactly gives output p es (Ok (Some n)) rd set rejected ds text =
-    let at = some_at p es (IsNumberSet gives) n (IsNumberWithDigits ds) rd set text in
+    let at = some_at p es (IsNumberSet gives) n (HasNumberDigits ds) rd set text in
     same_made gives at.entry.value n at.read ds at.is.is_text at.is.number at.of
 number_exactly {N = N} gives output p es (Ok None) rd set rejected ds text =
-    none_at {V = N} p es (IsNumberSet gives) (IsNumberWithDigits ds) set text
+    none_at {V = N} p es (IsNumberSet gives) (HasNumberDigits ds) set text
 number_exactly gives output p es (Err e) rd set rejected ds text =
-    let at = rejected_at p es (RejectsNumber gives output p) e (IsNumberWithDigits ds) rd rejected text in
+    let at = rejected_at p es (RejectsNumber gives output p) e (HasNumberDigits ds) rd rejected text in
     same_rejected gives output p at.entry.value e at.read ds at.is.is_text at.is.number at.of
 
 -- ---- what a call returned

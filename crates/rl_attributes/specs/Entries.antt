@@ -27,8 +27,8 @@ abbrev pub IsReadLit : {A : Type 0} → Lit A → Type 0
 IsReadLit lit = ∥ IsReadAs (kind_of lit) (chars (token_of lit).text) ∥₁
 
 -- each value is the one reading of its token, as attributes keep it
-abbrev pub HaveReadings : {A : Type 0} → List (Entry A) → Type 0
-HaveReadings entries = All (λ e. IsReadLit e.value) entries
+abbrev pub AreReadValues : {A : Type 0} → List (Entry A) → Type 0
+AreReadValues entries = All (λ e. IsReadLit e.value) entries
 
 -- the entry has this name
 abbrev pub HasName : {A : Type 0} → List ℕ → Entry A → Type 0

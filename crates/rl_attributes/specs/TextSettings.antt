@@ -74,7 +74,7 @@ abbrev pub IsTruthOf : Truth → Attribute → Type 0
 IsTruthOf value a = HasContents BoolKind (chars a.literal.text) (TruthContents value)
 
 -- The literal is a number with these digits in base ten, as bytes.
-pub record IsNumberWithDigits (digits : List ℕ) (a : Attribute) : Type 0 where
+pub record HasNumberDigits (digits : List ℕ) (a : Attribute) : Type 0 where
   pub is_text : IsUtf8 digits
   pub number : HasContents IntKind (chars a.literal.text) (Digits (chars digits))
       ⊎ HasContents FloatKind (chars a.literal.text) (Digits (chars digits))
@@ -89,7 +89,7 @@ IsTruthAt name value list = IsSetWith name (IsTruthOf value) list
 
 -- the name is set to a number with these digits
 abbrev pub AreDigitsAt : List ℕ → List ℕ → List Attribute → Type 0
-AreDigitsAt name digits list = IsSetWith name (IsNumberWithDigits digits) list
+AreDigitsAt name digits list = IsSetWith name (HasNumberDigits digits) list
 
 -- the name is set to a number of whose digits the number type makes this value
 abbrev pub IsNumberAt : {N E : Type 0} → (List ℕ → Result N E → Type 0) → List ℕ → N → List Attribute → Type 0

@@ -1,7 +1,7 @@
 //! Attributes, and what they hold.
 
 ghost use Rattle.std.proofs.Props.{props};
-ghost use Rattle.rl_attributes.specs.Entries.{HaveReadings, EntriesDiffer};
+ghost use Rattle.rl_attributes.specs.Entries.{AreReadValues, EntriesDiffer};
 
 mod name;
 mod take;
@@ -31,7 +31,7 @@ pub struct Attrs<A: Allocator = Global> {
     entries: Vec<Entry<A>, A>,
     end: Span,
     ghost differ: { EntriesDiffer entries.items } by { Prim.hlevel props },
-    ghost read: { HaveReadings entries.items } by { Prim.hlevel props },
+    ghost read: { AreReadValues entries.items } by { Prim.hlevel props },
 }
 
 impl<A: Allocator> Attrs<A> {
@@ -44,7 +44,7 @@ impl<A: Allocator> Attrs<A> {
     pub fn entries(&self) -> &[Entry<A>]
         ensures entries { result.now ≡ entries_of self.now }
         ensures differ { EntriesDiffer result.now }
-        ensures read { HaveReadings result.now }
+        ensures read { AreReadValues result.now }
     {
         self.entries.as_slice()
     }

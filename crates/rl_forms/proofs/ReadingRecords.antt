@@ -2,7 +2,7 @@
 use Rattle.std.proofs.Common.{◌≡◌, ℕ, List}
 use Rattle.rl_forms.specs.declared.kind.Kind.{Kind}
 use Rattle.rl_forms.specs.Reading.{Contents}
-use Rattle.rl_forms.specs.Readings.{Reading, IsReading, IsReadStrictly}
+use Rattle.rl_forms.specs.Readings.{Reading, IsReading, ReadsStrictly}
 use Rattle.rl_forms.proofs.OneReading.{one_reading, one_strict, read_and_strict}
 
 same_reading : (k l : Kind) (v w : Contents) (x y : List ℕ) → k ≡ l → v ≡ w → x ≡ y
@@ -14,12 +14,12 @@ one_is t a b p q =
     let e = one_reading t a.kind b.kind a.contents b.contents a.suffix b.suffix p.reads q.reads in
     same_reading a.kind b.kind a.contents b.contents a.suffix b.suffix e.0 e.1 e.2
 
-pub one_strict_is : (t : List ℕ) (a b : Reading) → IsReadStrictly t a → IsReadStrictly t b → a ≡ b
+pub one_strict_is : (t : List ℕ) (a b : Reading) → ReadsStrictly t a → ReadsStrictly t b → a ≡ b
 one_strict_is t a b p q =
     let e = one_strict t a.kind b.kind a.contents b.contents a.suffix b.suffix p.strict q.strict in
     same_reading a.kind b.kind a.contents b.contents a.suffix b.suffix e.0 e.1 e.2
 
-pub both_are : (t : List ℕ) (a b : Reading) → IsReading t a → IsReadStrictly t b → a ≡ b
+pub both_are : (t : List ℕ) (a b : Reading) → IsReading t a → ReadsStrictly t b → a ≡ b
 both_are t a b p q =
     let e = read_and_strict t a.kind b.kind a.contents b.contents a.suffix b.suffix p.reads q.strict in
     same_reading a.kind b.kind a.contents b.contents a.suffix b.suffix e.0 e.1 e.2

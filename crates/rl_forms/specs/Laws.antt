@@ -10,7 +10,7 @@ use Rattle.rl_forms.specs.Written.{written_text}
 use Rattle.rl_forms.specs.Agreeing.{IsWithinLimit, IsQuotedValue}
 use Rattle.rl_forms.specs.Quoted.{is_number}
 use Rattle.rl_forms.specs.Numbers.{Sign, Minus, IntReads}
-use Rattle.rl_forms.specs.Readings.{Reading, IsReading, IsReadStrictly}
+use Rattle.rl_forms.specs.Readings.{Reading, IsReading, ReadsStrictly}
 
 -- A text has at most one reading: one kind, one value and one suffix.
 abbrev pub ATextHasOneReading : Type 0
@@ -81,9 +81,9 @@ ReadingsOfATextAreOne = (text : List ℕ) (a b : Reading) → IsReading text a �
 -- A text has at most one strict reading, as a record.
 abbrev pub StrictReadingsOfATextAreOne : Type 0
 StrictReadingsOfATextAreOne =
-    (text : List ℕ) (a b : Reading) → IsReadStrictly text a → IsReadStrictly text b → a ≡ b
+    (text : List ℕ) (a b : Reading) → ReadsStrictly text a → ReadsStrictly text b → a ≡ b
 
 -- A reading and a strict reading of a text are one, as records.
 abbrev pub AReadingIsTheStrictOne : Type 0
 AReadingIsTheStrictOne =
-    (text : List ℕ) (a b : Reading) → IsReading text a → IsReadStrictly text b → a ≡ b
+    (text : List ℕ) (a b : Reading) → IsReading text a → ReadsStrictly text b → a ≡ b

@@ -16,5 +16,5 @@ pub record IsReading (text : List ℕ) (reading : Reading) : Type 0 where
   pub reads : Reads text reading.kind reading.contents reading.suffix
 
 -- The text is strict as this.
-pub record IsReadStrictly (text : List ℕ) (reading : Reading) : Type 0 where
+pub record ReadsStrictly (text : List ℕ) (reading : Reading) : Type 0 where
   pub strict : Strict text reading.kind reading.contents reading.suffix

@@ -5,6 +5,7 @@ pub use rl_file_reasons::laws::{
     a_text_in_a_file_has_one_signed_value_flaw, a_text_in_a_file_has_one_value_flaw,
 };
 pub use rl_reading::laws::{
+    a_found_literal_reads, a_minus_before_bytes_is_one_character, a_taken_literal_is_read,
     bytes_are_strict, places_keep_the_order, places_stand_in_the_body, segments_make_the_literal,
     units_are_one_segment,
 };

@@ -3,10 +3,11 @@
 ghost use Rattle.rl_tokens.specs.PrintedTrees.{PrintedLexes, ReprintedLexes};
 
 pub use rl_forms::laws::{
-    one_reading, one_strict, strict_holds_no_return, strict_minus, strict_reads, words_strict,
-    written_reads, written_strict,
+    a_minus_tells_the_sign, both_grammars_agree, one_reading, one_strict, readings_are_one,
+    strict_holds_no_return, strict_minus, strict_reads, words_strict, written_reads,
+    written_strict,
 };
-pub use rl_lexer::laws::{one_cutting, sources_hold_lexemes};
+pub use rl_lexer::laws::{no_literal_begins_with_a_minus, one_cutting, sources_hold_lexemes};
 
 /// A printed list of strict literals is cut into exactly its items.
 pub fn printed_lexes()

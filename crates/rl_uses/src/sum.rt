@@ -1,7 +1,7 @@
 //! Sums of products of integers, as `1 + -2 * 0x10`: a parser on the cursor over tokens, which evaluates.
 
 ghost use Rattle.std.specs.Prelude.{◌≡◌, ◌<◌, IfOk, IfSome, IsTrue, IsFalse, OnOk, length, MatchBool};
-ghost use Rattle.rl_uses.specs.Sums.{Tree, IsProduct, IsSum, IsExpression, TakesInteger, TakesSign, eval};
+ghost use Rattle.rl_uses.specs.Sums.{Tree, IsProduct, IsSum, IsExpression, TakesInteger, TakesOperator, eval};
 ghost use Rattle.rl_lexer.specs.Cursors.{CursorState};
 
 use rl_lexer::{Form, Tokens};
@@ -37,7 +37,7 @@ fn take_integer(tokens: &mut Tokens<'_>) -> Result<i64, SumError>
 
 /// Takes a punctuation character, if it is the next token.
 fn take_mark(tokens: &mut Tokens<'_>, mark: char) -> bool
-    ensures taken { IsTrue result → TakesSign mark tokens.old tokens.new }
+    ensures taken { IsTrue result → TakesOperator mark tokens.old tokens.new }
     ensures shorter { IsTrue result → length tokens.new.rest < length tokens.old.rest }
     ensures stays { IsFalse result → tokens.new ≡ tokens.old }
 {
