@@ -3,7 +3,6 @@
 
 use crate::rl_options::command::{Command, Macros, Output, PlaceForm, Restyling, Wish};
 use crate::rl_options::words::WordError;
-use crate::rl_files::Selection;
 use crate::rl_output::{Form, Matching, Shown, Spelling};
 use crate::rl_types::Edition;
 use crate::rattle_std::alloc::Allocator;
@@ -243,116 +242,43 @@ pub(crate) fn taken_by(operand: Operand) -> Flag {
     }
 }
 
-/// The command with an option more; `None` where another option says already which literals are printed.
-fn with_flag(command: Command<'_>, flag: Flag) -> Option<Command<'_>> {
-    match (flag, command.shown) {
-        (Flag::Bad, Shown::All) => Some(Command {
-            shown: Shown::Bad,
-            ..command
-        }),
-        (Flag::Hidden, Shown::All) => Some(Command {
-            shown: Shown::Hidden,
-            ..command
-        }),
-        (Flag::Only, Shown::All) => Some(command),
-        (Flag::Bad | Flag::Hidden | Flag::Only, _) => None,
-        (Flag::Find | Flag::Color | Flag::Extension | Flag::Exclude, _) => Some(command),
-        (Flag::FilesFrom | Flag::Edition | Flag::Format | Flag::Paths, _) => Some(command),
-        (Flag::Context | Flag::Before | Flag::After, _) => Some(command),
-        (Flag::Style | Flag::Macros, _) => Some(command),
-        (Flag::NoMessages, _) => Some(Command {
-            prints_errors: false,
-            ..command
-        }),
-        (Flag::Stats, _) => Some(Command {
-            prints_stats: true,
-            ..command
-        }),
-        (Flag::Fix, _) => Some(Command {
-            restyle: Some(Restyling::Fix),
-            ..command
-        }),
-        (Flag::Check, _) => Some(Command {
-            restyle: Some(Restyling::Check),
-            ..command
-        }),
-        (Flag::Diff, _) => Some(Command {
-            restyle: Some(Restyling::Diff),
-            ..command
-        }),
-        (Flag::IgnoreCase, _) => Some(Command {
-            matching: Matching {
-                ignores_case: true,
-                ..command.matching
-            },
-            ..command
-        }),
-        (Flag::WholeWords, _) => Some(Command {
-            matching: Matching {
-                whole_words: true,
-                ..command.matching
-            },
-            ..command
-        }),
-        (Flag::AllDirectories, _) => Some(Command {
-            selection: Selection {
-                all: true,
-                ..command.selection
-            },
-            ..command
-        }),
-        (Flag::Text, _) => Some(Command {
-            spelling: Spelling::Source,
-            ..command
-        }),
-        (Flag::Json, _) => Some(Command {
-            form: Form::Json,
-            ..command
-        }),
-        (Flag::Bytes, _) => Some(Command {
-            places: PlaceForm::Bytes,
-            ..command
-        }),
-        (Flag::Lines, _) => Some(Command {
-            places: PlaceForm::Lines,
-            ..command
-        }),
-        (Flag::NoStray, _) => Some(Command {
-            rejects_strays: true,
-            ..command
-        }),
-        (Flag::AnySuffix, _) => Some(Command {
-            any_suffix: true,
-            ..command
-        }),
-        (Flag::Count, _) => Some(Command {
-            output: Output::Count,
-            ..command
-        }),
-        (Flag::FilesWithMatches, _) => Some(Command {
-            output: Output::Path,
-            ..command
-        }),
-        (Flag::Nul, _) => Some(Command {
-            nul_after_paths: true,
-            ..command
-        }),
-        (Flag::Quiet, _) => Some(Command {
-            output: Output::Nothing,
-            ..command
-        }),
-        (Flag::Files, _) => Some(Command {
-            wish: Wish::Files,
-            ..command
-        }),
-        (Flag::Help, _) => Some(Command {
-            wish: Wish::Help,
-            ..command
-        }),
-        (Flag::Version, _) => Some(Command {
-            wish: Wish::Version,
-            ..command
-        }),
+/// Whether an option goes with what the command says of which literals are printed: only one says that, once.
+fn chooses_once(command: Command<'_>, flag: Flag) -> bool {
+    match flag {
+        Flag::Bad | Flag::Hidden | Flag::Only => matches!(command.shown, Shown::All),
+        _ => true,
+    }
+}
+
+/// Adds an option to the command: what one takes is added after it.
+fn set_flag(command: &mut Command<'_>, flag: Flag) {
+    match flag {
+        Flag::Bad => command.shown = Shown::Bad,
+        Flag::Hidden => command.shown = Shown::Hidden,
+        Flag::NoMessages => command.prints_errors = false,
+        Flag::Stats => command.prints_stats = true,
+        Flag::Fix => command.restyle = Some(Restyling::Fix),
+        Flag::Check => command.restyle = Some(Restyling::Check),
+        Flag::Diff => command.restyle = Some(Restyling::Diff),
+        Flag::IgnoreCase => command.matching.ignores_case = true,
+        Flag::WholeWords => command.matching.whole_words = true,
+        Flag::AllDirectories => command.selection.all = true,
+        Flag::Text => command.spelling = Spelling::Source,
+        Flag::Json => command.form = Form::Json,
+        Flag::Bytes => command.places = PlaceForm::Bytes,
+        Flag::Lines => command.places = PlaceForm::Lines,
+        Flag::NoStray => command.rejects_strays = true,
+        Flag::AnySuffix => command.any_suffix = true,
+        Flag::Count => command.output = Output::Count,
+        Flag::FilesWithMatches => command.output = Output::Path,
+        Flag::Nul => command.nul_after_paths = true,
+        Flag::Quiet => command.output = Output::Nothing,
+        Flag::Files => command.wish = Wish::Files,
+        Flag::Help => command.wish = Wish::Help,
+        Flag::Version => command.wish = Wish::Version,
+        Flag::Only | Flag::Find | Flag::Color | Flag::Extension | Flag::Exclude => {}
+        Flag::FilesFrom | Flag::Edition | Flag::Format | Flag::Paths => {}
+        Flag::Context | Flag::Before | Flag::After | Flag::Style | Flag::Macros => {}
     }
 }
 
@@ -382,15 +308,17 @@ pub(crate) fn add_flag<A: Allocator>(
     command: Command<'_>,
     flag: Flag,
 ) -> Result<Command<'_>, WordError<A>> {
-    let Some(next) = with_flag(command, flag) else {
+    if !chooses_once(command, flag) {
         return Err(WordError::TwoChoices);
-    };
+    }
     if !goes_with_find(command, flag) {
         return Err(WordError::BadAndFind);
     }
     if !restyles_once(command, flag) {
         return Err(WordError::TwoRestylings);
     }
+    let mut next = command;
+    set_flag(&mut next, flag);
     Ok(next)
 }
 
