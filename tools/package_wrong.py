@@ -150,6 +150,8 @@ WRONG = [Wrong(*row) for row in [
      'rules are those that change nothing'),
     ('restyle.rs', "literal.is_field || self.skips_macros && literal.in_macro", "literal.is_field || literal.in_macro",
      'what stands in macros is skipped unasked'),
+    ('restyle.rs', "self.skips_macros = skips;", "self.skips_macros |= skips;",
+     'what stands in macros is skipped where an earlier call said so'),
     # write.rs
     ('write.rs', "write_bytes_into(Kind::CStr, bytes, out)", "write_bytes_into(Kind::ByteStr, bytes, out)",
      'a C string is written as a byte string'),
@@ -167,6 +169,8 @@ WRONG = [Wrong(*row) for row in [
      'an error that was returned is recovered once more'),
     ('source.rs', "Recovery::resume(self.text, self.tokens.rest())", "Recovery::new(self.text)",
      'what was taken before is recovered too'),
+    ('source.rs', "            is_done: self.is_done,\n", "            is_done: false,\n",
+     'a clone of a source goes on after an error'),
     ('source.rs', "tokens: self.tokens.fork(),", "tokens: Recovery::new(self.text),",
      'a copy of what is recovered begins at the front'),
     # line_index.rs
@@ -220,6 +224,16 @@ WRONG = [Wrong(*row) for row in [
      'the end of a text stands before its last blanks'),
     ('settings.rs', "        name_range,\n        value,\n", "        name_range: name_range.start..value_range.start,\n        value,\n",
      'the range of a name goes up to its value'),
+    ('settings.rs', "            range: shifted(self.range, by),\n            ..self", "            kind: self.kind,\n            range: shifted(self.range, by),\n            name: None,",
+     'an error that is shifted loses the repeated name'),
+    # ranges.rs
+    ('ranges.rs', "range.borrow().end <= bytes.start", "range.borrow().end < bytes.start",
+     'a token that ends where the bytes begin has some of them'),
+    ('ranges.rs', "range.borrow().start < bytes.end.max(1)", "range.borrow().start < bytes.end",
+     'at the front no token is found'),
+    ('ranges.rs', "ranges.partition_point(|range| range.borrow().end <= bytes.start)",
+     "ranges.iter().take_while(|range| (**range).borrow().end <= bytes.start).count()",
+     'each token is looked at'),
     # config.rs
     ('config.rs', "let front = text.len() - body.len();", "let front = 0;",
      'places count after the byte order mark'),
@@ -245,6 +259,11 @@ WRONG = [Wrong(*row) for row in [
     ('setting.rs', "known.iter().all(|key| key.name != entry.name)",
      "known.iter().all(|key| !entry.name.starts_with(key.name))",
      'a name that begins as a known one is known'),
+    ('setting.rs', "known.iter().all(|key| key.name != entry.name)",
+     "known.iter().all(|key| !key.name.eq_ignore_ascii_case(entry.name))",
+     'a known name in other letters is known'),
+    ('setting.rs', "self.entries.iter().find(is_unknown)", "self.entries.iter().rfind(is_unknown)",
+     'the last unknown name is reported'),
     ('setting.rs', "self.entries.iter().find(|entry| entry.name == name)",
      "self.entries.iter().find(|entry| entry.name.eq_ignore_ascii_case(name))",
      'a name is found in other letters too'),
@@ -287,9 +306,6 @@ WRONG = [Wrong(*row) for row in [
      'a line ends with its CR'),
     ('line_index.rs', "Some(text.strip_suffix('\\r').unwrap_or(text))", "Some(text.trim_end_matches('\\r'))",
      'a line loses each CR at its end'),
-    # source.rs
-    ('source.rs', "            is_done: self.is_done,\n", "            is_done: false,\n",
-     'a clone of a source goes on after an error'),
     ('parse_error.rs', "from: self.from + by,", "from: self.from,",
      'the piece that a shifted error spoils begins where it did'),
     # kind.rs

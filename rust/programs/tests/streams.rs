@@ -65,3 +65,16 @@ fn arguments_that_are_not_texts() {
         assert!(said.contains(expected), "{said}");
     }
 }
+
+/// An empty path is no file, and a second word is one too many.
+#[test]
+fn empty_arguments() {
+    for (mut command, words, expected) in [
+        (rl_scan(), &[""][..], "rl_scan: "),
+        (rl_tool(), &["text", ""], "usage: rl_tool "),
+    ] {
+        let (status, said) = ended(command.args(words).stdin(Stdio::null()));
+        assert_eq!(status, Some(2), "{said}");
+        assert!(said.starts_with(expected), "{said}");
+    }
+}
