@@ -14,6 +14,7 @@ mod pairs;
 mod parsers;
 mod plain;
 mod row;
+mod segments;
 mod sources;
 mod streams;
 mod trees;
