@@ -3,6 +3,7 @@
 use crate::flaws::put_flaw;
 use crate::lists::{put_list, put_spans};
 use crate::literals::{call_literal, call_of};
+use crate::segments::segments;
 use crate::sources::put_source;
 use crate::words;
 use rl_attributes::read;
@@ -29,6 +30,7 @@ pub(crate) fn told(name: &str, text: &str, out: &mut Page) {
         "spans" => put_spans(alloc, text, out),
         "attr" => put_list(read(alloc, text, 0), out),
         "source" => put_source(alloc, text, out),
+        "segments" => segments(text, out),
         "explain" => put_flaw(explain(text), out),
         "explain-value" => put_flaw(explain_value(text), out),
         _ => words::told(name, text, out),

@@ -13,6 +13,7 @@ mod noted;
 mod pairs;
 mod plain;
 mod row;
+mod segments;
 mod sources;
 mod streams;
 mod turns;

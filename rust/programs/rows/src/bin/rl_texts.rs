@@ -9,7 +9,7 @@ use navyspindle_rows::{settings, texts};
 use std::env;
 use std::io::{self, BufWriter, Write};
 
-const COMMANDS: [&str; 12] = [
+const COMMANDS: [&str; 13] = [
     "text",
     "value",
     "int",
@@ -22,6 +22,7 @@ const COMMANDS: [&str; 12] = [
     "spans",
     "attr",
     "source",
+    "segments",
 ];
 
 /// Writes a row: a command, and the bytes of a text as hexadecimal digits.
