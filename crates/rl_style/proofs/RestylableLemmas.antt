@@ -36,7 +36,7 @@ unstepped P s token tokens last calls steps h =
 pub literal_here : (was start s : RestylableState) (l : Restylable) (tokens : CursorState) (last : Last)
     (calls : CallState) → start ≡ was → Steps s l.token last calls → TakesSource s.tokens l.token tokens
     → IsLiteralOfSource l.token → l.is_field ≡ is_field s.last l.token.text.now (chars tokens.rest) → l.in_macro
-        ≡ is_in_call s.calls
+    ≡ is_in_call s.calls
     → ((it : Restylable) (new : RestylableState) → GivesLiteral s it new → GivesLiteral start it new)
     → GivesLiteral was l (state tokens last l.token.hi calls)
 literal_here was start s l tokens last calls same steps takes is field inside on =

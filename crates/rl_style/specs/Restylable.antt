@@ -80,7 +80,7 @@ IsLiteralOfSource token = IsLiteralText (source_view token.form) (chars token.te
 pub data GivesLiteral : RestylableState → Restylable → RestylableState → Type 0 where
   Here : {s : RestylableState} → {l : Restylable} → {tokens : CursorState} → TakesSource s.tokens l.token tokens
       → IsLiteralOfSource l.token → l.is_field ≡ is_field s.last l.token.text.now (chars tokens.rest) → l.in_macro
-          ≡ is_in_call s.calls
+      ≡ is_in_call s.calls
       → GivesLiteral s l (passed s l.token tokens)
   Behind : {s end : RestylableState} → {l : Restylable} → {token : SourceToken} → {tokens : CursorState}
       → TakesSource s.tokens token tokens → (IsLiteralOfSource token → ⊥) → GivesLiteral (passed s token tokens) l end
