@@ -3,8 +3,7 @@ use Rattle.std.proofs.Common.{◌≡◌, inl, inr, ℕ, List, Any, Option, Some,
 use Rattle.std.specs.Prelude.{String, string_bytes, IsOkAnd}
 use Rattle.std.specs.Option.{unwrap_or}
 use Rattle.std.specs.Str.{chars}
-use Rattle.std.specs.Str.Parse.{ParsesUnsigned, ExplainsUnsignedError, HasUnsignedDigitsIfOk}
-use Rattle.core.specs.declared.str.parse.ParseIntError.{ParseIntError}
+use Rattle.std.specs.Str.Parse.{ParsesUnsigned}
 use Rattle.rl_attributes.specs.declared.attributes.Entry.{Entry}
 use Rattle.rl_attributes.specs.declared.settings.SettingError.{SettingError}
 use Rattle.rl_attributes.specs.Attributes.{Attribute}
@@ -15,26 +14,28 @@ use Rattle.rl_uses.specs.Configs.{IsPort, IsServerName}
 
 -- ---- the port
 
--- what the number type makes of digits
-abbrev pub GivesPort : List ℕ → Result ℕ ParseIntError → Type 0
-GivesPort digits r =
-    ParsesUnsigned 16 10 digits r × ExplainsUnsignedError 10 digits r × HasUnsignedDigitsIfOk digits r
+-- the number type gives numbers of 16 bits
+abbrev Parses : {E : Type 0} → (List ℕ → Result ℕ E → Type 0) → Type 0
+Parses {E = E} gives = (digits : List ℕ) (r : Result ℕ E) → gives digits r → ParsesUnsigned 16 10 digits r
 
 -- the answer is this port
 abbrev IsPortAnswer : {E : Type 0} → ℕ → Result (Option ℕ) E → Type 0
 IsPortAnswer port (Ok o) = unwrap_or o 80 ≡ port
 IsPortAnswer port (Err e) = ⊥
 
-pub port_exactly : {A : Type 0} (r : Result (Option ℕ) (SettingError A)) (list : List Attribute) (port : ℕ)
-    → ((ds : List ℕ) → AreDigitsAt (codes "port") ds list → IsSomeNumberOrRejected GivesPort ds r)
+pub port_exactly : {A E : Type 0} (gives : List ℕ → Result ℕ E → Type 0) (r : Result (Option ℕ) (SettingError A))
+    (list : List Attribute) (port : ℕ) → Parses gives
+    → ((ds : List ℕ) → AreDigitsAt (codes "port") ds list → IsSomeNumberOrRejected gives ds r)
     → (IsUnset (codes "port") list → IsOkAnd r (λ f. f ≡ None)) → IsPort port list → IsPortAnswer port r
-port_exactly (Ok (Some n)) list port exactly unset (inl (ds, at, of)) = (exactly ds at).0.1 ∙ sym of.port_is
-port_exactly (Ok None) list port exactly unset (inl (ds, at, of)) = absurd (exactly ds at)
-port_exactly (Err e) list port exactly unset (inl (ds, at, of)) = (exactly ds at).1.0 (of.digits_are, of.small)
-port_exactly (Ok (Some n)) list port exactly unset (inr (none, e)) =
+port_exactly gives (Ok (Some n)) list port parses exactly unset (inl (ds, at, of)) =
+    (parses ds (Ok n) (exactly ds at)).1 ∙ sym of.port_is
+port_exactly gives (Ok None) list port parses exactly unset (inl (ds, at, of)) = absurd (exactly ds at)
+port_exactly gives (Err e) list port parses exactly unset (inl (ds, at, of)) =
+    let r = exactly ds at in parses ds (Err r.0) r.1 (of.digits_are, of.small)
+port_exactly gives (Ok (Some n)) list port parses exactly unset (inr (none, e)) =
     ap (λ (y : Option ℕ). unwrap_or y 80) (unset none) ∙ sym e
-port_exactly (Ok None) list port exactly unset (inr (none, e)) = sym e
-port_exactly (Err e) list port exactly unset (inr (none, is)) = unset none
+port_exactly gives (Ok None) list port parses exactly unset (inr (none, e)) = sym e
+port_exactly gives (Err e) list port parses exactly unset (inr (none, is)) = unset none
 
 -- ---- the name
 
