@@ -1,13 +1,15 @@
 -- A server's settings: the port and the name that attributes set.
-use Rattle.std.proofs.Common.{◌≡◌, ◌⊎◌, inl, inr, ℕ, List, Option, Some, None, Result, Ok, Err, sym, ◌∙◌, ap, refl, codes}
-use Rattle.std.specs.Prelude.{String, string_bytes, MatchOption, IsOkAnd}
+use Rattle.std.proofs.Common.{◌≡◌, inl, inr, ℕ, List, Any, Option, Some, None, Result, Ok, Err, sym, ◌∙◌, ap, codes}
+use Rattle.std.specs.Prelude.{String, string_bytes, IsOkAnd}
 use Rattle.std.specs.Option.{unwrap_or}
 use Rattle.std.specs.Str.{chars}
 use Rattle.std.specs.Str.Parse.{ParsesUnsigned}
+use Rattle.rl_attributes.specs.declared.attributes.Entry.{Entry}
 use Rattle.rl_attributes.specs.declared.settings.SettingError.{SettingError}
 use Rattle.rl_attributes.specs.Attributes.{Attribute}
-use Rattle.rl_attributes.specs.TextSettings.{AreDigitsAt, IsMemoryError, IsNumberAt, IsSomeNumberOrRejected, IsSomeStringOrMemory, IsStringAt, IsStringOf, IsUnset}
-use Rattle.rl_attributes.proofs.Theorems.{set_or_of_set, set_or_of_unset, set_of_set_or, default_of_set_or}
+use Rattle.rl_attributes.specs.Entries.{attributes_of, HasName}
+use Rattle.rl_attributes.specs.TextSettings.{AreDigitsAt, IsNamed, IsSomeNumberOrRejected, IsStringAt, IsStringOf, IsUnset}
+use Rattle.rl_attributes.proofs.Theorems.{an_entry_is_an_attribute, set_of_set_or}
 use Rattle.rl_uses.specs.Configs.{IsPort, IsServerName}
 
 -- ---- the port
@@ -15,14 +17,6 @@ use Rattle.rl_uses.specs.Configs.{IsPort, IsServerName}
 -- the number type gives numbers of 16 bits
 abbrev Parses : {E : Type 0} → (List ℕ → Result ℕ E → Type 0) → Type 0
 Parses {E = E} gives = (digits : List ℕ) (r : Result ℕ E) → gives digits r → ParsesUnsigned 16 10 digits r
-
-pub port_set : {E : Type 0} (gives : List ℕ → Result ℕ E → Type 0) (o : Option ℕ) (list : List Attribute) → Parses gives
-    → MatchOption o (IsUnset (codes "port") list) (λ n. IsNumberAt gives (codes "port") n list)
-    → IsPort (unwrap_or o 80) list
-port_set gives (Some n) list parses h =
-    let p = parses h.0 (Ok n) h.2 in
-    inl (h.0, h.1, record { digits_are = p.0.0; small = p.0.1; port_is = p.1 })
-port_set gives None list parses h = inr (h, refl)
 
 -- the answer is this port
 abbrev IsPortAnswer : {E : Type 0} → ℕ → Result (Option ℕ) E → Type 0
@@ -37,17 +31,24 @@ port_exactly gives (Ok (Some n)) list port parses exactly unset (inl (ds, at, of
     (parses ds (Ok n) (exactly ds at)).1 ∙ sym of.port_is
 port_exactly gives (Ok None) list port parses exactly unset (inl (ds, at, of)) = absurd (exactly ds at)
 port_exactly gives (Err e) list port parses exactly unset (inl (ds, at, of)) =
-    let r = exactly ds at in
-    parses ds (Err r.0) r.1 (of.digits_are, of.small)
-port_exactly gives (Ok o) list port parses exactly unset (inr (none, e)) =
+    let r = exactly ds at in parses ds (Err r.0) r.1 (of.digits_are, of.small)
+port_exactly gives (Ok (Some n)) list port parses exactly unset (inr (none, e)) =
     ap (λ (y : Option ℕ). unwrap_or y 80) (unset none) ∙ sym e
+port_exactly gives (Ok None) list port parses exactly unset (inr (none, e)) = sym e
 port_exactly gives (Err e) list port parses exactly unset (inr (none, is)) = unset none
 
 -- ---- the name
 
-pub name_set : (name : List ℕ) (list : List Attribute) → IsStringAt (codes "name") name list → IsServerName name list
-name_set name list at = set_or_of_set (codes "name") (IsStringOf name) (name ≡ codes "server") list at
+pub name_some : {B : Type 0} (v : String B) (name : List ℕ) (list : List Attribute)
+    → IsStringAt (codes "name") (string_bytes v) list
+    → (IsStringAt (codes "name") name list → chars (string_bytes v) ≡ chars name) → IsServerName name list
+    → chars (string_bytes v) ≡ chars name
+name_some v name list set exactly at =
+    exactly (set_of_set_or (codes "name") (IsStringOf name) (name ≡ codes "server") list at set.named)
 
-pub name_default : (name : List ℕ) (list : List Attribute) → IsUnset (codes "name") list → name ≡ codes "server"
-    → IsServerName name list
-name_default name list none e = set_or_of_unset (codes "name") (IsStringOf name) (name ≡ codes "server") list none e
+pub name_rejected : {A : Type 0} (es : List (Entry A)) (Rejected : Entry A → Type 0) (name : List ℕ)
+    → Any (λ e. HasName (codes "name") e × Rejected e) es → IsServerName name (attributes_of es)
+    → IsStringAt (codes "name") name (attributes_of es)
+name_rejected es Rejected name (k, x, lt, e, j) at =
+    set_of_set_or (codes "name") (IsStringOf name) (name ≡ codes "server") (attributes_of es) at
+    ((an_entry_is_an_attribute (IsNamed (codes "name")) es).0 (k, x, lt, e, j.0))
