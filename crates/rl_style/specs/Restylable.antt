@@ -1,5 +1,5 @@
--- The literals of a source, which may be fields of tuples, and which stand inside of macro calls. Texts are lists of
--- bytes.
+-- The literals of a source, which may be fields of tuples, and which stand inside of macro calls. The text of a token is
+-- a list of bytes, what is left of the source after it one of characters.
 use Rattle.std.specs.Prelude.{◌≡◌, ℕ, Bool, true, false, cond, not, ◌&&◌, ◌==◌, List, [], ◌∷◌, codes, if◌then◌else◌}
 use Rattle.std.specs.Char.{is_ascii_digit}
 use Rattle.std.specs.Str.{chars}
@@ -52,8 +52,8 @@ abbrev pub begins_one_colon : List ℕ → Bool
 begins_one_colon [] = false
 begins_one_colon (c ∷ t) = c == code ":" && not (begins_char (code ":") t)
 
--- a number is a field between the last token and this rest of the text, before which white space and comments are left
--- out
+-- a number is a field after the last token, where this rest of the source follows it and the white space and comments
+-- after it
 abbrev pub names_field : Last → List ℕ → Bool
 names_field Dot rest = true
 names_field Opening rest = begins_one_colon rest
