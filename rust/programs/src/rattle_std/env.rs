@@ -1,7 +1,7 @@
 //! Stands for `std::env` of Rattle: a program's arguments, and the variables of its environment.
 //!
 //! Narrower: arguments and variables are this process's own. Rust's own calls copy them, and end the process where there is no
-//! memory for that: for arguments, and for a variable of more than [`VALUE`] bytes.
+//! memory for that: for arguments, and for a variable of more than 4 KB.
 
 use super::alloc::{has_room, AllocError, Global};
 use super::io;
