@@ -45,11 +45,13 @@ fn take_mark(tokens: &mut Tokens<'_>, mark: char) -> bool
     let Some(token) = ahead.next() else {
         return false;
     };
-    if token.form == Form::Mark(mark) {
-        *tokens = ahead;
-        return true;
+    match token.form {
+        Form::Mark(c) if c == mark => {
+            *tokens = ahead;
+            true
+        }
+        _ => false,
     }
-    false
 }
 
 /// Takes a product of integers.
