@@ -2,12 +2,14 @@
 
 ghost use Rattle.std.specs.Prelude.{List, IfOk, IfErr, IfSome, IfNone};
 ghost use Rattle.std.specs.Str.{chars};
+ghost use Rattle.rl_reasons.specs.Limits.{ExplainsValue};
+ghost use Rattle.rust_literals.specs.Literals.{token_of};
 ghost use Rattle.rust_literals.specs.declared.lit.Lit.{Lit};
 ghost use Rattle.rust_literals.specs.Parsing.{AreRead};
 ghost use Rattle.rl_uses.specs.Shortage.{IsShortOf, RejectsTextOrMemory};
 ghost use Rattle.rl_uses.specs.Reasons.{HasValue, IsReasonOf, AreReasons};
 
-use rl_grammar::{FlawKind, explain_value};
+use rl_grammar::{Flaw, FlawKind, explain_value};
 use rl_tokens::{Error, Span};
 use rust_literals::{Lit, read_all};
 use std::alloc::Allocator;
@@ -21,12 +23,20 @@ pub struct Reason {
     pub kind: FlawKind,
 }
 
+/// Returns the flaw of a literal's text, or `None` where the literal has a value.
+fn flaw_of<A: Allocator>(literal: &Lit<A>) -> Option<Flaw>
+    ensures none { IfNone result (HasValue literal.now) }
+    ensures some { IfSome result (ExplainsValue (chars (token_of literal.now).text)) }
+{
+    explain_value(literal.text())
+}
+
 /// Why a literal has no value; `None` where it has one.
 fn reason_of<A: Allocator>(literal: &Lit<A>) -> Option<Reason>
     ensures none { IfNone result (HasValue literal.now) }
     ensures some { IfSome result (IsReasonOf literal.now) }
 {
-    let flaw = explain_value(literal.text())?;
+    let flaw = flaw_of(literal)?;
     Some(Reason {
         span: flaw.in_span(literal.span()),
         kind: flaw.kind,
