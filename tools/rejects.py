@@ -73,8 +73,13 @@ CORE_IMPLS = {
     'PartialEq': 'impl<T: Fn(u8) -> u8> PartialEq<Odd<T>> for Odd<T> {\n}',
     'Add': 'impl<T>\nops::Add<T>\nfor Odd {\n}',
 }
-LEFT = {"{'ghost'}": 'fn ghost() {}', "{'requires'}": 'fn requires() {}', "{'ensures'}": 'fn ensures() {}', "{'Model'}": 'fn odd(it: Model) {}',
-        'True': 'fn \u00e9() {}'}
+LEFT = {
+    "{'ghost'}": 'fn ghost() {}',
+    "{'requires'}": 'fn requires() {}',
+    "{'ensures'}": 'fn ensures() {}',
+    "{'Model'}": 'fn odd(it: Model) {}',
+    'True': 'fn \u00e9() {}',
+}
 # Items that aren't rejected: in the core, and above it.
 CORE_FINE = ['fn odd() -> bool { matches!(1, 1) }', 'impl fmt::Display for Odd {\n}', "impl<'t> Iterator for Odd<'t> {\n}",
              'impl core::error::Error for Odd {\n}', '// unsafe\nconst ODD: &str = "static";']

@@ -3,6 +3,7 @@
 use navyspindle::{macro_settings, next_literal, LitStr, MacroText};
 use proc_macro::TokenStream;
 use std::time::{Duration, Instant};
+use std::{fs, thread};
 
 const SHORT: usize = 100;
 const LONG: usize = 32 * SHORT;
@@ -37,13 +38,23 @@ fn input(count: usize, value: &str) -> TokenStream {
     settings.parse().expect("tokens")
 }
 
+/// How long this thread has run, where Linux tells: so what else runs doesn't count. Elsewhere how long it is since the beginning.
+fn now(begin: Instant) -> Duration {
+    // Linux counts up to here then.
+    thread::yield_now();
+    let told = fs::read_to_string("/proc/thread-self/schedstat").ok();
+    let run = told.and_then(|told| told.split(' ').next()?.parse().ok());
+    run.map_or_else(|| begin.elapsed(), Duration::from_nanos)
+}
+
 /// The time of so many calls.
 fn time(call: Call, input: &TokenStream, times: usize) -> Duration {
     let begin = Instant::now();
+    let before = now(begin);
     for _ in 0..times {
         call(input.clone());
     }
-    begin.elapsed()
+    now(begin) - before
 }
 
 /// Whether a long input takes at most five times what short ones of as many settings take, in the best of five rounds. It is 32 times
