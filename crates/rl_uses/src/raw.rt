@@ -20,7 +20,7 @@ pub fn write_raw(literal: &str, room: &mut [u8], out: &mut [u8]) -> Option<usize
         return None;
     }
     let n = found.str_into(literal, room);
-    let value = match str::from_utf8(&room[..n]) {
+    let value = match std::str::from_utf8(&room[..n]) {
         Ok(value) => value,
         Err(_) => return None,
     };
