@@ -1,12 +1,12 @@
 #!/usr/bin/env python3
-"""Tries `rl_scan --fix PATH..` with the system: that each file is written as a whole, and that what shouldn't change stays.
+"""Tests `rl_scan --fix PATH..` with the file system: each file must be written as a whole, and everything else must stay unchanged.
 
-    tools/fixing.py PROGRAM        a line for each case; status 1 where one fails
+    tools/fixing.py PROGRAM        by hand; it prints a line for each case, in 15 s; the status is 1 if one fails
 
-PROGRAM is an `rl_scan` with `--fix`, which has to make `1e5` of `1E5` in its default style. Of a file the permissions to read, write
-and run it stay, its owner and group where the system allows it, and the links to it; other names of it (hard links), setuid and the
-like, and extended attributes don't. Cases that need root, a tmpfs, `strace` or `chattr` are said to be skipped where there is none. Nothing shows what happens to a
-file that changes between the last look at it and the rename: that is the one gap.
+PROGRAM is an `rl_scan` with `--fix`, which must rewrite `1E5` as `1e5` in its default style. A file keeps its permissions to read,
+write and run it, its owner and group if the system allows it, and the links to it. It doesn't keep other names (hard links), setuid
+and similar bits, and extended attributes. Cases that need root, a tmpfs, `strace` or `chattr` are reported as skipped if it is
+missing. No case tests a file that changes between the last check and the rename: that is the one gap.
 """
 
 import os
@@ -23,7 +23,7 @@ from pathlib import Path
 
 OLD = b"let a = 1E5;\n"
 NEW = b"let a = 1e5;\n"
-# A text of several writes.
+# A text that takes several writes.
 LONG_OLD, LONG_NEW = OLD * 20_000, NEW * 20_000
 PROGRAM = Path(sys.argv[1]).resolve() if len(sys.argv) == 2 else sys.exit(__doc__)
 NOBODY = 65534
@@ -33,7 +33,7 @@ CASES = []
 
 
 class Failed(Exception):
-    """What isn't as it has to be."""
+    """The error that a case failed, with a description."""
 
 
 def case(function):
@@ -47,7 +47,7 @@ def expect(is_so, what):
 
 
 def run(*paths, before=(), **how):
-    """What a call ended with: its status, and its lines of errors."""
+    """Runs the program. Returns its exit status, and its lines on standard error."""
     done = subprocess.run([*before, PROGRAM, "--fix", *paths], capture_output=True, timeout=60, check=False, **how)
     return done.returncode, done.stderr.decode()
 
@@ -63,7 +63,7 @@ def expect_run(ran, status, words=""):
 
 
 def expect_files(folder, **files):
-    """The folder holds these files and no others."""
+    """Checks that the folder contains these files and no others."""
     expected = {name.replace("_rs", ".rs"): text for name, text in files.items()}
     found = {path.name: path.read_bytes() for path in folder.iterdir() if path.is_file()}
     expect(found == expected, f"{sorted(found)}, not {sorted(expected)}, or other bytes")
@@ -137,7 +137,7 @@ def the_owner_stays(folder):
     expect_run(run(path), 0)
     found = path.stat()
     expect((found.st_uid, found.st_gid, stat.S_IMODE(found.st_mode)) == (1234, 2345, 0o640), f"{found}")
-    # Another user, who may not give it away, becomes its owner.
+    # The owner is changed to another user, who may not give the file away.
     folder.chmod(0o777)
     path = write(folder / "a.rs", mode=0o666)
     os.chown(path, 1234, 2345)
@@ -187,10 +187,10 @@ def a_folder_that_may_not_be_written(folder):
     if not IS_ROOT:
         ran = run(path)
     else:
-        # Root isn't held back by modes.
+        # Permissions don't restrict root, so the program runs as another user.
         ran = run(path, user=NOBODY, group=NOBODY)
     folder.chmod(0o755)
-    expect_run(ran, 2, "permission denied")
+    expect_run(ran, 2, "no permission to write in its directory")
     expect_files(folder, a_rs=OLD)
 
 
@@ -205,12 +205,12 @@ def a_folder_that_root_may_not_write(folder):
         return SKIPPED
     ran = run(path)
     subprocess.run(["chattr", "-i", folder], check=True)
-    expect_run(ran, 2, "permission denied")
+    expect_run(ran, 2, "no permission to write in its directory")
     expect_files(folder, a_rs=OLD)
 
 
 def mounted(folder, *options):
-    """Whether something is mounted at the folder."""
+    """Whether a file system is mounted at the folder."""
     return IS_ROOT and subprocess.run(["mount", *options, folder], capture_output=True, check=False).returncode == 0
 
 
@@ -287,7 +287,7 @@ def several_at_once(folder):
 
 
 def strace(*words):
-    """The words that call a program under strace, or None."""
+    """Returns the command line that runs a program under strace, or None."""
     return ["strace", "-f", "-qq", "-o", "/dev/null", *words] if shutil.which("strace") else None
 
 
@@ -307,14 +307,14 @@ def a_file_that_changed_meanwhile(folder):
     expect_files(folder, a_rs=b"let b = 2;\n")
 
 
-# What fails, of the calls that writing makes, and how.
+# The system calls of writing a file that are made to fail, each with its error.
 FAILING = ["write:error=EIO", "write:error=ENOSPC", "fchmod:error=EPERM", "fsync:error=EIO", "rename:error=EBUSY", "rename:error=EXDEV"]
 
 
 @case
 def calls_that_fail(folder):
     for fails in FAILING:
-        # Of the new file alone, and not of what is printed.
+        # Only calls for the new file fail, and not those for the program's output.
         before = strace("-P", folder / "a.rs.rl_scan-0", "-e", f"trace={fails.split(':')[0]}", "-e", f"inject={fails}")
         if not before:
             return SKIPPED
@@ -322,7 +322,7 @@ def calls_that_fail(folder):
         ran = run(path, before=before)
         expect(ran[0] == 2, f"{fails}: status {ran[0]}")
         expect_files(folder, a_rs=OLD)
-    # Where the new file can't be removed either, it stays.
+    # If the new file can't be removed either, it stays.
     path = write(folder / "a.rs")
     expect(run(path, before=strace("-e", "trace=fsync,unlink", "-e", "inject=fsync,unlink:error=EIO"))[0] == 2, "a status")
     expect(path.read_bytes() == OLD and len(list(folder.iterdir())) == 2, "other files, or other bytes")
@@ -330,24 +330,25 @@ def calls_that_fail(folder):
 
 
 def fresh(folder):
-    """Two files to write, and no others."""
+    """Creates two files to rewrite in an empty folder."""
     for path in folder.iterdir():
         path.unlink()
     return [write(folder / "a.rs", LONG_OLD), write(folder / "b.rs", LONG_OLD)]
 
 
 def calls_of(folder):
-    """The system calls on files of a whole run, each with how often it was made up to there."""
+    """Returns the system calls on files of a whole run, each with its count up to that call."""
     paths = fresh(folder)
     with tempfile.NamedTemporaryFile() as log:
         expect_run(run(*paths, before=["strace", "-f", "-qq", "-o", log.name, "-e", "trace=%file,%desc"]), 0)
         names = re.findall(r"^\d+\s+(\w+)\(", log.read().decode(), re.M)
-    # The first one starts the program.
+    # The first call starts the program.
     return [(name, names[:at + 1].count(name)) for at, name in enumerate(names)][1:]
 
 
 def is_killed_at(folder, name, number):
-    """Whether the program was killed as it entered this call for the time of this number; each file is old or new then."""
+    """Whether the program was killed when it entered this call for the given time. Afterwards each file must be the old or the new
+    one."""
     paths = fresh(folder)
     before = strace("-e", f"trace={name}", "-e", f"inject={name}:signal=KILL:when={number}")
     status, _ = run(*paths, before=before)

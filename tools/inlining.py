@@ -1,8 +1,10 @@
-"""Writes the attributes by which functions of the rendered core are inlined, so that what isn't optimized stays small.
+"""Writes the attributes that control the inlining of functions in the rendered core, so that unoptimized code stays small.
 
-rustc obeys `#[inline(always)]` where nothing is optimized too, and writes the function into each of its callers. A small function
-takes little more room there than a call of it, and less time. A large one is always inlined only where debug assertions are off, as in
-release builds; tools/inlining.txt lists those that the compiler inlines by itself where that is faster. No expression is changed."""
+rustc obeys `#[inline(always)]` in unoptimized builds too, and copies the function into each of its callers. A copy of a small
+function takes little more space than a call of it, and less time. A large function is always inlined only if debug assertions are
+off, as in release builds. tools/inlining.txt lists the large functions whose inlining is left to the compiler, where that is
+faster. No expression is changed.
+"""
 
 import re
 import sys
@@ -11,8 +13,9 @@ from pathlib import Path
 LIST = Path(__file__).resolve().parent / "inlining.txt"
 ENTRY = re.compile(r"(\S+) (\w+): (\S.*)")
 
-# How many lines the body of a small function has at most. Where nothing is optimized, four take 0.85 of the code and up to 1.12 times
-# the instructions of eight, none 0.75 and up to 1.33 times; all functions inlined take 3.25 times the code, and no fewer instructions.
+# The largest number of lines in the body of a small function. In unoptimized builds a limit of four lines gives 0.85 of the code
+# and up to 1.12 times the instructions of a limit of eight, and a limit of none gives 0.75 and up to 1.33. Inlining all functions
+# gives 3.25 times the code, and no fewer instructions.
 SMALL = 8
 
 ALWAYS = re.compile(r"^( *)#\[inline\(always\)\]\n", re.M)
@@ -25,27 +28,27 @@ def fail(what):
 
 
 def listed():
-    """The functions of the list, each as its file and its name."""
+    """Returns the functions of the list, each as its file and its name."""
     lines = [line for line in LIST.read_text().split("\n") if line and not line.startswith("#")]
     entries = [ENTRY.fullmatch(line) or fail(f"no entry: {line}") for line in lines]
     return {(entry[1], entry[2]) for entry in entries}
 
 
 def body_lines(text, at, indent):
-    """How many lines the body has of the function whose attribute ends here, by the layout of its file."""
+    """Returns the number of lines in the body of the function whose attribute ends at `at`, by the layout of its file."""
     begin = text.index("{", text.index("fn ", at)) + 1
     end = re.compile(rf"^{indent}\}}", re.M).search(text, begin).start()
     return text.count("\n", begin, end) - 1 if text[begin] == "\n" else 0
 
 
 class Inlining:
-    """The list, and what it makes of rendered files, which are given by name."""
+    """The list of functions, and its application to rendered files, which are given by name."""
 
     def __init__(self):
         self.left = listed()
 
     def attribute(self, name, text, found):
-        """What stands for an `#[inline(always)]` in the file."""
+        """Returns the attribute that replaces an `#[inline(always)]` in the file."""
         indent = found[1]
         function = (name, re.compile(r"\bfn (\w+)").search(text, found.end())[1])
         if function in self.left:
@@ -55,7 +58,7 @@ class Inlining:
         return found[0] if is_small else WHERE_RELEASED.format(indent)
 
     def core(self, files):
-        """The files of the core, which have to hold each function that is listed."""
+        """Changes the files of the core, which must contain each listed function."""
         files = {name: ALWAYS.sub(lambda found: self.attribute(name, text, found), text) for name, text in files.items()}
         for name, function in sorted(self.left):
             fail(f"{name} has no function {function} that is always inlined")

@@ -1,21 +1,24 @@
-"""Calls of rl_tool and rl_scan that are made to be odd: words, inputs, and where input comes from and output goes."""
-import argparse
+"""Generates unusual calls of rl_tool and rl_scan: arguments, input, and the source of input and the destination of output."""
 import os
+import sys
 from typing import NamedTuple
 
-import odd_files
-import source_texts
-import texts
+sys.path.append(os.path.join(os.path.dirname(os.path.dirname(os.path.abspath(__file__))), 'oracle'))
 
-# Where a call's input comes from, where it isn't bytes; and where its output goes.
+import odd_files  # noqa: E402
+import source_texts  # noqa: E402
+import texts  # noqa: E402
+
+# The source of a call's input if it isn't given as bytes, and the destination of its output.
 NOTHING, A_FOLDER, A_TERMINAL = 'nothing', 'a folder', 'a terminal'
 A_PIPE, FULL, CLOSED = 'a pipe', 'a full device', 'a closed pipe'
-# What the environment says of a terminal.
+# Environment variables that describe a terminal.
 NAMES = {'TERM': ['xterm', 'xterm', 'dumb', ''], 'NO_COLOR': ['', '1']}
 
 
 class Call(NamedTuple):
-    """A call of a program: its words, its folder, where input comes from and output goes, and what the environment says."""
+    """A call of a program: its arguments, its folder, the source of its input, the destination of its output, and its
+    environment."""
     name: str
     words: list
     folder: str
@@ -24,13 +27,13 @@ class Call(NamedTuple):
     names: dict = {}
 
     def shown(self):
-        """The call in a line."""
+        """Returns the call as one line."""
         given = f'{len(self.given)} bytes {self.given[:200]!r}' if isinstance(self.given, bytes) else self.given
         return f'{self.name} {self.words!r}, input {given}, output {self.output} {self.names or ""}'.rstrip()
 
 
 def with_streams(source, call):
-    """The call; of one in eight output is no pipe."""
+    """Returns the call with its input and output chosen. For one of eight calls the output isn't a pipe."""
     output = source.choice([A_PIPE] * 28 + [FULL, CLOSED, A_TERMINAL, A_TERMINAL])
     names = {name: source.choice(values) for name, values in NAMES.items() if source.random() < .7}
     return call._replace(output=output, names=names if output == A_TERMINAL else {})
@@ -38,8 +41,8 @@ def with_streams(source, call):
 
 # ---- calls of rl_scan
 
-# Which literals are printed, in which form, whether lines are counted, and more; a word without hyphens takes something.
-WHICH = [[], [], [], ['--bad'], ['--bad'], ['--hidden'], ['--hidden'], ['only'], ['find'], ['find', '-i'], ['find', 'only', '-w'],
+# Options for the printed literals, their form, the count of lines, and more. A word without hyphens needs an argument.
+WHICH = [[], [], [], ['--bad'], ['--bad'], ['--invisible'], ['--invisible'], ['only'], ['find'], ['find', '-i'], ['find', 'only', '-w'],
          ['--check'], ['--diff'], ['--check', '--macros=all']]
 FORMS = [[], [], [], ['--lines'], ['--bytes'], ['--text'], ['--json'], ['--json', '--lines'], ['--text', '--bytes']]
 COUNTS = [[]] * 20 + [['-c'], ['--count'], ['-l'], ['--files-with-matches'], ['-q'], ['--quiet'], ['-iw'], ['-lq']]
@@ -51,16 +54,16 @@ TAKEN = {
     'extension': ['rs', 'txt', '', '.rs'],
 }
 SHORT = {'only': '--only', 'find': '-e', 'color': '--color', 'extension': '--extension'}
-# Words that can't be asked for, and words that can, where others stand that rule them out.
+# Invalid options, and valid ones that exclude others.
 WRONG = [
     '--nope', '-x', '-b', '-cl', '-cb', '-kStr', '-ea', '-lea', '-\u00e9', '--hiden', '--fnid', b'-\xff', '---', '--BAD', '--col', '--bad=x', '--json=1', '--lines=',
     '--only', '-k', '--only=', '--only=Str,', '--only=x', '--only:Str', '--find', '-e', '--find=', b'--find=\xff',
-    '--color', '--color=x', '--color=', '--bad', '--hidden', '--extension', '-h', '--help', '-V', '--version', '--', '-',
+    '--color', '--color=x', '--color=', '--bad', '--invisible', '--extension', '-h', '--help', '-V', '--version', '--', '-',
 ]
 
 
 def spelled(source, word):
-    """An option as words: with what it takes in its own word or in the next, where it takes something."""
+    """Returns an option as arguments. If it has an argument of its own, that is part of the same word or the next word."""
     if word not in TAKEN:
         return [word]
     value = source.choice(TAKEN[word])
@@ -73,7 +76,7 @@ def path_word(source, paths):
 
 
 def scan_words(source, paths):
-    """The words of a call of rl_scan: options that go together, wrong ones among some, and paths."""
+    """Returns the arguments of a call of rl_scan: options that fit together, sometimes invalid ones, and paths."""
     asked = [word for group in (WHICH, FORMS, COUNTS, MORE) for word in source.choice(group)]
     pieces = [spelled(source, word) for word in asked]
     pieces += [[source.choice(WRONG)] for _ in range(source.choice([0] * 15 + [1, 2]))]
@@ -83,13 +86,13 @@ def scan_words(source, paths):
 
 
 def scan_input(source, words, files):
-    """A soup, one of the files, or no text."""
+    """Returns a soup, one of the files, or an empty text."""
     near = source.random()
     if near < .5:
         return next(source_texts.soups(source.random(), 1)).encode()
     if near < .85:
         return source.choice(list(files.values()))
-    # Nobody writes to the terminal, so that none may read from it.
+    # Nobody writes to the terminal, so no call may read from it.
     return NOTHING if near < .93 or near < .97 and '-' in words else A_TERMINAL if near < .97 else A_FOLDER
 
 
@@ -110,7 +113,7 @@ LONG = [
     '0xFF_u8 -1.5 ' * 4_000, '1 ' * 20_000 + "'a", '/*' * 9_000 + '*/' * 9_000 + '1', '(' * 128 + '1' + ')' * 128,
     '(' * 129 + '1' + ')' * 129, ', '.join(f'a{at} = "b"' for at in range(3_000)),
 ]
-# Which texts each command gets, but for some.
+# The families of texts that suit each command, except some commands.
 SUITED = {
     'text': ['random', 'random', 'random', 'worked', 'framed', 'framed', 'characters'],
     'read': ['lists', 'lists', 'printed', 'trivia', 'soups'],
@@ -120,7 +123,7 @@ ENDLESS = 1 << 30
 
 
 def framed(source):
-    """A few characters between an opener and a closer."""
+    """Returns a few characters between opening and closing delimiters."""
     opener, closer = source.choice(texts.FRAMES)
     return opener + ''.join(source.choice(texts.ALPHABET) for _ in range(source.randint(0, 4))) + closer
 
@@ -130,16 +133,16 @@ def trivia(source):
 
 
 def character(source):
-    """Any character but a surrogate, after a digit, or as a literal and in its suffix."""
+    """Returns any character except a surrogate, after a digit, or as a literal and in its suffix."""
     code = source.randrange(source.choice((0x80, 0x3000, 0x110000)))
     c = chr(code if not 0xD800 <= code < 0xE000 else code - 0x800)
     return source.choice(('1' + c, f"'{c}'a{c}"))
 
 
 def makers_of_texts(source):
-    """Calls that give a text of each family; those of tools/texts.py go on from text to text."""
-    asked = argparse.Namespace(seed=source.randrange(ENDLESS), texts=ENDLESS)
-    made = {name: texts.families(asked)[name]() for name in ('random', 'lists', 'printed', 'attributes')}
+    """Returns functions that return a text of each family. Those of oracle/texts.py continue from text to text."""
+    families = texts.families(source.randrange(ENDLESS), ENDLESS)
+    made = {name: families[name]() for name in ('random', 'lists', 'printed', 'attributes')}
     made['soups'] = source_texts.soups(source.random(), ENDLESS)
     makers = {name: family.__next__ for name, family in made.items()}
     return makers | {
@@ -148,7 +151,7 @@ def makers_of_texts(source):
 
 
 def tool_input(source, makers, command):
-    """A text for the command, or any text, some of them cut; few bytes that are mostly no text; or nothing to read from."""
+    """Returns a text for the command, or any text, sometimes cut off; a few bytes that are mostly not UTF-8; or no input."""
     near = source.random()
     if near < .06:
         return NOTHING if near < .015 else A_FOLDER if near < .03 else source.randbytes(source.randint(1, 8))
@@ -166,7 +169,7 @@ def tool_call(source, folder, makers):
 # ---- both
 
 def generated(source, folder, count):
-    """So many calls, of three two of rl_scan, in a tree that is made in the folder."""
+    """Generates `count` calls, two of three of rl_scan, on a tree that is created in the folder."""
     tree = os.path.join(folder, 'tree')
     os.mkdir(tree)
     files, makers = odd_files.make_tree(tree, source), makers_of_texts(source)

@@ -1,10 +1,10 @@
-"""A tree of odd files for rl_scan: odd names, links, texts that are none, and sources of every kind."""
+"""Creates a tree of unusual files for rl_scan: unusual names, links, files that aren't text, and sources of every kind."""
 import os
 import stat
 
-import source_model
 import source_texts
 import texts
+from model.sources import cut_source
 
 DEEP = 300
 HIDING = '''let a = "x\u202e\u2066"; // \u202e
@@ -12,7 +12,7 @@ let b = '\u200b';
 let c\u00ad = r"\ufeff";
 let d = "\\u{202e}"; /* \u2069 */ b"a\u200d" "\u3164"
 '''
-# By name, without the ending.
+# The sources by their names, without the ending.
 SOURCES = {
     'kinds': '\n'.join(texts.WORKED[3:60]),
     'bad': '\n'.join(source_texts.ODD[20:]),
@@ -43,7 +43,7 @@ SOURCES = {
     'hashes': 'r' + '#' * DEEP + '"a"#' + '#' * DEEP + ' 1',
     'last': '1',
 }
-# Paths that are odd themselves, or that no walk takes.
+# Paths that are unusual themselves, or that rl_scan doesn't visit in a folder.
 NAMED = [
     'with space.rs', 'with\nline.rs', 'with\ttab\x1b[31m.rs', '\'q"uo\\te\'.rs', '\u00e9\u8a9e\U0001f600.rs', 'hid\u202ee.rs',
     b'named/not\xfftext.rs', '-x.rs', '--bad.rs', '.hidden.rs', '.hidden/a.rs', 'target/a.rs', 'b/target/a.rs', 'no_ending',
@@ -54,7 +54,7 @@ LINKS = {
     'soups/up.rs': '../kinds.rs',
 }
 EMPTY, LOCKED, LOCKED_FILE, SOCKET = 'none', 'locked', 'locked.rs', 'socket.rs'
-# What calls name beside the files.
+# Paths that calls name in addition to the files.
 OTHER_PATHS = [
     '.', './', './/a.rs', 'b/../a.rs', '../tree/b', 'b//', 'a.rs/', 'a.rs/x', 'missing', 'missing.rs', 'missing/', '', '/dev/null',
     'x' * 300, 'soups', 'soups', 'deep', b'\xff', b'\xed\xa0\x80', EMPTY, LOCKED, LOCKED_FILE, SOCKET, *LINKS,
@@ -62,17 +62,17 @@ OTHER_PATHS = [
 
 
 def whole_soups(source, count):
-    """Soups one after another, lines apart, each of which is a whole source."""
+    """Returns soups joined with lines between them, each of which is a whole source by itself."""
     found = []
     while len(found) < count:
         soup = source_texts.sound(source)
-        if not source_model.cut_source(soup).error:
+        if not cut_source(soup).error:
             found.append(soup)
     return '\n'.join(found)
 
 
 def contents(source):
-    """The files of the tree, by path, in bytes."""
+    """Returns the files of the tree as bytes, by path."""
     soup = whole_soups(source, 40)
     made = {'a.rs': soup, 'b/c.rs': whole_soups(source, 8), 'b/d/e.rs': whole_soups(source, 8)}
     made |= {'crlf.rs': soup.replace('\r', '').replace('\n', '\r\n'), 'bom.rs': '\ufeff' + whole_soups(source, 3)}
@@ -83,7 +83,7 @@ def contents(source):
 
 
 def make_tree(top, source):
-    """Makes the tree in a folder; its files, by path."""
+    """Creates the tree in a folder. Returns its files by path."""
     made = contents(source)
     for path, data in made.items():
         whole = os.path.join(os.fsencode(top), path)
@@ -94,7 +94,7 @@ def make_tree(top, source):
         os.symlink(to, os.path.join(top, name))
     os.mkdir(os.path.join(top, EMPTY))
     os.mknod(os.path.join(top, SOCKET), 0o600 | stat.S_IFSOCK)
-    # Who is no superuser can read neither.
+    # Only a superuser can read these two.
     os.mkdir(os.path.join(top, LOCKED), 0)
     os.mknod(os.path.join(top, LOCKED_FILE), 0)
     return made

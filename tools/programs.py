@@ -1,10 +1,10 @@
 #!/usr/bin/env python3
 """Finds the programs that comparisons run: those that Cargo builds of rust/programs, or the proved ones.
 
-  tools/programs.py NAME [--proved]   prints the path of NAME, one of rl_tool, rl_scan, rl_rows
+  tools/programs.py NAME [--proved]   prints the path of NAME: rl_tool, rl_scan or rl_rows
 
-Without --proved Cargo builds the whole workspace first, which a line on standard error says; with it the program is
-crates/NAME/out/NAME. The status is 2 where a program can't be had.
+Without --proved, Cargo first builds the whole workspace. From nothing that takes a minute, and a line on standard error reports it.
+With --proved the program is crates/NAME/out/NAME. The status is 2 if the program can't be found or built.
 """
 import argparse
 import functools
@@ -21,14 +21,14 @@ HELP = "run the proved programs, crates/NAME/out/NAME, in place of those that Ca
 
 
 def fail(words):
-    """Ends the run, since a program can't be had."""
+    """Prints the message, and ends with status 2."""
     print(f'{os.path.basename(sys.argv[0])}: {words}', file=sys.stderr)
     sys.exit(2)
 
 
 @functools.cache
 def cargo_folder():
-    """Has Cargo build all programs, once; the folder where they are."""
+    """Builds all programs with Cargo, once. Returns their folder."""
     if not shutil.which('cargo'):
         fail("cargo, which builds the programs, isn't on the path; --proved runs those that ./build proved")
     target = os.path.join(FOLDER, 'target')
@@ -40,7 +40,7 @@ def cargo_folder():
 
 
 def runnable(path, hint=''):
-    """The path of a program that is there."""
+    """Returns the path of an existing program, or fails with a hint."""
     found = shutil.which(path)
     if not found:
         fail(f'{path} is no program{hint}')
@@ -48,18 +48,18 @@ def runnable(path, hint=''):
 
 
 def cargos(name):
-    """The path of the program as Cargo builds it."""
+    """Returns the path of the program that Cargo builds."""
     return runnable(os.path.join(cargo_folder(), name))
 
 
 def proved(name):
-    """The path of the proved program, which is there already."""
+    """Returns the path of the proved program, which must exist already."""
     how = './build' if name in BY_BUILD else f'rt run in crates/{name}'
     return runnable(os.path.join(TOP, 'crates', name, 'out', name), f': {how} proves and builds it')
 
 
 def chosen(name, given=None, is_proved=False):
-    """The path of the program: the one that is given, or the proved one, or Cargo's."""
+    """Returns the path of the program: the given one, the proved one, or the one that Cargo builds."""
     if given:
         return runnable(given)
     return proved(name) if is_proved else cargos(name)

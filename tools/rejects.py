@@ -1,8 +1,9 @@
-"""Tries what tools/render rejects: calls that could mean something else in Rust than in Rattle, words, macros and impls that its output
-can't have, words that an eraser adds, entries of its lists that name nothing, and files of its two folders that it doesn't write. Each
-changed text takes the place of a file when it is read, and changed folders are copies; no file of the repository is written.
+"""Tests the changes of sources that tools/render must reject: calls that could mean something else in Rust than in Rattle; words,
+macros and impls that its output can't contain; words that an eraser adds; entries of its lists that name nothing; and files of its
+two folders that it doesn't write. Each changed text takes the place of a file when the file is read, and changed folders are
+copies. No file of the repository is written.
 
-    tools/rejects.py     prints each change that is rejected without a reason, or isn't rejected; the last line counts both
+    tools/rejects.py     prints each change that is rejected although it is valid, or isn't rejected; the last line counts both
 """
 import contextlib
 import importlib.machinery
@@ -15,10 +16,10 @@ import tempfile
 sys.dont_write_bytecode = True
 
 TOP = pathlib.Path(__file__).resolve().parent.parent
-LINE, BARE = 'crates/rl_lines/src/line.rt', 'bytes.iter().all('
-IDENT, ALL = 'crates/rl_text/src/ident.rt', 'text.chars().all('
+LINE, BARE = 'crates/rl_program/src/line.rt', 'bytes.iter().all('
+IDENT, ALL = 'crates/rl_syntax/src/ident.rt', 'text.chars().all('
 UNCALLED, INLINING = 'tools/uncalled.txt', 'tools/inlining.txt'
-# A file, a text in it, the text that replaces it, and a word of the error; None where the change is accepted.
+# A file, a text in it, the text that replaces it, and a word of the error (None: the change is accepted).
 TRIED = [
     (LINE, BARE, BARE, None),
     (LINE, BARE, 'bytes.to_vec().iter().all(', 'to_vec'),
@@ -31,12 +32,12 @@ TRIED = [
     (IDENT, ALL, 'String::new(text).chars().all(', 'String'),
     # Entries of the list of uncalled items whose file, function, method, module or variant doesn't exist; and a line that isn't an entry.
     (UNCALLED, 'body_unit', 'body_unit', None),
-    (UNCALLED, 'rl_forms/kind.rs Kind::word', 'rl_forms/kinds.rs Kind::word', 'kinds.rs'),
+    (UNCALLED, 'rl_syntax/kind.rs Kind::word', 'rl_syntax/kinds.rs Kind::word', 'kinds.rs'),
     (UNCALLED, 'Kind::word', 'Kind::words', 'Kind::words'),
     (UNCALLED, 'Kind::word', 'Sort::word', 'Sort::word'),
     (UNCALLED, 'contents.rs body_unit', 'contents.rs body_units', 'body_units'),
-    (UNCALLED, '- rl_reasons/flaws.rs Flaw::piece_in_span', '- rl_reasons/flaws.rs Flaw::text_in_span', 'text_in_span'),
-    (UNCALLED, 'rl_text/span.rs *', 'rl_text/spans.rs *', 'spans.rs'),
+    (UNCALLED, '- rl_strict/flaws.rs Flaw::piece_in_span', '- rl_strict/flaws.rs Flaw::text_in_span', 'text_in_span'),
+    (UNCALLED, 'rl_syntax/span.rs *', 'rl_syntax/spans.rs *', 'spans.rs'),
     (UNCALLED, 'LexKind::{Memory}', 'LexKind::{Room}', 'Room'),
     (UNCALLED, 'LexKind::{Memory}', 'Lex::{Memory}', 'Lex::'),
     (UNCALLED, 'Kind::word: ', 'Kind::word ', 'no entry'),
@@ -48,7 +49,7 @@ TRIED = [
     (INLINING, 'skip_inside: ', 'skip_inside ', 'no entry'),
 ]
 
-# What rustc's own meaning, memory, linkage or layout decides, as items: the word of each is rejected wherever it stands.
+# Items whose meaning, memory, linkage or layout rustc decides. The word of each item is rejected wherever it occurs.
 WORDS = {
     'dyn': 'fn odd(it: &dyn Fn()) {}',
     'unsafe': 'unsafe fn odd() {}',
@@ -80,12 +81,12 @@ LEFT = {
     "{'Model'}": 'fn odd(it: Model) {}',
     'True': 'fn \u00e9() {}',
 }
-# Items that aren't rejected: in the core, and above it.
+# Items that aren't rejected, in the core and above it.
 CORE_FINE = ['fn odd() -> bool { matches!(1, 1) }', 'impl fmt::Display for Odd {\n}', "impl<'t> Iterator for Odd<'t> {\n}",
              'impl core::error::Error for Odd {\n}', '// unsafe\nconst ODD: &str = "static";']
 FINE = ['trait Odd {}', 'impl From<u8> for Odd {\n}', 'fn odd() { write!(format!(in 1; "")) }', 'fn odd(it: String, all: Vec<Global>) {}']
 
-# An item, and why it is rejected; nothing where it isn't.
+# An item, and the reason why it is rejected (nothing: it isn't rejected).
 CORE_ITEMS = [
     *((item, f"rejected: {{'{word}'}}") for word, item in WORDS.items()),
     ('trait Odd {}', "rejected: {'trait'}"),
@@ -102,10 +103,10 @@ ITEMS = [
     *((item, f'left: {words}') for words, item in LEFT.items()),
     *((item, None) for item in FINE),
 ]
-# Before what the items are put.
-CORE_PLACE, PLACE = '/// Whether each character may go on', '/// Appends a piece.'
+# The texts before which the items are inserted.
+CORE_PLACE, PLACE = 'fn all_continue(', 'fn is_bare'
 
-# What the last eraser makes of a text that it got, and why it is rejected.
+# An output of the last eraser, and the reason why it is rejected.
 ERASERS = [
     (lambda text: text, None),
     (lambda text: text + 'odd', "added: 'odd'"),
@@ -115,7 +116,7 @@ ERASERS = [
 
 
 def path_elsewhere(folder):
-    """One module of the folder comes from another file."""
+    """Makes one module of the folder come from another file."""
     path = folder / 'mod.rs'
     path.write_text(path.read_text().replace('pub mod', '#[path = "../odd/mod.rs"]\npub mod', 1))
 
@@ -126,13 +127,13 @@ def without_module(folder):
 
 
 def linked(folder):
-    """A folder is a link to another one with the same files."""
+    """Replaces a folder by a link to another one with the same files."""
     one = next(path for path in sorted(folder.iterdir()) if path.is_dir())
     one.rename(folder.parent / f'{folder.name}.{one.name}')
     one.symlink_to(folder.parent / f'{folder.name}.{one.name}')
 
 
-# What is done to a folder of rendered files, and a word of what is reported; nothing where nothing is.
+# A change of a folder of rendered files, and a word of the error that is reported (nothing: there is no error).
 FOLDERS = [
     (lambda folder: None, None),
     (lambda folder: (folder / 'odd.rs').write_text(''), 'odd.rs'),
@@ -149,7 +150,7 @@ FOLDERS = [
 
 
 def render_itself():
-    """tools/render, as a module."""
+    """Returns tools/render as a module."""
     loader = importlib.machinery.SourceFileLoader('render', str(TOP / 'tools/render'))
     module = importlib.util.module_from_spec(importlib.util.spec_from_loader('render', loader))
     loader.exec_module(module)
@@ -157,7 +158,7 @@ def render_itself():
 
 
 class Reading:
-    """Makes `Path.read_text` return another text for one file."""
+    """A context in which `Path.read_text` returns another text for one file."""
 
     def __init__(self):
         self.path = self.text = None
@@ -173,7 +174,7 @@ class Reading:
 
 
 def said_of(call):
-    """Returns the error, or None where the call accepts the texts."""
+    """Returns the error of the call, or None if the call accepts the texts."""
     try:
         call()
     except SystemExit as end:
@@ -182,13 +183,13 @@ def said_of(call):
 
 
 class Tried:
-    """Counts the changes that were tried, and those with another result than expected."""
+    """Counts the changes that were tested, and those with another result than the expected one."""
 
     def __init__(self):
         self.tried = self.wrong = 0
 
     def expect(self, what, said, word):
-        """Expects an error with this word, or none where the word is None."""
+        """Expects an error that contains this word, or no error if the word is None."""
         self.tried += 1
         if said is not None if word is None else word not in (said or ''):
             self.wrong += 1
@@ -196,14 +197,14 @@ class Tried:
 
 
 def try_texts(render, reading, tried):
-    """Calls, and entries of the lists."""
+    """Tests calls, and entries of the lists."""
     core = render.files_of(render.crates_below('# The core'), render.rendered)
 
     def read(file):
         if file == LINE:
-            render.files_of(['rl_lines'], render.rendered_program)
+            render.files_of(['rl_program'], render.rendered_program)
         elif file == IDENT:
-            render.files_of(['rl_text'], render.rendered)
+            render.files_of(['rl_syntax'], render.rendered)
         else:
             uncalled, inlining = render.Uncalled(), render.Inlining()
             inlining.core(uncalled.core(core))
@@ -214,7 +215,7 @@ def try_texts(render, reading, tried):
 
 
 def try_items(render, reading, tried):
-    """Items of files, and what an eraser adds."""
+    """Tests items of files, and words that an eraser adds."""
     rows = [(IDENT, CORE_PLACE, *row) for row in CORE_ITEMS] + [(LINE, PLACE, *row) for row in ITEMS]
     for file, place, item, word in rows:
         crate = file.split('/')[1]
@@ -225,12 +226,12 @@ def try_items(render, reading, tried):
     last = render.erase_models
     for eraser, word in ERASERS:
         render.erase_models = lambda text: eraser(last(text))
-        tried.expect(f'an eraser before {word}', said_of(lambda: render.rendered('rl_text', TOP / IDENT)), word)
+        tried.expect(f'an eraser before {word}', said_of(lambda: render.rendered('rl_syntax', TOP / IDENT)), word)
     render.erase_models = last
 
 
 def reported(render, folders, change):
-    """What --check reports of these copies of the two folders, of which the change was done to one; nothing where it passes."""
+    """Returns the report of --check on copies of the two folders, one of which was changed, or nothing if the check passes."""
     with contextlib.redirect_stdout(io.StringIO()) as printed:
         change()
         render.OUT, render.PROGRAMS_OUT = folders
@@ -242,7 +243,7 @@ def reported(render, folders, change):
 
 
 def try_folders(render, tried):
-    """Copies of the two folders, each with one change."""
+    """Tests copies of the two folders, each with one change."""
     with contextlib.redirect_stdout(io.StringIO()):
         both = [render.core_files(), render.program_files()]
     render.core_files, render.program_files = (lambda: both[0]), (lambda: both[1])

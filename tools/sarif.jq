@@ -1,4 +1,4 @@
-# One document of SARIF 2.1.0 of the objects that `rl_scan --json` prints with `--bad` or `--hidden`:
+# One document of SARIF 2.1.0 of the objects that `rl_scan --json` prints with `--bad` or `--invisible`:
 #
 #     rl_scan --json --bad src | jq -s -f tools/sarif.jq
 #
@@ -14,7 +14,7 @@ def message:
   if has("hidden") then .hidden
   elif has("piece") and .piece != "" then "\(.error): \(.piece)"
   elif has("error") then .error
-  else error("an object of neither --bad nor --hidden") end;
+  else error("an object of neither --bad nor --invisible") end;
 def result:
   {
     ruleId: rule,

@@ -1,7 +1,9 @@
-"""Parts off what the package `navyspindle` itself doesn't call of the core that tools/render makes, as tools/uncalled.txt lists it.
+"""Marks the items of the rendered core that the package `navyspindle` itself doesn't call, as tools/uncalled.txt lists them.
 
-Such an item gets an attribute, and so do the imports of it and those that it alone needs. Of an enum rustc is told which variants
-nothing makes. What nobody calls is left out. No expression is changed."""
+A listed item gets an attribute that compiles it only for the programs. The imports of the item, and those that only the item needs,
+get it too. For an enum, an attribute tells rustc which variants are never created. An item that nothing calls is left out. No
+expression is changed.
+"""
 
 import re
 import sys
@@ -10,16 +12,17 @@ from pathlib import Path
 from typing import NamedTuple
 
 LIST = Path(__file__).resolve().parent / "uncalled.txt"
+CRATE = re.compile(r"(\w+)/ with (\w+(?: or \w+)*)")
 ENTRY = re.compile(r"(- )?(\S+) (\*|impl \w+ for \w+|\w+|\w+::\w+|\w+::\{\w+(?:, \w+)*\}): (\S.*)")
 
-# What is written before an item, and before an enum.
+# The attributes that are written before an item, and before an enum.
 ATTRIBUTE = '#[cfg(feature = "rendered")]\n'
 EXPECTATION = '#[cfg_attr(not(feature = "rendered"), expect(dead_code, reason = "{why}"))]\n'
 
-# An import: from where, and the one name or the several.
+# An import: its path, and the one name or the several names.
 USE = re.compile(r"^(pub(?:\(crate\))? |)use ([\w:]+)::(?:(\w+)|\{([\w,\s]+)\});\n", re.M)
 
-# How long a line of imports is at most.
+# The largest width of a line of imports.
 WIDTH = 100
 
 
@@ -35,10 +38,18 @@ def fail(what):
     sys.exit(f"render: tools/uncalled.txt: {what}")
 
 
+def features():
+    """Returns the features with which crates are compiled that aren't always compiled, by crate."""
+    found = map(CRATE.fullmatch, LIST.read_text().split("\n"))
+    return {crate[1]: crate[2].split(" or ") for crate in found if crate}
+
+
 def listed():
-    """The entries of the list."""
+    """Returns the entries of the list."""
     entries = []
     for line in LIST.read_text().split("\n"):
+        if CRATE.fullmatch(line):
+            continue
         entry = ENTRY.fullmatch(line)
         if entry and not (entry[1] and re.search(r"[*{]", entry[3])):
             entries.append(Entry(entry[2], entry[3], entry[4], bool(entry[1])))
@@ -48,12 +59,12 @@ def listed():
 
 
 def front_of(text, at, form):
-    """Where the lines of this form begin that stand before the line at this place."""
+    """Returns the start of the lines of this form directly before the line at `at`."""
     return re.search(rf"(?:^{form}\n)*\Z", text[:at], re.M).start()
 
 
 def span_of(text, entry):
-    """Where the entry's function, struct or impl begins, with its attributes, and where it ends, by the layout of its file."""
+    """Returns the start of the entry's function, struct or impl, with its attributes, and its end, by the layout of its file."""
     trait = re.fullmatch(r"impl (\w+) for (\w+)", entry.item)
     if trait:
         found = re.search(rf"^impl(?:<[^{{]*?>)? {trait[1]} for {trait[2]}(?:<[^{{]*?>)? \{{\n", text, re.M)
@@ -71,14 +82,15 @@ def span_of(text, entry):
 
 
 def without(text, entry):
-    """The text without the entry's function and its documentation; of two empty lines that meet, one stays."""
+    """Returns the text without the entry's function and its documentation. Of two empty lines that then meet, one is kept."""
     start, end = span_of(text, entry)
     front, back = text[:front_of(text, start, " *///.*")], text[end:]
     return front.removesuffix("\n") + back if front.endswith("\n\n") else front + back.removeprefix("\n")
 
 
 def with_expectation(text, entry):
-    """The text in which rustc expects that nothing makes these variants of an enum, and says so where it is otherwise."""
+    """Returns the text with an attribute by which rustc expects that these variants of an enum are never created, and reports if
+    they are."""
     name, variants = re.fullmatch(r"(\w+)::\{(.*)\}", entry.item).groups()
     found = re.search(rf"^(?:pub )?enum {name} \{{\n((?:(?!\}}).*\n)*)", text, re.M)
     if not found or not set(variants.split(", ")) <= set(re.findall(r"^    (\w+)", found[1], re.M)):
@@ -88,7 +100,7 @@ def with_expectation(text, entry):
 
 
 def import_of(visibility, path, names):
-    """The import of these names, laid out as the sources have them."""
+    """Returns the import of these names, laid out as in the sources."""
     line = f"{visibility}use {path}::{names[0] if len(names) == 1 else '{' + ', '.join(names) + '}'};\n"
     if len(line) <= WIDTH:
         return line
@@ -97,7 +109,8 @@ def import_of(visibility, path, names):
 
 
 def with_imports(text, is_apart, is_left_out):
-    """The text in which imports stand apart of which that holds, and without those that are left out."""
+    """Returns the text with separate imports for the names for which `is_apart` holds, and without the imports that are left
+    out."""
     def parted(use):
         visibility, path, one, several = use.groups()
         names = [one] if one else re.findall(r"\w+", several)
@@ -116,7 +129,7 @@ def words_of(code):
 
 
 class Uncalled:
-    """The list, and what it makes of rendered files, which are given by name."""
+    """The list of items, and its application to rendered files, which are given by name."""
 
     def __init__(self):
         self.entries = listed()
@@ -124,13 +137,26 @@ class Uncalled:
         self.apart = {(entry.file, entry.item) for entry in self.entries if not entry.is_left_out}
         self.left_out = {(entry.file.split("/")[0], entry.item) for entry in self.entries if entry.is_left_out}
 
+    def modules(self, names):
+        """Returns the declarations of the modules of these crates."""
+        by_feature = features()
+        for unknown in by_feature.keys() - set(names):
+            fail(f"no crate {unknown}")
+        lines = []
+        for name in names:
+            feature = [f'feature = "{it}"' for it in by_feature.get(name, [])]
+            if feature:
+                lines.append(f"#[cfg({feature[0] if len(feature) == 1 else 'any(' + ', '.join(feature) + ')'})]\n")
+            lines.append(f"pub mod {name};\n")
+        return "".join(lines)
+
     def is_left_out(self, path, name):
-        """Whether the import is of what is left out, by its module or by its crate."""
+        """Whether the import is of an item that is left out, by its module or by its crate."""
         crate = re.match(r"(?:crate::)?(\w+)", path)[1]
         return (crate, name) in self.left_out
 
     def parted(self, name, text):
-        """The file of the core."""
+        """Returns the changed file of the core."""
         here = [entry for entry in self.entries if entry.file == name and entry.item != "*"]
         for entry in here:
             if entry.is_left_out:
@@ -155,7 +181,7 @@ class Uncalled:
         return with_imports(self.with_modules(name, text), is_apart, self.is_left_out)
 
     def with_modules(self, name, text):
-        """The file in which modules stand apart that are listed as a whole."""
+        """Returns the file with separate declarations of the modules that are listed as a whole."""
         folder = name.removesuffix("mod.rs")
         for file in self.whole:
             if name.endswith("/mod.rs") and file.startswith(folder):
@@ -166,12 +192,12 @@ class Uncalled:
         return text
 
     def core(self, files):
-        """The files of the core, which have to hold each item that is listed."""
+        """Changes the files of the core, which must contain each listed item."""
         for entry in self.entries:
             if entry.file not in files:
                 fail(f"{entry.file} isn't rendered")
         return {name: self.parted(name, text) for name, text in files.items()}
 
     def above(self, files):
-        """The files above it, which import nothing that is left out."""
+        """Changes the files above the core, which must not import an item that is left out."""
         return {name: with_imports(text, lambda *_: False, self.is_left_out) for name, text in files.items()}

@@ -1,1 +1,1 @@
-"""What bench/run does, part by part."""
+"""The parts of the program bench/run."""

@@ -1,36 +1,45 @@
-"""Builds the driver, and asks it what there is to run."""
+"""Builds the benchmark driver, and asks it for its corpora and works."""
 import collections
 import glob
 import os
+import re
 import subprocess
 
 BENCH = os.path.dirname(os.path.dirname(os.path.abspath(__file__)))
 TOP = os.path.dirname(BENCH)
 DRIVER = os.path.join(BENCH, 'driver')
 BUILD = os.path.join(DRIVER, 'target')
-# rustc's own lexer, in Debian's rust-src; of what it depends on Debian has no `unic-emoji-char`
+# rustc's own lexer, in Debian's rust-src. It depends on `unic-emoji-char`, which Debian doesn't have.
 LEXER = '/usr/src/rustc-*/compiler/rustc_lexer'
 LEXER_LINES = """[dependencies.rustc_lexer]
 path = "%s"
 [patch.crates-io.unic-emoji-char]
 path = "%s"
 """
-# bytes of a corpus on which the works' sums are compared
+# The size in bytes of the corpora on which the sums of works are compared.
 CHECKED = 100_000
 
-# the forms of corpora that are good texts
+# The forms of corpora that consist of valid text.
 GOOD = ('literals', 'list', 'attributes', 'source')
-# the corpus's form (literals, list, attributes, source, spoiled, hostile; program where a whole
-# program is the work), whose work it is (ours, other), the corpus and the work
+# A row of the driver's list: the form of the corpus (literals, list, attributes, source, spoiled, hostile; `program` if a whole
+# program is measured), the owner of the work (ours, other), the corpus and the work.
 Row = collections.namedtuple('Row', 'form whose corpus work')
 
 
 def output(command, **more):
+    """Returns the output of a command."""
     return subprocess.run(command, check=True, capture_output=True, text=True, **more).stdout
 
 
+def callgrind(command, data=b'', tool=()):
+    """Returns the instructions of a whole run of the command with this input, and its output."""
+    words = ['valgrind', '--tool=callgrind', '--callgrind-out-file=/dev/null', *tool, *command]
+    run = subprocess.run(words, input=data, check=True, capture_output=True)
+    return int(re.search(rb'Collected : (\d+)', run.stderr)[1]), run.stdout
+
+
 def dependencies(oracle):
-    """The features of the driver that can be had here, each with what its manifest says of the dependency."""
+    """Iterates over the driver's features whose dependencies are installed, each with the manifest line of the dependency."""
     found = {}
     if oracle:
         found['oracle'] = '[dependencies.synval]\npath = "%s"\n' % os.path.abspath(oracle)
@@ -40,7 +49,7 @@ def dependencies(oracle):
 
 
 def with_dependencies(lines):
-    """A folder with the driver's sources and a manifest that names these dependencies too."""
+    """Creates a folder with the driver's sources, and with a manifest that also has these dependencies."""
     folder = os.path.join(BUILD, 'with_dependencies')
     os.makedirs(folder, exist_ok=True)
     link = os.path.join(folder, 'src')
@@ -54,7 +63,7 @@ def with_dependencies(lines):
 
 
 def driver(oracle):
-    """The path of the built driver, whose works have made the same sums where they have to."""
+    """Builds the driver and returns its path. First checks that the driver's works have equal sums where they must."""
     features = dependencies(oracle)
     folder = with_dependencies(features.values()) if features else DRIVER
     command = ['cargo', 'build', '--release', '--offline', '--quiet', '--target-dir', BUILD]

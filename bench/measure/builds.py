@@ -1,4 +1,4 @@
-"""What building a program that reads a literal takes by each library: processor time, and bytes of code."""
+"""Measures the build of a program that parses a literal, for each library: processor time, and bytes of code."""
 import glob
 import os
 import resource
@@ -6,14 +6,14 @@ import shutil
 import subprocess
 import sys
 
-from measure import build, text
+from measure import build, tables
 
 TABLE = 'Builds'
 FOLDER = os.path.join(build.BUILD, 'builds')
-# how often times are taken
+# The number of times that each time is measured.
 ROUNDS = 3
-# the package, with its default features and without, under the names of bench/limits, and the other libraries, each with how Cargo
-# takes it and what reads a literal
+# The package, with its default features and without, and the other libraries. Each has a name (that of bench/limits for the
+# package), the dependency line for Cargo, and the code that parses a literal.
 OURS = {'package': 'code', 'package, no features': 'code, no features'}
 PATH = os.path.join(build.TOP, 'rust')
 READ = """
@@ -24,9 +24,20 @@ match Lit::parse(&text) {
     Ok(literal) => println!("{}", literal.suffix()),
     Err(error) => println!("{error}"),
 }"""
+SYN = """
+use syn::Lit;
+match syn::parse_str::<Lit>(&text) {
+    Ok(Lit::Int(literal)) => println!("{:?}", literal.base10_parse::<u64>().ok()),
+    Ok(Lit::Str(literal)) => println!("{}", literal.value()),
+    Ok(literal) => println!("{}", literal.suffix()),
+    Err(error) => println!("{error}"),
+}"""
 LIBRARIES = {
     'package': ('navyspindle = { path = "%s" }' % PATH, READ),
     'package, no features': ('navyspindle = { path = "%s", default-features = false }' % PATH, READ),
+    'package, proc-macro': ('navyspindle = { path = "%s", default-features = false, features = ["proc-macro"] }' % PATH, READ),
+    'package, proc-macro, settings': (
+        'navyspindle = { path = "%s", default-features = false, features = ["proc-macro", "settings"] }' % PATH, READ),
     'litrs': ('litrs = { version = "0.2", default-features = false }', """
 use litrs::Literal;
 match Literal::parse(&*text) {
@@ -35,14 +46,9 @@ match Literal::parse(&*text) {
     Ok(literal) => println!("{literal}"),
     Err(error) => println!("{error}"),
 }"""),
-    'syn': ('syn = { version = "1", default-features = false, features = ["parsing"] }', """
-use syn::Lit;
-match syn::parse_str::<Lit>(&text) {
-    Ok(Lit::Int(literal)) => println!("{:?}", literal.base10_parse::<u64>().ok()),
-    Ok(Lit::Str(literal)) => println!("{}", literal.value()),
-    Ok(literal) => println!("{}", literal.suffix()),
-    Err(error) => println!("{error}"),
-}"""),
+    'syn': ('syn = { version = "1", default-features = false, features = ["parsing"] }', SYN),
+    'syn, proc-macro, printing': (
+        'syn = { version = "1", default-features = false, features = ["parsing", "printing", "proc-macro"] }', SYN),
 }
 PROGRAM = """fn main() {
     let text = std::env::args().nth(1).unwrap_or_default();
@@ -57,7 +63,8 @@ edition = "2021"
 %s
 [workspace]
 """
-# how each way of building is named, what Cargo is told besides, and its folder; a macro of a release build isn't optimized either
+# The ways of building: each has a name, further arguments for Cargo, and a folder. A macro in a release build isn't optimized
+# either.
 WAYS = {
     'dev': ([], {}, 'debug'),
     'macros of a release build': ([], {'CARGO_PROFILE_DEV_DEBUG_ASSERTIONS': 'false', 'CARGO_PROFILE_DEV_OVERFLOW_CHECKS': 'false'}, 'debug'),
@@ -66,7 +73,7 @@ WAYS = {
 
 
 def program(name):
-    """The folder of the program by this library."""
+    """Creates the folder of the program that uses this library."""
     folder = os.path.join(FOLDER, name)
     dependency, body = LIBRARIES[name]
     os.makedirs(os.path.join(folder, 'src'), exist_ok=True)
@@ -78,7 +85,8 @@ def program(name):
 
 
 def built(name, way):
-    """The processor time of building the program and its libraries from nothing, and the libraries' bytes of code."""
+    """Returns the processor time of a build of the program and its libraries from an empty folder, and the bytes of code of the
+    libraries."""
     words, environment, profile = WAYS[way]
     target = os.path.join(program(name), 'target')
     shutil.rmtree(target, ignore_errors=True)
@@ -86,18 +94,18 @@ def built(name, way):
     command = ['cargo', 'build', '--offline', '--quiet', *words]
     subprocess.run(command, cwd=program(name), check=True, env={**os.environ, **environment})
     spent = resource.getrusage(resource.RUSAGE_CHILDREN).ru_utime - before
-    # Of build scripts nothing is counted.
+    # The code of build scripts isn't counted.
     return spent, sum(map(code_of, glob.glob(os.path.join(target, profile, 'deps/*.rlib'))))
 
 
 def code_of(path):
-    """The bytes of code of a library, as `size` counts its objects' texts."""
+    """Returns the bytes of code of a library, as `size` counts them in its object files."""
     lines = build.output(['size', path]).splitlines()[1:]
     return sum(int(line.split()[0]) for line in lines)
 
 
 def there():
-    """The libraries that can be had here."""
+    """Returns the libraries that are installed."""
     found = []
     for name in LIBRARIES:
         command = ['cargo', 'metadata', '--offline', '--quiet', '--format-version', '1']
@@ -111,19 +119,19 @@ def there():
 def print_table():
     note = 'Processor seconds of a program that reads a literal and of its libraries, from nothing, the least of %d rounds in '
     note += 'which they take turns; bytes of code of the libraries.'
-    text.begin(TABLE, ('Library', 'built for', 'seconds', 'bytes'), note % ROUNDS)
+    tables.begin(TABLE, ('Library', 'built for', 'seconds', 'bytes'), note % ROUNDS)
     names = there()
     for way in WAYS:
         rounds = [{name: built(name, way) for name in names} for _ in range(ROUNDS)]
         for name in names:
-            text.row(name, way, '%.1f' % min(each[name][0] for each in rounds), str(rounds[0][name][1]))
+            tables.row(name, way, '%.1f' % min(each[name][0] for each in rounds), str(rounds[0][name][1]))
 
 
 def sizes(rows):
-    """The package's bytes of code by way, of the table's rows."""
+    """Returns the package's bytes of code for each way of building, from the rows of the table."""
     return {(OURS[name], way): int(size) for name, way, _, size in rows if name in OURS}
 
 
 def counted():
-    """The same, counted now."""
+    """Builds the package, and returns its bytes of code for each way of building."""
     return {(work, way): built(name, way)[1] for name, work in OURS.items() for way in WAYS}

@@ -1,17 +1,18 @@
-"""The limits: for each corpus and work of ours the instructions a byte that it may take, and the lowest that these were. Rows of
-`code` are bytes of code of the Cargo package, by what it is built for."""
+"""The limits of bench/limits: for each corpus and each work of the package, the instructions per byte that it may take, and the
+lowest value that it had. The rows `code` are the bytes of code of the Cargo package, for each way of building."""
 import os
 
 from measure import build, builds, counts, sources
 
 PATH = os.path.join(build.BENCH, 'limits')
 HEAD = '# corpus, work, the instructions a byte that it may take, and the lowest that these were; of `code` bytes (bench/run --new-limits)\n'
-# two per cent above what was reached
+# A limit is two per cent above the measured value.
 ROOM = 1.02
 
 
 def write(taken, rows, sizes):
-    """Writes the limits anew, and prints each that is above the lowest that it was: docs/PERFORMANCE.md says how many these are."""
+    """Writes the limits again, and prints each that is above its lowest value. docs/PERFORMANCE.md has the number of these
+    limits."""
     taken = {**taken, **{name: [size] for name, size in sizes.items()}}
     ours, was = {(row.corpus, row.work) for row in rows if row.whose == 'ours'} | set(sizes), read_all()
     with open(PATH, 'w') as file:
@@ -27,7 +28,7 @@ def write(taken, rows, sizes):
 
 
 def read_all():
-    """The limit of each row, and the lowest that it was."""
+    """Returns the limit of each row, and the lowest value that it had."""
     with open(PATH) as file:
         lines = [line.rstrip('\n').split('\t') for line in file if not line.startswith('# ')]
     return {(corpus, work): (float(most), float(lowest)) for corpus, work, most, lowest in lines}
@@ -38,8 +39,8 @@ def read():
 
 
 def check(driver, jobs, rows, corpus):
-    """Prints each row of ours that is past its limit or has none, and each limit of no row; of one
-    corpus where one is named."""
+    """Prints each row of the package that exceeds its limit or has none, and each limit without a row. If `corpus` is given, only
+    its rows are checked."""
     ours = [row for row in rows if row.whose == 'ours']
     most = {name: limit for name, limit in read().items() if corpus in (None, name[0])}
     if sources.CORPUS not in {row.corpus for row in rows}:

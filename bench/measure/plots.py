@@ -1,4 +1,4 @@
-"""The pictures, from bench/results.tsv."""
+"""Draws the charts of docs/PERFORMANCE.md from bench/results.tsv."""
 import os
 import sys
 
@@ -11,18 +11,18 @@ BESIDE = (
     (('package',), ('litrs, borrowed', 'litrs', 'syn')),
     ((), ("rustc's lexer", 'proc-macro2', 'proc-macro2 and syn', 'UTF-8')),
 )
-# nothing of the day or the machine goes into the files
+# The image files have no date and no data about the machine.
 PLAIN = {'metadata': {'Software': None}, 'dpi': 100}
 
 
 def corpora(taken):
-    """The corpora on which another library runs too."""
+    """Returns the corpora on which another library runs too."""
     others = {corpus for corpus, work in taken if work not in OURS}
     return [corpus for corpus in dict.fromkeys(corpus for corpus, _ in taken) if corpus in others]
 
 
 def bars(axes, taken, corpus):
-    """The works of one corpus, a bar each."""
+    """Draws a bar for each work on a corpus."""
     names = [work for ours, theirs in BESIDE for work in ours + theirs if (corpus, work) in taken]
     names = [work for work in OF_SOURCES if (corpus, work) in taken] + names
     each = [taken[corpus, work][0] for work in names]
@@ -40,7 +40,7 @@ def bars(axes, taken, corpus):
 
 
 def speed(pyplot, taken, path):
-    """Ours beside the others, a panel for each corpus."""
+    """Draws the package beside the other libraries, in a panel for each corpus."""
     names = corpora(taken)
     count = -(-len(names) // 3)
     rows = {'height_ratios': [0.12] + [1] * count}
@@ -59,7 +59,7 @@ def speed(pyplot, taken, path):
 
 
 def speeds(pyplot, found, path):
-    """The megabytes a second of whole sources, a bar each."""
+    """Draws a bar for the megabytes per second of each program or library on whole sources."""
     figure, axes = pyplot.subplots(figsize=(8, 0.5 + 0.42 * len(found)), layout='constrained')
     names, each = list(found), list(found.values())
     colours = [COLOURS[name in OURS] for name in names]

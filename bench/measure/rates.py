@@ -1,22 +1,18 @@
-"""How fast whole sources are read, in megabytes a second: by this repository, and by other
-libraries and programs."""
+"""Measures megabytes per second on whole sources: of this repository's programs, and of other libraries and programs."""
 import collections
 import os
 import shutil
 import sys
 import tempfile
 
-from measure import build, sources, text, times
+from measure import build, sources, tables
 
-# more bytes than the files of the core library have: all of them
+# A size above that of all files of the core library together, so that all of them are used.
 ALL = 100_000_000
-# the corpus's bytes, and the least processor time in seconds
+# The size of the corpus in bytes, and the least processor time in seconds.
 Rate = collections.namedtuple('Rate', 'bytes seconds')
-# what each does with the text; all but ripgrep test too that it is UTF-8
+# The description of each work and program. All except ripgrep also check that the text is UTF-8.
 WORKS = {
-    'source': 'the cursor `Sources`: cuts off every token',
-    'next_literal': 'the cursor `Sources::next_literal`: cuts off each literal',
-    'restylables': 'the cursor `Restylables`: each literal, and whether it stands in a macro call',
     'package': 'the package, `source`: cuts off each literal and reads it',
     'rl_scan': 'the program: reads each literal and prints its line',
     "rustc's lexer": 'cuts off every token, white space and comments too (of `rust-src`)',
@@ -28,7 +24,7 @@ PROGRAMS = {'rl_scan': [sources.PATH], 'ripgrep': ['rg', '--no-config', '--count
 
 
 def programs(rows):
-    """The programs that are here; of the others it is said that they aren't."""
+    """Returns the installed programs, and prints a message for each other one."""
     here = {'ripgrep': shutil.which('rg'), 'rl_scan': any(row.work == 'rl_scan' for row in rows)}
     for name in PROGRAMS:
         if not here[name]:
@@ -37,7 +33,7 @@ def programs(rows):
 
 
 def spent(name, cpu, path):
-    """The processor time of a program on this input, from its start to its end, in seconds."""
+    """Returns the processor time of a whole run of a program on this input, in seconds."""
     command = ['taskset', '-c', str(cpu), *PROGRAMS[name]]
     streams = [(os.POSIX_SPAWN_OPEN, 0, path, os.O_RDONLY, 0),
                (os.POSIX_SPAWN_OPEN, 1, os.devnull, os.O_WRONLY, 0)]
@@ -49,15 +45,17 @@ def spent(name, cpu, path):
 
 
 def one_round(driver, cpu, rows, names, path):
-    """The seconds of each work and each program."""
-    works = [row for row in rows if row.form == 'source']
-    found = {row.work: times.taken(driver, cpu, row, ALL)[2] / 1e6 for row in works}
+    """Returns the seconds of each work and each program in one round."""
+    found = {}
+    for row in (row for row in rows if row.form == 'source'):
+        printed = build.output(['taskset', '-c', str(cpu), driver, 'time', row.corpus, row.work, str(ALL)])
+        found[row.work] = int(printed.split()[2]) / 1e6
     return found | {name: spent(name, cpu, path) for name in names}
 
 
 def least(driver, cpu, rounds, rows):
-    """The rate of each work and each program, the fastest first. They take turns."""
-    whole = build.output([driver, 'text', sources.CORPUS, str(ALL)]).encode()
+    """Measures in rounds, in which works and programs take turns. Returns the rate of each, the fastest first."""
+    whole = sources.text(driver, ALL)
     names = programs(rows)
     with tempfile.NamedTemporaryFile() as file:
         file.write(whole)
@@ -74,11 +72,11 @@ def print_table(driver, cpu, rounds, rows):
     found = least(driver, cpu, rounds, rows)
     note = "On the core library's %d bytes, by processor time, the least of %d rounds in which all "
     note += 'take turns, each in a process of its own.'
-    text.begin('Rates', ('work', 'MB a second', 'ms', 'what it does'), note % (found[0][1].bytes, rounds))
+    tables.begin('Rates', ('work', 'MB a second', 'ms', 'what it does'), note % (found[0][1].bytes, rounds))
     for name, (size, seconds) in found:
-        text.row(name, '%.0f' % (size / seconds / 1e6), '%.1f' % (1000 * seconds), WORKS[name])
+        tables.row(name, '%.0f' % (size / seconds / 1e6), '%.1f' % (1000 * seconds), WORKS[name])
 
 
 def read(rows):
-    """The megabytes a second of each row, of the rows of the results."""
+    """Returns the megabytes per second of each row, from the stored results."""
     return {name: int(rate) for name, rate, *_ in rows}

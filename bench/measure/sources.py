@@ -1,14 +1,12 @@
-"""Files of Rust, and the whole program that prints their literals."""
+"""The Rust source files of the benchmarks, and the work of the program that prints their literals."""
 import glob
 import os
-import re
 import subprocess
 import sys
-import tempfile
 
 from measure import build
 
-# Debian's rust-src
+# The core library in Debian's rust-src.
 FOLDERS = '/usr/src/rustc-*/library/core/src'
 CORPUS = 'rust sources'
 CORPORA = (CORPUS, 'literals of ' + CORPUS)
@@ -17,7 +15,7 @@ PATH = os.path.join(build.TOP, 'crates', PROGRAM, 'out', PROGRAM)
 
 
 def find():
-    """Tells the driver where the files are; false where they aren't there, which is said."""
+    """Passes the folder of the sources to the driver. If there is no such folder, prints a message and returns False."""
     found = sorted(glob.glob(FOLDERS))
     if found:
         os.environ['BENCH_SOURCES'] = found[-1]
@@ -33,18 +31,10 @@ def build_program():
 
 
 def rows():
-    """The row of the whole program."""
+    """Returns the row of the program that prints the literals of whole sources."""
     return [build.Row('program', 'ours', CORPUS, PROGRAM)]
 
 
-def instructions(driver, size, out):
-    """The corpus's bytes, and what the program takes on it from its start to its end."""
-    command = [driver, 'text', CORPUS, str(size)]
-    text = subprocess.run(command, check=True, capture_output=True).stdout
-    with tempfile.TemporaryFile() as file:
-        file.write(text)
-        file.seek(0)
-        command = ['valgrind', '--tool=callgrind', '--callgrind-out-file=' + out, PATH]
-        run = subprocess.run(command, check=True, stdin=file, stdout=subprocess.DEVNULL,
-                             stderr=subprocess.PIPE, text=True)
-    return len(text), int(re.search(r'Collected : (\d+)', run.stderr)[1])
+def text(driver, size):
+    """Returns the sources as one text of about this many bytes."""
+    return subprocess.run([driver, 'text', CORPUS, str(size)], check=True, capture_output=True).stdout

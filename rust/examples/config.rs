@@ -1,4 +1,4 @@
-//! Reads a server's settings from a file of lines `NAME = LITERAL`, of the names `host`, `port` and `verbose`:
+//! Reads a server's settings from a file with lines `NAME = LITERAL`. The names are `host`, `port` and `verbose`:
 //! `cargo run --example config FILE`
 
 use navyspindle::{Key, LineIndex, SettingError, Settings};
@@ -10,7 +10,7 @@ const HOST: Key = Key::new("host", "a string");
 const PORT: Key = Key::new("port", "an integer from 0 to 65535");
 const VERBOSE: Key = Key::new("verbose", "true or false");
 
-/// The settings, which only `Debug` reads here.
+/// The server's settings. This example only prints them, with `Debug`.
 #[allow(dead_code)]
 #[derive(Debug)]
 struct Config {
@@ -19,25 +19,30 @@ struct Config {
     verbose: bool,
 }
 
-/// The settings of a text, of which the host has to be set.
+/// Reads the settings of a text. The setting `host` is required.
 fn read(text: &str) -> Result<Config, SettingError> {
     let settings = Settings::read_config(text)?;
     settings.check(&[HOST, PORT, VERBOSE])?;
     let host = settings.string(HOST)?;
     Ok(Config {
-        host: host.ok_or_else(|| settings.missing(HOST))?.into_owned(),
+        host: host
+            .ok_or_else(|| settings.missing_error(HOST))?
+            .into_owned(),
         port: settings.number(PORT)?.unwrap_or(8080),
-        verbose: settings.truth(VERBOSE)?.unwrap_or(false),
+        verbose: settings.bool(VERBOSE)?.unwrap_or(false),
     })
 }
 
-/// The settings of the file that the command line names.
+/// Reads the settings of the file that the command line names.
 fn config() -> Result<Config, Box<dyn Error>> {
     let name = env::args().nth(1).ok_or("usage: config FILE")?;
     let text = fs::read_to_string(&name).map_err(|error| format!("{name}: {error}"))?;
     read(&text).map_err(|error| {
         let place = LineIndex::new(&text).line_column(error.range().start);
-        format!("{name}:{place}: {}", error.kind()).into()
+        let help = error
+            .help()
+            .map_or(String::new(), |help| format!(": {help}"));
+        format!("{name}:{place}: {}{help}", error.kind()).into()
     })
 }
 

@@ -1,16 +1,16 @@
-//! Prints Rust files with their literals in one style: `cargo run --example format FILE..`. All else stays, byte for byte.
+//! Prints Rust files with their literals in one style: `cargo run --example format FILE..`. All other bytes stay unchanged.
 
-use navyspindle::{restyle, Case, Style};
+use navyspindle::{rewrite_source, Case, Style};
 use std::process::ExitCode;
 use std::{env, fs};
 
-/// Hexadecimal digits and exponents in lower case, and raw strings with the fewest `#`.
+/// The style: hexadecimal digits and exponents in lower case, and raw strings with the fewest `#`.
 const STYLE: Style = Style::new()
     .hex_digits(Case::Lower)
     .exponent_letter(Case::Lower)
     .fewest_hashes(true);
 
-/// Prints a file in the style, or why not, and says whether it did.
+/// Prints a file in the style, or an error message. Returns whether it printed the file.
 fn print(name: &str) -> bool {
     let text = match fs::read_to_string(name) {
         Ok(text) => text,
@@ -19,7 +19,7 @@ fn print(name: &str) -> bool {
             return false;
         }
     };
-    let written = restyle(&text, STYLE).apply();
+    let written = rewrite_source(&text, STYLE).apply();
     match &written {
         Ok(written) => print!("{written}"),
         Err(error) => eprintln!("{name}: {error}"),

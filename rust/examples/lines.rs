@@ -1,14 +1,16 @@
-//! Prints for each line, a command and a text's bytes in hexadecimal, what `rl_rows` does under `text`, `value`, `strict` and `attr`,
-//! and under `places` an answer of `tools/places_model.py`. So the package is held against what other programs say.
+//! Prints the package's result for each line of standard input, so that scripts can compare the package with other programs.
+//!
+//! A line is a command and the bytes of a text in hexadecimal. For `text`, `value`, `strict` and `attr` the output is that of
+//! `rl_rows` for the same command. For `places` it has the form that `oracle/places.py` compares.
 
 use navyspindle::{
-    is_token, settings, write_byte, write_byte_str, write_char, write_str, Lit, Segment,
+    is_token, parse_settings, write_byte, write_byte_str, write_char, write_str, Lit, Segment,
     SegmentValue, SyntaxErrorKind,
 };
 use std::borrow::Cow;
 use std::io::{self, BufWriter, Write};
 
-/// The bytes that pairs of hexadecimal digits stand for.
+/// Decodes pairs of hexadecimal digits to bytes.
 fn decoded(digits: &str) -> Option<Vec<u8>> {
     (0..digits.len())
         .step_by(2)
@@ -16,7 +18,7 @@ fn decoded(digits: &str) -> Option<Vec<u8>> {
         .collect()
 }
 
-/// A suffix as the lines have it: itself where it is an identifier, else as a string literal.
+/// Returns a suffix as the output shows it: unchanged if it is an identifier, otherwise as a string literal.
 fn suffix_of(suffix: &str) -> String {
     match suffix {
         "" => "-".to_owned(),
@@ -26,7 +28,7 @@ fn suffix_of(suffix: &str) -> String {
     }
 }
 
-/// The line of a literal.
+/// Returns the output line of a literal.
 fn line_of(literal: &Lit) -> String {
     let contents = match literal {
         Lit::Str(string) => write_str(&string.value()),
@@ -46,9 +48,9 @@ fn line_of(literal: &Lit) -> String {
     )
 }
 
-/// The lines of a text's settings, or of its error, and one with a point.
+/// Returns the output lines of a text's settings, or of its error. The last line is a full stop.
 fn settings_of(text: &str) -> String {
-    let lines = match settings(text) {
+    let lines = match parse_settings(text) {
         Ok(entries) => {
             let line =
                 |entry: &navyspindle::Entry| format!("{} {}\n", entry.name, line_of(&entry.value));
@@ -65,7 +67,8 @@ fn settings_of(text: &str) -> String {
     lines + "."
 }
 
-/// What the programs say of an error of the lexer, at the byte where it stands.
+/// Returns the message of `rl_rows` for an error of the lexer, which `rl_rows` reports at a single byte offset. Returns `None` for
+/// any other error.
 fn lexer_words(kind: SyntaxErrorKind) -> Option<&'static str> {
     Some(match kind {
         SyntaxErrorKind::DocComment => "doc comment is not carried",
@@ -81,15 +84,15 @@ fn lexer_words(kind: SyntaxErrorKind) -> Option<&'static str> {
     })
 }
 
-/// The segments and places of a quoted literal, in one line of JSON.
+/// Returns the segments of a quoted literal, and the range for each byte of its value, as one line of JSON.
 fn places_of(text: &str) -> String {
     let literal = Lit::new(text);
     let (segments, places, len) = match &literal {
-        Lit::Str(it) => (it.segments(), it.places(), it.value().len()),
-        Lit::ByteStr(it) => (it.segments(), it.places(), it.value().len()),
-        Lit::CStr(it) => (it.segments(), it.places(), it.value().len()),
-        Lit::Byte(it) => (it.segments(), it.places(), 1),
-        Lit::Char(it) => (it.segments(), it.places(), it.value().len_utf8()),
+        Lit::Str(it) => (it.segments(), it.offset_map(), it.value().len()),
+        Lit::ByteStr(it) => (it.segments(), it.offset_map(), it.value().len()),
+        Lit::CStr(it) => (it.segments(), it.offset_map(), it.value().len()),
+        Lit::Byte(it) => (it.segments(), it.offset_map(), 1),
+        Lit::Char(it) => (it.segments(), it.offset_map(), it.value().len_utf8()),
         _ => {
             let text = encoded(text);
             return format!(r#"{{"text": "{text}", "segments": null, "places": null}}"#);
@@ -105,7 +108,7 @@ fn places_of(text: &str) -> String {
         format!("[{}, {}, {value}]", it.range.start, it.range.end)
     };
     let place = |byte| {
-        let range = places.byte(byte);
+        let range = places.byte_range(byte);
         format!("[{}, {}]", range.start, range.end)
     };
     let segments: Vec<String> = segments.map(segment).collect();
@@ -114,12 +117,12 @@ fn places_of(text: &str) -> String {
     format!(r#"{{"text": "{text}", "segments": [{segments}], "places": [{places}]}}"#)
 }
 
-/// The bytes of a text in hexadecimal.
+/// Encodes the bytes of a text in hexadecimal.
 fn encoded(text: &str) -> String {
     text.bytes().map(|byte| format!("{byte:02x}")).collect()
 }
 
-/// What is borrowed from a text as a literal, as a byte string; `None` where nothing is.
+/// Returns the value that a literal borrows from its text, as a byte string literal, or `None` as text if it borrows nothing.
 fn borrowed_of(text: &str) -> String {
     let literal = Lit::new(text);
     let bytes = match &literal {

@@ -1,11 +1,11 @@
-//! Reports the literals of Rust files that Rust rejects, each with the reason and its place, and quotes or comments that are left
-//! open, as compilers do: `cargo run --example lint FILE..` ends with status 1 where it reported one.
+//! Reports the literals of Rust files that Rust rejects, and quotes and comments that aren't closed. Each report has a reason and a
+//! position, as compilers print them: `cargo run --example lint FILE..`. The exit status is 1 if there was a report.
 
 use navyspindle::{source, LineIndex};
 use std::process::ExitCode;
 use std::{env, fs};
 
-/// A text with escapes for its control characters, which a terminal would obey.
+/// Returns a text with escapes for its control characters, which would affect a terminal.
 fn visible(text: &str) -> String {
     let shown = |c: char| match c.is_control() {
         true => c.escape_default().to_string(),
@@ -14,24 +14,21 @@ fn visible(text: &str) -> String {
     text.chars().map(shown).collect()
 }
 
-/// The byte of each thing that is wrong in a text, and what it is.
+/// Returns the byte offset and the message of each error in a text.
 fn findings(text: &str) -> Vec<(usize, String)> {
     source(text)
         .filter_map(|item| match item {
             Ok((bytes, literal)) => {
                 let error = literal.check().err()?;
                 let at = bytes.start + error.range().start;
-                Some((
-                    at,
-                    format!("{}: {}", error.kind(), visible(&literal.to_string())),
-                ))
+                Some((at, format!("{}: {}", error.kind(), visible(literal.text()))))
             }
-            Err(error) => Some((error.at(), error.kind().to_string())),
+            Err(error) => Some((error.offset(), error.kind().to_string())),
         })
         .collect()
 }
 
-/// The lines of what is wrong in a file.
+/// Returns a line of output for each error in a file.
 fn lines_of(name: &str) -> Vec<String> {
     let text = match fs::read_to_string(name) {
         Ok(text) => text,

@@ -1,4 +1,5 @@
-//! Reads texts as literals, or says why one is none: `cargo run --example reason 0x1F '"a\qb"' 0b102`
+//! Parses each argument as a literal, and prints the literal or the reason why it isn't one:
+//! `cargo run --example reason 0x1F '"a\qb"' 0b102`
 
 use navyspindle::Lit;
 use std::env;

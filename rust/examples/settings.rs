@@ -5,7 +5,7 @@ use std::env;
 use std::error::Error;
 use std::process::ExitCode;
 
-/// The literal that an argument is.
+/// Parses the argument `text` as a literal. `name` is the argument's name in the error message.
 fn literal<'t>(name: &str, text: &'t str) -> Result<Lit<'t>, String> {
     Lit::parse(text).map_err(|error| format!("{name} {text}: {error}"))
 }

@@ -1,4 +1,5 @@
-//! Prints every string of Rust files, decoded, each after its file and bytes: `cargo run --example strings FILE..`
+//! Prints the decoded value of every string of Rust files, after the file's name and the string's byte range:
+//! `cargo run --example strings FILE..`
 
 use navyspindle::{source, Lit};
 use std::error::Error;

@@ -1,4 +1,5 @@
-//! Where the C compiler has libgcc's unwinder as an archive, the programs are linked with that, so that a start loads libc alone.
+//! Links the programs with the static library of libgcc's unwinder, if the C compiler has it. Then a program loads only libc when
+//! it starts.
 
 use std::env;
 use std::path::PathBuf;
@@ -17,7 +18,7 @@ fn main() {
     }
 }
 
-/// The folder of `libgcc_eh.a`, where there is one.
+/// Returns the folder of `libgcc_eh.a`, or `None` if the C compiler doesn't have this library.
 fn unwinders_folder() -> Option<PathBuf> {
     let asked = Command::new("cc")
         .arg("-print-file-name=libgcc_eh.a")

@@ -1,18 +1,22 @@
-//! Bytes and characters.
+//! Byte literals and character literals.
 
-use crate::common::{example, literal_type};
-use crate::places::quoted_type;
-use crate::rl_forms::Kind;
-use crate::rl_reading::Body;
+#[cfg(doc)]
+use crate::common::example;
+use crate::common::literal_type;
+use crate::rl_lenient::Body;
+use crate::rl_syntax::Kind;
+use crate::segments::quoted_type;
 use alloc::borrow::Cow;
 use core::ops::Range;
 
-/// The struct of a kind of literals that stand for one value. `$text`, its value, where that is written and the closing apostrophe are
-/// of examples.
+/// Defines the struct of a kind of literals with one value: a byte or a character. The parameters `$text` (a literal), `$of_text`
+/// (its value), `$range` (the range of the text for that value) and `$end` (the offset of the closing apostrophe) are for the
+/// examples.
 macro_rules! single_type {
     ($(#[$doc:meta])* $name:ident, $variant:ident, $value:ident, $what:literal, $text:literal == $of_text:literal,
         $range:literal, $end:literal, $with_suffix:literal) => {
         $(#[$doc])*
+        #[cfg_attr(doc, doc = concat!("\n\nWith the feature `writers`, `", stringify!($name), "::new` writes a value as a literal."))]
         #[derive(Clone)]
         #[repr(C)]
         pub struct $name<'t> {
@@ -27,7 +31,7 @@ macro_rules! single_type {
         impl<'t> $name<'t> {
             const KIND: Kind = Kind::$variant;
 
-            /// The literal of this text; the number is that of its value.
+            /// Creates the literal with this text. `unit` is the literal's value as a number.
             #[inline]
             pub(crate) fn of(text: Cow<'t, str>, suffix_at: usize, unit: u32) -> Self {
                 let value = $value::try_from(unit).expect("the reading holds a value of the kind");
@@ -38,7 +42,7 @@ macro_rules! single_type {
                 }
             }
 
-            /// Where its parts stand: the last apostrophe stands before the suffix.
+            /// Returns the offsets of the literal's parts. The closing apostrophe is the byte before the suffix.
             fn parts(&self) -> Body {
                 Body {
                     lo: Self::KIND.opener().len(),
@@ -48,15 +52,15 @@ macro_rules! single_type {
                 }
             }
 
-            /// What stands between the quotes, as it is written.
-            #[doc = example!($name, $text, "assert_eq!(literal.body(), r\"\\n\");")]
+            /// Returns the text between the quotes, as written.
+            #[cfg_attr(doc, doc = example!($name, $text, "assert_eq!(literal.body(), r\"\\n\");"))]
             #[must_use]
             pub fn body(&self) -> &str {
                 &self.text[self.body_range()]
             }
 
-            /// The bytes of the text between the quotes.
-            #[doc = example!($name, $text, "assert_eq!(literal.body_range(), ", $range, ");")]
+            /// Returns the byte range of the text between the quotes.
+            #[cfg_attr(doc, doc = example!($name, $text, "assert_eq!(literal.body_range(), ", $range, ");"))]
             #[must_use]
             pub fn body_range(&self) -> Range<usize> {
                 let parts = self.parts();
@@ -64,7 +68,7 @@ macro_rules! single_type {
             }
 
             #[doc = $what]
-            #[doc = example!($name, $text, "assert_eq!(literal.value(), ", stringify!($of_text), ");")]
+            #[cfg_attr(doc, doc = example!($name, $text, "assert_eq!(literal.value(), ", stringify!($of_text), ");"))]
             #[inline]
             #[must_use]
             pub fn value(&self) -> $value {
@@ -75,7 +79,7 @@ macro_rules! single_type {
 }
 
 single_type! {
-    /// A byte: `b'a'`.
+    /// A byte literal, such as `b'a'`.
     ///
     /// ```
     /// use navyspindle::LitByte;
@@ -88,7 +92,7 @@ single_type! {
 }
 
 single_type! {
-    /// A character: `'a'`.
+    /// A character literal, such as `'a'`.
     ///
     /// ```
     /// use navyspindle::LitChar;

@@ -1,10 +1,10 @@
-//! What all kinds of literals have in common.
+//! Functions and methods that all kinds of literals share.
 
 use alloc::borrow::Cow;
 use alloc::string::String;
 use core::ops::Range;
 
-/// The part of the text from one byte to another, in the text's own lifetime.
+/// Returns the part of the text between the byte offsets `from` and `to`. A part of borrowed text is borrowed for as long.
 pub(crate) fn part(text: Cow<'_, str>, from: usize, to: usize) -> Cow<'_, str> {
     match text {
         Cow::Borrowed(text) => Cow::Borrowed(&text[from..to]),
@@ -20,10 +20,10 @@ pub(crate) fn owned(text: Cow<'_, str>) -> Cow<'static, str> {
     Cow::Owned(String::from(text))
 }
 
-/// The part of a `Cow` that is its text from one byte on.
+/// Returns the text from the byte offset `suffix_at` to its end.
 #[inline]
 pub(crate) fn suffix_of(text: &str, suffix_at: usize) -> &str {
-    // That most literals have none is asked first: the text's end needs no other test.
+    // Most literals have no suffix, so the empty suffix is tested first. Slicing at the text's end needs no other test.
     let end = text.len();
     if suffix_at == end {
         &text[end..]
@@ -32,7 +32,11 @@ pub(crate) fn suffix_of(text: &str, suffix_at: usize) -> &str {
     }
 }
 
-/// An example: a literal of this struct is read of the text, and what is said of it follows, in parts.
+/// Builds the source text of a documentation example: it parses a literal of struct `$name` from `$text`, and continues with the
+/// assertions in `$said`.
+///
+/// Only rustdoc expands the macro, so a build without documentation is faster.
+#[cfg(doc)]
 macro_rules! example {
     (@literal LitVerbatim, $text:literal) => {
         concat!("use navyspindle::Lit;\n\nlet Lit::Verbatim(literal) = Lit::new(", stringify!($text), ") else { panic!() };\n")
@@ -48,37 +52,39 @@ macro_rules! example {
         )
     };
 }
+#[cfg(doc)]
 pub(crate) use example;
 
-/// What the structs of all kinds have, whose fields are `text` and these. `$text` is of examples.
+/// Writes the methods that the structs of all kinds of literals have. A struct's fields are `text` and those in `$field`. `$text`
+/// is a literal for the examples.
 macro_rules! text_type {
     ($name:ident($($field:ident),*), $text:literal) => {
         impl<'t> $name<'t> {
-            /// The text as it was read.
-            #[doc = $crate::common::example!($name, $text, "assert_eq!(literal.text(), ", stringify!($text), ");")]
+            /// Returns the literal's text as it was read.
+            #[cfg_attr(doc, doc = $crate::common::example!($name, $text, "assert_eq!(literal.text(), ", stringify!($text), ");"))]
             #[inline]
             #[must_use]
             pub fn text(&self) -> &str {
                 &self.text
             }
 
-            /// The text as it was read, in its own lifetime.
-            #[doc = $crate::common::example!(
+            /// Returns the literal's text as it was read. Borrowed text stays borrowed.
+            #[cfg_attr(doc, doc = $crate::common::example!(
                 $name, $text,
                 "let text: std::borrow::Cow<'static, str> = literal.into_text();\nassert_eq!(text, ", stringify!($text), ");"
-            )]
+            ))]
             #[inline]
             #[must_use]
             pub fn into_text(self) -> alloc::borrow::Cow<'t, str> {
                 self.text
             }
 
-            /// The literal with a text of its own.
-            #[doc = $crate::common::example!(
+            /// Returns the literal with its own copy of the text.
+            #[cfg_attr(doc, doc = $crate::common::example!(
                 $name, $text,
                 "let owned: navyspindle::", stringify!($name), "<'static> = literal.into_owned();\n",
                 "assert_eq!(owned.text(), ", stringify!($text), ");"
-            )]
+            ))]
             #[must_use]
             pub fn into_owned(self) -> $name<'static> {
                 $name {
@@ -88,7 +94,7 @@ macro_rules! text_type {
             }
         }
 
-        /// The text. Width and fill are kept.
+        /// Prints the literal's text. Width and fill of the format are applied.
         impl core::fmt::Display for $name<'_> {
             fn fmt(&self, f: &mut core::fmt::Formatter<'_>) -> core::fmt::Result {
                 f.pad(&self.text)
@@ -101,7 +107,7 @@ macro_rules! text_type {
             }
         }
 
-        /// By text, of which all else is one.
+        /// Literals of one kind are equal if their texts are.
         impl PartialEq for $name<'_> {
             fn eq(&self, other: &Self) -> bool {
                 self.text == other.text
@@ -109,6 +115,28 @@ macro_rules! text_type {
         }
 
         impl Eq for $name<'_> {}
+
+        /// Literals of one kind are ordered by their texts.
+        impl Ord for $name<'_> {
+            #[inline]
+            fn cmp(&self, other: &Self) -> core::cmp::Ordering {
+                self.text.cmp(&other.text)
+            }
+        }
+
+        impl PartialOrd for $name<'_> {
+            #[inline]
+            fn partial_cmp(&self, other: &Self) -> Option<core::cmp::Ordering> {
+                Some(self.cmp(other))
+            }
+        }
+
+        impl AsRef<str> for $name<'_> {
+            #[inline]
+            fn as_ref(&self) -> &str {
+                &self.text
+            }
+        }
 
         impl core::hash::Hash for $name<'_> {
             fn hash<H: core::hash::Hasher>(&self, state: &mut H) {
@@ -119,47 +147,48 @@ macro_rules! text_type {
 }
 pub(crate) use text_type;
 
-/// What the structs of Rust's literals have, whose first fields are `text` and `suffix_at` (`repr(C)`), so that they stand at one
-/// place in every variant of `Lit`. `$text` and its suffix are of examples.
+/// Writes the methods of the structs of Rust's literals. Their first fields are `text` and `suffix_at`, and with `repr(C)` these
+/// fields have the same offset in every variant of `Lit`. `$text` and its suffix are for the examples.
 macro_rules! literal_type {
     ($name:ident, $variant:ident($($field:ident),*), $text:literal, $suffix:literal) => {
         $crate::common::text_type!($name(suffix_at, $($field),*), $text);
 
         impl<'t> $name<'t> {
-            /// The literal of this kind that the text is, all of it: as [`Lit::parse`](crate::Lit::parse), but of one kind.
+            /// Parses the whole text as a literal of this kind, by the rules of [`Lit::parse`](crate::Lit::parse).
             ///
             /// # Errors
             ///
-            /// The text is none of Rust's literals, or an integer past 128 bits, or a literal of another kind: which, and
-            /// where.
-            #[doc = $crate::common::example!(
+            /// Returns an error if the text isn't a Rust literal, if it is an integer above 128 bits, or if it is a literal of
+            /// another kind. The error has the reason and its range.
+            #[cfg_attr(doc, doc = $crate::common::example!(
                 $name, $text,
                 "assert_eq!(literal.text(), ", stringify!($text), ");\n",
                 "assert!(", stringify!($name), "::parse(\"word\").is_err());"
-            )]
+            ))]
             #[inline]
             pub fn parse(text: &'t str) -> Result<Self, $crate::ParseError> {
                 $name::try_from(text)
             }
 
-            /// What stands after the literal proper; empty where nothing does.
-            #[doc = $crate::common::example!($name, $text, "assert_eq!(literal.suffix(), ", stringify!($suffix), ");")]
+            /// Returns the literal's suffix, which may be empty.
+            #[cfg_attr(doc, doc = $crate::common::example!($name, $text, "assert_eq!(literal.suffix(), ", stringify!($suffix), ");"))]
             #[inline]
             #[must_use]
             pub fn suffix(&self) -> &str {
                 $crate::common::suffix_of(&self.text, self.suffix_at)
             }
 
-            /// The bytes of the text where its suffix stands; none, at its end, where it has none.
-            #[doc = $crate::common::example!($name, $text, "assert_eq!(&literal.text()[literal.suffix_range()], literal.suffix());")]
+            /// Returns the byte range of the suffix in the literal's text. Without a suffix it is the empty range at the text's
+            /// end.
+            #[cfg_attr(doc, doc = $crate::common::example!($name, $text, "assert_eq!(&literal.text()[literal.suffix_range()], literal.suffix());"))]
             #[inline]
             #[must_use]
             pub fn suffix_range(&self) -> core::ops::Range<usize> {
                 self.suffix_at..self.text.len()
             }
 
-            /// What stands after the literal proper, in the text's own lifetime.
-            #[doc = $crate::common::example!($name, $text, "assert_eq!(literal.into_suffix(), ", stringify!($suffix), ");")]
+            /// Returns the literal's suffix. If the literal's text is borrowed, so is the suffix.
+            #[cfg_attr(doc, doc = $crate::common::example!($name, $text, "assert_eq!(literal.into_suffix(), ", stringify!($suffix), ");"))]
             #[must_use]
             pub fn into_suffix(self) -> alloc::borrow::Cow<'t, str> {
                 let end = self.text.len();
@@ -167,7 +196,7 @@ macro_rules! literal_type {
             }
         }
 
-        /// As `parse`.
+        /// Parses a borrowed text with `parse`. The literal borrows the text.
         impl<'t> TryFrom<&'t str> for $name<'t> {
             type Error = $crate::ParseError;
 
@@ -180,7 +209,7 @@ macro_rules! literal_type {
             }
         }
 
-        /// As `parse`, of a text that is kept.
+        /// Parses a `String` with `parse`. The literal keeps the `String`.
         impl TryFrom<alloc::string::String> for $name<'static> {
             type Error = $crate::ParseError;
 
@@ -192,7 +221,7 @@ macro_rules! literal_type {
             }
         }
 
-        /// As `parse`, with a text of its own.
+        /// Parses a text with `parse`. The literal has its own copy of the text.
         impl core::str::FromStr for $name<'static> {
             type Err = $crate::ParseError;
 
@@ -210,7 +239,7 @@ macro_rules! literal_type {
             }
         }
 
-        /// The literal, where it is of this kind; else it comes back.
+        /// Returns the literal if it is of this kind. Otherwise the error is the unchanged `Lit`.
         impl<'t> TryFrom<$crate::Lit<'t>> for $name<'t> {
             type Error = $crate::Lit<'t>;
 

@@ -1,8 +1,10 @@
-//! Configuration files: settings parted by line ends as well as by commas, under names with dots; and more kinds of values by name.
+//! Configuration files: settings that are separated by line ends or commas, with names that may have dots. Also the methods of
+//! [`Settings`] that return characters, bytes, byte strings and C strings.
 
 use crate::common::shifted;
+use crate::help::Separators;
 use crate::lit::Lit;
-use crate::rl_lexer::{without_mark, Tokens};
+use crate::rl_lexer::{without_byte_order_mark, Tokens};
 use crate::rl_settings::{entry_step, first_error, EntryRejection, EntryStep, NextEntry};
 use crate::setting::{no_such, without_suffix, Key, SettingError, Settings};
 use crate::settings::{entry_of, rejected, Entry, SettingsSyntaxError};
@@ -11,29 +13,35 @@ use alloc::collections::BTreeSet;
 use alloc::ffi::CString;
 use alloc::vec::Vec;
 
-/// The settings of a configuration file, in their order: each a name, `=` and a literal, with a comma or a line end between two.
+/// Returns the settings of a configuration file, in the order of the text. Each setting is a name, `=` and a literal. A comma or a
+/// line end separates two settings.
 ///
-/// A name is an identifier, or some with dots between, as `server.port`, with nothing beside a dot; `server` and `server.port` are
-/// two names, and no two settings have one. After a value stands a comma, or its line ends, or the text: an LF stands before what
-/// comes next, which may be inside a block comment. White space, empty lines and plain comments (`//`, `/* */`) may stand anywhere
-/// between, but not inside names. A byte order mark at the text's front is passed; places count it.
+/// A name is an identifier, or several identifiers with dots between them, such as `server.port`. No white space or comment may be
+/// beside a dot. `server` and `server.port` are different names. No two settings have the same name.
 ///
-/// A value is one literal of Rust, as in [`settings`](crate::settings), with a minus before a number. There are no arrays, no tables
-/// and no comments with `#`: where a file needs those, use the crate `toml`.
+/// A value is followed by a comma, by the end of its line, or by the end of the text. Its line ends if an LF occurs before the next
+/// token; that LF may be inside a block comment. White space, empty lines and plain comments (`//`, `/* */`) may be anywhere
+/// between tokens, but not inside names. A byte order mark at the start of the text is skipped, and byte offsets count it.
+///
+/// A value is one Rust literal, as in [`parse_settings`](crate::parse_settings), with an optional minus before a number. Arrays,
+/// tables and comments with `#` aren't supported. For a file that needs them, use the crate `toml`.
 ///
 /// # Errors
 ///
-/// The first place where the text can't be cut into tokens, or a group isn't closed as it should be; else, from left to right,
-/// what is missed first: a name, one that didn't stand before, `=`, a literal, or a comma where the line goes on. At a dot a name is
-/// missed in three cases. Where white space, a comment or another token is before the dot, the error is at the dot (`a .b`). Where no
-/// identifier follows, it is at what follows, or at the text's end (`a. = 1`). Where white space or a comment is between the dot and an
-/// identifier, it is at the dot (`a. b`).
+/// Returns the first error of the whole text if it can't be divided into tokens, or if a group isn't closed correctly.
+///
+/// Otherwise returns an error for the first missing part, from left to right: a name, a name that isn't repeated, `=`, a literal,
+/// or a comma if the line continues after a value.
+///
+/// A name is missing at a dot in three cases. If white space, a comment or another token is before the dot, the error is at the dot
+/// (`a .b`). If no identifier follows the dot, the error is at the next token, or at the text's end (`a. = 1`). If white space or a
+/// comment is between the dot and an identifier, the error is at the dot (`a. b`).
 ///
 /// ```
-/// use navyspindle::{config, LineIndex, Lit};
+/// use navyspindle::{parse_config, LineIndex, Lit};
 ///
 /// let text = "\u{feff}title = \"a\" // of the page\n\nserver.host = \"b\", server.port = 8080\n";
-/// let entries = config(text)?;
+/// let entries = parse_config(text)?;
 /// let names: Vec<_> = entries.iter().map(|entry| entry.name).collect();
 /// assert_eq!(names, ["title", "server.host", "server.port"]);
 /// assert_eq!(entries[2].value, Lit::new("8080"));
@@ -43,17 +51,17 @@ use alloc::vec::Vec;
 /// ```
 ///
 /// ```
-/// use navyspindle::{config, SyntaxErrorKind, Part};
+/// use navyspindle::{parse_config, SyntaxErrorKind, Part};
 ///
-/// let error = config("a = 1 b = 2").unwrap_err();
+/// let error = parse_config("a = 1 b = 2").unwrap_err();
 /// assert_eq!((error.kind(), error.range()), (SyntaxErrorKind::Expected(Part::Comma), 6..7));
 /// for (text, range) in [("a .b = 1", 2..3), ("a. = 1", 3..4), ("a. b = 1", 1..2)] {
-///     let error = config(text).unwrap_err();
+///     let error = parse_config(text).unwrap_err();
 ///     assert_eq!((error.kind(), error.range()), (SyntaxErrorKind::Expected(Part::Name), range));
 /// }
 /// ```
-pub fn config(text: &str) -> Result<Vec<Entry<'_>>, SettingsSyntaxError> {
-    let body = without_mark(text);
+pub fn parse_config(text: &str) -> Result<Vec<Entry<'_>>, SettingsSyntaxError> {
+    let body = without_byte_order_mark(text);
     let front = text.len() - body.len();
     let mut entries = entries_of(body).map_err(|error| error.shifted(front))?;
     for entry in &mut entries {
@@ -63,10 +71,11 @@ pub fn config(text: &str) -> Result<Vec<Entry<'_>>, SettingsSyntaxError> {
     Ok(entries)
 }
 
-/// The settings of a text before which no byte order mark stands.
+/// Returns the settings of a configuration text without a byte order mark.
 fn entries_of(text: &str) -> Result<Vec<Entry<'_>>, SettingsSyntaxError> {
+    let separators = Separators::CommasAndLines;
     if let Some(error) = first_error(text) {
-        return Err(SettingsSyntaxError::of_lexer(text, error));
+        return Err(SettingsSyntaxError::of_lexer(text, error, separators));
     }
     let mut tokens = Tokens::new(text);
     let (mut entries, mut names) = (Vec::new(), BTreeSet::new());
@@ -82,18 +91,18 @@ fn entries_of(text: &str) -> Result<Vec<Entry<'_>>, SettingsSyntaxError> {
             }
             EntryStep::Rejected(EntryRejection { name, error }) => {
                 let name = name.map(|name| (name.text, name.lo..name.hi));
-                return Err(rejected(&names, name, error));
+                return Err(rejected(&names, name, error, text, separators));
             }
         }
     }
 }
 
 impl<'t> Settings<'t> {
-    /// The settings of a configuration file: those that [`config`] returns.
+    /// Reads the settings of a configuration file with [`parse_config`].
     ///
     /// # Errors
     ///
-    /// `Text` and `Repeated`: those of [`config`].
+    /// Returns the errors of [`parse_config`], as the kinds `Syntax` and `Repeated`.
     ///
     /// ```
     /// use navyspindle::{Key, Settings};
@@ -104,37 +113,37 @@ impl<'t> Settings<'t> {
     /// # Ok::<(), navyspindle::SettingError>(())
     /// ```
     pub fn read_config(text: &'t str) -> Result<Self, SettingError> {
-        Ok(Settings::of_entries(text, config(text)?))
+        Ok(Settings::of_entries(text, parse_config(text)?))
     }
 
-    /// The character that a character literal stands for; `None` where the setting isn't set.
+    /// Returns the value of a character literal, or `None` if the setting isn't set.
     ///
     /// # Errors
     ///
-    /// The value is no character (`Kind`), Rust rejects it (`Literal`), or it has a suffix.
+    /// Returns an error if the value isn't a character (`Kind`), if Rust rejects it (`Literal`), or if it has a suffix (`Suffix`).
     ///
     /// ```
     /// use navyspindle::{Key, Settings};
     ///
     /// const QUOTE: Key = Key::new("quote", "a character");
-    /// assert_eq!(Settings::read_config(r"quote = '\u{ab}'")?.character(QUOTE)?, Some('«'));
-    /// assert_eq!(Settings::read_config("")?.character(QUOTE)?, None);
-    /// let error = Settings::read_config(r#"quote = "a""#)?.character(QUOTE).unwrap_err();
+    /// assert_eq!(Settings::read_config(r"quote = '\u{ab}'")?.char(QUOTE)?, Some('«'));
+    /// assert_eq!(Settings::read_config("")?.char(QUOTE)?, None);
+    /// let error = Settings::read_config(r#"quote = "a""#)?.char(QUOTE).unwrap_err();
     /// assert_eq!(error.to_string(), "quote: expected a character at byte 8");
     /// # Ok::<(), navyspindle::SettingError>(())
     /// ```
-    pub fn character(&self, key: Key) -> Result<Option<char>, SettingError> {
+    pub fn char(&self, key: Key) -> Result<Option<char>, SettingError> {
         self.value_of(key, |entry| match &entry.value {
             Lit::Char(literal) => without_suffix(key, entry, literal.value()),
             _ => Err(no_such(key, entry)),
         })
     }
 
-    /// The byte that a byte literal stands for; `None` where the setting isn't set.
+    /// Returns the value of a byte literal, or `None` if the setting isn't set.
     ///
     /// # Errors
     ///
-    /// The value is no byte (`Kind`), Rust rejects it (`Literal`), or it has a suffix.
+    /// Returns an error if the value isn't a byte (`Kind`), if Rust rejects it (`Literal`), or if it has a suffix (`Suffix`).
     ///
     /// ```
     /// use navyspindle::{Key, Settings};
@@ -152,11 +161,12 @@ impl<'t> Settings<'t> {
         })
     }
 
-    /// The bytes that a byte string stands for; `None` where the setting isn't set.
+    /// Returns the value of a byte string literal, or `None` if the setting isn't set.
     ///
     /// # Errors
     ///
-    /// The value is no byte string (`Kind`), Rust rejects it (`Literal`), or it has a suffix.
+    /// Returns an error if the value isn't a byte string (`Kind`), if Rust rejects it (`Literal`), or if it has a suffix
+    /// (`Suffix`).
     ///
     /// ```
     /// use navyspindle::{Key, Settings};
@@ -175,11 +185,11 @@ impl<'t> Settings<'t> {
         })
     }
 
-    /// The C string that a C string literal stands for; `None` where the setting isn't set.
+    /// Returns the value of a C string literal, or `None` if the setting isn't set.
     ///
     /// # Errors
     ///
-    /// The value is no C string (`Kind`), Rust rejects it (`Literal`), or it has a suffix.
+    /// Returns an error if the value isn't a C string (`Kind`), if Rust rejects it (`Literal`), or if it has a suffix (`Suffix`).
     ///
     /// ```
     /// use navyspindle::{Key, Settings};

@@ -1,11 +1,12 @@
-//! What literals stand for whose bodies aren't it.
+//! Decoded values of literals whose text differs from their value, such as strings with escapes.
 
-use crate::rl_forms::Kind;
-use crate::rl_reading::{bytes_into, numeral_into, Body, SegmentValue};
+use crate::rl_lenient::{bytes_into, float_digits_into, Body, SegmentValue};
+use crate::rl_syntax::Kind;
 use alloc::string::String;
 use alloc::vec::Vec;
 
-/// The front, and after it what is written into room as long as the body, which is long enough.
+/// Returns the bytes of `front`, followed by the bytes that `write` writes for `body`. `write` receives a buffer as long as `body`,
+/// which is long enough, and returns the number of bytes that it wrote.
 #[inline]
 fn written(front: &str, body: &str, write: impl FnOnce(&str, &mut [u8]) -> usize) -> Vec<u8> {
     let mut out = Vec::with_capacity(front.len() + body.len());
@@ -16,7 +17,8 @@ fn written(front: &str, body: &str, write: impl FnOnce(&str, &mut [u8]) -> usize
     out
 }
 
-/// What a string stands for whose body has escapes: what its segments stand for, joined. It is no longer than its body.
+/// Returns the value of a string whose body has escapes: the values of the body's segments, joined. The value is no longer than the
+/// body.
 pub(crate) fn text_of(text: &str, body: Body) -> String {
     let mut out = String::with_capacity(body.hi - body.lo);
     let mut segments = body.segments_in(Kind::Str, text);
@@ -31,12 +33,13 @@ pub(crate) fn text_of(text: &str, body: Body) -> String {
     out
 }
 
-/// What a byte string or a C string stands for whose body has escapes.
+/// Returns the value of a byte string or a C string whose body has escapes.
 pub(crate) fn bytes_of(kind: Kind, body: &str) -> Vec<u8> {
     written("", body, |body, out| bytes_into(kind, body, out))
 }
 
-/// The digits of a float, of whose numeral the front is digits as it stands.
+/// Returns the digits of a float, where `front` and `rest` are the float's text before its suffix. `front` is copied unchanged. In
+/// `rest`, underscores and `+` are left out, and `E` becomes `e`.
 pub(crate) fn digits_of(front: &str, rest: &str) -> String {
-    String::from_utf8(written(front, rest, numeral_into)).expect("digits are ASCII")
+    String::from_utf8(written(front, rest, float_digits_into)).expect("digits are ASCII")
 }

@@ -1,15 +1,16 @@
-//! Every flaw of a text, what literal it was going to be, and its pieces, good and bad.
+//! All errors (flaws) of a text that should be a literal, the kind of literal that it begins as, and its pieces with and without
+//! errors.
 
 use crate::kind::Kind;
 use crate::parse_error::{FlawKind, ParseError};
-use crate::places::Segment;
 use crate::rl_flaws;
-use crate::rl_reasons::explain_value;
+use crate::rl_strict::{explain_value, LineEnds};
+use crate::segments::Segment;
 use core::fmt;
 use core::iter::FusedIterator;
 use core::ops::Range;
 
-/// A flaw of a text, with the whole of the piece that has it.
+/// A flaw of a text, with the whole piece of the text that has the flaw.
 ///
 /// ```
 /// use navyspindle::{flaws, FlawKind};
@@ -17,19 +18,19 @@ use core::ops::Range;
 /// let text = r#""a\u{D800}b""#;
 /// let bad = flaws(text).next().unwrap();
 /// assert_eq!((bad.kind(), &text[bad.range()]), (FlawKind::Surrogate, r"\u{D800}"));
-/// assert_eq!(bad.to_string(), "surrogates are no characters at byte 9");
+/// assert_eq!(bad.to_string(), "a surrogate isn't a character at byte 9");
 /// ```
 #[derive(Clone, Copy, Debug, PartialEq, Eq, Hash)]
-pub struct BadPiece {
+pub struct InvalidPiece {
     kind: FlawKind,
     error: ParseError,
     from: usize,
     end: usize,
 }
 
-impl BadPiece {
-    fn of(bad: rl_flaws::BadPiece) -> BadPiece {
-        BadPiece {
+impl InvalidPiece {
+    fn of(bad: rl_flaws::InvalidPiece) -> InvalidPiece {
+        InvalidPiece {
             kind: bad.flaw.kind,
             error: ParseError::of_flaw(bad.flaw),
             from: bad.flaw.from,
@@ -37,7 +38,7 @@ impl BadPiece {
         }
     }
 
-    /// What is wrong.
+    /// Returns the kind of the flaw.
     ///
     /// ```
     /// use navyspindle::{flaws, FlawKind};
@@ -49,8 +50,8 @@ impl BadPiece {
         self.kind
     }
 
-    /// The bytes of the whole piece: of a bad escape all of it, as far as rustc reads one. Of any other flaw what
-    /// [`ParseError::piece`] returns.
+    /// Returns the byte range of the whole piece. For a bad escape it is the whole escape, up to where rustc ends it. For any other
+    /// flaw it is the range that [`ParseError::piece`] returns.
     ///
     /// ```
     /// use navyspindle::flaws;
@@ -64,17 +65,17 @@ impl BadPiece {
         self.from..self.end
     }
 
-    /// The byte where [`range`](BadPiece::range) begins.
+    /// Returns the byte offset at which [`range`](InvalidPiece::range) begins.
     ///
     /// ```
-    /// assert_eq!(navyspindle::flaws(r#""a\q""#).next().unwrap().at(), 2);
+    /// assert_eq!(navyspindle::flaws(r#""a\q""#).next().unwrap().offset(), 2);
     /// ```
     #[must_use]
-    pub fn at(&self) -> usize {
+    pub fn offset(&self) -> usize {
         self.from
     }
 
-    /// The flaw as an error, with the character that no literal goes on with.
+    /// Returns the flaw as an error. The error's range is the first character that can't continue a literal.
     ///
     /// ```
     /// use navyspindle::{flaws, Lit};
@@ -88,50 +89,80 @@ impl BadPiece {
     }
 }
 
-impl fmt::Display for BadPiece {
+impl fmt::Display for InvalidPiece {
     fn fmt(&self, f: &mut fmt::Formatter<'_>) -> fmt::Result {
         self.error.fmt(f)
     }
 }
 
-impl core::error::Error for BadPiece {}
+impl core::error::Error for InvalidPiece {}
 
-/// All flaws of a text, in order: see [`flaws`].
+/// An iterator over all flaws of a text, in order. See [`flaws`].
+///
+/// ```
+/// use navyspindle::{flaws, Flaws};
+///
+/// let all: Flaws = flaws(r#""\q\w""#);
+/// assert_eq!(all.map(|bad| bad.offset()).collect::<Vec<_>>(), [1, 3]);
+/// ```
 #[must_use = "an iterator does nothing until it is asked"]
 pub struct Flaws<'t>(Left<'t>);
 
-/// The flaws of a quoted literal, or the one of any other text.
+/// The flaws that an iterator still has to return: those of a quoted literal, or the only one of another text.
 enum Left<'t> {
-    All(rl_flaws::Flaws<'t>),
-    One(Option<rl_flaws::BadPiece>),
+    /// The text, the number of its flaws that were already returned, and the iterator over the remaining flaws.
+    All(&'t str, usize, rl_flaws::Flaws<'t>),
+    One(Option<rl_flaws::InvalidPiece>),
 }
 
 impl<'t> Flaws<'t> {
-    /// Those of a text without a reading: of one that begins as no quoted literal, why it has none.
+    /// Returns the flaws of a text that has no value as a literal. If the text doesn't begin as a quoted literal, the only flaw is
+    /// the reason why Rust rejects it.
     pub(crate) fn of_unread(text: &'t str) -> Flaws<'t> {
         if rl_flaws::Pieces::of(text).is_some() {
             return flaws(text);
         }
-        Flaws(Left::One(explain_value(text).map(|flaw| {
-            let end = flaw.hi;
-            rl_flaws::BadPiece { flaw, end }
-        })))
+        Flaws(Left::One(explain_value(text, LineEnds::Text, true).map(
+            |flaw| {
+                let end = flaw.hi;
+                rl_flaws::InvalidPiece { flaw, end }
+            },
+        )))
     }
 }
 
 impl Iterator for Flaws<'_> {
-    type Item = BadPiece;
+    type Item = InvalidPiece;
 
-    fn next(&mut self) -> Option<BadPiece> {
+    fn next(&mut self) -> Option<InvalidPiece> {
         match &mut self.0 {
-            Left::All(flaws) => flaws.next(),
+            Left::All(_, returned, flaws) => {
+                *returned += 1;
+                flaws.next()
+            }
             Left::One(flaw) => flaw.take(),
         }
-        .map(BadPiece::of)
+        .map(InvalidPiece::of)
     }
 }
 
 impl FusedIterator for Flaws<'_> {}
+
+/// The clone begins at the next flaw. Cloning walks over the flaws that were already returned.
+impl Clone for Flaws<'_> {
+    fn clone(&self) -> Self {
+        Flaws(match &self.0 {
+            Left::All(text, returned, _) => {
+                let mut flaws = rl_flaws::Flaws::of(text, LineEnds::Text);
+                for _ in 0..*returned {
+                    flaws.next();
+                }
+                Left::All(text, *returned, flaws)
+            }
+            Left::One(flaw) => Left::One(*flaw),
+        })
+    }
+}
 
 impl fmt::Debug for Flaws<'_> {
     fn fmt(&self, f: &mut fmt::Formatter<'_>) -> fmt::Result {
@@ -139,13 +170,19 @@ impl fmt::Debug for Flaws<'_> {
     }
 }
 
-/// All flaws of a text that is to be a literal token of Rust, in order; none of one. No memory is taken.
+/// Iterates over all flaws of a text that should be a Rust literal token, in order. A literal token has no flaws. Nothing is
+/// allocated.
 ///
-/// The first is why [`Lit::parse`](crate::Lit::parse) rejects the text, but that a literal token has no minus, and that an integer of
-/// any size is one. After a bad character or escape of a string reading goes on, as inside the same string; any other flaw is the
-/// last. So rustc reports them, but for a broken `\x` or `\u` with a backslash after it: here that begins the next escape.
+/// The first flaw is the reason why [`Lit::parse`](crate::Lit::parse) rejects the text, with two differences: a literal token has
+/// no minus, and an integer of any size is a literal token.
 ///
-/// The text is taken as it is, so a CR LF in a string is a flaw.
+/// - After a bad character or escape of a string, the rest of the string is checked too.
+/// - After a flaw before the closing quote of a character or a byte literal, the suffix is checked too: `'\q'_` has two flaws.
+/// - Any other flaw is the last one.
+///
+/// rustc reports the same flaws, with one difference: a backslash after a broken `\x` or `\u` begins the next escape here.
+///
+/// The text is checked as it is, so a CR LF in a string is a flaw.
 ///
 /// ```
 /// use navyspindle::{flaws, FlawKind};
@@ -155,25 +192,29 @@ impl fmt::Debug for Flaws<'_> {
 /// assert_eq!(flaws("1_000_u32").next(), None);
 /// ```
 pub fn flaws(text: &str) -> Flaws<'_> {
-    Flaws(Left::All(rl_flaws::Flaws::of(text)))
+    Flaws(Left::All(
+        text,
+        0,
+        rl_flaws::Flaws::of(text, LineEnds::Text),
+    ))
 }
 
-/// The kind of literal that a text begins as, whether or not it is one; `None` where no literal begins so. Of a literal token
-/// it is that token's kind.
+/// Returns the kind of literal that a text begins as, or `None` if a literal can't begin like the text. The text itself may be
+/// invalid. For a literal token it is the kind of that token.
 ///
-/// A quoted literal begins with its prefix and its quote, a number with a digit, perhaps after a minus. Of the words it is `true`
-/// and `false` alone.
+/// A quoted literal begins with its prefix and its quote. A number begins with a digit, perhaps after a minus. Of identifiers, only
+/// `true` and `false` are literals.
 ///
 /// ```
-/// use navyspindle::{looks_like, Kind};
+/// use navyspindle::{guess_kind, Kind};
 ///
-/// assert_eq!(looks_like(r#""a\q"#), Some(Kind::Str));
-/// assert_eq!(looks_like("1.5.2"), Some(Kind::Float));
-/// assert_eq!(looks_like("word"), None);
+/// assert_eq!(guess_kind(r#""a\q"#), Some(Kind::Str));
+/// assert_eq!(guess_kind("1.5.2"), Some(Kind::Float));
+/// assert_eq!(guess_kind("word"), None);
 /// ```
 #[must_use]
-pub fn looks_like(text: &str) -> Option<Kind> {
-    rl_flaws::looks_like(text).map(Kind::of)
+pub fn guess_kind(text: &str) -> Option<Kind> {
+    rl_flaws::guess_kind(text).map(Kind::of)
 }
 
 /// A piece of a quoted literal that may have flaws.
@@ -186,14 +227,14 @@ pub fn looks_like(text: &str) -> Option<Kind> {
 /// ```
 #[derive(Clone, Debug, PartialEq, Eq, Hash)]
 pub enum Piece<'t> {
-    /// A segment: where it stands, and what it stands for.
+    /// A segment without a flaw: its range and its value.
     Good(Segment<'t>),
-    /// A flaw, with its piece.
-    Bad(BadPiece),
+    /// A flaw, with the piece of the text that has it.
+    Bad(InvalidPiece),
 }
 
 impl Piece<'_> {
-    /// Its bytes in the text.
+    /// Returns the byte range of the piece in the text.
     ///
     /// ```
     /// let ranges: Vec<_> = navyspindle::pieces(r#""a\q""#).unwrap().map(|piece| piece.range()).collect();
@@ -208,30 +249,53 @@ impl Piece<'_> {
     }
 }
 
-/// The pieces of a quoted literal, in order: see [`pieces`].
+/// An iterator over the pieces of a quoted literal, in order. See [`pieces`].
+///
+/// ```
+/// use navyspindle::{pieces, Piece, Pieces};
+///
+/// let all: Pieces = pieces(r#""a\q""#).unwrap();
+/// let are_good: Vec<bool> = all.map(|piece| matches!(piece, Piece::Good(_))).collect();
+/// assert_eq!(are_good, [true, false]);
+/// ```
 #[must_use = "an iterator does nothing until it is asked"]
 pub struct Pieces<'t> {
+    text: &'t str,
     cursor: rl_flaws::Pieces<'t>,
-    // How many bytes the good ones before stand for.
-    value_at: usize,
+    // The number of pieces that were already returned.
+    returned: usize,
+    // The number of bytes of the value that the returned segments without a flaw give.
+    value_offset: usize,
 }
 
 impl<'t> Iterator for Pieces<'t> {
     type Item = Piece<'t>;
 
     fn next(&mut self) -> Option<Piece<'t>> {
+        self.returned += 1;
         match self.cursor.next()? {
             rl_flaws::Piece::Good(segment) => {
-                let segment = Segment::of(segment, self.value_at);
-                self.value_at = segment.value_range.end;
+                let segment = Segment::of(segment, self.value_offset);
+                self.value_offset = segment.value_range.end;
                 Some(Piece::Good(segment))
             }
-            rl_flaws::Piece::Bad(bad) => Some(Piece::Bad(BadPiece::of(bad))),
+            rl_flaws::Piece::Bad(bad) => Some(Piece::Bad(InvalidPiece::of(bad))),
         }
     }
 }
 
 impl FusedIterator for Pieces<'_> {}
+
+/// The clone begins at the next piece. Cloning walks over the pieces that were already returned.
+impl<'t> Clone for Pieces<'t> {
+    fn clone(&self) -> Self {
+        let mut clone: Pieces<'t> = pieces(self.text).expect("its pieces were asked for");
+        for _ in 0..self.returned {
+            clone.next();
+        }
+        clone
+    }
+}
 
 impl fmt::Debug for Pieces<'_> {
     fn fmt(&self, f: &mut fmt::Formatter<'_>) -> fmt::Result {
@@ -239,12 +303,12 @@ impl fmt::Debug for Pieces<'_> {
     }
 }
 
-/// What stands between the quotes of a text that begins as a quoted literal, piece by piece, good and bad; `None` of any other
-/// text. No memory is taken.
+/// Returns the pieces of the text between the quotes, with and without flaws, or `None` if the text doesn't begin as a quoted
+/// literal. Nothing is allocated.
 ///
-/// The good ones are segments, as those of [`Lit::segments`](crate::Lit::segments), whose bytes of the value are counted over the
-/// good ones alone; the bad ones are the [`flaws`] of the text, all
-/// of them. The last may stand after the closing quote.
+/// A piece without a flaw is a segment, as [`Lit::segments`](crate::Lit::segments) returns it. Its range in the value counts only
+/// the pieces without a flaw before it. The pieces with a flaw are all [`flaws`] of the text. The last of them may be after the
+/// closing quote.
 ///
 /// ```
 /// use navyspindle::{pieces, FlawKind, Piece, SegmentValue};
@@ -257,7 +321,10 @@ impl fmt::Debug for Pieces<'_> {
 /// ```
 #[must_use]
 pub fn pieces(text: &str) -> Option<Pieces<'_>> {
-    let cursor = rl_flaws::Pieces::of(text)?;
-    let value_at = 0;
-    Some(Pieces { cursor, value_at })
+    Some(Pieces {
+        text,
+        cursor: rl_flaws::Pieces::of(text)?,
+        returned: 0,
+        value_offset: 0,
+    })
 }

@@ -1,10 +1,10 @@
-//! What a literal is.
+//! The kinds of literals.
 
 #[cfg(feature = "flaws")]
-use crate::rl_forms;
+use crate::rl_syntax;
 use core::fmt;
 
-/// What a literal is.
+/// The kind of a literal.
 ///
 /// ```
 /// use navyspindle::{Kind, Lit};
@@ -17,43 +17,43 @@ use core::fmt;
 #[derive(Clone, Copy, Debug, PartialEq, Eq, PartialOrd, Ord, Hash)]
 #[non_exhaustive]
 pub enum Kind {
-    /// A string: `"a"`.
+    /// A string literal, such as `"a"`.
     Str,
-    /// A byte string: `b"a"`.
+    /// A byte string literal, such as `b"a"`.
     ByteStr,
-    /// A C string: `c"a"`.
+    /// A C string literal, such as `c"a"`.
     CStr,
-    /// A byte: `b'a'`.
+    /// A byte literal, such as `b'a'`.
     Byte,
-    /// A character: `'a'`.
+    /// A character literal, such as `'a'`.
     Char,
-    /// An integer: `1`.
+    /// An integer literal, such as `1`.
     Int,
-    /// A float: `1.5`.
+    /// A float literal, such as `1.5`.
     Float,
-    /// A truth value: `true`.
+    /// A `bool` literal, such as `true`.
     Bool,
-    /// A text without a reading: `'\q'`, or an integer past 128 bits.
+    /// A text without a value, such as `'\q'` or an integer above 128 bits.
     Verbatim,
 }
 
 #[cfg(feature = "flaws")]
 impl Kind {
-    pub(crate) fn of(kind: rl_forms::Kind) -> Kind {
+    pub(crate) fn of(kind: rl_syntax::Kind) -> Kind {
         match kind {
-            rl_forms::Kind::Str => Kind::Str,
-            rl_forms::Kind::ByteStr => Kind::ByteStr,
-            rl_forms::Kind::CStr => Kind::CStr,
-            rl_forms::Kind::Byte => Kind::Byte,
-            rl_forms::Kind::Char => Kind::Char,
-            rl_forms::Kind::Int => Kind::Int,
-            rl_forms::Kind::Float => Kind::Float,
-            rl_forms::Kind::Bool => Kind::Bool,
+            rl_syntax::Kind::Str => Kind::Str,
+            rl_syntax::Kind::ByteStr => Kind::ByteStr,
+            rl_syntax::Kind::CStr => Kind::CStr,
+            rl_syntax::Kind::Byte => Kind::Byte,
+            rl_syntax::Kind::Char => Kind::Char,
+            rl_syntax::Kind::Int => Kind::Int,
+            rl_syntax::Kind::Float => Kind::Float,
+            rl_syntax::Kind::Bool => Kind::Bool,
         }
     }
 }
 
-/// The words of messages, those of `syn`: `string literal`, `integer literal`, ...
+/// Prints the kind as `syn` names it in messages: `string literal`, `integer literal`, and so on.
 impl fmt::Display for Kind {
     fn fmt(&self, f: &mut fmt::Formatter<'_>) -> fmt::Result {
         f.pad(match self {

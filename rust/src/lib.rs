@@ -1,75 +1,121 @@
-//! Reads and writes Rust's literals: kinds, values, suffixes, the places of what they hold, and why a text is no literal.
-//!
-//! [`Lit::parse`] reads one literal, [`source`] those of a whole file, [`literals`] and [`settings`] lists, [`config`] a
-//! configuration file, [`Settings`] what a reader of settings asks for; [`write_str`] and its siblings write values, and
-//! [`LitStr::new`] and its like make literals of them; [`rewrite`] writes literals anew in a [`Style`]. Places are byte offsets; [`LineIndex`] makes lines and columns of them.
-//!
-//! The code in `proved` is rendered from sources that are proved against a written grammar; `README.md` says what is proved, trusted
-//! and tested. There is no `unsafe`.
+//! Reads, checks, writes and rewrites Rust literals. The crate returns a literal's kind, value and suffix, the range of the
+//! literal's text that each byte of the value comes from, and the errors of a text that isn't a literal.
 //!
 //! ```
-//! use navyspindle::Lit;
+//! use navyspindle::{Kind, Lit, LitInt, LitStr};
 //!
-//! let Lit::Str(literal) = Lit::parse(r#""a\x41\n"q"#)? else { panic!() };
-//! assert_eq!(literal.value(), "aA\n");
-//! assert_eq!(literal.suffix(), "q");
+//! let literal = Lit::parse("0xFF_u8")?;
+//! assert_eq!((literal.kind(), literal.suffix()), (Kind::Int, "u8"));
+//! assert_eq!(LitInt::parse("0xFF_u8")?.value::<u8>(), Ok(255));
+//! assert_eq!(LitStr::parse(r#""a\x41\n""#)?.value(), "aA\n");
 //!
-//! let Lit::Int(literal) = Lit::parse("0xFF_u8")? else { panic!() };
-//! assert_eq!(literal.base10_digits(), "255");
-//! assert_eq!(literal.value::<u8>(), Ok(255));
+//! let error = Lit::parse("0b102").unwrap_err();
+//! assert_eq!(error.to_string(), "invalid digit for this base at byte 4");
 //! # Ok::<(), navyspindle::ParseError>(())
 //! ```
 //!
-//! # Features
+//! # Which item to use
 //!
-//! - On by default: `sources` ([`source`], [`literals`], [`Lit::check`], [`Lit::take_front`], [`skip_blanks`], [`LineIndex`]), `settings`
-//!   ([`settings`], [`config`], [`Settings`]), `flaws` ([`flaws`], [`pieces`], [`looks_like`]), `writers` ([`write_str`] and its
-//!   siblings, [`LitStr::new`] and its like), `style` ([`rewrite`], [`Style`]). A macro that only reads single literals builds without them in two thirds of the time.
-//! - `proc-macro`: literals from and to the tokens of rustc's own crate `proc_macro`, which [`Lit`] and the structs are then made
-//!   of by `try_from`; `next_literal`, `next_of`, `to_token_stream`, with `settings` also `MacroText`, `macro_settings`, `MacroError`. Off by default.
+//! | Task | Items | Feature |
+//! |---|---|---|
+//! | Parse a text that should be one literal | [`Lit::parse`], [`LitStr::parse`], [`LitInt::parse`], ..; [`ParseError`] | – |
+//! | Read a token that rustc or `syn` accepted | [`Lit::of_text`], which is also [`Lit::new`] | – |
+//! | Match on the kind | [`Lit`], [`Kind`]; [`LitStr`], [`LitByteStr`], [`LitCStr`], [`LitByte`], [`LitChar`], [`LitInt`], [`LitFloat`], [`LitBool`], [`LitVerbatim`] | – |
+//! | Get a number of a type | [`LitInt::value`], [`LitFloat::value`]; [`Number`], [`ValueError`] | – |
+//! | Map a byte of a value to the text | [`LitStr::text_offset`], [`LitStr::text_range`], [`LitStr::segments`]; [`OffsetMap`] | – |
+//! | Find the literals of a source file | [`source`](fn@source), [`Source::recover`] | `sources` |
+//! | Check that Rust accepts a literal | [`Lit::check`] | `sources` or `settings` |
+//! | Check that a literal has a type | [`Lit::type_error`] | `flaws` |
+//! | Report every error of a literal | [`flaws`](fn@flaws), [`pieces`], [`guess_kind`] | `flaws` |
+//! | Read a list of literals | [`parse_list`] | `sources` |
+//! | Read literals in your own parser | [`Lit::parse_prefix`], [`skip_trivia`], [`skip_token`] | `sources` |
+//! | Convert bytes to lines and columns | [`LineIndex`] | `sources` |
+//! | Read `name = literal` settings | [`Settings`], [`Key`]; [`parse_settings`](fn@parse_settings), [`parse_config`](fn@parse_config) | `settings` |
+//! | Write a value as a literal | [`write_str`], [`write_integer`], ..; [`LitStr::new`], [`LitInt::suffixed`], .. | `writers` |
+//! | Rewrite literals in a style | [`rewrite`], [`Style`]; with `sources` [`rewrite_source`](fn@rewrite_source) | `style` |
+//! | Read an attribute in a procedural macro | [`Attrs`], [`Meta`], [`MacroError`] | `proc-macro` |
+//! | Read literals in a procedural macro | [`next_literal_of`], [`next_literal`]; with `settings` [`MacroInput`] | `proc-macro` |
+//!
+//! Ranges and places are byte offsets. All features except `proc-macro` are on by default.
+//!
+//! # Guarantees
+//!
+//! The code in `proved` is translated from sources that are proved against a written grammar. `README.md` tells what is proved,
+//! trusted and tested. There is no `unsafe`.
 #![no_std]
 #![forbid(unsafe_code)]
 #![deny(missing_docs)]
+#![cfg_attr(docsrs, feature(doc_cfg))]
+// If a feature is disabled, links to its items are broken.
+#![cfg_attr(
+    not(all(
+        feature = "sources",
+        feature = "settings",
+        feature = "flaws",
+        feature = "writers",
+        feature = "style",
+        feature = "proc-macro"
+    )),
+    allow(rustdoc::broken_intra_doc_links)
+)]
 
 extern crate alloc;
 #[cfg(feature = "proc-macro")]
 extern crate proc_macro;
-#[cfg(test)]
+#[cfg(any(test, feature = "proc-macro"))]
 extern crate std;
 
+#[cfg(feature = "proc-macro")]
+mod attributes;
 mod characters;
 mod common;
 #[cfg(feature = "settings")]
 mod config;
+#[cfg(feature = "writers")]
+mod constructors;
 mod contents;
-#[cfg(feature = "sources")]
+#[cfg(any(feature = "sources", feature = "settings"))]
 mod error;
 #[cfg(feature = "flaws")]
 mod flaws;
-#[cfg(feature = "sources")]
-mod front;
+#[cfg(feature = "settings")]
+mod help;
 mod kind;
 #[cfg(feature = "sources")]
 mod line_index;
 #[cfg(feature = "sources")]
 mod list;
+#[cfg(feature = "sources")]
+mod list_error;
 mod lit;
+#[cfg(feature = "proc-macro")]
+mod macro_error;
+#[cfg(feature = "proc-macro")]
+mod macro_places;
 #[cfg(all(feature = "proc-macro", feature = "settings"))]
 mod macro_settings;
-#[cfg(feature = "writers")]
-mod made;
+#[cfg(feature = "proc-macro")]
+mod meta;
+#[cfg(any(feature = "sources", feature = "settings"))]
+mod next_literal;
 mod numbers;
 mod parse_error;
-mod places;
+#[cfg(feature = "sources")]
+mod prefix;
 #[cfg(feature = "proc-macro")]
 mod proc_macros;
 #[cfg(any(test, all(feature = "proc-macro", feature = "settings")))]
 mod ranges;
-#[cfg_attr(feature = "rendered", allow(missing_docs))]
-// The sources give out names that the package reaches by other ways, and have parameters of which contracts alone speak.
+mod segments;
+#[cfg_attr(
+    feature = "rendered",
+    allow(missing_docs, rustdoc::broken_intra_doc_links)
+)]
+// The translated sources re-export names that the package reaches by other paths. They also have parameters that only contracts
+// use.
 #[allow(unused_imports, unused_variables)]
 #[allow(clippy::style, clippy::complexity, clippy::pedantic)]
-// Without a feature what it needs is called by nothing.
+// If a feature is disabled, the translated code that only this feature uses is unused.
 #[cfg_attr(
     not(all(
         feature = "sources",
@@ -101,71 +147,87 @@ mod style_settings;
 mod types;
 mod unicode;
 mod value;
+#[cfg(any(test, feature = "proc-macro"))]
+mod value_end;
 mod words;
 #[cfg(feature = "writers")]
 mod write;
 
-/// The core as it is rendered, for the programs of this repository. Its names may change with each version.
+/// The translated core of the package, for the programs of this repository. Its names may change with each version.
 #[cfg(feature = "rendered")]
 #[doc(hidden)]
 pub mod rendered {
     pub use crate::proved::{
-        rl_file_reasons, rl_flaws, rl_forms, rl_leading, rl_lexer, rl_parts, rl_reading,
-        rl_reasons, rl_recovery, rl_settings, rl_strict, rl_style, rl_text, rl_types, rl_writing,
+        rl_flaws, rl_lenient, rl_lexer, rl_recovery, rl_settings, rl_strict, rl_style, rl_syntax,
+        rl_types, rl_writing,
     };
 }
 
-// Without a feature some of them are called by nothing.
-#[allow(unused_imports)]
-use proved::{
-    rl_file_reasons, rl_flaws, rl_forms, rl_leading, rl_lexer, rl_parts, rl_reading, rl_reasons,
-    rl_recovery, rl_settings, rl_strict, rl_style, rl_text, rl_types, rl_writing,
-};
+// The translated code refers to these crates by the paths that are imported here.
+#[cfg(feature = "sources")]
+use proved::rl_recovery;
+#[cfg(any(feature = "sources", feature = "settings"))]
+use proved::rl_settings;
+#[cfg(feature = "style")]
+use proved::rl_style;
+#[cfg(any(feature = "writers", feature = "style"))]
+use proved::rl_writing;
+#[cfg(feature = "flaws")]
+use proved::{rl_flaws, rl_types};
+use proved::{rl_lenient, rl_lexer, rl_strict, rl_syntax};
 
+#[cfg(feature = "proc-macro")]
+pub use attributes::Attrs;
 pub use characters::{LitByte, LitChar};
 #[cfg(feature = "settings")]
-pub use config::config;
-#[cfg(feature = "sources")]
-pub use error::{ListError, Part, SyntaxErrorKind};
+pub use config::parse_config;
+#[cfg(any(feature = "sources", feature = "settings"))]
+pub use error::{Part, SyntaxErrorKind};
 #[cfg(feature = "flaws")]
-pub use flaws::{flaws, looks_like, pieces, BadPiece, Flaws, Piece, Pieces};
-#[cfg(feature = "sources")]
-pub use front::skip_blanks;
+pub use flaws::{flaws, guess_kind, pieces, Flaws, InvalidPiece, Piece, Pieces};
 pub use kind::Kind;
 #[cfg(feature = "sources")]
 pub use line_index::{LineColumn, LineIndex};
 #[cfg(feature = "sources")]
-pub use list::{literals, Literals};
+pub use list::{parse_list, Literals};
+#[cfg(feature = "sources")]
+pub use list_error::ListError;
 pub use lit::Lit;
+#[cfg(feature = "proc-macro")]
+pub use macro_error::MacroError;
 #[cfg(all(feature = "proc-macro", feature = "settings"))]
-pub use macro_settings::{macro_settings, MacroEntry, MacroText};
+pub use macro_settings::{parse_macro_settings, MacroEntry, MacroInput};
+#[cfg(feature = "proc-macro")]
+pub use meta::Meta;
 pub use numbers::{Base, LitFloat, LitInt, NumberType};
 pub use parse_error::{FlawKind, ParseError, ParseErrorKind};
-pub use places::{Places, Segment, SegmentValue, Segments};
+#[cfg(feature = "sources")]
+pub use prefix::{skip_token, skip_trivia};
 #[cfg(feature = "proc-macro")]
-pub use proc_macros::{next_literal, next_of, LitOfKind, MacroError};
+pub use proc_macros::{next_literal, next_literal_of, LitOfKind};
 #[cfg(all(feature = "sources", feature = "style"))]
-pub use restyle::{restyle, Edit, Restyles};
-/// [`Lit::type_error`] returns it.
+pub use restyle::{rewrite_source, Edit, Edits};
+/// The reason why a literal has no type in Rust. [`Lit::type_error`] returns it.
 ///
 /// ```
 /// use navyspindle::{Lit, TypeError};
 ///
-/// let error = Lit::new("256u8").type_error(false).unwrap();
+/// let error = Lit::new("256u8").type_error().unwrap();
 /// assert_eq!(error, TypeError::OutOfRange);
-/// assert_eq!((error.id(), error.words()), ("out-of-range", "out of its type's range"));
+/// assert_eq!((error.id(), error.message()), ("out-of-range", "out of its type's range"));
 /// ```
 #[cfg(feature = "flaws")]
 pub use rl_types::TypeError;
+pub use segments::{OffsetMap, Segment, SegmentValue, Segments};
 #[cfg(feature = "settings")]
 pub use setting::{Key, SettingError, SettingErrorKind, Settings};
 #[cfg(feature = "settings")]
-pub use settings::{settings, Entry, SettingsSyntaxError};
+pub use settings::{parse_settings, Entry, SettingsSyntaxError};
 #[cfg(feature = "sources")]
 pub use source::{source, Recover, Source};
 pub use strings::{LitByteStr, LitCStr, LitStr};
 #[cfg(feature = "style")]
-pub use style::{rewrite, rewrite_after, Case, DigitGroups, Separator, Style};
+pub use style::{rewrite, rewrite_in_context, Case, DigitGroups, Separator, Style};
 pub use value::{Float, Integer, Number, ValueError, ValueErrorKind};
 pub use words::{LitBool, LitVerbatim};
 #[cfg(feature = "writers")]
@@ -174,7 +236,7 @@ pub use write::{
     write_raw_byte_str, write_raw_c_str, write_raw_str, write_str, write_str_ascii, IntegerStyle,
 };
 
-/// Whether the text is a literal token of the Rust Reference.
+/// Returns `true` if the text is a literal token of the Rust Reference.
 ///
 /// ```
 /// use navyspindle::is_token;
@@ -186,10 +248,10 @@ pub use write::{
 #[inline]
 #[must_use]
 pub fn is_token(text: &str) -> bool {
-    rl_reasons::read(text).is_ok()
+    rl_strict::read(text, rl_strict::LineEnds::Text, false).is_ok()
 }
 
-/// The examples of `README.md`.
+/// Compiles and runs the examples of `README.md` as documentation tests.
 #[cfg(doctest)]
 #[doc = include_str!("../README.md")]
 pub struct Readme;

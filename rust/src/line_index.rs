@@ -1,8 +1,8 @@
-//! Lines and columns of bytes, and back.
+//! Conversion of byte offsets to lines and columns, and back.
 
 use alloc::vec::Vec;
 
-/// A place as compilers print it: line and column, both from 1.
+/// A position in a text as compilers print it: a line and a column, both from 1.
 ///
 /// ```
 /// use navyspindle::{LineColumn, LineIndex};
@@ -13,28 +13,27 @@ use alloc::vec::Vec;
 /// ```
 #[derive(Clone, Copy, Debug, PartialEq, Eq, PartialOrd, Ord, Hash)]
 pub struct LineColumn {
-    /// The line, from 1.
+    /// The number of the line, from 1.
     pub line: usize,
-    /// The column in its line, from 1.
+    /// The number of the column in the line, from 1.
     pub column: usize,
 }
 
-/// Line and column with a colon between: `3:14`.
+/// Prints the line and the column with a colon between them: `3:14`.
 impl core::fmt::Display for LineColumn {
     fn fmt(&self, f: &mut core::fmt::Formatter<'_>) -> core::fmt::Result {
         write!(f, "{}:{}", self.line, self.column)
     }
 }
 
-/// How many bytes a step of the table of characters has.
+/// The number of bytes between two entries of the table that counts characters.
 const STEP: usize = 256;
 
-/// Where the lines of a text begin: built once, it tells the line and the column of any byte, and the byte of any line and
-/// column.
+/// Converts byte offsets of a text to lines and columns, and lines and columns to byte offsets. It is built once for a text.
 ///
-/// A line ends after its LF. Columns count characters, as rustc's do, or bytes; a byte order mark at the text's front has no
-/// column, and counts as what follows it. Building takes time that grows with the text,
-/// and a lookup grows with the logarithm of the number of lines.
+/// A line ends after its LF. Columns count characters, as rustc's do, or bytes. A byte order mark at the start of the text has no
+/// column. Its bytes have the position of the character after it. Building the index takes time that grows with the text. The time
+/// of a lookup grows with the logarithm of the number of lines.
 ///
 /// ```
 /// use navyspindle::{LineColumn, LineIndex};
@@ -49,9 +48,10 @@ const STEP: usize = 256;
 #[derive(Clone, Debug)]
 pub struct LineIndex<'t> {
     text: &'t str,
-    // The byte where each line begins.
+    // The byte offset at which each line begins.
     starts: Vec<usize>,
-    // How many characters begin before each byte that is a multiple of STEP; none where all are ASCII.
+    // For each multiple of `STEP`, the number of characters that begin before that byte offset. The table is empty if the whole
+    // text is ASCII.
     characters: Vec<usize>,
 }
 
@@ -59,13 +59,13 @@ fn begins_character(byte: u8) -> bool {
     byte & 0xC0 != 0x80
 }
 
-/// How many characters begin in the bytes.
+/// Returns the number of characters that begin in `bytes`.
 fn count(bytes: &[u8]) -> usize {
     bytes.iter().filter(|&&byte| begins_character(byte)).count()
 }
 
 impl<'t> LineIndex<'t> {
-    /// The index of a text.
+    /// Creates the index of a text.
     ///
     /// ```
     /// assert_eq!(navyspindle::LineIndex::new("a\nb").lines(), 2);
@@ -84,7 +84,7 @@ impl<'t> LineIndex<'t> {
                 characters.push(before);
                 before += count(bytes);
             }
-            // One more, for the text's end.
+            // One more entry, for the text's end.
             characters.push(before);
         }
         LineIndex {
@@ -94,7 +94,7 @@ impl<'t> LineIndex<'t> {
         }
     }
 
-    /// How many lines there are: one more than LFs.
+    /// Returns the number of lines, which is one more than the number of LFs.
     ///
     /// ```
     /// assert_eq!(navyspindle::LineIndex::new("").lines(), 1);
@@ -104,8 +104,8 @@ impl<'t> LineIndex<'t> {
         self.starts.len()
     }
 
-    /// The line and the column, in characters, of the character that the byte belongs to. A byte past the text's end counts
-    /// as the end.
+    /// Returns the line and the column, in characters, of the character at the byte offset `at`. An offset beyond the text's end
+    /// counts as the end. An offset inside a character counts as the character's first byte.
     ///
     /// ```
     /// use navyspindle::{LineColumn, LineIndex};
@@ -122,8 +122,8 @@ impl<'t> LineIndex<'t> {
         LineColumn { line, column }
     }
 
-    /// The line and the column, in bytes, of the character that the byte belongs to. A byte past the text's end counts as the
-    /// end.
+    /// Returns the line and the column, in bytes, of the character at the byte offset `at`. An offset beyond the text's end counts
+    /// as the end. An offset inside a character counts as the character's first byte.
     ///
     /// ```
     /// use navyspindle::{LineColumn, LineIndex};
@@ -137,8 +137,10 @@ impl<'t> LineIndex<'t> {
         LineColumn { line, column }
     }
 
-    /// The line and the column, in units of UTF-16, of the character that the byte belongs to: those of editors' protocols, which
-    /// count both from 0. It walks over the line. A byte past the text's end counts as the end.
+    /// Returns the line and the column, in UTF-16 code units, of the character at the byte offset `at`.
+    ///
+    /// Editor protocols use these columns, but count lines and columns from 0. An offset beyond the text's end counts as the end.
+    /// The time grows with the length of the line.
     ///
     /// ```
     /// use navyspindle::{LineColumn, LineIndex};
@@ -153,7 +155,7 @@ impl<'t> LineIndex<'t> {
         LineColumn { line, column }
     }
 
-    /// The text of a line, without the LF or CR LF that ends it; `None` where there is no such line.
+    /// Returns the text of a line without the LF or CR LF that ends it, or `None` if the text has no line of this number.
     ///
     /// ```
     /// use navyspindle::LineIndex;
@@ -171,8 +173,8 @@ impl<'t> LineIndex<'t> {
         Some(text.strip_suffix('\r').unwrap_or(text))
     }
 
-    /// The byte of a line and a column in characters. The column after a line's last character, its LF, is no place of it;
-    /// the one after the text's last character is.
+    /// Returns the byte offset of a line and a column in characters, or `None` if the text has no such position. The last position
+    /// of a line is its LF. The last position of the last line is the text's end.
     ///
     /// ```
     /// use navyspindle::{LineColumn, LineIndex};
@@ -192,7 +194,7 @@ impl<'t> LineIndex<'t> {
         (at < end).then_some(at)
     }
 
-    /// The byte of a line and a column in bytes, where a character begins there.
+    /// Returns the byte offset of a line and a column in bytes, or `None` if no character begins at that position.
     ///
     /// ```
     /// use navyspindle::{LineColumn, LineIndex};
@@ -208,7 +210,8 @@ impl<'t> LineIndex<'t> {
         (at < end && self.text.is_char_boundary(at)).then_some(at)
     }
 
-    /// The byte of a line and a column in units of UTF-16, where a character begins there. It walks over the line.
+    /// Returns the byte offset of a line and a column in UTF-16 code units, or `None` if no character begins at that position. The
+    /// time grows with the length of the line.
     ///
     /// ```
     /// use navyspindle::{LineColumn, LineIndex};
@@ -232,7 +235,8 @@ impl<'t> LineIndex<'t> {
         (left == 0 && at < end).then_some(at)
     }
 
-    /// The line of a byte, from 1, the byte where it begins, and the one where the byte's character does.
+    /// Returns the line of the byte offset `at`, counted from 1, the byte offset at which that line begins, and the byte offset at
+    /// which the character at `at` begins.
     fn line_of(&self, at: usize) -> (usize, usize, usize) {
         let mut at = at.clamp(self.starts[0], self.text.len());
         while !self.text.is_char_boundary(at) {
@@ -242,10 +246,11 @@ impl<'t> LineIndex<'t> {
         (line, self.starts[line - 1], at)
     }
 
-    /// The byte where a line begins, and the one up to which places of it may stand; `None` where there is no such line.
+    /// Returns the byte offset at which a line begins, and the first offset after the line's last position. `None` if there is no
+    /// line of this number.
     fn bounds(&self, line: usize) -> Option<(usize, usize)> {
         let start = *self.starts.get(line.checked_sub(1)?)?;
-        // The text's end is a place of the last line.
+        // The last line has one more position, which is the text's end.
         let end = self.starts.get(line).copied();
         Some((start, end.unwrap_or(self.text.len() + 1)))
     }
@@ -258,7 +263,7 @@ impl<'t> LineIndex<'t> {
         self.characters[step] + count(&self.text.as_bytes()[step * STEP..at])
     }
 
-    /// The byte where so many characters end, which the text may not have.
+    /// Returns the byte offset after the first `characters` characters of the text, or `None` if the text has fewer.
     fn byte_after(&self, characters: usize) -> Option<usize> {
         if self.characters.is_empty() {
             return (characters <= self.text.len()).then_some(characters);
@@ -286,17 +291,7 @@ mod tests {
     use super::*;
     use std::string::String;
 
-    /// The place by the proved cursor.
-    #[cfg(feature = "rendered")]
-    fn proved(text: &str, at: usize) -> LineColumn {
-        let place = crate::rl_lexer::Lines::new(text).at(&text[at..]);
-        LineColumn {
-            line: place.line,
-            column: place.column,
-        }
-    }
-
-    /// The places in characters and in bytes, by counting from the text's front.
+    /// Returns the position of `at`, with columns in characters and in bytes, by counting from the start of the text.
     fn counted(text: &str, at: usize) -> (LineColumn, LineColumn) {
         let before = &text[..at];
         let line = before.matches('\n').count() + 1;
@@ -306,7 +301,7 @@ mod tests {
         (of(column), of(at - start + 1))
     }
 
-    /// The place in units of UTF-16, by the text made one of UTF-16.
+    /// Returns the position of `at` in UTF-16 code units, by converting the text to UTF-16.
     fn counted_utf16(text: &str, at: usize) -> LineColumn {
         let before: Vec<u16> = text[..at].encode_utf16().collect();
         let end = |unit: &u16| *unit == u16::from(b'\n');
@@ -321,10 +316,6 @@ mod tests {
         for (at, line, column) in [(0, 1, 1), (2, 1, 1), (3, 1, 1), (4, 1, 2), (6, 2, 1)] {
             assert_eq!(index.line_column(at), LineColumn { line, column });
             assert_eq!(index.line_column_bytes(at), LineColumn { line, column });
-            #[cfg(feature = "rendered")]
-            if at == 0 || at >= 3 {
-                assert_eq!(proved("\u{feff}ab\nc", at), LineColumn { line, column });
-            }
         }
         assert_eq!(index.byte(LineColumn { line: 1, column: 1 }), Some(3));
     }
@@ -351,8 +342,6 @@ mod tests {
             for at in (0..=text.len()).filter(|&at| text.is_char_boundary(at)) {
                 let (place, in_bytes) = counted(text, at);
                 assert_eq!(index.line_column(at), place, "{text:?} {at}");
-                #[cfg(feature = "rendered")]
-                assert_eq!(proved(text, at), place, "{text:?} {at}");
                 assert_eq!(index.line_column_bytes(at), in_bytes, "{text:?} {at}");
                 assert_eq!(index.byte(place), Some(at), "{text:?} {at}");
                 assert_eq!(index.byte_of_bytes(in_bytes), Some(at), "{text:?} {at}");
@@ -365,7 +354,7 @@ mod tests {
                     assert_eq!(inside, None, "{text:?} {at}");
                 }
             }
-            // The lines of std, which has no empty one after the last LF.
+            // The lines as std splits them, which has no empty line after the last LF.
             let mut lines: Vec<&str> = text.lines().collect();
             if text.is_empty() || text.ends_with('\n') {
                 lines.push("");

@@ -1,16 +1,24 @@
 //! Lists of literals.
 
-use crate::error::ListError;
+use crate::list_error::ListError;
 use crate::lit::Lit;
+use crate::next_literal::placed;
+use crate::rl_lenient::{list_step, ListStep};
 use crate::rl_lexer::Tokens;
-use crate::rl_reading::{list_step, ListStep, NextLiteral};
-use alloc::borrow::Cow;
-use alloc::format;
 use core::fmt;
 use core::iter::FusedIterator;
 use core::ops::Range;
 
-/// The literals of a text with white space and plain comments between them, each with its bytes; see [`literals`].
+/// An iterator over the literals of a list, each with its byte range. See [`parse_list`].
+///
+/// ```
+/// use navyspindle::{parse_list, Literals};
+///
+/// let mut literals: Literals = parse_list("-1 'a'");
+/// let (range, literal) = literals.next().unwrap()?;
+/// assert_eq!((range, literal.text()), (0..2, "-1"));
+/// # Ok::<(), navyspindle::ListError>(())
+/// ```
 #[must_use = "an iterator does nothing until it is asked"]
 pub struct Literals<'t> {
     text: &'t str,
@@ -18,21 +26,24 @@ pub struct Literals<'t> {
     is_done: bool,
 }
 
-/// The literals of a text, one after another, until the first error.
+/// Iterates over the literals of a text, up to the first error. White space and plain comments separate the literals.
 ///
-/// A minus before a number belongs to the literal, also where something stands between them.
+/// A minus before a number belongs to the literal, also with white space or comments between them.
 ///
-/// A literal token that has no reading, as `'\q'` and an integer past 128 bits, comes as [`Lit::Verbatim`], which
-/// explains why; after a minus it is an error, [`SyntaxErrorKind::NoNumber`](crate::SyntaxErrorKind::NoNumber). [`Lit::check`] says whether Rust
-/// takes a literal too. A token that begins no literal ends the list: a word or a mark with
-/// [`SyntaxErrorKind::NoLiteral`](crate::SyntaxErrorKind::NoLiteral), an opening delimiter with
-/// [`SyntaxErrorKind::Group`](crate::SyntaxErrorKind::Group), a closing one with
-/// [`SyntaxErrorKind::UnmatchedClose`](crate::SyntaxErrorKind::UnmatchedClose).
+/// A literal token without a value, such as `'\q'` or an integer above 128 bits, is returned as [`Lit::Verbatim`], whose method
+/// `explain` returns the reason. After a minus it is the error [`SyntaxErrorKind::NoNumber`](crate::SyntaxErrorKind::NoNumber).
+/// [`Lit::check`] returns whether Rust accepts a literal too.
+///
+/// A token that doesn't begin a literal ends the list with an error:
+///
+/// - An identifier or punctuation is [`SyntaxErrorKind::NotALiteral`](crate::SyntaxErrorKind::NotALiteral).
+/// - An opening delimiter is [`SyntaxErrorKind::Group`](crate::SyntaxErrorKind::Group).
+/// - A closing delimiter is [`SyntaxErrorKind::UnmatchedClose`](crate::SyntaxErrorKind::UnmatchedClose).
 ///
 /// ```
-/// use navyspindle::{literals, SyntaxErrorKind, Lit};
+/// use navyspindle::{parse_list, SyntaxErrorKind, Lit};
 ///
-/// let mut list = literals("0xFF_u8 - /* two */ 1.5 'a");
+/// let mut list = parse_list("0xFF_u8 - /* two */ 1.5 'a");
 /// let (range, literal) = list.next().unwrap()?;
 /// assert_eq!((range, literal.suffix()), (0..7, "u8"));
 /// let (range, literal) = list.next().unwrap()?;
@@ -43,25 +54,12 @@ pub struct Literals<'t> {
 /// assert!(list.next().is_none());
 /// # Ok::<(), navyspindle::ListError>(())
 /// ```
-pub fn literals(text: &str) -> Literals<'_> {
+pub fn parse_list(text: &str) -> Literals<'_> {
     Literals {
         text,
         tokens: Tokens::new(text),
         is_done: false,
     }
-}
-
-/// The literal that was cut off, and its bytes, from its minus on where it has one.
-pub(crate) fn placed<'t>(text: &'t str, next: NextLiteral<'t>) -> (Range<usize>, Lit<'t>) {
-    let token = next.token;
-    let lo = next.minus_at.unwrap_or(token.lo);
-    let range = lo..token.hi;
-    let text = match next.minus_at {
-        // Something stands between the two.
-        Some(minus_at) if minus_at + 1 != token.lo => Cow::Owned(format!("-{}", token.text)),
-        _ => Cow::Borrowed(&text[range.clone()]),
-    };
-    (range, Lit::of_token(text, next.found))
 }
 
 impl<'t> Iterator for Literals<'t> {
@@ -85,7 +83,7 @@ impl<'t> Iterator for Literals<'t> {
 
 impl FusedIterator for Literals<'_> {}
 
-/// What was taken stays taken in the clone alone.
+/// A clone and the original iterator advance independently.
 impl Clone for Literals<'_> {
     fn clone(&self) -> Self {
         Literals {
@@ -96,7 +94,7 @@ impl Clone for Literals<'_> {
     }
 }
 
-/// What is left of the text.
+/// Prints the rest of the text.
 impl fmt::Debug for Literals<'_> {
     fn fmt(&self, f: &mut fmt::Formatter<'_>) -> fmt::Result {
         f.debug_tuple("Literals")

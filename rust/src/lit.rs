@@ -2,28 +2,34 @@
 
 use crate::kind::Kind;
 use crate::parse_error::ParseError;
-use crate::places::{Places, Segments};
-#[cfg(feature = "sources")]
-use crate::rl_file_reasons::explain_signed_value_in_file;
-use crate::rl_forms;
-use crate::rl_reading::{self, find, is_plain_integer, Body, Found};
-use crate::rl_reasons::strict_reading::{
-    front_of, read_character, read_digits, read_other, read_signed, read_string, Front, Reading,
+use crate::rl_lenient::{find, is_plain_integer, Body, Found};
+#[cfg(any(feature = "sources", feature = "settings"))]
+use crate::rl_strict::explain_value;
+use crate::rl_strict::strict_reading::{
+    front_of, read, read_character, read_digits, read_other, read_string, Front, Reading,
 };
-use crate::rl_reasons::{is_float_by_suffix, limit_flaw};
+use crate::rl_strict::{is_float_by_suffix, limit_flaw, LineEnds};
+use crate::rl_syntax;
+use crate::segments::{OffsetMap, Segments};
 use crate::{
     LitBool, LitByte, LitByteStr, LitCStr, LitChar, LitFloat, LitInt, LitStr, LitVerbatim,
 };
 use alloc::borrow::Cow;
 use alloc::string::String;
+use core::cmp::Ordering;
 use core::fmt;
 use core::ops::Range;
 use core::str::FromStr;
 
-/// A literal of any kind. Two are equal where their texts are.
+/// A literal of any kind. Literals of one kind are equal if their texts are.
 ///
-/// [`Lit::parse`] takes Rust's own literals, with one optional minus before a number. [`Lit::new`] reads as `syn` does:
-/// it takes any text, and some that Rust rejects are literals to it.
+/// [`Lit::parse`] accepts Rust's literals, with an optional minus before a number. [`Lit::of_text`] accepts any text, and reads it
+/// as `syn` reads a token. Some texts that Rust rejects are literals to `syn`.
+///
+/// Some methods need a feature: [`check`](Lit::check) `sources` or `settings`; [`parse_prefix`](Lit::parse_prefix) and
+/// [`parse_prefix_signed`](Lit::parse_prefix_signed) `sources`; [`type_error`](Lit::type_error) and
+/// [`type_error_negated`](Lit::type_error_negated) `flaws`; `to_token_stream`, and `TryFrom` of tokens, `proc-macro`. Constructors
+/// that write a value as a literal, such as [`LitStr::new`] and [`LitInt::suffixed`], need `writers`.
 ///
 /// ```
 /// use navyspindle::{Kind, Lit};
@@ -38,27 +44,28 @@ use core::str::FromStr;
 #[derive(Clone, PartialEq, Eq, Hash)]
 #[non_exhaustive]
 pub enum Lit<'t> {
-    /// A string.
+    /// A string literal, such as `"a"`.
     Str(LitStr<'t>),
-    /// A byte string.
+    /// A byte string literal, such as `b"a"`.
     ByteStr(LitByteStr<'t>),
-    /// A C string.
+    /// A C string literal, such as `c"a"`.
     CStr(LitCStr<'t>),
-    /// A byte.
+    /// A byte literal, such as `b'a'`.
     Byte(LitByte<'t>),
-    /// A character.
+    /// A character literal, such as `'a'`.
     Char(LitChar<'t>),
-    /// An integer.
+    /// An integer literal, such as `1`.
     Int(LitInt<'t>),
-    /// A float.
+    /// A float literal, such as `1.5`.
     Float(LitFloat<'t>),
-    /// A truth value.
+    /// A `bool` literal: `true` or `false`.
     Bool(LitBool<'t>),
-    /// A text that has no reading. [`Lit::parse`] returns it for a decimal integer past 128 bits with the suffix of a float alone.
+    /// A text without a value. [`Lit::parse`] returns it for only one kind of text: a decimal integer above 128 bits with the
+    /// suffix of a float.
     Verbatim(LitVerbatim<'t>),
 }
 
-/// Does the same with the literal of each kind.
+/// Evaluates one expression with the literal of any variant.
 macro_rules! each_kind {
     ($lit:expr, $literal:ident => $result:expr) => {
         match $lit {
@@ -76,10 +83,10 @@ macro_rules! each_kind {
 }
 
 impl<'t> Lit<'t> {
-    /// What `syn` reads the text as, all of it: `Verbatim` exactly where it has no reading, as an integer past 128 bits has none.
+    /// Reads the text as `syn` reads a token. It is [`Lit::of_text`] under `syn`'s name.
     ///
-    /// `syn` reads some texts that Rust rejects, since it is given tokens alone: `0b102` is a float to it, `1e` an integer with
-    /// the suffix `e`, and `'''` a character. Whoever takes texts from outside asks [`Lit::parse`].
+    /// The text is the literal, quotes included: `Lit::new("\"a\"")` is a string. To write the value `a` as a literal, call
+    /// [`LitStr::new`].
     ///
     /// ```
     /// use navyspindle::{Kind, Lit};
@@ -91,37 +98,63 @@ impl<'t> Lit<'t> {
     #[inline]
     #[must_use]
     pub fn new(text: impl Into<Cow<'t, str>>) -> Lit<'t> {
+        Lit::of_text(text)
+    }
+
+    /// Reads the text as `syn` reads a token. It never fails: a text without a meaning to `syn`, and an integer above 128 bits,
+    /// become [`Lit::Verbatim`].
+    ///
+    /// `syn` expects tokens that were lexed before, so it accepts some texts that Rust rejects: `0b102` is a float, `1e` an integer
+    /// with the suffix `e`, and `'''` a character. For a text that wasn't lexed, call [`Lit::parse`].
+    ///
+    /// ```
+    /// use navyspindle::{Kind, Lit};
+    ///
+    /// assert_eq!(Lit::of_text("'a'").kind(), Kind::Char);
+    /// assert_eq!(Lit::of_text("0b102").kind(), Kind::Float);
+    /// assert_eq!(Lit::of_text("word").kind(), Kind::Verbatim);
+    /// ```
+    #[inline]
+    #[must_use]
+    pub fn of_text(text: impl Into<Cow<'t, str>>) -> Lit<'t> {
         let text = text.into();
         let found = find(&text);
         Lit::of_token(text, found)
     }
 
-    /// The literal of Rust that the text is, all of it, with one optional minus before a number.
+    /// Parses a Rust literal, with an optional minus before a number.
     ///
-    /// Any word may be its suffix, as in `1u9` and `"a"q`: those are literal tokens, which Rust gives to macros alone. Look at
-    /// [`suffix`](Lit::suffix). The text is taken as it is: no white space stands around it, and a CR LF is none of a string of Rust's,
-    /// though it may stand in a file ([`Lit::check`]).
+    /// The whole text must be the literal, without white space around it. Any suffix is accepted, as in `1u9` and `"a"q`, because a
+    /// macro may receive such a token. [`suffix`](Lit::suffix) returns the suffix, and `type_error` (feature `flaws`) returns
+    /// whether Rust has a type for the literal. A string that contains CR LF is an error here. [`Lit::check`] accepts the string,
+    /// since rustc reads CR LF in a file as LF.
     ///
-    /// An integer past 128 bits has no reading. In base ten with the suffix `f32` or `f64` it is a float to Rust, of any magnitude:
-    /// it comes as [`Lit::Verbatim`].
+    /// Integers have up to 128 bits. A larger decimal integer with the suffix `f32` or `f64` is a float to Rust, and becomes
+    /// [`Lit::Verbatim`]. [`LitFloat::new`] reads it.
     ///
     /// # Errors
     ///
-    /// The text is none, or another integer past 128 bits: why, and where.
+    /// Returns an error if the text isn't a literal, or is another integer above 128 bits. The error has the reason and its range.
     ///
     /// ```
-    /// use navyspindle::{FlawKind, Lit};
+    /// use navyspindle::{FlawKind, Kind, Lit};
     ///
-    /// assert_eq!(Lit::parse("-1_000")?.text(), "-1_000");
-    /// assert_eq!(Lit::parse("'ab'").unwrap_err().kind(), FlawKind::TwoCharacters);
-    /// assert_eq!(Lit::parse("1e").unwrap_err().kind(), FlawKind::NoExponentDigit);
+    /// let literal = Lit::parse("-1_000i64")?;
+    /// assert_eq!((literal.kind(), literal.suffix()), (Kind::Int, "i64"));
+    ///
+    /// let text = r#""C:\dir""#;
+    /// let error = Lit::parse(text).unwrap_err();
+    /// assert_eq!(error.kind(), FlawKind::UnknownEscape);
+    /// assert_eq!(&text[error.piece()], r"\d");
+    /// assert_eq!(error.to_string(), "unknown escape at byte 4");
     /// # Ok::<(), navyspindle::ParseError>(())
     /// ```
     #[doc(alias = "parse_str")]
     #[inline]
     pub fn parse(text: &'t str) -> Result<Lit<'t>, ParseError> {
         let borrowed = Cow::Borrowed(text);
-        // Each call returns no more than its literals need, in registers; what reads all of them returns it in memory.
+        // Each branch calls a function that returns only the parts of its kind of literal, in registers. A function that reads
+        // every kind would return its result in memory.
         match front_of(text) {
             Front::Quote(inside) => match read_string(text, inside) {
                 Ok(body) => Ok(Lit::Str(LitStr::of(borrowed, body))),
@@ -146,39 +179,47 @@ impl<'t> Lit<'t> {
         }
     }
 
-    /// As [`Lit::parse`], by one copy of its code.
+    /// Parses a text like [`Lit::parse`], by one call for all kinds of literals. The conversions from `String` and by `FromStr`
+    /// share this function.
     fn parse_apart(text: Cow<'t, str>) -> Result<Lit<'t>, ParseError> {
-        let reading = read_signed(&text).map_err(ParseError::of_flaw)?;
+        let reading = read(&text, LineEnds::Text, true).map_err(ParseError::of_flaw)?;
         Lit::read(text, reading)
     }
 
-    /// That Rust takes the literal where it stands in a file: as [`Lit::parse`] of its text, but that a CR LF counts as an LF, which
-    /// rustc makes of it before it reads a file. So it judges what [`source`](crate::source) and [`settings`](crate::settings)
-    /// return, which are literals as `syn` reads them.
+    /// Checks that Rust accepts the literal in a source file.
     ///
-    /// A literal token may have any suffix, which macros see: of `1u9`, `0XFF` and `"a"q` it is `Ok`, though rustc rejects them where no
-    /// macro takes them; [`Lit::type_error`] says why.
+    /// [`source`](fn@crate::source), `parse_list` and `parse_settings` read literals as `syn` does, and `syn` accepts some texts
+    /// that Rust rejects. `check` applies the rules of [`Lit::parse`] to the literal's text, with one difference: CR LF counts as
+    /// LF, as in a file.
+    ///
+    /// A suffix without a meaning (`1u9`, `0XFF`, `"a"q`) isn't an error, since a macro may receive the literal. To check a
+    /// literal's type call `type_error` (feature `flaws`). The method `check` needs the feature `sources` or `settings`.
     ///
     /// # Errors
     ///
-    /// Rust rejects the text: why, and where in it.
+    /// Returns an error if Rust rejects the text. The error has the reason and its range in the text.
     ///
     /// ```
-    /// use navyspindle::{FlawKind, Lit};
+    /// use navyspindle::{source, FlawKind, ListError};
     ///
-    /// assert_eq!(Lit::new("\"a\r\nb\"").check(), Ok(()));
-    /// assert_eq!(Lit::new("0b12").check().unwrap_err().kind(), FlawKind::DigitOfBase);
-    /// assert_eq!(Lit::new("\"a\r\n\\q\"").check().unwrap_err().range(), 5..6);
+    /// let text = "let a = 0b12;";
+    /// for item in source(text) {
+    ///     let (range, literal) = item?;
+    ///     let error = literal.check().unwrap_err();
+    ///     assert_eq!(error.kind(), FlawKind::InvalidDigit);
+    ///     assert_eq!(&text[error.shifted(range.start).range()], "2");
+    /// }
+    /// # Ok::<(), ListError>(())
     /// ```
-    #[cfg(feature = "sources")]
+    #[cfg(any(feature = "sources", feature = "settings"))]
     pub fn check(&self) -> Result<(), ParseError> {
-        match explain_signed_value_in_file(self.text()) {
+        match explain_value(self.text(), LineEnds::File, true) {
             None => Ok(()),
             Some(flaw) => Err(ParseError::of_flaw(flaw)),
         }
     }
 
-    /// What stands between the quotes, segment by segment; `None` where there are none. See
+    /// Returns the segments between the quotes, or `None` for a literal without quotes. See
     /// [`LitStr::segments`](crate::LitStr::segments).
     ///
     /// ```
@@ -190,44 +231,46 @@ impl<'t> Lit<'t> {
     /// ```
     #[must_use]
     pub fn segments(&self) -> Option<Segments<'_>> {
-        self.cursor().map(Segments::of)
-    }
-
-    /// Where each byte of the value of a literal with quotes comes from; `None` of others. See
-    /// [`LitStr::places`](crate::LitStr::places).
-    ///
-    /// ```
-    /// use navyspindle::Lit;
-    ///
-    /// assert_eq!(Lit::parse(r"'\n'")?.places().unwrap().byte(0), 1..3);
-    /// # Ok::<(), navyspindle::ParseError>(())
-    /// ```
-    #[must_use]
-    pub fn places(&self) -> Option<Places> {
-        self.cursor().map(Places::of)
-    }
-
-    /// The proved cursor over the segments of a literal with quotes.
-    fn cursor(&self) -> Option<rl_reading::Segments<'_>> {
         match self {
-            Lit::Str(literal) => Some(literal.cursor()),
-            Lit::ByteStr(literal) => Some(literal.cursor()),
-            Lit::CStr(literal) => Some(literal.cursor()),
-            Lit::Byte(literal) => Some(literal.cursor()),
-            Lit::Char(literal) => Some(literal.cursor()),
+            Lit::Str(literal) => Some(literal.segments()),
+            Lit::ByteStr(literal) => Some(literal.segments()),
+            Lit::CStr(literal) => Some(literal.segments()),
+            Lit::Byte(literal) => Some(literal.segments()),
+            Lit::Char(literal) => Some(literal.segments()),
             _ => None,
         }
     }
 
-    /// The literal of a text that Rust reads so.
+    /// Returns a map from each byte of the value to its range in the literal's text, or `None` for a literal without quotes. See
+    /// [`LitStr::offset_map`](crate::LitStr::offset_map).
+    ///
+    /// ```
+    /// use navyspindle::Lit;
+    ///
+    /// assert_eq!(Lit::parse(r"'\n'")?.offset_map().unwrap().byte_range(0), 1..3);
+    /// # Ok::<(), navyspindle::ParseError>(())
+    /// ```
+    #[must_use]
+    pub fn offset_map(&self) -> Option<OffsetMap> {
+        match self {
+            Lit::Str(literal) => Some(literal.offset_map()),
+            Lit::ByteStr(literal) => Some(literal.offset_map()),
+            Lit::CStr(literal) => Some(literal.offset_map()),
+            Lit::Byte(literal) => Some(literal.offset_map()),
+            Lit::Char(literal) => Some(literal.offset_map()),
+            _ => None,
+        }
+    }
+
+    /// Creates the literal of a text from Rust's parse result for it.
     ///
     /// # Errors
     ///
-    /// It is an integer past 128 bits, and no float by its suffix.
+    /// Returns an error if the literal is an integer above 128 bits that isn't a float by its suffix.
     #[inline(always)]
     fn read(text: Cow<'t, str>, reading: Reading) -> Result<Lit<'t>, ParseError> {
         Ok(match reading {
-            Reading::Text(kind, body) => Lit::of_text(kind, text, body),
+            Reading::Text(kind, body) => Lit::of_string(kind, text, body),
             Reading::Unit(kind, body, unit) => Lit::of_unit(kind, text, body.suffix_at, unit),
             Reading::Integer(Some(magnitude), suffix_at) => {
                 let is_plain = is_plain_integer(&text[..suffix_at]);
@@ -245,43 +288,43 @@ impl<'t> Lit<'t> {
     }
 
     #[inline]
-    fn of_text(kind: rl_forms::Kind, text: Cow<'t, str>, body: Body) -> Lit<'t> {
+    fn of_string(kind: rl_syntax::Kind, text: Cow<'t, str>, body: Body) -> Lit<'t> {
         match kind {
-            rl_forms::Kind::ByteStr => Lit::ByteStr(LitByteStr::of(text, body)),
-            rl_forms::Kind::CStr => Lit::CStr(LitCStr::of(text, body)),
+            rl_syntax::Kind::ByteStr => Lit::ByteStr(LitByteStr::of(text, body)),
+            rl_syntax::Kind::CStr => Lit::CStr(LitCStr::of(text, body)),
             _ => Lit::Str(LitStr::of(text, body)),
         }
     }
 
     #[inline]
-    fn of_unit(kind: rl_forms::Kind, text: Cow<'t, str>, suffix_at: usize, unit: u32) -> Lit<'t> {
+    fn of_unit(kind: rl_syntax::Kind, text: Cow<'t, str>, suffix_at: usize, unit: u32) -> Lit<'t> {
         match kind {
-            rl_forms::Kind::Byte => Lit::Byte(LitByte::of(text, suffix_at, unit)),
+            rl_syntax::Kind::Byte => Lit::Byte(LitByte::of(text, suffix_at, unit)),
             _ => Lit::Char(LitChar::of(text, suffix_at, unit)),
         }
     }
 
-    /// The literal of a text, of which this was found.
+    /// Creates the literal of a text from `syn`'s parse result for it.
     #[inline]
     fn of(text: Cow<'t, str>, found: &Found) -> Lit<'t> {
         let body = found.body;
         let suffix_at = body.suffix_at;
         match found.kind {
-            kind @ (rl_forms::Kind::Str | rl_forms::Kind::ByteStr | rl_forms::Kind::CStr) => {
-                Lit::of_text(kind, text, body)
+            kind @ (rl_syntax::Kind::Str | rl_syntax::Kind::ByteStr | rl_syntax::Kind::CStr) => {
+                Lit::of_string(kind, text, body)
             }
-            kind @ (rl_forms::Kind::Byte | rl_forms::Kind::Char) => {
+            kind @ (rl_syntax::Kind::Byte | rl_syntax::Kind::Char) => {
                 Lit::of_unit(kind, text, suffix_at, found.unit)
             }
-            rl_forms::Kind::Int => {
+            rl_syntax::Kind::Int => {
                 Lit::Int(LitInt::of(text, suffix_at, found.magnitude, body.plain))
             }
-            rl_forms::Kind::Float => Lit::Float(LitFloat::of(text, suffix_at)),
-            rl_forms::Kind::Bool => Lit::Bool(LitBool::of(text, found.truth)),
+            rl_syntax::Kind::Float => Lit::Float(LitFloat::of(text, suffix_at)),
+            rl_syntax::Kind::Bool => Lit::Bool(LitBool::of(text, found.truth)),
         }
     }
 
-    /// The literal of a literal token's text: what was found of it, or nothing.
+    /// Creates the literal of a token from the parse result of its text. Without a parse result it is `Lit::Verbatim`.
     #[inline]
     pub(crate) fn of_token(text: Cow<'t, str>, found: Option<Found>) -> Lit<'t> {
         match found {
@@ -290,7 +333,7 @@ impl<'t> Lit<'t> {
         }
     }
 
-    /// What the literal is.
+    /// Returns the kind of the literal.
     ///
     /// ```
     /// use navyspindle::{Kind, Lit};
@@ -314,7 +357,7 @@ impl<'t> Lit<'t> {
         }
     }
 
-    /// The text as it was read.
+    /// Returns the literal's text as it was read.
     ///
     /// ```
     /// use navyspindle::Lit;
@@ -331,7 +374,7 @@ impl<'t> Lit<'t> {
         each_kind!(self, literal => literal.text())
     }
 
-    /// The text as it was read, in its own lifetime.
+    /// Returns the literal's text as it was read. Borrowed text stays borrowed.
     ///
     /// ```
     /// use navyspindle::Lit;
@@ -345,7 +388,7 @@ impl<'t> Lit<'t> {
         each_kind!(self, literal => literal.into_text())
     }
 
-    /// What stands after the literal proper; empty where nothing does, and of `Verbatim`.
+    /// Returns the literal's suffix, which may be empty. The suffix of `Verbatim` is always empty.
     ///
     /// ```
     /// use navyspindle::Lit;
@@ -359,7 +402,8 @@ impl<'t> Lit<'t> {
         each_kind!(self, literal => literal.suffix())
     }
 
-    /// The bytes of the text where its suffix stands; none, at its end, where it has none; `None` of `Verbatim`.
+    /// Returns the byte range of the suffix in the literal's text. Without a suffix it is the empty range at the text's end.
+    /// Returns `None` for `Verbatim`.
     ///
     /// ```
     /// use navyspindle::Lit;
@@ -383,7 +427,7 @@ impl<'t> Lit<'t> {
         }
     }
 
-    /// The bytes of the text between the quotes; `None` of a literal without quotes.
+    /// Returns the byte range of the text between the quotes, or `None` for a literal without quotes.
     ///
     /// ```
     /// use navyspindle::Lit;
@@ -404,7 +448,7 @@ impl<'t> Lit<'t> {
         }
     }
 
-    /// What stands between the quotes, as it is written; `None` of a literal without quotes.
+    /// Returns the text between the quotes, or `None` for a literal without quotes.
     ///
     /// ```
     /// use navyspindle::Lit;
@@ -417,7 +461,7 @@ impl<'t> Lit<'t> {
         self.body_range().map(|range| &self.text()[range])
     }
 
-    /// How many `#` stand before the first quote of a raw string; `None` of one that isn't raw, and of what is no string.
+    /// Returns the number of `#` before the first quote of a raw string, or `None` for any other literal.
     ///
     /// ```
     /// use navyspindle::Lit;
@@ -437,7 +481,7 @@ impl<'t> Lit<'t> {
         }
     }
 
-    /// Whether it is a raw string, of any of the three kinds.
+    /// Returns `true` if the literal is a raw string, a raw byte string or a raw C string.
     ///
     /// ```
     /// use navyspindle::Lit;
@@ -452,7 +496,7 @@ impl<'t> Lit<'t> {
         self.hashes().is_some()
     }
 
-    /// What stands after the literal proper, in the text's own lifetime.
+    /// Returns the literal's suffix. If the literal's text is borrowed, so is the suffix.
     ///
     /// ```
     /// use navyspindle::Lit;
@@ -465,7 +509,7 @@ impl<'t> Lit<'t> {
         each_kind!(self, literal => literal.into_suffix())
     }
 
-    /// The literal with a text of its own.
+    /// Returns the literal with its own copy of the text.
     ///
     /// ```
     /// use navyspindle::Lit;
@@ -490,21 +534,45 @@ impl<'t> Lit<'t> {
     }
 }
 
-/// The text. Width and fill are kept.
+impl AsRef<str> for Lit<'_> {
+    #[inline]
+    fn as_ref(&self) -> &str {
+        self.text()
+    }
+}
+
+/// Literals are ordered by text, then by kind. Two literals with the same text can differ in kind only if they were created as
+/// different kinds, such as an integer `1f64` and a float `1f64`.
+impl Ord for Lit<'_> {
+    #[inline]
+    fn cmp(&self, other: &Self) -> Ordering {
+        let by_text = self.text().cmp(other.text());
+        by_text.then_with(|| self.kind().cmp(&other.kind()))
+    }
+}
+
+impl PartialOrd for Lit<'_> {
+    #[inline]
+    fn partial_cmp(&self, other: &Self) -> Option<Ordering> {
+        Some(self.cmp(other))
+    }
+}
+
+/// Prints the literal's text. Width and fill of the format are applied.
 impl fmt::Display for Lit<'_> {
     fn fmt(&self, f: &mut fmt::Formatter<'_>) -> fmt::Result {
         f.pad(self.text())
     }
 }
 
-/// The struct of the kind, with the text: `LitStr("\"a\"")`.
+/// Prints the name of the kind's struct, with the literal's text: `LitStr("\"a\"")`.
 impl fmt::Debug for Lit<'_> {
     fn fmt(&self, f: &mut fmt::Formatter<'_>) -> fmt::Result {
         each_kind!(self, literal => fmt::Debug::fmt(literal, f))
     }
 }
 
-/// As [`Lit::parse`].
+/// Parses a borrowed text with [`Lit::parse`]. The literal borrows the text.
 impl<'t> TryFrom<&'t str> for Lit<'t> {
     type Error = ParseError;
 
@@ -514,7 +582,7 @@ impl<'t> TryFrom<&'t str> for Lit<'t> {
     }
 }
 
-/// As [`Lit::parse`], of a text that is kept.
+/// Parses a `String` like [`Lit::parse`]. The literal keeps the `String`.
 impl TryFrom<String> for Lit<'static> {
     type Error = ParseError;
 
@@ -523,7 +591,7 @@ impl TryFrom<String> for Lit<'static> {
     }
 }
 
-/// As [`Lit::parse`], with a text of its own.
+/// Parses a text like [`Lit::parse`]. The literal has its own copy of the text.
 impl FromStr for Lit<'static> {
     type Err = ParseError;
 
@@ -536,10 +604,10 @@ impl FromStr for Lit<'static> {
 mod tests {
     use super::*;
     use crate::is_token;
-    use crate::rl_reasons::limits::limit_of;
+    use crate::rl_strict::limits::limit_of;
     use std::format;
 
-    /// All texts of up to so many of these characters, after the front.
+    /// Calls `check` for each text that consists of `front` and up to `most` characters of `characters` after it.
     fn each_text(front: &str, characters: &str, most: usize, check: &mut dyn FnMut(&str)) {
         check(front);
         if most > 0 {
@@ -549,7 +617,7 @@ mod tests {
         }
     }
 
-    /// What a literal says of itself.
+    /// Returns the results of a literal's methods as one text.
     fn told(literal: &Lit<'_>) -> String {
         let more = match literal {
             Lit::Str(it) => format!("{:?} {:?}", it.body_range(), it.value()),
@@ -572,7 +640,8 @@ mod tests {
         format!("{literal:?} {} {more} {borrows}", literal.suffix())
     }
 
-    /// Checks what is parsed, borrowed and owned, beside `syn`'s reading, and an error beside the reason.
+    /// Checks the results of `Lit::parse` for one text, borrowed and owned. A literal must be equal to the one that `Lit::new`
+    /// reads. An error must have the reason that the proved code returns.
     fn check(text: &str, parsed: &mut usize) {
         let owned = Lit::try_from(String::from(text));
         match Lit::parse(text) {
@@ -583,7 +652,7 @@ mod tests {
                 assert_eq!(owned.map(|it| told(&it)), Ok(told(&literal)), "{text:?}");
             }
             Err(error) => {
-                let flaw = match read_signed(text) {
+                let flaw = match read(text, LineEnds::Text, true) {
                     Ok(reading) => limit_of(text, reading),
                     Err(flaw) => Some(flaw),
                 };

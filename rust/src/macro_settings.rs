@@ -1,58 +1,70 @@
 //! Settings of procedural macros and attributes.
 
 use crate::ranges::touched;
-use crate::{settings, Lit, MacroError, SettingError, Settings, SettingsSyntaxError};
+use crate::{parse_settings, Lit, MacroError, SettingError, Settings, SettingsSyntaxError};
 use alloc::string::{String, ToString};
 use alloc::vec::Vec;
 use core::ops::Range;
 use proc_macro::{Delimiter, Group, Span, TokenStream, TokenTree};
 
-/// A setting in the input of a procedural macro. See [`macro_settings`].
-#[derive(Clone, Debug)]
-#[non_exhaustive]
-pub struct MacroEntry {
-    /// The name.
-    pub name: String,
-    /// Where it stands.
-    pub name_span: Span,
-    /// What it is set to, of a number with its minus.
-    pub value: Lit<'static>,
-    /// Where its own token stands: of a negative number that after the minus.
-    pub value_span: Span,
-    /// Where the minus stands, of a negative number. [`MacroError::between`] takes both.
-    pub minus_span: Option<Span>,
-}
-
-/// The text of a macro's tokens, and which bytes of it each token has: so what reads texts reads macros' input, and its places become
-/// those of the tokens.
+/// A setting in the input of a procedural macro. See [`parse_macro_settings`].
 ///
 /// ```no_run
 /// extern crate proc_macro;
-/// use navyspindle::{MacroError, MacroText, Key};
+/// use navyspindle::{MacroEntry, MacroError};
+///
+/// fn deprecated(entry: &MacroEntry) -> MacroError {
+///     MacroError::between("use `size`", entry.name_span, entry.value_span)
+/// }
+/// ```
+#[derive(Clone, Debug)]
+#[non_exhaustive]
+pub struct MacroEntry {
+    /// The setting's name.
+    pub name: String,
+    /// The span of the setting's name.
+    pub name_span: Span,
+    /// The setting's value. A negative number includes its minus.
+    pub value: Lit<'static>,
+    /// The span of the value's literal token, without a minus.
+    pub value_span: Span,
+    /// The span of the minus before the value, if there is one. For an error at the minus and the literal call
+    /// [`MacroError::between`].
+    pub minus_span: Option<Span>,
+}
+
+/// A procedural macro's input as text, with the byte range of each token.
+///
+/// Functions on text, such as [`Settings::read`](crate::Settings::read), can parse this text. [`spans`](MacroInput::spans) converts
+/// their byte ranges to spans.
+///
+/// ```no_run
+/// extern crate proc_macro;
+/// use navyspindle::{MacroError, MacroInput, Key};
 ///
 /// const NAME: Key = Key::new("name", "a string");
 /// const SIZE: Key = Key::new("size", "an integer from 0 to 255");
 ///
-/// /// `name = "x", size = 10`: the name has to be set, the size is 1 where it isn't.
+/// /// Reads `name = "x", size = 10`. The name is required. The size is 1 by default.
 /// fn read(input: proc_macro::TokenStream) -> Result<(String, u8), MacroError> {
-///     let text = MacroText::of(input);
+///     let text = MacroInput::of(input);
 ///     let settings = text.settings()?;
 ///     settings.check(&[NAME, SIZE]).map_err(|error| text.error(&error))?;
 ///     let name = settings.string(NAME).map_err(|error| text.error(&error))?;
-///     let name = name.ok_or_else(|| text.error(&settings.missing(NAME)))?;
+///     let name = name.ok_or_else(|| text.error(&settings.missing_error(NAME)))?;
 ///     let size = settings.number(SIZE).map_err(|error| text.error(&error))?;
 ///     Ok((name.into_owned(), size.unwrap_or(1)))
 /// }
 /// ```
 #[derive(Clone, Debug, Default)]
-pub struct MacroText {
+pub struct MacroInput {
     text: String,
-    /// The bytes of each token, and where it stands.
+    /// The byte range of each token in `text`. `spans` has the span of the token with the same index.
     places: Vec<Range<usize>>,
     spans: Vec<Span>,
 }
 
-impl MacroText {
+impl MacroInput {
     fn push(&mut self, token: &str, span: Span) {
         let start = self.text.len();
         self.text.push_str(token);
@@ -60,7 +72,7 @@ impl MacroText {
         self.spans.push(span);
     }
 
-    /// A token, and a space after it.
+    /// Appends a token and a space to the text.
     fn push_apart(&mut self, token: &str, span: Span) {
         self.push(token, span);
         self.text.push(' ');
@@ -71,7 +83,7 @@ impl MacroText {
             Delimiter::Parenthesis => ("(", ")"),
             Delimiter::Bracket => ("[", "]"),
             Delimiter::Brace => ("{", "}"),
-            // What `macro_rules!` passes on.
+            // A group without delimiters, in which `macro_rules!` passes tokens on.
             Delimiter::None => return self.push_all(group.stream()),
         };
         self.push_apart(open, group.span_open());
@@ -83,48 +95,49 @@ impl MacroText {
         for tree in tokens {
             match &tree {
                 TokenTree::Group(group) => self.push_group(group),
-                // The apostrophe of a lifetime. Other marks stand apart: two slashes would begin a comment.
+                // The apostrophe of a lifetime, which has no space after it. Any other punctuation has one, because two slashes
+                // side by side would begin a comment.
                 TokenTree::Punct(mark) if mark.as_char() == '\'' => self.push("'", mark.span()),
                 _ => self.push_apart(&tree.to_string(), tree.span()),
             }
         }
     }
 
-    /// The text of these tokens: each as it prints, with a space after it, but for the apostrophe of a lifetime.
+    /// Converts the tokens to text. A space follows each token, except the apostrophe of a lifetime.
     ///
     /// ```no_run
     /// extern crate proc_macro;
-    /// let text = navyspindle::MacroText::of("a = 1".parse().unwrap());
+    /// let text = navyspindle::MacroInput::of("a = 1".parse().unwrap());
     /// assert_eq!(text.text(), "a = 1 ");
     /// ```
     #[must_use]
     pub fn of(input: TokenStream) -> Self {
-        let mut text = MacroText::default();
+        let mut text = MacroInput::default();
         text.push_all(input);
         text
     }
 
-    /// The text. Places that it is read with are turned by [`spans`](MacroText::spans).
+    /// Returns the input's text. [`spans`](MacroInput::spans) converts its byte ranges to spans.
     ///
     /// ```no_run
     /// extern crate proc_macro;
-    /// let text = navyspindle::MacroText::of("'a' 1u8".parse().unwrap());
-    /// assert_eq!(navyspindle::literals(text.text()).count(), 2);
+    /// let text = navyspindle::MacroInput::of("'a' 1u8".parse().unwrap());
+    /// assert_eq!(navyspindle::parse_list(text.text()).count(), 2);
     /// ```
     #[must_use]
     pub fn text(&self) -> &str {
         &self.text
     }
 
-    /// The settings of the tokens, asked for by name.
+    /// Parses the text as settings. See the example of [`MacroInput`].
     ///
     /// # Errors
     ///
-    /// Those of [`Settings::read`], at the tokens. See the example of [`MacroText`].
+    /// Returns an error if the text isn't settings. The error is at the wrong tokens.
     ///
     /// ```no_run
     /// extern crate proc_macro;
-    /// let text = navyspindle::MacroText::of("a = 1, b = 2".parse().unwrap());
+    /// let text = navyspindle::MacroInput::of("a = 1, b = 2".parse().unwrap());
     /// assert_eq!(text.settings()?.entries().len(), 2);
     /// # Ok::<(), navyspindle::MacroError>(())
     /// ```
@@ -132,13 +145,13 @@ impl MacroText {
         Settings::read(&self.text).map_err(|error| self.error(&error))
     }
 
-    /// The error of a setting, at its tokens.
+    /// Converts an error of settings that were read from this text. The `MacroError` is at the tokens of the error's range.
     ///
     /// ```no_run
     /// extern crate proc_macro;
-    /// use navyspindle::{MacroText, Key};
+    /// use navyspindle::{MacroInput, Key};
     ///
-    /// let text = MacroText::of("a = 1".parse().unwrap());
+    /// let text = MacroInput::of("a = 1".parse().unwrap());
     /// let error = text.settings()?.string(Key::new("a", "a string")).unwrap_err();
     /// assert_eq!(text.error(&error).to_string(), "a: expected a string");
     /// # Ok::<(), navyspindle::MacroError>(())
@@ -149,11 +162,12 @@ impl MacroText {
         MacroError::between(error.kind(), first, last)
     }
 
-    /// Where the first and the last token stand that have some of these bytes; where none has, the token after them, or the last one.
+    /// Returns the spans of the first and the last token that overlap the byte range `bytes`. If none overlaps, both are the span
+    /// of the next token, or of the last token.
     ///
     /// ```no_run
     /// extern crate proc_macro;
-    /// let text = navyspindle::MacroText::of("a = -1".parse().unwrap());
+    /// let text = navyspindle::MacroInput::of("a = -1".parse().unwrap());
     /// let (minus, number) = text.spans(4..7);
     /// ```
     #[must_use]
@@ -165,32 +179,35 @@ impl MacroText {
     }
 }
 
-/// The settings in the input of a procedural macro, or in an attribute's, `name = "x", size = 10`, in their order: as [`settings`]
-/// reads them of a text, with the places of the tokens. [`MacroText`] has readers by name and kind. It needs the feature `settings` too.
+/// Parses the input of a macro or an attribute, such as `name = "x", size = 10`, as settings, like [`parse_settings`]. Returns the
+/// settings in order, with their spans.
+///
+/// To read settings by name and kind, use [`MacroInput`]. The function `parse_macro_settings` and `MacroInput` need the feature
+/// `settings` too.
 ///
 /// # Errors
 ///
-/// What [`settings`] rejects, at its tokens.
+/// Returns an error if the input isn't settings. The error is at the wrong tokens.
 ///
 /// ```no_run
 /// extern crate proc_macro;
-/// use navyspindle::{macro_settings, Lit, MacroError};
+/// use navyspindle::{parse_macro_settings, Lit, MacroError};
 ///
 /// /// The size that `size = 10` sets, among other settings.
 /// fn size_of(input: proc_macro::TokenStream) -> Result<Option<u32>, MacroError> {
-///     for entry in macro_settings(input)? {
+///     for entry in parse_macro_settings(input)? {
 ///         if let ("size", Lit::Int(size)) = (&*entry.name, &entry.value) {
 ///             let size = size.value::<u32>();
-///             return size.map(Some).map_err(|error| MacroError::new(error.reason(), entry.value_span));
+///             return size.map(Some).map_err(|error| MacroError::new(error.message(), entry.value_span));
 ///         }
 ///     }
 ///     Ok(None)
 /// }
 /// ```
-pub fn macro_settings(input: TokenStream) -> Result<Vec<MacroEntry>, MacroError> {
-    let written = MacroText::of(input);
+pub fn parse_macro_settings(input: TokenStream) -> Result<Vec<MacroEntry>, MacroError> {
+    let written = MacroInput::of(input);
     let error = |error: SettingsSyntaxError| written.error(&error.into());
-    let entries = settings(&written.text).map_err(error)?;
+    let entries = parse_settings(&written.text).map_err(error)?;
     let entries = entries.into_iter().map(|entry| MacroEntry {
         name: entry.name.into(),
         name_span: written.spans(entry.name_range).0,

@@ -1,16 +1,22 @@
-//! Integers and floats.
+//! Integer literals, float literals and their types.
 
-use crate::common::{example, literal_type};
+#[cfg(doc)]
+use crate::common::example;
+use crate::common::literal_type;
 use crate::contents::digits_of;
-use crate::rl_parts::{float_parts, integer_parts, FloatParts};
-use crate::rl_text::scan::{near_len_before, Marks};
+use crate::kind::Kind;
+use crate::lit::Lit;
+use crate::parse_error::ParseError;
+use crate::rl_lenient::number_forms::float_suffix;
+use crate::rl_lenient::{float_parts, integer_parts, FloatParts};
+use crate::rl_syntax::scan::{near_len_before, Marks};
 use alloc::borrow::Cow;
 use alloc::format;
 use alloc::string::String;
 use core::fmt;
 use core::str::FromStr;
 
-/// The base of an integer's digits.
+/// The base of an integer literal's digits.
 ///
 /// ```
 /// use navyspindle::{Base, LitInt};
@@ -22,13 +28,13 @@ use core::str::FromStr;
 #[doc(alias = "IntegerBase")]
 #[derive(Clone, Copy, Debug, PartialEq, Eq, PartialOrd, Ord, Hash)]
 pub enum Base {
-    /// Base two: `0b1`.
+    /// Base two, as in `0b1`.
     Binary,
-    /// Base eight: `0o7`.
+    /// Base eight, as in `0o7`.
     Octal,
-    /// Base ten: `9`.
+    /// Base ten, as in `9`.
     Decimal,
-    /// Base sixteen: `0xF`.
+    /// Base sixteen, as in `0xF`.
     Hexadecimal,
 }
 
@@ -42,7 +48,7 @@ impl Base {
         }
     }
 
-    /// The base as a number: 2, 8, 10 or 16.
+    /// Returns the base as a number: 2, 8, 10 or 16.
     ///
     /// ```
     /// assert_eq!(navyspindle::Base::Octal.radix(), 8);
@@ -57,7 +63,7 @@ impl Base {
         }
     }
 
-    /// What stands before the digits: `0b`, `0o`, `0x`, or nothing.
+    /// Returns the prefix before the digits of this base: `0b`, `0o`, `0x`, or an empty text.
     ///
     /// ```
     /// assert_eq!(navyspindle::Base::Octal.prefix(), "0o");
@@ -75,7 +81,7 @@ impl Base {
 
 macro_rules! number_types {
     ($($variant:ident $name:literal)*) => {
-        /// A type of numbers that stands as a suffix: `u8` in `1u8`.
+        /// A primitive number type that a literal's suffix may name, such as `u8` in `1u8`.
         ///
         /// ```
         /// use navyspindle::{LitFloat, LitInt, NumberType};
@@ -96,7 +102,7 @@ macro_rules! number_types {
         }
 
         impl NumberType {
-            /// The type's name.
+            /// Returns the type's name.
             ///
             /// ```
             /// assert_eq!(navyspindle::NumberType::Usize.as_str(), "usize");
@@ -126,7 +132,7 @@ number_types! {
 }
 
 impl NumberType {
-    /// Whether it is a type of floats.
+    /// Returns `true` for `f32` and `f64`.
     ///
     /// ```
     /// assert!(navyspindle::NumberType::F32.is_float());
@@ -136,7 +142,7 @@ impl NumberType {
         matches!(self, NumberType::F32 | NumberType::F64)
     }
 
-    /// Whether it is a type of integers without negative ones.
+    /// Returns `true` for the integer types without negative numbers.
     ///
     /// ```
     /// assert!(navyspindle::NumberType::Usize.is_unsigned());
@@ -154,32 +160,34 @@ impl fmt::Display for NumberType {
     }
 }
 
-/// What numbers of both kinds have. `$text` is of examples; its digits are `$number`, and `$negative` is it after a minus.
+/// Writes the methods that integer and float literals share. `$text` is a literal for the examples, `$number` is its value, and
+/// `$negative` is `$text` with a minus.
 macro_rules! number_type {
     ($name:ident, $text:literal == $number:literal, $negative:literal) => {
         impl $name<'_> {
-            /// Whether a minus stands before it.
-            #[doc = example!($name, $negative, "assert!(literal.is_negative());")]
+            /// Returns `true` if the literal begins with a minus.
+            #[cfg_attr(doc, doc = example!($name, $negative, "assert!(literal.is_negative());"))]
             #[inline]
             #[must_use]
             pub fn is_negative(&self) -> bool {
                 self.text.starts_with('-')
             }
 
-            /// The suffix as a type of numbers; `None` where there is no suffix, and where it is another word.
-            #[doc = example!($name, $text, "assert_eq!(literal.type_suffix(), None);")]
+            /// Returns the number type that the suffix names, or `None` if there is no suffix or if it names no number type.
+            #[cfg_attr(doc, doc = example!($name, $text, "assert_eq!(literal.type_suffix(), None);"))]
             #[must_use]
             pub fn type_suffix(&self) -> Option<NumberType> {
                 NumberType::named(self.suffix())
             }
 
-            /// The digits as a number type reads them. The suffix isn't looked at, as in `syn`: of `10k` they are 10, of `0XFF` they
-            /// are 0, and of `1e400` an infinity; [`value`](Self::value) rejects these.
+            /// Parses the literal's decimal digits with the `FromStr` of the type `N`. As in `syn`, the suffix is ignored.
+            ///
+            /// The result is 10 for `10k`, 0 for `0XFF`, and infinity for `1e400`. [`value`](Self::value) rejects these literals.
             ///
             /// # Errors
             ///
-            /// The type's own.
-            #[doc = example!($name, $text, "assert_eq!(literal.base10_parse::<f64>(), Ok(", stringify!($number), "));")]
+            /// Returns the error of the type's `FromStr`.
+            #[cfg_attr(doc, doc = example!($name, $text, "assert_eq!(literal.base10_parse::<f64>(), Ok(", stringify!($number), "));"))]
             #[inline]
             pub fn base10_parse<N: FromStr>(&self) -> Result<N, N::Err> {
                 self.base10_digits().parse()
@@ -188,7 +196,9 @@ macro_rules! number_type {
     };
 }
 
-/// An integer: `1_000`, `-0xFF_u8`.
+/// An integer literal, such as `1_000` or `-0xFF_u8`.
+///
+/// With the feature `writers`, `LitInt::suffixed` and `LitInt::unsuffixed` write a number as a literal.
 ///
 /// ```
 /// use navyspindle::{Base, LitInt, NumberType};
@@ -205,7 +215,7 @@ macro_rules! number_type {
 pub struct LitInt<'t> {
     text: Cow<'t, str>,
     suffix_at: usize,
-    // The halves of the magnitude, so that a literal is as large as one of another kind.
+    // The lower and upper 64 bits of the magnitude. They are two fields so that a literal has the same size as one of another kind.
     low: u64,
     high: u64,
     is_plain: bool,
@@ -214,7 +224,9 @@ pub struct LitInt<'t> {
 literal_type!(LitInt, Int(low, high, is_plain), "1_000u16", "u16");
 number_type!(LitInt, "12" == 12.0, "-12");
 
-/// A float: `1.5e3`, `2.0f32`.
+/// A float literal, such as `1.5e3` or `2.0f32`.
+///
+/// With the feature `writers`, `LitFloat::suffixed` and `LitFloat::unsuffixed` write a number as a literal.
 ///
 /// ```
 /// use navyspindle::LitFloat;
@@ -232,7 +244,7 @@ number_type!(LitInt, "12" == 12.0, "-12");
 pub struct LitFloat<'t> {
     text: Cow<'t, str>,
     suffix_at: usize,
-    // How many bytes of the text are digits as they stand.
+    // The number of bytes at the start of the text that `base10_digits` returns unchanged.
     plain_len: usize,
 }
 
@@ -240,7 +252,34 @@ literal_type!(LitFloat, Float(plain_len), "1.5f32", "f32");
 number_type!(LitFloat, "1.5" == 1.5, "-1.5");
 
 impl<'t> LitInt<'t> {
-    /// The literal of this text and magnitude. It is plain where all before the suffix is its digits in base ten.
+    /// Reads an integer literal as `syn` does. It is `syn`'s `LitInt::new` without a span and without a panic.
+    ///
+    /// It accepts some texts that Rust rejects, such as `1e`. [`LitInt::parse`] reads as Rust does. [`LitInt::suffixed`] and
+    /// [`LitInt::unsuffixed`] create a literal from a number.
+    ///
+    /// # Errors
+    ///
+    /// Returns an error if the text isn't an integer, or is one above 128 bits.
+    ///
+    /// ```
+    /// use navyspindle::{FlawKind, LitInt};
+    ///
+    /// assert_eq!(LitInt::new("0x1F_u8")?.base10_digits(), "31");
+    /// assert!(LitInt::new("1.0").is_err());
+    /// let large = "340282366920938463463374607431768211456";
+    /// assert_eq!(LitInt::new(large).unwrap_err().kind(), FlawKind::TooLarge);
+    /// # Ok::<(), navyspindle::ParseError>(())
+    /// ```
+    pub fn new(text: impl Into<Cow<'t, str>>) -> Result<Self, ParseError> {
+        match Lit::of_text(text) {
+            Lit::Int(literal) => Ok(literal),
+            Lit::Verbatim(literal) => Err(ParseError::of_integer(literal)),
+            other => Err(ParseError::of_kind(Kind::Int, other)),
+        }
+    }
+
+    /// Creates the literal with this text and magnitude. `is_plain` says that the whole text before the suffix is the number in
+    /// base ten, as `base10_digits` returns it.
     #[inline]
     pub(crate) fn of(
         text: Cow<'t, str>,
@@ -257,7 +296,7 @@ impl<'t> LitInt<'t> {
         }
     }
 
-    /// What the digits spell, without the sign.
+    /// Returns the integer's value without its sign.
     ///
     /// ```
     /// use navyspindle::LitInt;
@@ -271,9 +310,10 @@ impl<'t> LitInt<'t> {
         u128::from(self.high) << 64 | u128::from(self.low)
     }
 
-    /// The digits in base ten, after a minus where one stands; borrowed where they stand so in the text.
+    /// Returns the number in base ten, after a minus if the literal has one. The digits are borrowed if the literal's text has them
+    /// in this form.
     ///
-    /// The number is the one that the proved code read; of other bases Rust's std writes it.
+    /// The proved code computes the number. If the text has another form, Rust's std writes the number.
     ///
     /// ```
     /// use navyspindle::LitInt;
@@ -297,7 +337,7 @@ impl<'t> LitInt<'t> {
         format!("{sign}{}", self.magnitude())
     }
 
-    /// The base of the digits.
+    /// Returns the base of the literal's digits.
     ///
     /// ```
     /// use navyspindle::{Base, LitInt};
@@ -310,7 +350,7 @@ impl<'t> LitInt<'t> {
         integer_parts(&self.text).map_or(Base::Decimal, |parts| Base::of(parts.radix))
     }
 
-    /// The digits as they stand, without sign, prefix and suffix.
+    /// Returns the digits as written, without sign, prefix and suffix.
     ///
     /// ```
     /// use navyspindle::LitInt;
@@ -324,7 +364,7 @@ impl<'t> LitInt<'t> {
         integer_parts(&self.text).map_or("", |parts| parts.digits)
     }
 
-    /// The bytes of the text where its digits stand: up to the suffix.
+    /// Returns the byte range of the literal's digits in its text. The range ends at the suffix.
     ///
     /// ```
     /// let literal = navyspindle::LitInt::parse("-0xF_F_u8")?;
@@ -337,7 +377,7 @@ impl<'t> LitInt<'t> {
     }
 }
 
-/// The bytes of a float's numeral that its digits don't keep as they are: `numeral_into` leaves out two, and changes one.
+/// The bytes that differ between a float's text and its digits: `float_digits_into` leaves out `_` and `+`, and changes `E` to `e`.
 const CHANGED: Marks = Marks {
     first: b'_',
     second: b'+',
@@ -345,13 +385,44 @@ const CHANGED: Marks = Marks {
     fourth: b'E',
 };
 
-/// How many bytes at the front of a float's numeral are its digits as they stand.
+/// Returns the number of bytes at the start of a float's text that its digits repeat unchanged.
 #[inline(never)]
 fn plain_len(numeral: &str) -> usize {
     near_len_before(CHANGED, numeral.as_bytes())
 }
 
 impl<'t> LitFloat<'t> {
+    /// Reads a float literal as `syn` does. It is `syn`'s `LitFloat::new` without a span and without a panic.
+    ///
+    /// Digits without a dot and an exponent are a float here too, with any suffix: `1f64`, which [`Lit::parse`](crate::Lit::parse)
+    /// reads as an integer. [`LitFloat::parse`] reads as Rust does. [`LitFloat::suffixed`] and [`LitFloat::unsuffixed`] create a
+    /// literal from a number.
+    ///
+    /// # Errors
+    ///
+    /// Returns an error if the text isn't a float.
+    ///
+    /// ```
+    /// use navyspindle::LitFloat;
+    ///
+    /// assert_eq!(LitFloat::new("1_0.5")?.base10_digits(), "10.5");
+    /// let literal = LitFloat::new("1f64")?;
+    /// assert_eq!((literal.base10_digits().as_ref(), literal.suffix()), ("1", "f64"));
+    /// assert_eq!(LitFloat::new("0x1F")?.suffix(), "x1F");
+    /// assert!(LitFloat::new("word").is_err());
+    /// # Ok::<(), navyspindle::ParseError>(())
+    /// ```
+    pub fn new(text: impl Into<Cow<'t, str>>) -> Result<Self, ParseError> {
+        let text = text.into();
+        match float_suffix(&text) {
+            Some(suffix) => {
+                let suffix_at = text.len() - suffix.len();
+                Ok(LitFloat::of(text, suffix_at))
+            }
+            None => Err(ParseError::of_kind(Kind::Float, Lit::new(text))),
+        }
+    }
+
     #[inline]
     pub(crate) fn of(text: Cow<'t, str>, suffix_at: usize) -> Self {
         let plain_len = plain_len(&text[..suffix_at]);
@@ -362,7 +433,8 @@ impl<'t> LitFloat<'t> {
         }
     }
 
-    /// All before the suffix, without underscores and pluses and with `E` as `e`; borrowed where it stands so in the text.
+    /// Returns the text before the suffix, without underscores and pluses and with `E` as `e`. The result is borrowed if the
+    /// literal's text has this form.
     ///
     /// ```
     /// use navyspindle::LitFloat;
@@ -383,7 +455,7 @@ impl<'t> LitFloat<'t> {
         }
     }
 
-    /// All before the suffix, as it stands, a minus too.
+    /// Returns the text of the float before its suffix, including a minus.
     ///
     /// ```
     /// use navyspindle::LitFloat;
@@ -396,12 +468,12 @@ impl<'t> LitFloat<'t> {
         &self.text[..self.suffix_at]
     }
 
-    /// The proved parts: its text reads as a float.
+    /// Returns the integer part, the fraction and the exponent of the float's text, as the proved code finds them.
     fn parts(&self) -> Option<FloatParts<'_>> {
         float_parts(&self.text)
     }
 
-    /// The digits before the dot, as they stand, without a sign.
+    /// Returns the digits before the dot as written, without a sign.
     ///
     /// ```
     /// use navyspindle::LitFloat;
@@ -414,7 +486,7 @@ impl<'t> LitFloat<'t> {
         self.parts().map_or("", |parts| parts.integer)
     }
 
-    /// The digits after the dot, as they stand; `None` where there is no dot.
+    /// Returns the digits after the dot as written, or `None` if there is no dot.
     ///
     /// ```
     /// use navyspindle::LitFloat;
@@ -429,7 +501,7 @@ impl<'t> LitFloat<'t> {
         self.parts()?.fraction
     }
 
-    /// What stands after the letter of the exponent, its sign too; `None` where there is no exponent.
+    /// Returns the text of the exponent after its letter, with a sign, or `None` if the float has no exponent.
     ///
     /// ```
     /// use navyspindle::LitFloat;

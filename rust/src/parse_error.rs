@@ -1,20 +1,32 @@
-//! Why a text is no literal, and where.
+//! The error that a text isn't a literal, with its range.
 
 use crate::kind::Kind;
 use crate::lit::Lit;
-pub use crate::rl_reasons::FlawKind;
-use crate::rl_reasons::{explain_value, Flaw};
+use crate::rl_lenient::number_forms::read_integer;
+/// The reason why a text isn't a literal. [`ParseError::kind`] returns it. Printing it gives the message without the byte offset.
+///
+/// ```
+/// use navyspindle::{FlawKind, Lit};
+///
+/// assert_eq!(Lit::parse("0b2").unwrap_err().kind(), FlawKind::InvalidDigit);
+/// assert_eq!(FlawKind::InvalidDigit.to_string(), "invalid digit for this base");
+/// assert_eq!(FlawKind::InvalidDigit.message(), "invalid digit for this base");
+/// assert_eq!(FlawKind::InvalidDigit.id(), "digit-of-base");
+/// ```
+pub use crate::rl_strict::FlawKind;
+use crate::rl_strict::{explain_value, limit_flaw, Flaw, LineEnds};
+use crate::words::LitVerbatim;
 use core::fmt;
 use core::ops::Range;
 
-/// What is wrong with a text.
+/// The kind of a parse error: the text isn't a literal, or is a literal of another kind than the expected one.
 ///
 /// ```
 /// use navyspindle::{FlawKind, Kind, Lit, LitInt, ParseErrorKind};
 ///
 /// let kind = |text| Lit::parse(text).unwrap_err().kind();
 /// assert_eq!(kind(r#""\q""#), ParseErrorKind::Flaw(FlawKind::UnknownEscape));
-/// assert_eq!(kind("0b102"), ParseErrorKind::Flaw(FlawKind::DigitOfBase));
+/// assert_eq!(kind("0b102"), ParseErrorKind::Flaw(FlawKind::InvalidDigit));
 /// let other = ParseErrorKind::Kind { expected: Kind::Int, found: Kind::Float };
 /// assert_eq!(LitInt::parse("1.5").unwrap_err().kind(), other);
 /// ```
@@ -22,18 +34,18 @@ use core::ops::Range;
 #[derive(Clone, Copy, Debug, PartialEq, Eq, Hash)]
 #[non_exhaustive]
 pub enum ParseErrorKind {
-    /// It is no literal of Rust, for this reason.
+    /// The text isn't a Rust literal. The `FlawKind` is the reason.
     Flaw(FlawKind),
-    /// It is a literal of another kind than the one that was asked for.
+    /// The text is a literal of another kind than the one that the caller requested.
     Kind {
-        /// The kind that was asked for.
+        /// The kind that the caller requested.
         expected: Kind,
-        /// The kind of the text.
+        /// The kind of the literal in the text.
         found: Kind,
     },
 }
 
-/// Whether it is a flaw of this kind.
+/// Whether the error is a flaw of this kind.
 impl PartialEq<FlawKind> for ParseErrorKind {
     fn eq(&self, other: &FlawKind) -> bool {
         *self == ParseErrorKind::Flaw(*other)
@@ -51,7 +63,9 @@ impl fmt::Display for ParseErrorKind {
     }
 }
 
-/// Why a text is no literal, and where, in bytes of the text.
+impl core::error::Error for ParseErrorKind {}
+
+/// The reason why a text isn't a literal, and its byte range in the text.
 ///
 /// ```
 /// use navyspindle::{FlawKind, Lit};
@@ -60,7 +74,7 @@ impl fmt::Display for ParseErrorKind {
 /// let error = Lit::parse(text).unwrap_err();
 /// assert_eq!(error.kind(), FlawKind::Surrogate);
 /// assert_eq!((&text[error.range()], &text[error.piece()]), ("}", r"\u{D800}"));
-/// assert_eq!(error.to_string(), "surrogates are no characters at byte 9");
+/// assert_eq!(error.to_string(), "a surrogate isn't a character at byte 9");
 /// ```
 #[doc(alias = "Error")]
 #[derive(Clone, Copy, Debug, PartialEq, Eq, Hash)]
@@ -72,10 +86,10 @@ pub struct ParseError {
 }
 
 impl ParseError {
-    /// Why a text has no value in Rust.
+    /// Returns the reason why Rust has no value for the text, or `None` if it has one.
     #[cold]
     pub(crate) fn of(text: &str) -> Option<ParseError> {
-        explain_value(text).map(ParseError::of_flaw)
+        explain_value(text, LineEnds::Text, true).map(ParseError::of_flaw)
     }
 
     #[inline]
@@ -88,7 +102,21 @@ impl ParseError {
         }
     }
 
-    /// Why a literal isn't of the kind that was asked for: it has no value in Rust, or is of another kind.
+    /// Returns the error for a text that `syn` doesn't read as an integer up to 128 bits. The text is a larger integer, or isn't an
+    /// integer.
+    #[cold]
+    pub(crate) fn of_integer(literal: LitVerbatim<'_>) -> ParseError {
+        let text = literal.text();
+        match read_integer(text) {
+            Some(integer) => {
+                ParseError::of_flaw(limit_flaw(text, text.len() - integer.suffix.len()))
+            }
+            None => ParseError::of_kind(Kind::Int, Lit::Verbatim(literal)),
+        }
+    }
+
+    /// Returns the error for a literal that isn't of the kind `expected`. If Rust has no value for the literal, the error is the
+    /// reason for that. Otherwise the error has both kinds.
     #[cold]
     pub(crate) fn of_kind(expected: Kind, literal: Lit<'_>) -> ParseError {
         let found = literal.kind();
@@ -104,7 +132,7 @@ impl ParseError {
         }
     }
 
-    /// What is wrong.
+    /// Returns the kind of the error.
     ///
     /// ```
     /// use navyspindle::{FlawKind, Lit};
@@ -116,19 +144,20 @@ impl ParseError {
         self.kind
     }
 
-    /// The byte where [`range`](ParseError::range) begins, which its message names.
+    /// Returns the byte offset at which [`range`](ParseError::range) begins. The error's message names this offset.
     ///
     /// ```
     /// use navyspindle::Lit;
     ///
-    /// assert_eq!(Lit::parse(r#""a\qb""#).unwrap_err().at(), 3);
+    /// assert_eq!(Lit::parse(r#""a\qb""#).unwrap_err().offset(), 3);
     /// ```
     #[must_use]
-    pub fn at(&self) -> usize {
+    pub fn offset(&self) -> usize {
         self.lo
     }
 
-    /// The error with its places so many bytes on: in a text where the literal begins there.
+    /// Returns the error with its ranges moved forward by `by` bytes. Use it if the literal is part of a longer text and begins at
+    /// the byte offset `by`.
     ///
     /// ```
     /// use navyspindle::Lit;
@@ -147,9 +176,10 @@ impl ParseError {
         }
     }
 
-    /// The bytes of the first character that no literal goes on with; none, at the text's end, where the text is too
-    /// short. What stands before it begins some literal. Of an integer past 128 bits it is where its digits end, of a literal of
-    /// another kind the whole text.
+    /// Returns the byte range of the first character that can't continue a literal.
+    ///
+    /// The text before this character begins some literal. If the text ends too soon, the range is empty at the text's end. For an
+    /// integer above 128 bits the range is at the end of the digits. For a literal of another kind the range is the whole text.
     ///
     /// ```
     /// use navyspindle::Lit;
@@ -163,8 +193,10 @@ impl ParseError {
         self.lo..self.hi
     }
 
-    /// The bytes of the piece that it spoils, up to that character: from an escape's backslash on, of a character or a
-    /// byte literal from after the quote on, of a number or a word from the text's first byte on; else the character alone.
+    /// Returns the byte range of the piece of text that the error spoils, up to the end of [`range`](ParseError::range).
+    ///
+    /// In an escape the piece begins at the backslash. In a character or a byte literal it begins after the opening quote. In a
+    /// number or an identifier it begins at the text's start. Otherwise it is only the wrong character.
     ///
     /// ```
     /// use navyspindle::Lit;

@@ -1,180 +1,30 @@
-//! Literals of procedural macros.
+//! Literals among the tokens of procedural macros.
 
+use crate::macro_error::{spanned, MacroError, Mismatch};
 use crate::{
     Kind, Lit, LitBool, LitByte, LitByteStr, LitCStr, LitChar, LitFloat, LitInt, LitStr, ParseError,
 };
 use alloc::format;
 use alloc::string::{String, ToString};
-use alloc::vec::Vec;
 use core::fmt;
 use core::str::FromStr;
-use proc_macro::{Delimiter, Group, Ident, Literal, Punct, Spacing, Span, TokenStream, TokenTree};
+use proc_macro::{Delimiter, Ident, Literal, Punct, Spacing, Span, TokenStream, TokenTree};
 
-/// What is wrong with the input of a procedural macro, and where.
-///
-/// ```no_run
-/// extern crate proc_macro;
-/// use navyspindle::{next_of, LitStr, MacroError};
-/// use proc_macro::TokenStream;
-///
-/// /// `shout!("a")` is `"A"`.
-/// // #[proc_macro]
-/// pub fn shout(input: TokenStream) -> TokenStream {
-///     shouted(input).unwrap_or_else(|error| error.to_compile_error())
-/// }
-///
-/// fn shouted(input: TokenStream) -> Result<TokenStream, MacroError> {
-///     let (string, span) = next_of::<LitStr>(&mut input.into_iter())?;
-///     LitStr::new(&string.value().to_uppercase()).to_token_stream(span)
-/// }
-/// ```
-#[derive(Clone, Debug)]
-pub struct MacroError {
-    first: Message,
-    others: Vec<Message>,
-}
-
-/// What one error says, and where the tokens begin and end that it is of.
-#[derive(Clone, Debug)]
-struct Message {
-    text: String,
-    first: Span,
-    last: Span,
-}
-
-impl Message {
-    /// The call of `compile_error!` at the place, which the compiler takes to be from its first token to its last.
-    fn to_compile_error(&self) -> TokenStream {
-        let path: TokenStream = "::core::compile_error!".parse().expect("tokens");
-        let text = TokenTree::from(Literal::string(&self.text));
-        let group = Group::new(Delimiter::Brace, spanned(text, self.last).into());
-        let path = path.into_iter().map(|tree| spanned(tree, self.first));
-        let group = spanned(TokenTree::Group(group), self.last);
-        path.chain([group]).collect()
-    }
-}
-
-impl MacroError {
-    /// An error with this message at this place.
-    ///
-    /// ```no_run
-    /// extern crate proc_macro;
-    /// let error = navyspindle::MacroError::new("expected a comma", proc_macro::Span::call_site());
-    /// assert_eq!(error.to_string(), "expected a comma");
-    /// ```
-    #[must_use]
-    pub fn new(message: impl fmt::Display, span: Span) -> Self {
-        MacroError::between(message, span, span)
-    }
-
-    /// An error with this message at tokens that stand side by side, from the first one's place to the last one's.
-    ///
-    /// ```no_run
-    /// extern crate proc_macro;
-    /// use navyspindle::MacroError;
-    /// use proc_macro::TokenTree;
-    ///
-    /// fn unexpected(minus: &TokenTree, number: &TokenTree) -> MacroError {
-    ///     MacroError::between("negative number", minus.span(), number.span())
-    /// }
-    /// ```
-    #[must_use]
-    pub fn between(message: impl fmt::Display, first: Span, last: Span) -> Self {
-        let text = message.to_string();
-        MacroError {
-            first: Message { text, first, last },
-            others: Vec::new(),
-        }
-    }
-
-    /// Puts another error after those that it is, so that the compiler reports all of them.
-    ///
-    /// ```no_run
-    /// extern crate proc_macro;
-    /// use navyspindle::{LitInt, MacroError};
-    /// use proc_macro::TokenStream;
-    ///
-    /// /// That each token is an integer, or an error for each that isn't.
-    /// fn integers(input: TokenStream) -> Result<(), MacroError> {
-    ///     let errors = input.into_iter().filter_map(|tree| LitInt::try_from(&tree).err());
-    ///     let all = errors.reduce(|mut all, error| {
-    ///         all.combine(error);
-    ///         all
-    ///     });
-    ///     all.map_or(Ok(()), Err)
-    /// }
-    /// ```
-    pub fn combine(&mut self, other: MacroError) {
-        self.others.push(other.first);
-        self.others.extend(other.others);
-    }
-
-    /// That a literal of one kind was expected, and one of another found: `expected string literal, found byte literal`.
-    ///
-    /// ```no_run
-    /// extern crate proc_macro;
-    /// use navyspindle::{Kind, MacroError};
-    ///
-    /// let error = MacroError::expected(Kind::Str, Kind::Byte, proc_macro::Span::call_site());
-    /// assert_eq!(error.to_string(), "expected string literal, found byte literal");
-    /// ```
-    #[must_use]
-    pub fn expected(expected: Kind, found: Kind, span: Span) -> Self {
-        MacroError::new(Mismatch(expected, found), span)
-    }
-
-    /// Where it is: of several tokens where the first one is, of several errors the first one's.
-    ///
-    /// ```no_run
-    /// extern crate proc_macro;
-    /// let error = navyspindle::MacroError::new("no name", proc_macro::Span::call_site());
-    /// println!("{:?}", error.span());
-    /// ```
-    #[must_use]
-    pub fn span(&self) -> Span {
-        self.first.first
-    }
-
-    /// The call of `compile_error!` with the message, at the place, or one for each error: what a macro returns for it.
-    ///
-    /// ```no_run
-    /// extern crate proc_macro;
-    /// let error = navyspindle::MacroError::new("no name", proc_macro::Span::call_site());
-    /// assert_eq!(error.to_compile_error().to_string(), r#":: core :: compile_error ! { "no name" }"#);
-    /// ```
-    #[must_use]
-    pub fn to_compile_error(&self) -> TokenStream {
-        let messages = core::iter::once(&self.first).chain(&self.others);
-        messages.map(Message::to_compile_error).collect()
-    }
-}
-
-/// The message; of several errors the first one's.
-impl fmt::Display for MacroError {
-    fn fmt(&self, f: &mut fmt::Formatter<'_>) -> fmt::Result {
-        f.pad(&self.first.text)
-    }
-}
-
-impl core::error::Error for MacroError {}
-
-fn spanned(mut tree: TokenTree, span: Span) -> TokenTree {
-    tree.set_span(span);
-    tree
-}
-
-/// The literal of a text that stands there.
+/// Parses a text as a literal. An error is at `span`.
 fn parsed(text: String, span: Span) -> Result<Lit<'static>, MacroError> {
     Lit::try_from(text).map_err(|error| MacroError::new(error.kind(), span))
 }
 
-/// Takes the next literal of a macro's input, with its place: a literal, one of the words `true` and `false`, a minus and a number,
-/// or what a `macro_rules!` macro passes on as `$e:literal`, which stands in a group without delimiters. Its place is that of its
-/// own token, inside a group too; where a minus stands before it, that of the number.
+/// Consumes and returns the next literal of a macro's input, with its span.
+///
+/// The literal may be a literal token, `true` or `false`, a minus and a number, or a literal that a `macro_rules!` macro passes on
+/// as `$e:literal`, in a group without delimiters. The span is that of the literal's own token, inside a group too. After a minus
+/// it is the span of the number.
 ///
 /// # Errors
 ///
-/// No literal stands next, or an integer past 128 bits, which is no float by its suffix ([`Lit::parse`]). Tokens may be taken then.
+/// Returns an error if the next token isn't a literal, or if it is an integer above 128 bits that isn't a float by its suffix
+/// ([`Lit::parse`]). Tokens may be consumed in case of an error.
 ///
 /// ```no_run
 /// extern crate proc_macro;
@@ -195,27 +45,28 @@ pub fn next_literal(
     next_placed(tokens).map(|placed| (placed.literal, placed.span))
 }
 
-/// Takes the next literal of a macro's input, which has to be of one kind, with its place: as [`next_literal`].
+/// Consumes and returns the next literal of a macro's input, which must be of one kind, with its span. It reads like
+/// [`next_literal`].
 ///
 /// # Errors
 ///
-/// No literal stands next, or one of another kind, or an integer past 128 bits. The token is taken then, and of a number its minus;
-/// the error is at both.
+/// Returns an error if the next token isn't a literal, is a literal of another kind, or is an integer above 128 bits. The token is
+/// consumed, and so is the minus before a number. If there is a minus, the error is at both tokens.
 ///
 /// ```no_run
 /// extern crate proc_macro;
-/// use navyspindle::{next_of, LitInt, LitStr, MacroError};
+/// use navyspindle::{next_literal_of, LitInt, LitStr, MacroError};
 ///
 /// /// A string and a number.
 /// fn read(input: proc_macro::TokenStream) -> Result<(String, u8), MacroError> {
 ///     let mut tokens = input.into_iter();
-///     let (name, _) = next_of::<LitStr>(&mut tokens)?;
-///     let (number, span) = next_of::<LitInt>(&mut tokens)?;
-///     let number = number.value::<u8>().map_err(|error| MacroError::new(error, span))?;
+///     let (name, _) = next_literal_of::<LitStr>(&mut tokens)?;
+///     let (number, span) = next_literal_of::<LitInt>(&mut tokens)?;
+///     let number = number.value::<u8>().map_err(|error| MacroError::from(error).at(span))?;
 ///     Ok((name.value().into_owned(), number))
 /// }
 /// ```
-pub fn next_of<L: LitOfKind>(
+pub fn next_literal_of<L: LitOfKind>(
     tokens: &mut impl Iterator<Item = TokenTree>,
 ) -> Result<(L, Span), MacroError> {
     let placed = next_placed(tokens)?;
@@ -227,52 +78,42 @@ pub fn next_of<L: LitOfKind>(
     Ok((literal?, span))
 }
 
-/// The words for a literal of one kind where one of another was expected.
-struct Mismatch(Kind, Kind);
-
-impl fmt::Display for Mismatch {
-    fn fmt(&self, f: &mut fmt::Formatter<'_>) -> fmt::Result {
-        let Mismatch(expected, found) = self;
-        write!(f, "expected {expected}, found {found}")
-    }
-}
-
 mod sealed {
     use crate::Kind;
 
-    /// What `next_of` asks of a struct.
+    /// The trait that `next_literal_of` requires of a literal's struct.
     pub trait Kinded {
         const KIND: Kind;
     }
 }
 
-/// The struct of one kind of literals, which [`next_of`] takes.
+/// A struct for one kind of literals, which [`next_literal_of`] can return.
 ///
 /// ```no_run
 /// extern crate proc_macro;
-/// use navyspindle::{next_of, LitOfKind, MacroError};
+/// use navyspindle::{next_literal_of, LitOfKind, MacroError};
 /// use proc_macro::TokenStream;
 ///
 /// /// All literals, of one kind.
 /// fn all<L: LitOfKind>(input: TokenStream) -> Result<Vec<L>, MacroError> {
 ///     let (mut tokens, mut all) = (input.into_iter().peekable(), Vec::new());
 ///     while tokens.peek().is_some() {
-///         all.push(next_of::<L>(&mut tokens)?.0);
+///         all.push(next_literal_of::<L>(&mut tokens)?.0);
 ///     }
 ///     Ok(all)
 /// }
 /// ```
 pub trait LitOfKind: sealed::Kinded + TryFrom<Lit<'static>, Error = Lit<'static>> {}
 
-/// A literal, where it begins, with its minus, and where its own token stands.
-struct Placed {
-    literal: Lit<'static>,
-    first: Span,
-    span: Span,
+/// A literal among tokens. `span` is the span of its own token. `first` is the span of its minus, or else the same as `span`.
+pub(crate) struct Placed {
+    pub(crate) literal: Lit<'static>,
+    pub(crate) first: Span,
+    pub(crate) span: Span,
 }
 
 impl Placed {
-    /// A literal without a minus.
+    /// Creates a `Placed` for a literal without a minus.
     fn at(literal: Lit<'static>, span: Span) -> Placed {
         let first = span;
         Placed {
@@ -283,7 +124,9 @@ impl Placed {
     }
 }
 
-fn next_placed(tokens: &mut impl Iterator<Item = TokenTree>) -> Result<Placed, MacroError> {
+pub(crate) fn next_placed(
+    tokens: &mut impl Iterator<Item = TokenTree>,
+) -> Result<Placed, MacroError> {
     let Some(tree) = tokens.next() else {
         return Err(MacroError::new(
             "unexpected end of input, expected literal",
@@ -296,7 +139,7 @@ fn next_placed(tokens: &mut impl Iterator<Item = TokenTree>) -> Result<Placed, M
     }
 }
 
-/// The literal of a minus, which stands there, and the tree after it.
+/// Returns the literal that consists of a minus, whose span is `minus`, and of the token tree after it.
 fn negative(tree: Option<TokenTree>, minus: Span) -> Result<Placed, MacroError> {
     let tree = tree.ok_or_else(|| MacroError::new("expected literal", minus))?;
     let Placed { literal, span, .. } = literal_of(&tree)?;
@@ -314,7 +157,7 @@ fn negative(tree: Option<TokenTree>, minus: Span) -> Result<Placed, MacroError> 
     }
 }
 
-/// The literal that the tree is, and its place: that of its token, where it stands in a group.
+/// Returns the literal that a token tree is, with its span. In a group without delimiters, the span is that of the literal's token.
 fn literal_of(tree: &TokenTree) -> Result<Placed, MacroError> {
     let expected = || MacroError::new("expected literal", tree.span());
     match tree {
@@ -335,7 +178,7 @@ fn literal_of(tree: &TokenTree) -> Result<Placed, MacroError> {
     }
 }
 
-/// The literal, which the compiler has read already.
+/// Parses a literal token of the compiler.
 impl TryFrom<&Literal> for Lit<'static> {
     type Error = MacroError;
 
@@ -344,8 +187,8 @@ impl TryFrom<&Literal> for Lit<'static> {
     }
 }
 
-/// The literal that the tree is: a literal, one of the words `true` and `false`, or what stands alone in a group without
-/// delimiters, there with a minus too.
+/// Returns the literal that a token tree is: a literal token, `true` or `false`, or a group without delimiters that contains only a
+/// literal, perhaps after a minus.
 impl TryFrom<&TokenTree> for Lit<'static> {
     type Error = MacroError;
 
@@ -354,7 +197,7 @@ impl TryFrom<&TokenTree> for Lit<'static> {
     }
 }
 
-/// The same of what is owned.
+/// Implements `TryFrom` for an owned token tree, by the implementation for a borrowed one.
 macro_rules! of_owned {
     ($tree:ident, $name:ident) => {
         impl TryFrom<$tree> for $name<'static> {
@@ -370,7 +213,7 @@ macro_rules! of_owned {
 of_owned!(Literal, Lit);
 of_owned!(TokenTree, Lit);
 
-/// The same for the struct of a kind.
+/// Implements `TryFrom` for the struct of one kind of literals, by the implementation for `Lit`.
 macro_rules! of_tree {
     ($tree:ident, $name:ident, $variant:ident) => {
         impl TryFrom<&$tree> for $name<'static> {
@@ -391,7 +234,7 @@ macro_rules! of_tree {
     };
 }
 
-/// From and to the tokens of rustc, for the structs of these kinds.
+/// Implements the conversions between the compiler's tokens and the structs of these kinds of literals.
 macro_rules! of_kinds {
     ($($name:ident $variant:ident)*) => {$(
         of_tree!(Literal, $name, $variant);
@@ -404,15 +247,15 @@ macro_rules! of_kinds {
         impl LitOfKind for $name<'static> {}
 
         impl $name<'_> {
-            /// The literal as tokens at this place: see [`Lit::to_token_stream`].
+            /// Returns the literal as tokens with the span `span`. See [`Lit::to_token_stream`].
             ///
             /// # Errors
             ///
-            /// Rust rejects the text.
+            /// Returns an error if Rust rejects the literal's text.
             ///
             /// ```no_run
             /// extern crate proc_macro;
-            #[doc = concat!("fn tokens_of(literal: navyspindle::", stringify!($name), ") -> Result<proc_macro::TokenStream, navyspindle::MacroError> {")]
+            #[cfg_attr(doc, doc = concat!("fn tokens_of(literal: navyspindle::", stringify!($name), ") -> Result<proc_macro::TokenStream, navyspindle::MacroError> {"))]
             ///     literal.to_token_stream(proc_macro::Span::call_site())
             /// }
             /// ```
@@ -426,11 +269,11 @@ macro_rules! of_kinds {
 of_kinds! { LitStr Str LitByteStr ByteStr LitCStr CStr LitByte Byte LitChar Char LitInt Int LitFloat Float LitBool Bool }
 
 impl Lit<'_> {
-    /// The literal as tokens at this place: one token, or a minus and a number.
+    /// Returns the literal as tokens with the span `span`: one token, or a minus and a number.
     ///
     /// # Errors
     ///
-    /// Rust rejects the text, which [`Lit::new`] was given.
+    /// Returns an error if Rust rejects the literal's text, which [`Lit::new`] doesn't check.
     ///
     /// ```no_run
     /// extern crate proc_macro;
@@ -446,7 +289,7 @@ impl Lit<'_> {
 }
 
 fn tokens_of(text: &str, span: Span) -> Result<TokenStream, MacroError> {
-    // The compiler would report a text that is none by itself.
+    // The compiler itself would report a text that isn't a literal, so the text is checked before.
     let literal = Lit::parse(text).map_err(|error| MacroError::new(error.kind(), span))?;
     if let Lit::Bool(_) = literal {
         return Ok(TokenTree::Ident(Ident::new(text, span)).into());

@@ -1,13 +1,13 @@
-//! Ranges one after another.
+//! Search for the ranges that overlap a given range, in a sorted slice of ranges.
 
 use core::borrow::Borrow;
 use core::ops::Range;
 
-/// Returns the indices of the first and the last range that have some of `bytes`. Where none has, both are that of the range after
-/// `bytes`, or of the last one. `None` without a range.
+/// Returns the indices of the first and the last range that overlap `bytes`. If none overlaps, both are the index of the next range
+/// after `bytes`, or of the last range. Without ranges the result is `None`.
 ///
-/// The first range begins at 0, each other one where the one before ends, or after it. The time grows with the logarithm of their
-/// number.
+/// The first range begins at 0. Each other range begins at or after the end of the one before it. The time grows with the logarithm
+/// of the number of ranges.
 pub(crate) fn touched<R: Borrow<Range<usize>>>(
     ranges: &[R],
     bytes: &Range<usize>,
@@ -32,7 +32,7 @@ mod tests {
     use core::ops::Range;
     use std::vec::Vec;
 
-    /// The same by looking at each range.
+    /// Returns the result of `touched` by looking at each range.
     fn by_walks(ranges: &[Range<usize>], bytes: &Range<usize>) -> Option<(usize, usize)> {
         let has_some =
             |range: &Range<usize>| range.start < bytes.end.max(1) && range.end > bytes.start;
@@ -45,7 +45,8 @@ mod tests {
         Some((first.unwrap_or(following), last.unwrap_or(following)))
     }
 
-    /// Up to four ranges of one to three bytes, with up to two bytes between, by the digits of a number. The first begins at 0.
+    /// Returns up to four ranges of one to three bytes, with up to two bytes between two of them. The digits of `number` determine
+    /// the ranges. The first range begins at 0.
     fn ranges_of(mut number: usize) -> Vec<Range<usize>> {
         let (mut ranges, mut end) = (Vec::new(), 0);
         while number > 0 {
@@ -75,7 +76,7 @@ mod tests {
         }
     }
 
-    /// A range that counts how often it is looked at.
+    /// A range that counts how often it is read.
     struct Counted<'a>(Range<usize>, &'a Cell<usize>);
 
     impl Borrow<Range<usize>> for Counted<'_> {
@@ -94,7 +95,7 @@ mod tests {
         for at in 0..1 << 16 {
             looks.set(0);
             assert_eq!(touched(&ranges, &(2 * at..2 * at + 1)), Some((at, at)));
-            // Twice as many as bits of their number would do.
+            // Two binary searches over 2^16 ranges read some 34 of them. The limit is about twice that number.
             assert!(looks.get() <= 64, "{at}: {}", looks.get());
         }
     }

@@ -1,8 +1,8 @@
-//! Whole sources whose literals are written anew in another style.
+//! Rewriting of the literals of whole sources in a style.
 
-use crate::error::ListError;
+use crate::list_error::ListError;
 use crate::rl_style::{all_rules, changes, may_restyle, Restylable, Restylables};
-use crate::style::{rewrite_after, Style};
+use crate::style::{rewrite_in_context, Style};
 use alloc::borrow::Cow;
 use alloc::string::String;
 use alloc::vec;
@@ -11,8 +11,16 @@ use core::fmt;
 use core::iter::FusedIterator;
 use core::ops::Range;
 
-/// A literal of a source that a style writes otherwise; see [`restyle`].
-#[derive(Clone, Debug, PartialEq, Eq)]
+/// A literal of a source that a style changes, with its new text. See [`rewrite_source`].
+///
+/// ```
+/// use navyspindle::{rewrite_source, Case, Edit, Style};
+///
+/// let edit: Edit = rewrite_source("f(0xA)", Style::new().hex_digits(Case::Lower)).next().unwrap()?;
+/// assert_eq!((edit.range(), edit.text(), edit.rules()), (2..5, "0xa", &["hex_digits"][..]));
+/// # Ok::<(), navyspindle::ListError>(())
+/// ```
+#[derive(Clone, Debug, PartialEq, Eq, Hash)]
 pub struct Edit {
     range: Range<usize>,
     text: String,
@@ -20,23 +28,39 @@ pub struct Edit {
 }
 
 impl Edit {
-    /// The bytes of the literal in the source.
+    /// Returns the byte range of the changed literal in the source.
+    ///
+    /// ```
+    /// use navyspindle::{rewrite_source, Case, Style};
+    ///
+    /// let edit = rewrite_source("f(0xA)", Style::new().hex_digits(Case::Lower)).next().unwrap()?;
+    /// assert_eq!(edit.range(), 2..5);
+    /// # Ok::<(), navyspindle::ListError>(())
+    /// ```
     pub fn range(&self) -> Range<usize> {
         self.range.clone()
     }
 
-    /// Its text in the style.
+    /// Returns the literal's new text.
+    ///
+    /// ```
+    /// use navyspindle::{rewrite_source, Case, Style};
+    ///
+    /// let edit = rewrite_source("f(0xA)", Style::new().hex_digits(Case::Lower)).next().unwrap()?;
+    /// assert_eq!(edit.text(), "0xa");
+    /// # Ok::<(), navyspindle::ListError>(())
+    /// ```
     pub fn text(&self) -> &str {
         &self.text
     }
 
-    /// The names of the rules that by themselves write it otherwise, in the order of the setters of [`Style`].
+    /// Returns the names of the rules each of which alone would change the literal, in the order of the setters of [`Style`].
     ///
     /// ```
-    /// use navyspindle::{restyle, Case, Style};
+    /// use navyspindle::{rewrite_source, Case, Style};
     ///
     /// let style = Style::new().hex_digits(Case::Lower).drop_underscores(true).float_zero(true);
-    /// let edits: Vec<_> = restyle("[0xA_B, 1.]", style).collect::<Result<_, _>>()?;
+    /// let edits: Vec<_> = rewrite_source("[0xA_B, 1.]", style).collect::<Result<_, _>>()?;
     /// assert_eq!(edits[0].rules(), ["hex_digits", "drop_underscores"]);
     /// assert_eq!(edits[1].rules(), ["float_zero"]);
     /// # Ok::<(), navyspindle::ListError>(())
@@ -46,58 +70,77 @@ impl Edit {
     }
 }
 
-/// The edits that bring the literals of a source into a style; see [`restyle`].
+/// An iterator over the literals of a source that a style changes. See [`rewrite_source`].
+///
+/// ```
+/// use navyspindle::{rewrite_source, Case, Edits, Style};
+///
+/// let edits: Edits = rewrite_source("f(0xA, 0xB)", Style::new().hex_digits(Case::Lower));
+/// assert_eq!(edits.clone().count(), 2);
+/// assert_eq!(edits.apply()?, "f(0xa, 0xb)");
+/// # Ok::<(), navyspindle::ListError>(())
+/// ```
 #[must_use = "an iterator does nothing until it is asked"]
-pub struct Restyles<'t> {
+pub struct Edits<'t> {
     text: &'t str,
     style: Style,
     literals: Restylables<'t>,
+    // The number of literals that the iterator has examined.
+    passed: usize,
     skips_macros: bool,
     is_done: bool,
 }
 
-/// The edits that bring the literals of a whole Rust source into a style, in order; [`Restyles::apply`] makes them.
+/// Rewrites the literals of a Rust source file in a style: [`Edits::apply`] returns the new text, and the iterator returns the edits.
 ///
-/// It is proved that the source is cut into the same tokens then, each literal aside, which is the same as [`rewrite`](crate::rewrite) says: of
-/// every source in which each character belongs to a token and each quote holds one character, as in all that rustc takes. These stay as
-/// they are: texts that are no literal tokens (`0b2`), strings that hold a CR, numbers that may be fields, and all of a source that
-/// begins with an interpreter's line (`#!`, and not `#![`). A number may be a field after one dot (`t.0`), and after `{`, `,`, `]` or a
-/// doc comment where a single `:` follows (`S { 0: x }`); white space and plain comments may stand between. A macro sees how a literal is written, by `stringify!`, by
-/// an arm of `macro_rules!` that names one, and by `concat!` of floats: to leave what is in macros alone, say [`Restyles::skip_macros`].
+/// Each literal keeps its kind, value and suffix, as with [`rewrite`](crate::rewrite). These literals are left unchanged:
+///
+/// - those that Rust rejects (`0b2`), and strings that contain a CR;
+/// - numbers that may be fields: after one dot (`t.0`), and before a single `:` after `{`, `,`, `]` or a doc comment (`S { 0: x }`);
+/// - all of a file that begins with `#!` but not with `#![`;
+/// - with [`Edits::skip_macros`], those in macro calls, `macro_rules!` and attributes. A macro can see how a literal is written: by
+///   `stringify!`, by an arm that names a literal, and by `concat!` of floats.
+///
+/// It is proved that the new text has the same tokens apart from its literals, if each character of the file belongs to a token and
+/// each `'..'` has one character, as in every file that rustc accepts.
 ///
 /// ```
-/// use navyspindle::{restyle, Case, Style};
+/// use navyspindle::{rewrite_source, Case, Style};
 ///
 /// let text = r####"let a = (0xFF, r##"b"##, t.0, 1..0xABu8);"####;
 /// let style = Style::new().hex_digits(Case::Lower).fewest_hashes(true);
-/// let edits: Vec<_> = restyle(text, style).collect::<Result<_, _>>()?;
+/// assert_eq!(rewrite_source(text, style).apply()?, r#"let a = (0xff, r"b", t.0, 1..0xabu8);"#);
+///
+/// let edits: Vec<_> = rewrite_source(text, style).collect::<Result<_, _>>()?;
 /// assert_eq!((edits[0].range(), edits[0].text()), (9..13, "0xff"));
 /// assert_eq!(edits.len(), 3);
-/// assert_eq!(restyle(text, style).apply()?, r#"let a = (0xff, r"b", t.0, 1..0xabu8);"#);
 ///
 /// // Fields keep their names.
 /// let style = Style::new().digit_groups(navyspindle::DigitGroups::new().decimal(1));
-/// assert_eq!(restyle("S { 10: 10, 11: t.10 }", style).apply()?, "S { 10: 1_0, 11: t.10 }");
+/// assert_eq!(rewrite_source("S { 10: 10, 11: t.10 }", style).apply()?, "S { 10: 1_0, 11: t.10 }");
 /// # Ok::<(), navyspindle::ListError>(())
 /// ```
-pub fn restyle(text: &str, style: Style) -> Restyles<'_> {
-    Restyles {
+pub fn rewrite_source(text: &str, style: Style) -> Edits<'_> {
+    Edits {
         text,
         style,
         literals: Restylables::new(text),
+        passed: 0,
         skips_macros: false,
         is_done: !may_restyle(text),
     }
 }
 
-impl<'t> Restyles<'t> {
-    /// Whether literals in macro calls, `macro_rules!` and attributes stay as they are; `false` unless said. By tokens alone: what
-    /// stands inside of the brackets after a name and `!`, after `macro_rules! name`, and after `#` and `#!`.
+impl<'t> Edits<'t> {
+    /// Sets whether literals in macro calls, `macro_rules!` and attributes are left unchanged. The default is `false`.
+    ///
+    /// Macros and attributes are recognized by tokens: their literals are inside the brackets after a name and `!`, after
+    /// `macro_rules! name`, and after `#` and `#!`.
     ///
     /// ```
-    /// use navyspindle::{restyle, Case, Style};
+    /// use navyspindle::{rewrite_source, Case, Style};
     ///
-    /// let edits = restyle("f(0xA, vec![0xB], !(0xC))", Style::new().hex_digits(Case::Lower));
+    /// let edits = rewrite_source("f(0xA, vec![0xB], !(0xC))", Style::new().hex_digits(Case::Lower));
     /// assert_eq!(edits.skip_macros(true).apply()?, "f(0xa, vec![0xB], !(0xc))");
     /// # Ok::<(), navyspindle::ListError>(())
     /// ```
@@ -106,11 +149,20 @@ impl<'t> Restyles<'t> {
         self
     }
 
-    /// The text with the edits that are left; borrowed where there are none.
+    /// Returns the source with the remaining edits applied. The result is borrowed if there are none.
     ///
     /// # Errors
     ///
-    /// The first error of the source: a quote or a comment that isn't closed. Nothing is changed then.
+    /// Returns the first error of the source: a quote or a comment that isn't closed.
+    ///
+    /// ```
+    /// use navyspindle::{rewrite_source, Case, Style};
+    ///
+    /// let style = Style::new().hex_digits(Case::Lower);
+    /// assert_eq!(rewrite_source("f(0xA, 0xb)", style).apply()?, "f(0xa, 0xb)");
+    /// assert!(rewrite_source("f(0xA, \"b)", style).apply().is_err());
+    /// # Ok::<(), navyspindle::ListError>(())
+    /// ```
     pub fn apply(self) -> Result<Cow<'t, str>, ListError> {
         let whole = self.text;
         let (mut text, mut at) = (String::new(), 0);
@@ -128,7 +180,7 @@ impl<'t> Restyles<'t> {
     }
 }
 
-/// The names of the rules of the style that by themselves write the literal otherwise, which stands after this text.
+/// Returns the names of the rules each of which alone changes the literal `text`. `before` is the source's text before the literal.
 fn rules_after(before: &str, text: &str, style: Style) -> Vec<&'static str> {
     let (style, mut room) = (style.proved(), vec![0; 4 * text.len() + 1]);
     let mut is_of = |rule| matches!(changes(before, text, style.only(rule), &mut room), Ok(true));
@@ -139,10 +191,10 @@ fn rules_after(before: &str, text: &str, style: Style) -> Vec<&'static str> {
         .collect()
 }
 
-/// The edit that brings a literal into the style; `None` where it stays as it is.
+/// Returns the edit that rewrites a literal in the style, or `None` if the literal has the style already.
 fn edit_of(style: Style, source: &str, literal: Restylable<'_>) -> Option<Edit> {
     let (before, old) = (&source[..literal.token.lo], literal.token.text);
-    match rewrite_after(before, old, style) {
+    match rewrite_in_context(before, old, style) {
         Ok(Cow::Owned(text)) => Some(Edit {
             range: literal.token.lo..literal.token.hi,
             text,
@@ -152,7 +204,7 @@ fn edit_of(style: Style, source: &str, literal: Restylable<'_>) -> Option<Edit> 
     }
 }
 
-impl Iterator for Restyles<'_> {
+impl Iterator for Edits<'_> {
     type Item = Result<Edit, ListError>;
 
     fn next(&mut self) -> Option<Self::Item> {
@@ -162,6 +214,7 @@ impl Iterator for Restyles<'_> {
                 let error = self.literals.error()?;
                 return Some(Err(ListError::of_source(self.text, error)));
             };
+            self.passed += 1;
             if literal.is_field || self.skips_macros && literal.in_macro {
                 continue;
             }
@@ -173,9 +226,20 @@ impl Iterator for Restyles<'_> {
     }
 }
 
-impl FusedIterator for Restyles<'_> {}
+impl FusedIterator for Edits<'_> {}
 
-impl fmt::Debug for Restyles<'_> {
+/// The clone begins at the next edit. Cloning walks over the source before that edit.
+impl Clone for Edits<'_> {
+    fn clone(&self) -> Self {
+        let mut literals = Restylables::new(self.text);
+        for _ in 0..self.passed {
+            literals.next();
+        }
+        Edits { literals, ..*self }
+    }
+}
+
+impl fmt::Debug for Edits<'_> {
     fn fmt(&self, f: &mut fmt::Formatter<'_>) -> fmt::Result {
         f.debug_struct("Restyles")
             .field("style", &self.style)

@@ -1,18 +1,19 @@
-//! Settings that a reader knows, asked for by name.
+//! Typed access to settings by name: `Settings` and the keys that a program knows.
 
 use crate::common::shifted;
 use crate::error::SyntaxErrorKind;
 use crate::lit::Lit;
 use crate::parse_error::ParseError;
-use crate::settings::{settings, Entry, SettingsSyntaxError};
+use crate::settings::{parse_settings, write_help, Entry, SettingsSyntaxError};
 use crate::value::{Number, ValueError};
 use alloc::borrow::Cow;
 use alloc::string::{String, ToString};
-use alloc::vec::Vec;
+use alloc::vec::{self, Vec};
 use core::fmt;
 use core::ops::Range;
+use core::slice;
 
-/// A setting that a reader knows. Its two texts are what messages say of it.
+/// A setting that a program knows: its name, and a description of the expected value. Error messages contain both texts.
 ///
 /// ```
 /// use navyspindle::Key;
@@ -23,14 +24,14 @@ use core::ops::Range;
 #[derive(Clone, Copy, Debug, PartialEq, Eq, Hash)]
 #[non_exhaustive]
 pub struct Key {
-    /// The name.
+    /// The setting's name.
     pub name: &'static str,
-    /// What its value has to be, such as `an integer from 0 to 65535`.
+    /// A description of the expected value, such as `an integer from 0 to 65535`.
     pub expected: &'static str,
 }
 
 impl Key {
-    /// The setting of this name, whose value has to be what is said.
+    /// Creates a key from the setting's name and a description of the expected value.
     ///
     /// ```
     /// use navyspindle::Key;
@@ -44,14 +45,14 @@ impl Key {
     }
 }
 
-/// The name, and what was expected of its value.
+/// Prints the setting's name and the expected value, as `NAME: expected VALUE`.
 impl fmt::Display for Key {
     fn fmt(&self, f: &mut fmt::Formatter<'_>) -> fmt::Result {
         write!(f, "{}: expected {}", self.name, self.expected)
     }
 }
 
-/// Why a text doesn't give a reader its settings.
+/// The kind of an error of settings: invalid text, an unknown, repeated or missing name, or a wrong value.
 ///
 /// ```
 /// use navyspindle::{Key, SettingErrorKind, Settings};
@@ -64,28 +65,29 @@ impl fmt::Display for Key {
 #[derive(Clone, Debug, PartialEq, Eq, Hash)]
 #[non_exhaustive]
 pub enum SettingErrorKind {
-    /// The text is no settings.
-    Text(SyntaxErrorKind),
-    /// This name stood before.
+    /// The text can't be parsed as settings.
+    Syntax(SyntaxErrorKind),
+    /// The setting with this name is set twice.
     Repeated(String),
-    /// This name is none of the known ones.
+    /// The setting's name is unknown to the program.
     Unknown(String),
-    /// Rust rejects the value: it is no literal, or only `syn` reads it as one. The error's places are in the value's own text.
+    /// Rust rejects the value, because it isn't a literal or because only `syn` reads it as one. The ranges of the `ParseError` are
+    /// byte offsets in the value's own text.
     Literal(Key, ParseError),
-    /// The value has a suffix, and is no number.
+    /// The value has a suffix, and isn't a number. Only numbers may have a suffix.
     Suffix(Key),
-    /// The value is a literal of another kind than was expected.
+    /// The value is a literal of another kind than the expected one.
     Kind(Key),
-    /// The number is none of the type that it was to become. The error's place is in the value's own text.
+    /// The number isn't a value of the requested type. The range of the `ValueError` has byte offsets in the value's own text.
     Value(Key, ValueError),
-    /// The setting isn't set.
+    /// The required setting with this key isn't set.
     Missing(Key),
 }
 
 impl fmt::Display for SettingErrorKind {
     fn fmt(&self, f: &mut fmt::Formatter<'_>) -> fmt::Result {
         match self {
-            SettingErrorKind::Text(kind) => kind.fmt(f),
+            SettingErrorKind::Syntax(kind) => kind.fmt(f),
             SettingErrorKind::Repeated(name) => write!(f, "{} `{name}`", SyntaxErrorKind::Repeated),
             SettingErrorKind::Unknown(name) => write!(f, "unknown name `{name}`"),
             SettingErrorKind::Literal(key, error) => write!(f, "{key}: {}", error.kind()),
@@ -100,7 +102,18 @@ impl fmt::Display for SettingErrorKind {
     }
 }
 
-/// Why a text doesn't give a reader its settings, and where.
+/// The source is the `ParseError` of an invalid literal, or the `ValueError` of a number of another type.
+impl core::error::Error for SettingErrorKind {
+    fn source(&self) -> Option<&(dyn core::error::Error + 'static)> {
+        match self {
+            SettingErrorKind::Literal(_, error) => Some(error),
+            SettingErrorKind::Value(_, error) => Some(error),
+            _ => None,
+        }
+    }
+}
+
+/// An error of settings, with its byte range in the text.
 ///
 /// ```
 /// use navyspindle::{Key, Settings};
@@ -116,10 +129,11 @@ impl fmt::Display for SettingErrorKind {
 pub struct SettingError {
     kind: SettingErrorKind,
     range: Range<usize>,
+    help: Option<&'static str>,
 }
 
 impl SettingError {
-    /// What is wrong.
+    /// Returns the kind of the error.
     ///
     /// ```
     /// use navyspindle::{SettingErrorKind, Settings};
@@ -133,8 +147,13 @@ impl SettingError {
         &self.kind
     }
 
-    /// The bytes that are wrong: of an unknown name the name; of a value that Rust rejects what is wrong with it, else the value or its
-    /// suffix; none, at the text's end, of a setting that is missing; of a quote that isn't closed all up to the text's end.
+    /// Returns the byte range of the wrong part of the settings' text:
+    ///
+    /// - for an unknown or repeated name, the name;
+    /// - for a value that Rust rejects, the part that it rejects;
+    /// - for another wrong value, the value, or the part of it that is wrong, such as its suffix;
+    /// - for a missing setting, the empty range at the text's end;
+    /// - for a quote that isn't closed, the range from the quote to the text's end.
     ///
     /// ```
     /// use navyspindle::{Key, Settings};
@@ -149,23 +168,39 @@ impl SettingError {
         self.range.clone()
     }
 
-    /// The byte where [`range`](SettingError::range) begins.
+    /// Returns the byte offset at which [`range`](SettingError::range) begins.
     ///
     /// ```
     /// use navyspindle::{Key, Settings};
     ///
     /// let port = Key::new("port", "a number");
-    /// assert_eq!(Settings::read("port = -1")?.number::<u16>(port).unwrap_err().at(), 7);
+    /// assert_eq!(Settings::read("port = -1")?.number::<u16>(port).unwrap_err().offset(), 7);
     /// # Ok::<(), navyspindle::SettingError>(())
     /// ```
     #[must_use]
-    pub fn at(&self) -> usize {
+    pub fn offset(&self) -> usize {
         self.range.start
+    }
+
+    /// Returns a hint for what other formats of configuration files have, such as comments that begin with `#`, or `None`. The printed
+    /// error ends with the hint.
+    ///
+    /// ```
+    /// use navyspindle::Settings;
+    ///
+    /// let error = Settings::read_config("my-host = \"a\"").unwrap_err();
+    /// assert_eq!(error.help(), Some("a name has no `-`: use `_`"));
+    /// assert_eq!(error.to_string(), "expected `=` at byte 2: a name has no `-`: use `_`");
+    /// ```
+    #[must_use]
+    pub fn help(&self) -> Option<&'static str> {
+        self.help
     }
 }
 
 impl SettingError {
-    /// The error with its place so many bytes on: in a text of which this one is a part that begins there.
+    /// Returns the error with its range moved forward by `by` bytes. Use it if the settings are part of a longer text and begin at
+    /// the byte offset `by`.
     ///
     /// ```
     /// use navyspindle::Settings;
@@ -185,37 +220,34 @@ impl SettingError {
 
 impl fmt::Display for SettingError {
     fn fmt(&self, f: &mut fmt::Formatter<'_>) -> fmt::Result {
-        write!(f, "{} at byte {}", self.kind, self.range.start)
+        write!(f, "{} at byte {}", self.kind, self.range.start)?;
+        write_help(f, self.help)
     }
 }
 
-/// Its source is the error of the literal, or of the value.
+/// The source is the `ParseError` of an invalid literal, or the `ValueError` of a number of another type.
 impl core::error::Error for SettingError {
     fn source(&self) -> Option<&(dyn core::error::Error + 'static)> {
-        match &self.kind {
-            SettingErrorKind::Literal(_, error) => Some(error),
-            SettingErrorKind::Value(_, error) => Some(error),
-            _ => None,
-        }
+        self.kind.source()
     }
 }
 
-/// As `Repeated` or `Text`.
+/// Converts the error to the kind `Repeated` for a repeated name, and to the kind `Syntax` otherwise.
 impl From<SettingsSyntaxError> for SettingError {
     fn from(error: SettingsSyntaxError) -> Self {
-        let (kind, range) = (error.kind(), error.range());
+        let (kind, range, help) = (error.kind(), error.range(), error.help());
         let kind = match error.into_name() {
             Some(name) => SettingErrorKind::Repeated(name),
-            None => SettingErrorKind::Text(kind),
+            None => SettingErrorKind::Syntax(kind),
         };
-        SettingError { kind, range }
+        SettingError { kind, range, help }
     }
 }
 
-/// The settings of a text, asked for by name.
+/// The settings of a text, read by name.
 ///
-/// A setting that isn't set is no error of [`string`](Settings::string), [`number`](Settings::number) and
-/// [`truth`](Settings::truth), which return `None` for it: of one that a reader requires [`missing`](Settings::missing) is the error.
+/// If a setting isn't set, [`string`](Settings::string), [`number`](Settings::number) and [`bool`](Settings::bool) return `None`.
+/// For a required setting the caller returns the error [`missing_error`](Settings::missing_error).
 ///
 /// ```
 /// use navyspindle::{Key, SettingError, Settings};
@@ -226,43 +258,43 @@ impl From<SettingsSyntaxError> for SettingError {
 /// fn server(text: &str) -> Result<(String, u16), SettingError> {
 ///     let read = Settings::read(text)?;
 ///     read.check(&[HOST, PORT])?;
-///     let host = read.string(HOST)?.ok_or_else(|| read.missing(HOST))?;
+///     let host = read.string(HOST)?.ok_or_else(|| read.missing_error(HOST))?;
 ///     Ok((host.into_owned(), read.number(PORT)?.unwrap_or(8080)))
 /// }
 /// assert_eq!(server(r#"host = "a\x2eb", port = 0x50"#)?, ("a.b".to_string(), 80));
 /// assert_eq!(server("port = 1").unwrap_err().to_string(), "missing host: expected a string at byte 8");
 /// # Ok::<(), SettingError>(())
 /// ```
-#[derive(Clone, Debug)]
+#[derive(Clone, Debug, PartialEq, Eq, Hash)]
 pub struct Settings<'t> {
     text: &'t str,
     entries: Vec<Entry<'t>>,
 }
 
 impl<'t> Settings<'t> {
-    /// The settings of a text: those that [`settings`] returns.
+    /// Reads the settings of a text with [`parse_settings`].
     ///
     /// # Errors
     ///
-    /// `Text` and `Repeated`: those of [`settings`].
+    /// Returns the errors of [`parse_settings`], as the kinds `Syntax` and `Repeated`.
     ///
     /// ```
     /// use navyspindle::{Part, SettingErrorKind, Settings, SyntaxErrorKind};
     ///
     /// assert_eq!(Settings::read("a = 1, b = 2")?.entries().len(), 2);
-    /// let kind = SettingErrorKind::Text(SyntaxErrorKind::Expected(Part::Comma));
+    /// let kind = SettingErrorKind::Syntax(SyntaxErrorKind::Expected(Part::Comma));
     /// assert_eq!(*Settings::read("a = 1 a").unwrap_err().kind(), kind);
     /// # Ok::<(), navyspindle::SettingError>(())
     /// ```
     pub fn read(text: &'t str) -> Result<Self, SettingError> {
-        Ok(Settings::of_entries(text, settings(text)?))
+        Ok(Settings::of_entries(text, parse_settings(text)?))
     }
 
     pub(crate) fn of_entries(text: &'t str, entries: Vec<Entry<'t>>) -> Self {
         Settings { text, entries }
     }
 
-    /// All of them, in their order.
+    /// Returns all settings, in the order of the text.
     ///
     /// ```
     /// use navyspindle::Settings;
@@ -275,7 +307,7 @@ impl<'t> Settings<'t> {
         &self.entries
     }
 
-    /// The one of this name; `None` where it isn't set.
+    /// Returns the setting with the name `name`, or `None` if it isn't set.
     ///
     /// ```
     /// use navyspindle::{Lit, Settings};
@@ -290,11 +322,11 @@ impl<'t> Settings<'t> {
         self.entries.iter().find(|entry| entry.name == name)
     }
 
-    /// That each name is one of these settings'.
+    /// Checks that every setting's name is the name of a key in `known`.
     ///
     /// # Errors
     ///
-    /// `Unknown`, at the first name that is none of them.
+    /// Returns the error `Unknown` for the first unknown name. [`Settings::unknown`] returns an error for each unknown name.
     ///
     /// ```
     /// use navyspindle::{Key, Settings};
@@ -305,21 +337,38 @@ impl<'t> Settings<'t> {
     /// # Ok::<(), navyspindle::SettingError>(())
     /// ```
     pub fn check(&self, known: &[Key]) -> Result<(), SettingError> {
-        let is_unknown = |entry: &&Entry| known.iter().all(|key| key.name != entry.name);
-        match self.entries.iter().find(is_unknown) {
-            None => Ok(()),
-            Some(entry) => Err(SettingError {
-                kind: SettingErrorKind::Unknown(entry.name.to_string()),
-                range: entry.name_range.clone(),
-            }),
-        }
+        self.unknown(known).next().map_or(Ok(()), Err)
     }
 
-    /// The text that a string stands for; `None` where the setting isn't set.
+    /// Iterates over the errors for settings whose names aren't in `known`. Each error is of kind `Unknown`, at the name.
+    ///
+    /// ```
+    /// use navyspindle::{Key, Settings};
+    ///
+    /// const PORT: Key = Key::new("port", "an integer");
+    /// let read = Settings::read("prt = 1, port = 2, hst = 3")?;
+    /// let errors: Vec<String> = read.unknown(&[PORT]).map(|error| error.to_string()).collect();
+    /// assert_eq!(errors, ["unknown name `prt` at byte 0", "unknown name `hst` at byte 19"]);
+    /// # Ok::<(), navyspindle::SettingError>(())
+    /// ```
+    pub fn unknown<'s>(
+        &'s self,
+        known: &'s [Key],
+    ) -> impl Iterator<Item = SettingError> + Clone + 's {
+        let is_unknown = move |entry: &&Entry<'_>| known.iter().all(|key| key.name != entry.name);
+        let unknown = self.entries.iter().filter(is_unknown);
+        unknown.map(|entry| SettingError {
+            kind: SettingErrorKind::Unknown(entry.name.to_string()),
+            range: entry.name_range.clone(),
+            help: None,
+        })
+    }
+
+    /// Returns the value of a string literal, or `None` if the setting isn't set.
     ///
     /// # Errors
     ///
-    /// The value is no string (`Kind`), Rust rejects it (`Literal`), or it has a suffix.
+    /// Returns an error if the value isn't a string (`Kind`), if Rust rejects it (`Literal`), or if it has a suffix (`Suffix`).
     ///
     /// ```
     /// use navyspindle::{Key, Settings};
@@ -338,13 +387,17 @@ impl<'t> Settings<'t> {
         })
     }
 
-    /// The number that an integer or a float is, as Rust takes the literal for the type ([`LitInt::value`](crate::LitInt::value),
-    /// [`LitFloat::value`](crate::LitFloat::value)); `None` where the setting isn't set.
+    /// Returns the value of an integer or a float literal as a number of type `N`, or `None` if the setting isn't set. The rules
+    /// are those of Rust, as in [`LitInt::value`](crate::LitInt::value) and [`LitFloat::value`](crate::LitFloat::value).
+    ///
+    /// An integer without a suffix is also accepted for `f32` and `f64`, as in `ratio = 1`.
     ///
     /// # Errors
     ///
-    /// The value is no number (`Kind`), Rust rejects it (`Literal`), or it is none of the type (`Value`): its suffix is another one's, it
-    /// is a float where the type is of integers, or an integer without a suffix where it is of floats, or the type doesn't hold it.
+    /// Returns an error if the value isn't a number (`Kind`), if Rust rejects it (`Literal`), or if it isn't of type `N` (`Value`).
+    ///
+    /// The last of these has three reasons: the suffix is that of another type; the value is a float, and `N` is an integer type; or
+    /// the number is out of the range of `N`.
     ///
     /// ```
     /// use navyspindle::{Key, Settings};
@@ -354,6 +407,7 @@ impl<'t> Settings<'t> {
     /// assert_eq!(Settings::read("")?.number::<u16>(port)?, None);
     /// assert_eq!(Settings::read("port = 80u16")?.number::<u16>(port)?, Some(80));
     /// assert_eq!(Settings::read("port = -1.5")?.number::<f64>(port)?, Some(-1.5));
+    /// assert_eq!(Settings::read("port = 2")?.number::<f64>(port)?, Some(2.0));
     /// assert!(Settings::read("port = -1")?.number::<u16>(port).is_err());
     /// assert!(Settings::read("port = 80u8")?.number::<u16>(port).is_err());
     /// assert!(Settings::read("port = 1e400")?.number::<f64>(port).is_err());
@@ -362,7 +416,7 @@ impl<'t> Settings<'t> {
     pub fn number<N: Number>(&self, key: Key) -> Result<Option<N>, SettingError> {
         self.value_of(key, |entry| {
             let number = match &entry.value {
-                Lit::Int(literal) => literal.value(),
+                Lit::Int(literal) => literal.value_or_float(),
                 Lit::Float(literal) => literal.value(),
                 _ => return Err(no_such(key, entry)),
             };
@@ -373,49 +427,51 @@ impl<'t> Settings<'t> {
         })
     }
 
-    /// The truth value that `true` or `false` is; `None` where the setting isn't set.
+    /// Returns the value of `true` or `false`, or `None` if the setting isn't set.
     ///
     /// # Errors
     ///
-    /// The value is none (`Kind`), or Rust rejects it (`Literal`).
+    /// Returns an error if the value isn't `true` or `false` (`Kind`), or if Rust rejects it (`Literal`).
     ///
     /// ```
     /// use navyspindle::{Key, Settings};
     ///
     /// let verbose = Key::new("verbose", "true or false");
-    /// assert_eq!(Settings::read("verbose = true")?.truth(verbose)?, Some(true));
-    /// assert_eq!(Settings::read("")?.truth(verbose)?, None);
-    /// assert!(Settings::read("verbose = 1")?.truth(verbose).is_err());
+    /// assert_eq!(Settings::read("verbose = true")?.bool(verbose)?, Some(true));
+    /// assert_eq!(Settings::read("")?.bool(verbose)?, None);
+    /// assert!(Settings::read("verbose = 1")?.bool(verbose).is_err());
     /// # Ok::<(), navyspindle::SettingError>(())
     /// ```
-    pub fn truth(&self, key: Key) -> Result<Option<bool>, SettingError> {
+    pub fn bool(&self, key: Key) -> Result<Option<bool>, SettingError> {
         self.value_of(key, |entry| match &entry.value {
             Lit::Bool(literal) => Ok(literal.value()),
             _ => Err(no_such(key, entry)),
         })
     }
 
-    /// The error that a setting isn't set, which a reader requires: `Missing`, at the text's end.
+    /// Returns the error that a required setting isn't set. Its kind is `Missing`, and its range is empty, at the text's end.
     ///
     /// ```
     /// use navyspindle::{Key, SettingErrorKind, Settings};
     ///
     /// let host = Key::new("host", "a string");
     /// let read = Settings::read("port = 1")?;
-    /// let error = read.string(host)?.ok_or_else(|| read.missing(host)).unwrap_err();
+    /// let error = read.string(host)?.ok_or_else(|| read.missing_error(host)).unwrap_err();
     /// assert_eq!((error.kind(), error.range()), (&SettingErrorKind::Missing(host), 8..8));
     /// # Ok::<(), navyspindle::SettingError>(())
     /// ```
     #[must_use]
-    pub fn missing(&self, key: Key) -> SettingError {
+    pub fn missing_error(&self, key: Key) -> SettingError {
         let end = self.text.len();
         SettingError {
             kind: SettingErrorKind::Missing(key),
             range: end..end,
+            help: None,
         }
     }
 
-    /// What a setting is taken as, whose value Rust takes; `None` where it isn't set.
+    /// Returns the result of `take` for the setting of `key`, or `None` if it isn't set. A value that Rust rejects is an error,
+    /// without a call of `take`.
     pub(crate) fn value_of<'s, V>(
         &'s self,
         key: Key,
@@ -433,12 +489,34 @@ impl<'t> Settings<'t> {
         };
         match taken {
             Ok(value) => Ok(Some(value)),
-            Err((kind, range)) => Err(SettingError { kind, range }),
+            Err((kind, range)) => Err(SettingError {
+                kind,
+                range,
+                help: None,
+            }),
         }
     }
 }
 
-/// What the entry's value stands for, which has no suffix.
+impl<'s, 't> IntoIterator for &'s Settings<'t> {
+    type Item = &'s Entry<'t>;
+    type IntoIter = slice::Iter<'s, Entry<'t>>;
+
+    fn into_iter(self) -> Self::IntoIter {
+        self.entries.iter()
+    }
+}
+
+impl<'t> IntoIterator for Settings<'t> {
+    type Item = Entry<'t>;
+    type IntoIter = vec::IntoIter<Entry<'t>>;
+
+    fn into_iter(self) -> Self::IntoIter {
+        self.entries.into_iter()
+    }
+}
+
+/// Returns `value`, or an error if the entry's literal has a suffix.
 pub(crate) fn without_suffix<V>(
     key: Key,
     entry: &Entry<'_>,
@@ -452,13 +530,13 @@ pub(crate) fn without_suffix<V>(
     }
 }
 
-/// That the entry's value is a literal of another kind than was expected.
+/// Creates the error that the entry's value is a literal of another kind than the expected one.
 pub(crate) fn no_such(key: Key, entry: &Entry<'_>) -> (SettingErrorKind, Range<usize>) {
     (SettingErrorKind::Kind(key), entry.value_range.clone())
 }
 
-/// Where bytes of the entry's value stand in the text of the settings: all of the value where white space or a comment stands
-/// after its minus, which is none of the literal's text.
+/// Converts a range of the entry's value to a range of the settings' text. If white space or a comment follows the value's minus,
+/// the literal's text differs from the settings' text, and the result is the range of the whole value.
 fn range_in(entry: &Entry<'_>, bytes: Range<usize>) -> Range<usize> {
     let value = entry.value_range.clone();
     if value.len() == entry.value.text().len() {
@@ -491,7 +569,7 @@ mod tests {
             };
             (error.kind(), range)
         };
-        let digit = ParseErrorKind::Flaw(FlawKind::DigitOfBase);
+        let digit = ParseErrorKind::Flaw(FlawKind::InvalidDigit);
         assert_eq!(flaw("a = 1, port = 0b12"), (digit, 17..18));
         let exponent = ParseErrorKind::Flaw(FlawKind::NoExponentDigit);
         assert_eq!(flaw("port = - 1e"), (exponent, 7..11));
@@ -539,13 +617,28 @@ mod tests {
             let kind = SettingErrorKind::Unknown(unknown.to_string());
             assert_eq!((error.kind(), error.range()), (&kind, range));
         }
+        let unknown = read.unknown(&[PORT]).map(|error| error.range());
+        assert_eq!(unknown.collect::<Vec<_>>(), [0..1, 17..21, 27..30, 36..41]);
         let known = ["por", "ports", "Port", "port", "a"].map(|name| Key::new(name, ""));
         assert_eq!(read.check(&known), Ok(()));
     }
 
     #[test]
+    fn values_of_any_length() {
+        for len in [0, 1, 7, 8, 63, 64, 1000] {
+            let text = "a".repeat(len);
+            let source = std::format!("port = \"{text}\", size = {}1", "0".repeat(len));
+            let read = Settings::read(&source).expect("settings");
+            let string = read.string(PORT).expect("a string");
+            assert_eq!(string.as_deref(), Some(text.as_str()));
+            let size = read.number::<u8>(Key::new("size", "a number"));
+            assert_eq!(size, Ok(Some(1)), "{len}");
+        }
+    }
+
+    #[test]
     fn a_shifted_error_has_its_name() {
-        let error = settings("a = 1, b = 2, a = 3").expect_err("a name twice");
+        let error = parse_settings("a = 1, b = 2, a = 3").expect_err("a name twice");
         let error = error.shifted(100);
         assert_eq!(error.to_string(), "repeated name `a` at byte 114");
         let error = SettingError::from(error);
@@ -557,7 +650,7 @@ mod tests {
     fn a_value_that_is_no_literal_says_why() {
         let read = Settings::read(r#"port = "a\u{D800}""#).expect("settings");
         let error = read.string(PORT).expect_err("a surrogate");
-        let words = "port: expected an integer: surrogates are no characters at byte 16";
+        let words = "port: expected an integer: a surrogate isn't a character at byte 16";
         assert_eq!((error.to_string().as_str(), error.range()), (words, 16..17));
     }
 }

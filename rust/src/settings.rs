@@ -1,11 +1,12 @@
-//! Settings: names that are set to literals, with commas between.
+//! Settings: names that are set to literals, with commas between them.
 
 use crate::common::shifted;
 use crate::error::{range_at, SyntaxErrorKind};
-use crate::list::placed;
+use crate::help::{help_of, Separators};
 use crate::lit::Lit;
+use crate::next_literal::placed;
+use crate::rl_lenient::NextLiteral;
 use crate::rl_lexer::{LexError, Tokens};
-use crate::rl_reading::NextLiteral;
 use crate::rl_settings::{
     first_error, lexer_error, settings_step, NextSetting, SettingRejection, SettingStep,
     SyntaxError,
@@ -16,25 +17,34 @@ use alloc::vec::Vec;
 use core::fmt;
 use core::ops::Range;
 
-/// A setting: a name, and the literal that it is set to. See [`settings`] and [`config`](crate::config).
+/// A setting: a name, and the literal that it is set to. See [`parse_settings`] and [`parse_config`](crate::parse_config).
+///
+/// ```
+/// use navyspindle::{parse_settings, Entry};
+///
+/// let entries: Vec<Entry> = parse_settings("port = -1")?;
+/// let Entry { name, value, value_range, .. } = &entries[0];
+/// assert_eq!((*name, value.text(), value_range), ("port", "-1", &(7..9)));
+/// # Ok::<(), navyspindle::SettingsSyntaxError>(())
+/// ```
 #[derive(Clone, Debug, PartialEq, Eq, Hash)]
 #[non_exhaustive]
 pub struct Entry<'t> {
-    /// The name.
+    /// The setting's name.
     pub name: &'t str,
-    /// The bytes of the name.
+    /// The byte range of the name in the text.
     pub name_range: Range<usize>,
-    /// What it is set to, as `syn` reads it: of a number with its minus, and a literal token without a reading as
-    /// [`Lit::Verbatim`]. [`Lit::check`] says whether Rust takes it too.
+    /// The setting's value, as `syn` reads it, with the minus of a number. A literal token without a value is [`Lit::Verbatim`].
+    /// [`Lit::check`] returns whether Rust accepts the literal too.
     pub value: Lit<'t>,
-    /// The bytes of the value, from its minus on where it has one.
+    /// The byte range of the value in the text. If the value has a minus, the range begins at the minus.
     pub value_range: Range<usize>,
 }
 
-/// What is wrong with a text of settings, and where.
+/// The error of a text that can't be parsed as settings, with its byte range.
 ///
 /// ```
-/// let error = navyspindle::settings("port = 1, port = 2").unwrap_err();
+/// let error = navyspindle::parse_settings("port = 1, port = 2").unwrap_err();
 /// assert_eq!(error.range(), 10..14);
 /// assert_eq!(error.to_string(), "repeated name `port` at byte 10");
 /// ```
@@ -43,48 +53,56 @@ pub struct SettingsSyntaxError {
     kind: SyntaxErrorKind,
     range: Range<usize>,
     name: Option<String>,
+    help: Option<&'static str>,
 }
 
 impl SettingsSyntaxError {
-    /// The lexer's error, at its token.
+    /// Converts an error of the lexer. The range is that of the token at the error.
     #[cold]
-    pub(crate) fn of_lexer(text: &str, error: LexError) -> SettingsSyntaxError {
+    pub(crate) fn of_lexer(
+        text: &str,
+        error: LexError,
+        separators: Separators,
+    ) -> SettingsSyntaxError {
+        let kind = lexer_error(error.kind);
         SettingsSyntaxError {
-            kind: lexer_error(error.kind),
+            kind,
             range: range_at(text, error.at),
             name: None,
+            help: help_of(kind, text, error.at, separators),
         }
     }
 
-    /// That the name of these bytes stood before.
+    /// Creates the error that the name `name` at the range `range` is repeated.
     #[cold]
     pub(crate) fn repeated(name: &str, range: Range<usize>) -> SettingsSyntaxError {
         SettingsSyntaxError {
             kind: SyntaxErrorKind::Repeated,
             range,
             name: Some(String::from(name)),
+            help: None,
         }
     }
 
-    /// What is wrong.
+    /// Returns the kind of the error.
     ///
     /// ```
-    /// use navyspindle::{settings, SyntaxErrorKind, Part};
+    /// use navyspindle::{parse_settings, SyntaxErrorKind, Part};
     ///
-    /// assert_eq!(settings("a = 1 b").unwrap_err().kind(), SyntaxErrorKind::Expected(Part::Comma));
-    /// assert_eq!(settings("a =").unwrap_err().kind(), SyntaxErrorKind::EndOfInput(Part::Literal));
+    /// assert_eq!(parse_settings("a = 1 b").unwrap_err().kind(), SyntaxErrorKind::Expected(Part::Comma));
+    /// assert_eq!(parse_settings("a =").unwrap_err().kind(), SyntaxErrorKind::EndOfInput(Part::Literal));
     /// ```
     #[must_use]
     pub fn kind(&self) -> SyntaxErrorKind {
         self.kind
     }
 
-    /// The bytes of the token or group that was rejected; none at the text's end; of a quote or a comment that isn't closed, up to
-    /// the text's end.
+    /// Returns the byte range of the rejected token or group. At the text's end it is empty. For a quote or a comment that isn't
+    /// closed, it reaches to the text's end.
     ///
     /// ```
-    /// assert_eq!(navyspindle::settings("a = 1 b").unwrap_err().range(), 6..7);
-    /// assert_eq!(navyspindle::settings("a = 'b").unwrap_err().range(), 4..6);
+    /// assert_eq!(navyspindle::parse_settings("a = 1 b").unwrap_err().range(), 6..7);
+    /// assert_eq!(navyspindle::parse_settings("a = 'b").unwrap_err().range(), 4..6);
     /// ```
     #[doc(alias = "span")]
     #[must_use]
@@ -92,20 +110,21 @@ impl SettingsSyntaxError {
         self.range.clone()
     }
 
-    /// The byte where [`range`](SettingsSyntaxError::range) begins, which its message names.
+    /// Returns the byte offset at which [`range`](SettingsSyntaxError::range) begins. The error's message names this offset.
     ///
     /// ```
-    /// assert_eq!(navyspindle::settings("a = 1 b").unwrap_err().at(), 6);
+    /// assert_eq!(navyspindle::parse_settings("a = 1 b").unwrap_err().offset(), 6);
     /// ```
     #[must_use]
-    pub fn at(&self) -> usize {
+    pub fn offset(&self) -> usize {
         self.range.start
     }
 
-    /// The error with its place so many bytes on: in a text of which this one is a part that begins there.
+    /// Returns the error with its range moved forward by `by` bytes. Use it if the settings are part of a longer text and begin at
+    /// the byte offset `by`.
     ///
     /// ```
-    /// let error = navyspindle::settings("a = 1 b").unwrap_err();
+    /// let error = navyspindle::parse_settings("a = 1 b").unwrap_err();
     /// assert_eq!(error.shifted(100).range(), 106..107);
     /// ```
     #[must_use]
@@ -116,7 +135,20 @@ impl SettingsSyntaxError {
         }
     }
 
-    /// The name that stood before.
+    /// Returns a hint for what other formats of configuration files have, such as comments that begin with `#`, or `None`. The printed
+    /// error ends with the hint.
+    ///
+    /// ```
+    /// let error = navyspindle::parse_config("# one\nport = 1").unwrap_err();
+    /// assert_eq!(error.help(), Some("a comment begins with `//`"));
+    /// assert_eq!(error.to_string(), "expected identifier at byte 0: a comment begins with `//`");
+    /// ```
+    #[must_use]
+    pub fn help(&self) -> Option<&'static str> {
+        self.help
+    }
+
+    /// Returns the repeated name, or `None` for an error of another kind.
     pub(crate) fn into_name(self) -> Option<String> {
         self.name
     }
@@ -126,35 +158,47 @@ impl fmt::Display for SettingsSyntaxError {
     fn fmt(&self, f: &mut fmt::Formatter<'_>) -> fmt::Result {
         let at = self.range.start;
         match &self.name {
-            Some(name) => write!(f, "{} `{name}` at byte {at}", self.kind),
-            None => write!(f, "{} at byte {at}", self.kind),
+            Some(name) => write!(f, "{} `{name}` at byte {at}", self.kind)?,
+            None => write!(f, "{} at byte {at}", self.kind)?,
         }
+        write_help(f, self.help)
     }
 }
 
 impl core::error::Error for SettingsSyntaxError {}
 
-/// The settings of a text, in their order: each a name, `=` and a literal, with a comma between two and perhaps after the last.
-/// White space and plain comments may stand anywhere between. No two have one name.
+/// Writes the hint at the end of an error's message.
+pub(crate) fn write_help(f: &mut fmt::Formatter<'_>, help: Option<&str>) -> fmt::Result {
+    match help {
+        Some(help) => write!(f, ": {help}"),
+        None => Ok(()),
+    }
+}
+
+/// Returns the settings of a text, in order. Each setting is a name, `=` and a literal. Commas separate settings, and a comma may
+/// follow the last one. White space and plain comments may be between any two tokens. No two settings have the same name.
 ///
 /// # Errors
 ///
-/// The first place where the text can't be cut into tokens, or a group isn't closed as it should be; else, from left to right,
-/// what is missed first: a name, one that didn't stand before, `=`, a literal, or a comma.
+/// Returns the first error of the whole text if it can't be divided into tokens, or if a group isn't closed correctly.
+///
+/// Otherwise returns an error for the first missing part, from left to right: a name, a name that isn't repeated, `=`, a literal,
+/// or a comma.
 ///
 /// ```
-/// use navyspindle::{settings, Lit, LineIndex};
+/// use navyspindle::{parse_settings, Lit, LineIndex};
 ///
 /// let text = "host = \"a\", // the server\nport = 8080,";
-/// let entries = settings(text)?;
+/// let entries = parse_settings(text)?;
 /// let Lit::Int(port) = &entries[1].value else { panic!() };
 /// assert_eq!((entries[1].name, port.value::<u16>()), ("port", Ok(8080)));
 /// assert_eq!(LineIndex::new(text).line_column(entries[1].value_range.start).to_string(), "2:8");
 /// # Ok::<(), navyspindle::SettingsSyntaxError>(())
 /// ```
-pub fn settings(text: &str) -> Result<Vec<Entry<'_>>, SettingsSyntaxError> {
+pub fn parse_settings(text: &str) -> Result<Vec<Entry<'_>>, SettingsSyntaxError> {
     if let Some(error) = first_error(text) {
-        return Err(SettingsSyntaxError::of_lexer(text, error));
+        let error = SettingsSyntaxError::of_lexer(text, error, Separators::Commas);
+        return Err(error);
     }
     let mut tokens = Tokens::new(text);
     let (mut entries, mut names) = (Vec::new(), BTreeSet::new());
@@ -170,13 +214,13 @@ pub fn settings(text: &str) -> Result<Vec<Entry<'_>>, SettingsSyntaxError> {
             }
             SettingStep::Rejected(SettingRejection { name, error }) => {
                 let name = name.map(|name| (name.text, name.lo..name.hi));
-                return Err(rejected(&names, name, error));
+                return Err(rejected(&names, name, error, text, Separators::Commas));
             }
         }
     }
 }
 
-/// The setting that was cut off the text, whose name stands at these bytes.
+/// Creates the entry with this name, name's range and value.
 pub(crate) fn entry_of<'t>(
     text: &'t str,
     name: &'t str,
@@ -192,12 +236,15 @@ pub(crate) fn entry_of<'t>(
     }
 }
 
-/// Why no setting stands next, after these names: its own, which stands at these bytes, stood before, or what the step returns.
+/// Returns the error for a text that doesn't continue with a setting. If the next setting's name is one of `names`, the error is
+/// that it is repeated. Otherwise the error is `error`.
 #[cold]
 pub(crate) fn rejected(
     names: &BTreeSet<&str>,
     name: Option<(&str, Range<usize>)>,
     error: SyntaxError,
+    text: &str,
+    separators: Separators,
 ) -> SettingsSyntaxError {
     match name {
         Some((name, range)) if names.contains(name) => SettingsSyntaxError::repeated(name, range),
@@ -205,6 +252,7 @@ pub(crate) fn rejected(
             kind: error.kind,
             range: error.lo..error.hi,
             name: None,
+            help: help_of(error.kind, text, error.lo, separators),
         },
     }
 }

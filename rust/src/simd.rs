@@ -1,21 +1,27 @@
-//! The part of `core::simd`, which stable Rust doesn't have, that the proved code uses: lanes of bytes.
+//! The part of `core::simd` that the proved code uses: vectors of bytes, whose elements are called lanes. Stable Rust doesn't have
+//! `core::simd`.
 //!
-//! There are two of it, with the same names and results. In `words` eight lanes are a number. Of the arrays in `vectors` the
-//! compiler makes vector instructions; but where nothing is optimized, as in procedural macros, they cost many times as much. So
-//! literals are read by numbers. Whole sources are passed over by vectors where the target has some, but not where debug
-//! assertions tell that nothing is optimized, nor with the feature `proc-macro`. The programs have vectors for all.
+//! There are two implementations, with the same names and results. In `words`, eight lanes are one `u64`. In `vectors`, lanes are
+//! arrays, for which the compiler generates vector instructions. In unoptimized builds, as of procedural macros, `vectors` costs
+//! many times as much.
+//!
+//! The package parses literals with `words`. It skips through whole sources with `vectors` if the target has vector instructions.
+//! It uses `words` for sources too if debug assertions are on, as in unoptimized builds, and with the feature `proc-macro`. The
+//! programs of this repository always use `vectors` on a target with vector instructions.
 
-/// The types of one of the two, over arrays of these items, and the operators that `$each` makes of theirs.
+/// Defines the types of one of the two implementations, as structs with an array `$items`, and their operators. `$each` builds an
+/// array from an expression for one item.
 macro_rules! lane_types {
     ($items:ty, $each:ident) => {
-        /// N lanes of bytes, the first of these; N is 8, 16 or more by eights, up to 64.
+        /// A vector of `N` lanes, each a byte. `N` is a multiple of 8, from 8 to 64. The array may have more items, which aren't
+        /// used.
         #[derive(Clone, Copy)]
         pub(crate) struct Simd<T, const N: usize>($items, PhantomData<T>);
 
         #[allow(non_camel_case_types)]
         pub(crate) type u8x16 = Simd<u8, 16>;
 
-        /// Which of N lanes are set.
+        /// A set of lanes among `N`, as the result of a comparison.
         #[derive(Clone, Copy)]
         pub(crate) struct Mask<const N: usize>($items);
 
@@ -48,7 +54,7 @@ macro_rules! lane_types {
     };
 }
 
-// The target and the features decide which one is used.
+// The target and the features of the package decide which implementation is used.
 #[allow(dead_code)]
 mod vectors;
 #[allow(dead_code)]
@@ -65,7 +71,7 @@ pub(crate) use vectors::Simd;
 )))]
 pub(crate) use words::Simd;
 
-/// The lanes of what passes over whole sources.
+/// The vectors for skipping through whole sources.
 pub(crate) mod wide {
     #[cfg(all(
         any(
@@ -85,17 +91,17 @@ pub(crate) mod wide {
     pub(crate) use super::words::u8x16;
 }
 
-/// The lowest bit of each of eight bytes.
+/// The number in which only the lowest bit of each of the eight bytes is set.
 const LOWEST: u64 = 0x0101_0101_0101_0101;
 
-/// The highest one.
+/// The number in which only the highest bit of each of the eight bytes is set.
 const HIGHEST: u64 = LOWEST << 7;
 
 #[cfg(test)]
 mod tests {
     use std::vec::Vec;
 
-    /// Numbers without an order, from a seed on.
+    /// A generator of pseudorandom numbers. The field is its state.
     struct Numbers(u64);
 
     impl Numbers {
@@ -107,7 +113,7 @@ mod tests {
             (self.0 >> 56) as u8
         }
 
-        /// Bytes that are often equal, and often near the one whose highest bit is the first set.
+        /// Returns random bytes that are often equal to each other, and often near 128, the smallest byte whose highest bit is set.
         fn bytes(&mut self, count: usize) -> Vec<u8> {
             let byte = |_| match self.next() % 3 {
                 0 => self.next(),
@@ -117,14 +123,14 @@ mod tests {
         }
     }
 
-    /// A bit for each of the lanes where this holds.
+    /// Returns a number with one bit for each lane. A bit is set if `holds` returns `true` for the lane's index.
     fn bits<const N: usize>(holds: impl Fn(usize) -> bool) -> u64 {
         (0..N)
             .filter(|at| holds(*at))
             .fold(0, |bits, at| bits | 1 << at)
     }
 
-    /// The tests of one of the two, of N lanes.
+    /// The tests of one of the two implementations.
     macro_rules! tests_of {
         ($lanes:ident) => {
             mod $lanes {
@@ -165,7 +171,7 @@ mod tests {
                     assert_eq!((a | b).simd_eq(Simd::splat(byte)).to_bitmask(), wanted);
                 }
 
-                /// Each byte beside each, in every lane some.
+                /// Compares each pair of bytes, each in some lane.
                 fn every_pair<const N: usize>() {
                     for first in 0..=255_u8 {
                         for from in (0..256).step_by(N) {
@@ -176,7 +182,7 @@ mod tests {
                     }
                 }
 
-                /// A lane by itself, each lane but one, and each set of eight neighbours.
+                /// Tests each set of one lane, each set of all lanes but one, and each set among eight neighbouring lanes.
                 fn every_lane<const N: usize>() {
                     for at in 0..N {
                         let mut row = [0; N];
@@ -201,7 +207,7 @@ mod tests {
                     every_lane::<N>();
                     let mut numbers = Numbers(seed);
                     for _ in 0..2000 {
-                        // What stands after the lanes isn't looked at.
+                        // The slice `x` has three bytes more than a vector of `N` lanes holds. The vector code doesn't read these bytes.
                         let (x, y) = (numbers.bytes(N + 3), numbers.bytes(N));
                         compares::<N>(&x, &y);
                         for byte in [0, 5, 100, 127, 128, 255] {

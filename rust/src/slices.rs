@@ -1,10 +1,10 @@
-//! A slice of a text, as the core is rendered with it.
+//! The macro `after_first`, which the translated core uses to drop the first character of a text.
 //!
-//! `after_first!(text)` is the text after its first character, which is one of ASCII. A slice tests whether a character begins where
-//! it does, which takes four instructions. Going by characters takes none, but more than the slice where nothing is optimized: so
-//! the programs go by characters.
+//! `after_first!(text)` is the text after its first character, which must be ASCII. A slice tests whether a character begins at its
+//! start, which takes four instructions. A step of `chars` needs no such test, but costs more than the slice in unoptimized builds.
+//! So the package uses the slice, and the programs of this repository use `chars`.
 
-/// By characters.
+/// Drops the first character with `chars`.
 #[cfg(any(test, feature = "rendered"))]
 macro_rules! after_character {
     ($text:ident) => {{
@@ -14,7 +14,7 @@ macro_rules! after_character {
     }};
 }
 
-/// By a slice.
+/// Drops the first byte with a slice.
 #[cfg(any(test, not(feature = "rendered")))]
 macro_rules! after_byte {
     ($text:ident) => {

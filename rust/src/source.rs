@@ -1,9 +1,9 @@
-//! The literals of whole sources.
+//! Iterators over the literals of whole sources.
 
-use crate::error::ListError;
+use crate::list_error::ListError;
 use crate::lit::Lit;
+use crate::rl_lenient::{source_step, Found, SourceStep};
 use crate::rl_lexer::{SourceToken, Sources};
-use crate::rl_reading::{source_step, Found, SourceStep};
 use crate::rl_recovery::{recovery_step, Recovery};
 use alloc::borrow::Cow;
 use core::fmt;
@@ -12,13 +12,23 @@ use core::ops::Range;
 
 type Item<'t> = Result<(Range<usize>, Lit<'t>), ListError>;
 
-/// A literal's token, and what reading it finds.
+/// Converts a literal token and its parse result to a byte range and a literal.
 fn literal_of<'t>(token: SourceToken<'t>, found: Option<Found>) -> (Range<usize>, Lit<'t>) {
     let literal = Lit::of_token(Cow::Borrowed(token.text), found);
     (token.lo..token.hi, literal)
 }
 
-/// The literals of a whole Rust source, each with its bytes; see [`source`].
+/// An iterator over the literals of a whole Rust source, each with its byte range. See [`source`].
+///
+/// ```
+/// use navyspindle::{source, Source};
+///
+/// let mut literals: Source = source("f(1, 'a')");
+/// let (range, literal) = literals.next().unwrap()?;
+/// assert_eq!((range, literal.text()), (2..3, "1"));
+/// assert_eq!(literals.count(), 1);
+/// # Ok::<(), navyspindle::ListError>(())
+/// ```
 #[must_use = "an iterator does nothing until it is asked"]
 pub struct Source<'t> {
     text: &'t str,
@@ -26,31 +36,36 @@ pub struct Source<'t> {
     is_done: bool,
 }
 
-/// Every literal of a whole Rust source, in order, up to the first error: a quote or a comment that isn't closed.
+/// Iterates over the literals of a Rust source file, each with its byte range, up to the first quote or block comment that isn't
+/// closed.
 ///
-/// A field of a tuple is a literal too, as to lexers: `t.0.1` has the float `0.1`. Who writes numbers anew looks at the dot before.
+/// Literals are read as `syn` reads them, and `syn` accepts some texts that Rust rejects: `0b102` is a float. Call [`Lit::check`]
+/// to know whether Rust accepts a literal. A literal without a meaning, such as `'\q'`, is [`Lit::Verbatim`]. So is a quote with no
+/// or several characters: `''`, `'ab'`, `b'hello'`, and `'1a`, each up to where rustc's lexer ends it.
 ///
-/// What stands in comments is no literal, a minus is no part of one, and the words `true` and `false` are literals. A
-/// token that is a literal by its form and has no reading comes as [`Lit::Verbatim`], as `'\q'` does. Literals are read as `syn`
-/// does, so `0b102` comes as a float; [`Lit::check`] says whether Rust takes one too.
+/// Comments are skipped. A minus isn't part of a literal here; in [`parse_list`](fn@crate::parse_list) it is. `true` and `false`
+/// are literals. A tuple's field is read as a number too: `t.0.1` has the float `0.1`. So look for a dot before a number that you
+/// change.
 ///
-/// A quote that holds no or several characters is a literal of the source all the same, up to where it ends, as to rustc's lexer:
-/// `''`, `'ab'`, `b'hello'`, and `'1a`. It has no reading either. [`Source::recover`] goes on after each error.
-///
-/// Two texts are judged otherwise than by rustc. In `'\n\''` a quote follows two escapes: to rustc all of it is one bad
-/// literal, here `'\n\'` is one, and the last quote isn't closed. A CR in the white space after an escaped line end (`"a\`, LF,
-/// CR, `b"`), which rustc takes, [`Lit::check`] rejects.
+/// [`Source::recover`] continues after errors. Two texts are read differently by rustc. In `'\n\''` rustc reads one bad literal,
+/// and `source` reads the literal `'\n\'` and an open quote. A CR in the white space after an escaped line end is accepted by
+/// rustc, and rejected by [`Lit::check`].
 ///
 /// ```
-/// use navyspindle::{source, Lit};
+/// use navyspindle::{source, ListError};
 ///
-/// let text = r#"fn f() { g("a\n", 1.5) } // "b""#;
-/// let found: Vec<_> = source(text).collect::<Result<_, _>>()?;
-/// assert_eq!(found[0].0, 11..16);
-/// let Lit::Str(literal) = &found[0].1 else { panic!() };
-/// assert_eq!(literal.value(), "a\n");
-/// assert_eq!((found[1].0.clone(), found.len()), (18..21, 2));
-/// # Ok::<(), navyspindle::ListError>(())
+/// let text = "let a = \"x\\ty\"; let b = 0b102; // \"no\"";
+/// for item in source(text) {
+///     let (range, literal) = item?;
+///     match literal.check() {
+///         Ok(()) => assert_eq!((range, literal.text()), (8..14, r#""x\ty""#)),
+///         Err(error) => {
+///             let error = error.shifted(range.start);
+///             assert_eq!(error.to_string(), "invalid digit for this base at byte 28");
+///         }
+///     }
+/// }
+/// # Ok::<(), ListError>(())
 /// ```
 pub fn source(text: &str) -> Source<'_> {
     Source {
@@ -61,14 +76,14 @@ pub fn source(text: &str) -> Source<'_> {
 }
 
 impl<'t> Source<'t> {
-    /// The literals from where it stands on, and every error: reading goes on after each. An error that it has returned isn't
-    /// returned again.
+    /// Iterates over the remaining literals and over every error, and continues after each error. An error that was already
+    /// returned isn't returned again.
     ///
-    /// After a quote that isn't closed come the lines after its own. Of a character's or a byte's quote, a line goes on after
-    /// an escaped line end. A comment that isn't closed reaches to the text's end. An error's bytes do too.
+    /// After a quote that isn't closed, reading continues in the next line. After `'` or `b'`, an escaped line end continues the
+    /// line. A comment that isn't closed takes the rest of the text. The range of an error reaches to the end of the text.
     ///
-    /// The time grows as the text does, whatever stands in it; but each number of hashes with which a raw string isn't closed,
-    /// smaller than those before, is searched for once more.
+    /// The time grows with the text. Only a raw string that isn't closed costs a separate search of the rest. At most one such
+    /// search is made for each number of hashes that is smaller than those before.
     ///
     /// ```
     /// use navyspindle::source;
@@ -78,10 +93,10 @@ impl<'t> Source<'t> {
     ///     .recover()
     ///     .map(|item| match item {
     ///         Ok((range, literal)) => format!("{}: {}", range.start, literal.text()),
-    ///         Err(error) => format!("{}: {}", error.at(), error.kind()),
+    ///         Err(error) => format!("{}: {}", error.offset(), error.kind()),
     ///     })
     ///     .collect();
-    /// assert_eq!(shown, ["2: quoted literal isn't closed", "15: 'x'", "22: 'ab'"]);
+    /// assert_eq!(shown, ["2: unclosed quote", "15: 'x'", "22: 'ab'"]);
     /// ```
     pub fn recover(self) -> Recover<'t> {
         let mut tokens = Recovery::resume(self.text, self.tokens.rest());
@@ -116,7 +131,7 @@ impl<'t> Iterator for Source<'t> {
 
 impl FusedIterator for Source<'_> {}
 
-/// What was taken stays taken in the clone alone.
+/// A clone and the original iterator advance independently.
 impl Clone for Source<'_> {
     fn clone(&self) -> Self {
         Source {
@@ -127,14 +142,22 @@ impl Clone for Source<'_> {
     }
 }
 
-/// What is left of the source.
+/// Prints the rest of the source.
 impl fmt::Debug for Source<'_> {
     fn fmt(&self, f: &mut fmt::Formatter<'_>) -> fmt::Result {
         f.debug_tuple("Source").field(&self.tokens.rest()).finish()
     }
 }
 
-/// The literals of a whole Rust source and its errors, each with its bytes; see [`Source::recover`].
+/// An iterator over the literals and the errors of a whole Rust source, each with its byte range. See [`Source::recover`].
+///
+/// ```
+/// use navyspindle::{source, Recover};
+///
+/// let items: Recover = source("f(\"a);\ng(1);").recover();
+/// let are_literals: Vec<bool> = items.map(|item| item.is_ok()).collect();
+/// assert_eq!(are_literals, [false, true]);
+/// ```
 #[must_use = "an iterator does nothing until it is asked"]
 pub struct Recover<'t> {
     text: &'t str,
@@ -155,7 +178,7 @@ impl<'t> Iterator for Recover<'t> {
 
 impl FusedIterator for Recover<'_> {}
 
-/// What was taken stays taken in the clone alone.
+/// A clone and the original iterator advance independently.
 impl Clone for Recover<'_> {
     fn clone(&self) -> Self {
         Recover {
@@ -165,7 +188,7 @@ impl Clone for Recover<'_> {
     }
 }
 
-/// What is left of the source.
+/// Prints the rest of the source.
 impl fmt::Debug for Recover<'_> {
     fn fmt(&self, f: &mut fmt::Formatter<'_>) -> fmt::Result {
         f.debug_tuple("Recover").field(&self.tokens.rest()).finish()
@@ -178,22 +201,24 @@ mod tests {
     use crate::rl_lexer::{LexKind, Sources};
     use std::{format, string::String, vec::Vec};
 
-    /// The parts of the texts: what opens, closes and joins, and what ends a search for a quote.
+    /// The parts of which the test texts are made: delimiters of quotes and comments, characters that combine with these, and
+    /// characters that end a search for a quote.
     const PARTS: [&str; 16] = [
         "\"", "'", "\\", "r", "r#\"", "\"#", "#", "b'", "/*", "*/", "/", "//", "\n", "\n", "a",
         " 1 ",
     ];
 
-    /// The places of what `recover` returns.
+    /// Returns the byte ranges of the literals and the byte offsets of the errors that `recover` returns, as texts.
     fn recovered(text: &str) -> Vec<String> {
         let shown = |item: Item<'_>| match item {
             Ok((range, _)) => format!("{range:?}"),
-            Err(error) => format!("{} {:?}", error.at(), error.kind()),
+            Err(error) => format!("{} {:?}", error.offset(), error.kind()),
         };
         source(text).recover().map(shown).collect()
     }
 
-    /// The same of a loop that cuts the lines after each error as a source of their own, however often they are searched.
+    /// Returns the expected ranges and errors. After each error this function lexes the following lines as a new source, and
+    /// searches them again each time.
     fn by_lines(text: &str) -> Vec<String> {
         let (mut shown, mut lines) = (Vec::new(), text);
         loop {
@@ -223,7 +248,7 @@ mod tests {
                 text += PARTS[(state >> 60) as usize];
             }
             state = state.wrapping_add(1);
-            // Of a character's quote the line goes on there.
+            // The reference function doesn't handle an escaped line end after a character's quote, which continues the line.
             if !text.contains("\\\n") {
                 let expected = by_lines(&text);
                 errors +=

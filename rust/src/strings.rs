@@ -1,20 +1,23 @@
-//! Strings, byte strings and C strings.
+//! String literals, byte string literals and C string literals.
 
-use crate::common::{example, literal_type, part};
+#[cfg(doc)]
+use crate::common::example;
+use crate::common::{literal_type, part};
 use crate::contents::{bytes_of, text_of};
-use crate::places::quoted_type;
-use crate::rl_forms::Kind;
-use crate::rl_reading::Body;
+use crate::rl_lenient::Body;
+use crate::rl_syntax::Kind;
+use crate::segments::quoted_type;
 use alloc::borrow::Cow;
 use alloc::ffi::CString;
 use alloc::string::String;
 use core::ops::Range;
 
-/// The struct of a kind of strings, with what it says of its text. `$cooked`, `$raw` and `$pieces` are of examples; the first byte of
-/// the latter's value stands at `$first`, the second one comes from `$place`.
+/// Defines the struct of a kind of strings. `$cooked`, `$raw` and `$pieces` are literals for the examples. The first byte of the
+/// value of `$pieces` comes from the range `$first` of its text, and the second one from the offset `$place`.
 macro_rules! string_type {
     ($(#[$doc:meta])* $name:ident, $variant:ident, $cooked:literal, $raw:literal, $pieces:literal, $first:literal, $place:literal) => {
         $(#[$doc])*
+        #[cfg_attr(doc, doc = concat!("\n\nWith the feature `writers`, `", stringify!($name), "::new` writes a value as a literal."))]
         #[derive(Clone)]
         #[repr(C)]
         pub struct $name<'t> {
@@ -42,7 +45,7 @@ macro_rules! string_type {
 
             const KIND: Kind = Kind::$variant;
 
-            /// Where its parts stand.
+            /// Returns the byte offsets of the literal's parts.
             #[inline]
             fn parts(&self) -> Body {
                 Body {
@@ -53,39 +56,40 @@ macro_rules! string_type {
                 }
             }
 
-            /// What stands between the quotes, as it is written.
-            #[doc = example!($name, $raw, r#"assert_eq!(literal.body(), r"a\n");"#)]
+            /// Returns the text between the quotes, as written.
+            #[cfg_attr(doc, doc = example!($name, $raw, r#"assert_eq!(literal.body(), r"a\n");"#))]
             #[inline]
             #[must_use]
             pub fn body(&self) -> &str {
                 &self.text[self.lo..self.hi]
             }
 
-            /// The bytes of the text between the quotes.
-            #[doc = example!($name, $raw, r#"assert_eq!(&literal.text()[literal.body_range()], r"a\n");"#)]
+            /// Returns the byte range of the text between the quotes.
+            #[cfg_attr(doc, doc = example!($name, $raw, r#"assert_eq!(&literal.text()[literal.body_range()], r"a\n");"#))]
             #[inline]
             #[must_use]
             pub fn body_range(&self) -> Range<usize> {
                 self.lo..self.hi
             }
 
-            /// Whether it is raw, and so has no escapes.
-            #[doc = example!(
+            /// Returns `true` if the literal is raw. A raw literal has no escapes.
+            #[cfg_attr(doc, doc = example!(
                 $name, $raw,
                 "assert!(literal.is_raw());\nassert!(!", stringify!($name), "::parse(", stringify!($cooked), ")?.is_raw());"
-            )]
+            ))]
             #[inline]
             #[must_use]
             pub fn is_raw(&self) -> bool {
                 self.lo > Self::KIND.opener().len()
             }
 
-            /// How many `#` stand before the first quote of a raw literal; 0 of others.
-            #[doc = example!($name, $raw, "assert_eq!(literal.hashes(), 1);")]
+            /// Returns the number of `#` before the opening quote of a raw literal, or 0 for any other literal.
+            #[cfg_attr(doc, doc = example!($name, $raw, "assert_eq!(literal.hashes(), 1);"))]
             #[inline]
             #[must_use]
             pub fn hashes(&self) -> usize {
-                // A closing quote stands between body and suffix, and of a raw literal as many hashes as were opened.
+                // Between the body and the suffix are the closing quote and, in a raw literal, as many hashes as before its opening
+                // quote.
                 self.suffix_at - self.hi - 1
             }
         }
@@ -93,7 +97,7 @@ macro_rules! string_type {
 }
 
 string_type! {
-    /// A string: `"a\n"`, `r#"b"#`.
+    /// A string literal, such as `"a\n"` or `r#"b"#`.
     ///
     /// ```
     /// use navyspindle::LitStr;
@@ -108,7 +112,7 @@ string_type! {
 }
 
 string_type! {
-    /// A byte string: `b"a\xFF"`, `br"b"`.
+    /// A byte string literal, such as `b"a\xFF"` or `br"b"`.
     ///
     /// ```
     /// use navyspindle::LitByteStr;
@@ -121,7 +125,7 @@ string_type! {
 }
 
 string_type! {
-    /// A C string: `c"a"`, `cr"b"`.
+    /// A C string literal, such as `c"a"` or `cr"b"`.
     ///
     /// ```
     /// use navyspindle::LitCStr;
@@ -134,7 +138,7 @@ string_type! {
 }
 
 impl<'t> LitStr<'t> {
-    /// The text that the literal stands for; borrowed where it has no escapes.
+    /// Returns the text that the literal represents. The text is borrowed if the literal has no escapes.
     ///
     /// ```
     /// use navyspindle::LitStr;
@@ -152,7 +156,8 @@ impl<'t> LitStr<'t> {
         }
     }
 
-    /// The text that the literal stands for, in the lifetime of the literal's text.
+    /// Returns the text that the literal represents. If the literal has no escapes and its own text is borrowed, the result is
+    /// borrowed for as long.
     ///
     /// ```
     /// use navyspindle::{source, Lit};
@@ -184,12 +189,13 @@ fn into_bytes(text: Cow<'_, str>) -> Cow<'_, [u8]> {
     }
 }
 
-/// The values of byte strings and C strings, which are bytes; that of `$text`, in an example, is `$value`.
+/// Writes the methods that return the value of a byte string or a C string as bytes. `$text` is a literal for the examples, and
+/// `$value` is its value.
 macro_rules! byte_values {
     ($(#[$doc:meta])* $name:ident, $text:literal == $value:literal) => {
         impl<'t> $name<'t> {
             $(#[$doc])*
-            #[doc = example!($name, $text, "assert_eq!(*literal.value(), *", stringify!($value), ");")]
+            #[cfg_attr(doc, doc = example!($name, $text, "assert_eq!(*literal.value(), *", stringify!($value), ");"))]
             #[inline]
             #[must_use]
             pub fn value(&self) -> Cow<'_, [u8]> {
@@ -200,8 +206,9 @@ macro_rules! byte_values {
                 }
             }
 
-            /// The same in the lifetime of the literal's text.
-            #[doc = example!($name, $text, "assert_eq!(*literal.into_value(), *", stringify!($value), ");")]
+            /// Returns the bytes that the literal represents. If the literal has no escapes and its own text is borrowed, the
+            /// result is borrowed for as long.
+            #[cfg_attr(doc, doc = example!($name, $text, "assert_eq!(*literal.into_value(), *", stringify!($value), ");"))]
             #[must_use]
             pub fn into_value(self) -> Cow<'t, [u8]> {
                 if self.is_plain {
@@ -215,16 +222,17 @@ macro_rules! byte_values {
 }
 
 byte_values! {
-    /// The bytes that the literal stands for; borrowed where it has no escapes.
+    /// Returns the bytes that the literal represents. They are borrowed if the literal has no escapes.
     LitByteStr, r#"b"a\xFF""# == b"a\xFF"
 }
 byte_values! {
-    /// The bytes that the literal stands for: none of them is 0, and no 0 ends them. Borrowed where it has no escapes.
+    /// Returns the bytes that the literal represents, without a final 0. None of them is 0. They are borrowed if the literal has no
+    /// escapes.
     LitCStr, r#"c"a\xFF""# == b"a\xFF"
 }
 
 impl LitCStr<'_> {
-    /// The C string that the literal stands for.
+    /// Returns the C string that the literal represents.
     ///
     /// ```
     /// use navyspindle::LitCStr;

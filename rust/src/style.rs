@@ -1,5 +1,5 @@
-//! Literals written anew in another style. Each is a literal token of the Rust Reference again, of the same kind, with the same contents and
-//! the same suffix; but `1.` may become `1.0`.
+//! Rewriting of literals in another style. The result is a literal token of the Rust Reference again. It has the same kind, the
+//! same value and the same suffix. Only `1.` may become `1.0`, which `concat!` turns into a different text.
 
 use crate::parse_error::ParseError;
 use crate::rl_style::{self, rewrite_into};
@@ -7,7 +7,7 @@ use alloc::borrow::Cow;
 use alloc::string::String;
 use alloc::vec;
 
-/// Letters in lower or in upper case.
+/// The case of letters: lower or upper.
 ///
 /// ```
 /// use navyspindle::{rewrite, Case, Style};
@@ -17,9 +17,9 @@ use alloc::vec;
 /// ```
 #[derive(Clone, Copy, Debug, PartialEq, Eq, Hash)]
 pub enum Case {
-    /// As `a`.
+    /// Lower case, as in `a`.
     Lower,
-    /// As `A`.
+    /// Upper case, as in `A`.
     Upper,
 }
 
@@ -32,7 +32,7 @@ impl Case {
     }
 }
 
-/// What stands between a number and its suffix.
+/// The separator between a number and its suffix.
 ///
 /// ```
 /// use navyspindle::{rewrite, Separator, Style};
@@ -41,10 +41,11 @@ impl Case {
 /// # Ok::<(), navyspindle::ParseError>(())
 /// ```
 #[derive(Clone, Copy, Debug, PartialEq, Eq, Hash)]
+#[non_exhaustive]
 pub enum Separator {
-    /// As in `1u8`.
+    /// No separator, as in `1u8`.
     Nothing,
-    /// As in `1_u8`.
+    /// An underscore, as in `1_u8`.
     Underscore,
 }
 
@@ -57,13 +58,14 @@ impl Separator {
     }
 }
 
-/// How the digits of numbers stand in groups, with an underscore between two. By the base it says how many stand in one, at first 0 for
-/// each: its numbers are left alone.
+/// The sizes of the groups of digits in numbers. An underscore separates two groups.
+///
+/// Each base has a size of its own. The size is 0 at first, and then the numbers of that base are left unchanged.
 ///
 /// ```
 /// use navyspindle::{rewrite, DigitGroups, Style};
 ///
-/// const GROUPS: DigitGroups = DigitGroups::new().decimal(3).hexadecimal(4).least(5);
+/// const GROUPS: DigitGroups = DigitGroups::new().decimal(3).hexadecimal(4).min_digits(5);
 /// let style = Style::new().digit_groups(GROUPS);
 /// assert_eq!(rewrite("1000000u64", style)?, "1_000_000u64");
 /// assert_eq!(rewrite("0xdead_beef", style)?, "0xdead_beef");
@@ -81,7 +83,7 @@ pub struct DigitGroups {
 }
 
 impl DigitGroups {
-    /// Of no base.
+    /// Creates the groups with the size 0 for each base, which leave all numbers unchanged.
     ///
     /// ```
     /// use navyspindle::{rewrite, DigitGroups, Style};
@@ -101,7 +103,7 @@ impl DigitGroups {
         }
     }
 
-    /// The same with groups of so many digits after `0b`.
+    /// Sets the size of the groups of digits after `0b` to `size`.
     ///
     /// ```
     /// use navyspindle::{rewrite, DigitGroups, Style};
@@ -118,7 +120,7 @@ impl DigitGroups {
         }
     }
 
-    /// The same with groups of so many digits after `0o`.
+    /// Sets the size of the groups of digits after `0o` to `size`.
     ///
     /// ```
     /// use navyspindle::{rewrite, DigitGroups, Style};
@@ -135,7 +137,7 @@ impl DigitGroups {
         }
     }
 
-    /// The same with groups of so many digits in numbers of base ten, floats among them.
+    /// Sets the size of the groups of digits in numbers of base ten, including floats, to `size`.
     ///
     /// ```
     /// use navyspindle::{rewrite, DigitGroups, Style};
@@ -152,7 +154,7 @@ impl DigitGroups {
         }
     }
 
-    /// The same with groups of so many digits after `0x`.
+    /// Sets the size of the groups of digits after `0x` to `size`.
     ///
     /// ```
     /// use navyspindle::{rewrite, DigitGroups, Style};
@@ -169,19 +171,19 @@ impl DigitGroups {
         }
     }
 
-    /// The same with underscores only among so many digits or more: an integer's, a float's before its dot, or those after it. Fewer
-    /// stand without underscores between them.
+    /// Sets the smallest number of digits that are grouped. Digits are counted separately in an integer, in a float before its dot,
+    /// and in a float after its dot. A shorter sequence of digits has no underscores between its digits.
     ///
     /// ```
     /// use navyspindle::{rewrite, DigitGroups, Style};
     ///
-    /// let style = Style::new().digit_groups(DigitGroups::new().decimal(3).least(5));
+    /// let style = Style::new().digit_groups(DigitGroups::new().decimal(3).min_digits(5));
     /// assert_eq!(rewrite("1_000", style)?, "1000");
     /// assert_eq!(rewrite("10000.0001", style)?, "10_000.0001");
     /// # Ok::<(), navyspindle::ParseError>(())
     /// ```
     #[must_use]
-    pub const fn least(self, digits: usize) -> Self {
+    pub const fn min_digits(self, digits: usize) -> Self {
         DigitGroups {
             least: digits,
             ..self
@@ -199,14 +201,16 @@ impl DigitGroups {
     }
 }
 
-/// As [`DigitGroups::new`].
+/// Returns the groups of [`DigitGroups::new`].
 impl Default for DigitGroups {
     fn default() -> Self {
         DigitGroups::new()
     }
 }
 
-/// How [`rewrite`] writes literals anew: each rule by itself, and none at first.
+/// The rules by which [`rewrite`] rewrites literals. Each rule is set separately, and at first none is set.
+///
+/// With the feature `settings`, `Style::from_settings` reads a style from settings.
 ///
 /// ```
 /// use navyspindle::{rewrite, Case, Style};
@@ -237,7 +241,7 @@ pub struct Style {
 }
 
 impl Style {
-    /// Changes nothing.
+    /// Creates the style without rules, which leaves literals unchanged.
     ///
     /// ```
     /// use navyspindle::{rewrite, Style};
@@ -267,7 +271,7 @@ impl Style {
         }
     }
 
-    /// The same with the digits of integers after `0x` in this case.
+    /// Sets the case of the digits of integers after `0x`.
     ///
     /// ```
     /// use navyspindle::{rewrite, Case, Style};
@@ -284,8 +288,10 @@ impl Style {
         }
     }
 
-    /// The same without the underscores of numbers, or with those that stand there. A number whose suffix begins with `b`, `o` or
-    /// `x` keeps them: `0_b1` without them would be of another base.
+    /// Sets whether underscores are removed from numbers.
+    ///
+    /// A number whose suffix begins with `b`, `o` or `x` keeps its underscores. Without them `0_b1` would be a number of another
+    /// base.
     ///
     /// ```
     /// use navyspindle::{rewrite, Style};
@@ -304,8 +310,8 @@ impl Style {
         }
     }
 
-    /// The same without the zeros in front of integers of base ten, or with those that stand there. An integer whose suffix begins
-    /// with `b`, `o` or `x` keeps them.
+    /// Sets whether zeros at the start of integers of base ten are removed. An integer whose suffix begins with `b`, `o` or `x`
+    /// keeps its zeros.
     ///
     /// ```
     /// use navyspindle::{rewrite, Style};
@@ -324,8 +330,10 @@ impl Style {
         }
     }
 
-    /// The same with this between a number and its suffix. A number without a suffix loses the underscores at its end. With
-    /// [`Separator::Nothing`] a number keeps them whose suffix begins with `b`, `o` or `x`: `0b1` is another number than `0_b1`.
+    /// Sets the separator between a number and its suffix.
+    ///
+    /// A number without a suffix loses the underscores at its end. With [`Separator::Nothing`], a number whose suffix begins with
+    /// `b`, `o` or `x` keeps its underscores: `0b1` is another number than `0_b1`.
     ///
     /// ```
     /// use navyspindle::{rewrite, Separator, Style};
@@ -347,10 +355,13 @@ impl Style {
         }
     }
 
-    /// The same with the digits of numbers in these groups: from the last digit on, of a float's fraction from the first one on. An
-    /// exponent's digits aren't grouped. Zeros in front are dropped before; with [`Style::drop_underscores`] no other underscores are
-    /// left, else those stay that stand at the end of a run of digits, as before a suffix. A number whose suffix begins with `b`, `o`
-    /// or `x` is left alone.
+    /// Sets the groups of digits in numbers.
+    ///
+    /// Groups are counted from the last digit. In the fraction of a float they are counted from the first digit. The digits of an
+    /// exponent aren't grouped. Zeros at the start are removed before, if [`Style::drop_leading_zeros`] is set.
+    ///
+    /// With [`Style::drop_underscores`] no other underscores are left. Without it, the underscores at the end of a sequence of
+    /// digits stay, such as those before a suffix. A number whose suffix begins with `b`, `o` or `x` is left unchanged.
     ///
     /// ```
     /// use navyspindle::{rewrite, DigitGroups, Style};
@@ -369,8 +380,8 @@ impl Style {
         }
     }
 
-    /// The same with a zero after the dot that a float ends with, or with what stands there. It is the same number, but `concat!` makes
-    /// another text of it.
+    /// Sets whether a zero is added to a float that ends with its dot. The number stays the same, but `concat!` makes a different
+    /// text of the literal.
     ///
     /// ```
     /// use navyspindle::{rewrite, Style};
@@ -388,7 +399,7 @@ impl Style {
         }
     }
 
-    /// The same with the letter before a float's exponent in this case.
+    /// Sets the case of the letter before a float's exponent.
     ///
     /// ```
     /// use navyspindle::{rewrite, Case, Style};
@@ -404,7 +415,7 @@ impl Style {
         }
     }
 
-    /// The same without the `+` of a float's exponent, or with what stands there.
+    /// Sets whether the `+` of a float's exponent is removed.
     ///
     /// ```
     /// use navyspindle::{rewrite, Style};
@@ -420,7 +431,7 @@ impl Style {
         }
     }
 
-    /// The same with the digits of `\x` and `\u{..}` in this case.
+    /// Sets the case of the digits of `\x` and `\u{..}`.
     ///
     /// ```
     /// use navyspindle::{rewrite, Case, Style};
@@ -437,7 +448,7 @@ impl Style {
         }
     }
 
-    /// The same with the fewest digits in `\u{..}`, without underscores and without zeros in front, or with those that stand there.
+    /// Sets whether `\u{..}` has the fewest digits, without underscores and without zeros at the start.
     ///
     /// ```
     /// use navyspindle::{rewrite, Style};
@@ -454,9 +465,10 @@ impl Style {
         }
     }
 
-    /// The same with visible characters of ASCII, from `!` to `~`, for the escapes by number that spell them, or with what stands
-    /// there. The quote that closes the literal, and a backslash, get a backslash. A space stays an escape: after a line break it
-    /// would be dropped.
+    /// Sets whether a numeric escape is replaced by its character, if the character is visible ASCII, from `!` to `~`.
+    ///
+    /// The quote that closes the literal, and a backslash, are written with a backslash. A space stays an escape, because it would
+    /// be dropped after an escaped line end.
     ///
     /// ```
     /// use navyspindle::{rewrite, Style};
@@ -474,8 +486,9 @@ impl Style {
         }
     }
 
-    /// The same with `\n`, `\r`, `\t` and `\0` for the escapes by number that spell LF, CR, TAB and NUL, or with what stands there. NUL
-    /// stays before what stands for a digit: `\01` is octal in other languages.
+    /// Sets whether numeric escapes of LF, CR, TAB and NUL are replaced by `\n`, `\r`, `\t` and `\0`.
+    ///
+    /// NUL stays a numeric escape before a digit, or before an escape whose value is a digit: `\01` is octal in other languages.
     ///
     /// ```
     /// use navyspindle::{rewrite, Style};
@@ -493,7 +506,7 @@ impl Style {
         }
     }
 
-    /// The same without the backslash of a quote that doesn't close its literal, or with what stands there.
+    /// Sets whether the backslash is removed before a quote that doesn't close its literal.
     ///
     /// ```
     /// use navyspindle::{rewrite, Style};
@@ -511,7 +524,7 @@ impl Style {
         }
     }
 
-    /// The same with the fewest `#` that hold a raw string's text, or with those that stand there.
+    /// Sets whether raw strings have the fewest `#` that their text needs.
     ///
     /// ```
     /// use navyspindle::{rewrite, Style};
@@ -528,8 +541,9 @@ impl Style {
         }
     }
 
-    /// The same without the `r` and the hashes of raw strings that hold neither a backslash nor a quote, or with those that stand there. After
-    /// a hash or a dot a raw string without `b` or `c` stays ([`rewrite_after`]).
+    /// Sets whether the `r` and the hashes are removed from raw strings that contain neither a backslash nor a quote.
+    ///
+    /// After a hash or a dot, a raw string without the prefix `b` or `c` is left unchanged ([`rewrite_in_context`]).
     ///
     /// ```
     /// use navyspindle::{rewrite, Style};
@@ -547,20 +561,24 @@ impl Style {
         }
     }
 
-    /// The same with escapes by number for characters that turn or hide text, or with what stands there: control characters but LF and
-    /// TAB, what turns the direction of text, and what has no width, as a joiner of emoji has none; variation selectors from U+FE00 to
-    /// U+FE0F stay. A raw string that holds one gets escapes, but for one without `b` or `c` after a hash or a dot ([`rewrite_after`]).
+    /// Sets whether invisible and bidirectional characters are replaced by numeric escapes.
+    ///
+    /// These characters are the control characters except LF and TAB, the characters that change the direction of text, and those
+    /// without a width, such as a joiner of emoji. The variation selectors from U+FE00 to U+FE0F aren't replaced.
+    ///
+    /// A raw string that contains such a character becomes a string with escapes. A raw string without the prefix `b` or `c` that
+    /// follows a hash or a dot is left unchanged ([`rewrite_in_context`]).
     ///
     /// ```
     /// use navyspindle::{rewrite, Style};
     ///
-    /// let style = Style::new().escape_hidden(true);
+    /// let style = Style::new().escape_invisible(true);
     /// assert_eq!(rewrite("\"a\u{202e}\u{1b}\"", style)?, r#""a\u{202e}\x1b""#);
     /// assert_eq!(rewrite("r\"\\d\u{feff}\"", style)?, r#""\\d\u{feff}""#);
     /// # Ok::<(), navyspindle::ParseError>(())
     /// ```
     #[must_use]
-    pub const fn escape_hidden(self, escaped: bool) -> Self {
+    pub const fn escape_invisible(self, escaped: bool) -> Self {
         Style {
             hidden: escaped,
             ..self
@@ -589,23 +607,26 @@ impl Style {
     }
 }
 
-/// As [`Style::new`].
+/// Returns the style of [`Style::new`].
 impl Default for Style {
     fn default() -> Self {
         Style::new()
     }
 }
 
-/// The literal in the style, where it stands alone or after a space: of the same kind, with the same suffix and, but for
-/// [`Style::float_zero`], the same contents. Borrowed where nothing changes.
+/// Rewrites a literal in the style. The literal is assumed to be alone, or to follow a space.
 ///
-/// A text that was written so, the same style leaves as it is. What looks at a token's text and not at its value sees the change:
-/// `stringify!`, an arm of `macro_rules!` that names a literal, `concat!` of floats.
+/// The result has the same kind, the same suffix and the same value. Only [`Style::float_zero`] adds a digit. The result is
+/// borrowed if nothing changes. Rewriting the result in the same style leaves it unchanged.
+///
+/// A macro that looks at a token's text can see the change: `stringify!`, an arm of `macro_rules!` that names a literal, and
+/// `concat!` of floats.
 ///
 /// # Errors
 ///
-/// The text is no literal token of the Rust Reference: a minus is a token of its own, and a string that holds a CR LF isn't one either,
-/// which [`Lit::check`](crate::Lit::check) takes where it stands in a file. `examples/format.rs` writes whole files anew.
+/// Returns an error if the text isn't a literal token of the Rust Reference. A minus is a separate token. A string that contains a
+/// CR LF isn't a token either, although [`Lit::check`](crate::Lit::check) accepts it in a file. `examples/format.rs` rewrites whole
+/// files.
 ///
 /// ```
 /// use navyspindle::{rewrite, Case, FlawKind, Style};
@@ -614,29 +635,32 @@ impl Default for Style {
 /// let style = Style::new().hex_digits(Case::Lower).drop_quote_escapes(true);
 /// assert_eq!(rewrite("0xFFu8", style)?, "0xffu8");
 /// assert!(matches!(rewrite("0xffu8", style)?, Cow::Borrowed("0xffu8")));
-/// assert_eq!(rewrite("0b102", style).unwrap_err().kind(), FlawKind::DigitOfBase);
+/// assert_eq!(rewrite("0b102", style).unwrap_err().kind(), FlawKind::InvalidDigit);
 /// # Ok::<(), navyspindle::ParseError>(())
 /// ```
 pub fn rewrite(text: &str, style: Style) -> Result<Cow<'_, str>, ParseError> {
-    rewrite_after("", text, style)
+    rewrite_in_context("", text, style)
 }
 
-/// The same of a literal that stands after this text in its source, of which the last character counts: after `#` and `.` no raw string
-/// loses its `r`. `1.r"a"` are three tokens, and `1."a"` are two; `#"a"` is reserved from edition 2024 on.
+/// Rewrites a literal in the style, where `before` is the source's text before the literal. Only the last character of `before`
+/// matters.
+///
+/// After `#` and `.`, a raw string keeps its `r`. `1.r"a"` are three tokens, and `1."a"` are two. `#"a"` is reserved from edition
+/// 2024 on.
 ///
 /// # Errors
 ///
-/// As [`rewrite`].
+/// Returns the errors of [`rewrite`].
 ///
 /// ```
-/// use navyspindle::{rewrite_after, Style};
+/// use navyspindle::{rewrite_in_context, Style};
 ///
 /// let style = Style::new().drop_raw(true);
-/// assert_eq!(rewrite_after("let a = ", r#"r"a""#, style)?, r#""a""#);
-/// assert_eq!(rewrite_after("1.", r#"r"a""#, style)?, r#"r"a""#);
+/// assert_eq!(rewrite_in_context("let a = ", r#"r"a""#, style)?, r#""a""#);
+/// assert_eq!(rewrite_in_context("1.", r#"r"a""#, style)?, r#"r"a""#);
 /// # Ok::<(), navyspindle::ParseError>(())
 /// ```
-pub fn rewrite_after<'t>(
+pub fn rewrite_in_context<'t>(
     before: &str,
     text: &'t str,
     style: Style,

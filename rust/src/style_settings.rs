@@ -1,13 +1,13 @@
-//! Styles as settings say them.
+//! Styles that are read from settings or from a configuration file.
 
 use crate::lit::Lit;
 use crate::setting::{no_such, without_suffix, Key, SettingError, Settings};
 use crate::style::{Case, DigitGroups, Separator, Style};
 
-/// What a setting of a case may be.
+/// The values that a setting for the case of letters may have.
 const CASES: [(&str, Case); 2] = [("lower", Case::Lower), ("upper", Case::Upper)];
 
-/// What a setting of a separator may be.
+/// The values that a setting for the separator before a suffix may have.
 const SEPARATORS: [(&str, Separator); 2] = [("", Separator::Nothing), ("_", Separator::Underscore)];
 
 const CASE: &str = "\"lower\" or \"upper\"";
@@ -22,7 +22,7 @@ const BINARY_GROUPS: Key = Key::new("binary_groups", SIZE);
 const OCTAL_GROUPS: Key = Key::new("octal_groups", SIZE);
 const DECIMAL_GROUPS: Key = Key::new("decimal_groups", SIZE);
 const HEXADECIMAL_GROUPS: Key = Key::new("hexadecimal_groups", SIZE);
-const LEAST_GROUPED: Key = Key::new("least_grouped", SIZE);
+const MIN_DIGITS: Key = Key::new("min_digits", SIZE);
 const FLOAT_ZERO: Key = Key::new("float_zero", TRUTH);
 const EXPONENT_LETTER: Key = Key::new("exponent_letter", CASE);
 const DROP_EXPONENT_PLUS: Key = Key::new("drop_exponent_plus", TRUTH);
@@ -33,9 +33,9 @@ const NAMED_ESCAPES: Key = Key::new("named_escapes", TRUTH);
 const DROP_QUOTE_ESCAPES: Key = Key::new("drop_quote_escapes", TRUTH);
 const FEWEST_HASHES: Key = Key::new("fewest_hashes", TRUTH);
 const DROP_RAW: Key = Key::new("drop_raw", TRUTH);
-const ESCAPE_HIDDEN: Key = Key::new("escape_hidden", TRUTH);
+const ESCAPE_INVISIBLE: Key = Key::new("escape_invisible", TRUTH);
 
-/// All settings of a style.
+/// The keys of all settings of a style.
 const KEYS: [Key; 20] = [
     HEX_DIGITS,
     DROP_UNDERSCORES,
@@ -45,7 +45,7 @@ const KEYS: [Key; 20] = [
     OCTAL_GROUPS,
     DECIMAL_GROUPS,
     HEXADECIMAL_GROUPS,
-    LEAST_GROUPED,
+    MIN_DIGITS,
     FLOAT_ZERO,
     EXPONENT_LETTER,
     DROP_EXPONENT_PLUS,
@@ -56,10 +56,11 @@ const KEYS: [Key; 20] = [
     DROP_QUOTE_ESCAPES,
     FEWEST_HASHES,
     DROP_RAW,
-    ESCAPE_HIDDEN,
+    ESCAPE_INVISIBLE,
 ];
 
-/// What one of these strings stands for.
+/// Returns the value that belongs to the setting's string in `words`, or `None` if the setting isn't set. Another string is an
+/// error of the kind `Kind`.
 fn word_of<V: Copy>(
     settings: &Settings<'_>,
     key: Key,
@@ -77,12 +78,12 @@ fn word_of<V: Copy>(
     })
 }
 
-/// Whether it is set, and true.
+/// Whether the setting is `true`. A setting that isn't set counts as `false`.
 fn is_true(settings: &Settings<'_>, key: Key) -> Result<bool, SettingError> {
-    Ok(settings.truth(key)?.unwrap_or(false))
+    Ok(settings.bool(key)?.unwrap_or(false))
 }
 
-/// The number that it is; 0 where it isn't set.
+/// Returns the setting's number, or 0 if it isn't set.
 fn size_of(settings: &Settings<'_>, key: Key) -> Result<usize, SettingError> {
     Ok(settings.number(key)?.unwrap_or(0))
 }
@@ -93,10 +94,10 @@ fn groups_of(settings: &Settings<'_>) -> Result<DigitGroups, SettingError> {
         .octal(size_of(settings, OCTAL_GROUPS)?)
         .decimal(size_of(settings, DECIMAL_GROUPS)?)
         .hexadecimal(size_of(settings, HEXADECIMAL_GROUPS)?)
-        .least(size_of(settings, LEAST_GROUPED)?))
+        .min_digits(size_of(settings, MIN_DIGITS)?))
 }
 
-/// The rules that are `true`.
+/// Returns the style with the rules whose settings are `true`.
 fn truths_of(settings: &Settings<'_>) -> Result<Style, SettingError> {
     Ok(Style::new()
         .drop_underscores(is_true(settings, DROP_UNDERSCORES)?)
@@ -109,18 +110,22 @@ fn truths_of(settings: &Settings<'_>) -> Result<Style, SettingError> {
         .drop_quote_escapes(is_true(settings, DROP_QUOTE_ESCAPES)?)
         .fewest_hashes(is_true(settings, FEWEST_HASHES)?)
         .drop_raw(is_true(settings, DROP_RAW)?)
-        .escape_hidden(is_true(settings, ESCAPE_HIDDEN)?))
+        .escape_invisible(is_true(settings, ESCAPE_INVISIBLE)?))
 }
 
 impl Style {
-    /// The style that settings say, or a configuration. Each rule has the name of its method here: a case is `"lower"` or `"upper"`, a
-    /// separator `""` or `"_"`, the other rules `true` or `false`. [`digit_groups`](Style::digit_groups) has `binary_groups`,
-    /// `octal_groups`, `decimal_groups`, `hexadecimal_groups` and `least_grouped`, which are numbers. What isn't set changes nothing.
+    /// Returns the style that settings or a configuration file describe.
+    ///
+    /// Each rule has the name of its method in `Style`. A case is `"lower"` or `"upper"`, a separator is `""` or `"_"`, and the
+    /// other rules are `true` or `false`. The settings for [`digit_groups`](Style::digit_groups) are `binary_groups`,
+    /// `octal_groups`, `decimal_groups`, `hexadecimal_groups` and `min_digits`, which are numbers. A rule that isn't set changes
+    /// nothing.
     ///
     /// # Errors
     ///
-    /// `Unknown`, at the first name that is no rule's; else those of the values, as of [`Settings::string`], [`Settings::number`] and
-    /// [`Settings::truth`]: a string that is none of these is of the wrong `Kind`.
+    /// Returns the error `Unknown` for the first name that isn't a rule's. Otherwise returns the errors of the values, as
+    /// [`Settings::string`], [`Settings::number`] and [`Settings::bool`] do. A string that isn't one of the listed values is an
+    /// error of the kind `Kind`.
     ///
     /// ```
     /// use navyspindle::{rewrite, Settings, Style};

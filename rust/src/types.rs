@@ -1,47 +1,76 @@
-//! Whether Rust has a type for a literal.
+//! The check whether Rust has a type for a literal.
 
 use crate::lit::Lit;
-use crate::rl_reading::find;
+use crate::rl_lenient::find;
 use crate::rl_types::{self, TypeError};
 use core::fmt;
+use core::hash::{Hash, Hasher};
+use core::mem::discriminant;
 
-/// What is wrong, in words.
+/// Prints the error's message.
 impl fmt::Display for TypeError {
     fn fmt(&self, f: &mut fmt::Formatter<'_>) -> fmt::Result {
-        f.pad(self.words())
+        f.pad(self.message())
     }
 }
 
 impl core::error::Error for TypeError {}
 
+impl Hash for TypeError {
+    fn hash<H: Hasher>(&self, state: &mut H) {
+        discriminant(self).hash(state);
+    }
+}
+
 impl Lit<'_> {
-    /// Why Rust has no type for the literal: its suffix is none of a number's type, or it is out of that type's range, as a float
-    /// that rounds to infinity, without a suffix in `f64`. rustc says so of a literal in an expression, and not of one that a macro
-    /// takes. `None` where there is a type, where an integer has no suffix, since Rust infers its type then, and of a `Verbatim`,
-    /// which has no reading.
+    /// Returns the reason why the literal has no type in Rust, such as an unknown suffix or a number out of its type's range.
     ///
-    /// `negated` says whether a minus stands before the literal, which makes `128i8` a value of its type; one in its own text
-    /// counts too. Who knows only a literal of [`source`](fn@crate::source), which has none, passes `true`, and misses `128i8`.
-    /// `usize` and `isize` have 64 bits.
+    /// rustc reports this error for a literal in an expression, but not for a literal that a macro receives. The result is `None`
+    /// if the literal has a type. It is also `None` for an integer without a suffix, whose type Rust infers, and for a
+    /// [`Lit::Verbatim`], which has no value. A float that rounds to infinity is out of range. Without a suffix the range is that
+    /// of `f64`. `usize` and `isize` have 64 bits.
+    ///
+    /// A minus in the literal's own text counts: `-128i8` has a type, `128i8` doesn't. Literals of [`source`](fn@crate::source)
+    /// never have a minus in their text. Call [`Lit::type_error_negated`] if a minus is before the literal in the source.
     ///
     /// ```
     /// use navyspindle::{Lit, TypeError};
     ///
-    /// let error = |text, negated| Lit::new(text).type_error(negated);
-    /// assert_eq!(error("1u9", false), Some(TypeError::UnknownSuffix));
-    /// assert_eq!(error("\"a\"q", false), Some(TypeError::QuotedSuffix));
-    /// assert_eq!(error("128i8", false), Some(TypeError::OutOfRange));
-    /// assert_eq!(error("128i8", true), None);
-    /// assert_eq!(error("256", false), None);
-    /// assert_eq!(error("1e400", false), Some(TypeError::OutOfRange));
+    /// let error = |text| Lit::new(text).type_error();
+    /// assert_eq!(error("1u9"), Some(TypeError::UnknownSuffix));
+    /// assert_eq!(error("\"a\"q"), Some(TypeError::QuotedSuffix));
+    /// assert_eq!(error("128i8"), Some(TypeError::OutOfRange));
+    /// assert_eq!(error("-128i8"), None);
+    /// assert_eq!(error("256"), None);
+    /// assert_eq!(error("1e400"), Some(TypeError::OutOfRange));
     /// ```
     #[must_use]
-    pub fn type_error(&self, negated: bool) -> Option<TypeError> {
-        let text = self.text();
-        let (body, negated) = match text.strip_prefix('-') {
-            Some(body) => (body, true),
-            None => (text, negated),
-        };
-        rl_types::type_error(body, &find(body)?, negated)
+    pub fn type_error(&self) -> Option<TypeError> {
+        match self.text().strip_prefix('-') {
+            Some(body) => type_error_of(body, true),
+            None => type_error_of(self.text(), false),
+        }
     }
+
+    /// Returns the result of [`Lit::type_error`] for a literal with a minus before it in the source.
+    ///
+    /// ```
+    /// use navyspindle::{source, TypeError};
+    ///
+    /// let (range, literal) = source("f(-128i8)").next().unwrap()?;
+    /// assert_eq!((range, literal.type_error()), (3..8, Some(TypeError::OutOfRange)));
+    /// assert_eq!(literal.type_error_negated(), None);
+    /// # Ok::<(), navyspindle::ListError>(())
+    /// ```
+    #[must_use]
+    pub fn type_error_negated(&self) -> Option<TypeError> {
+        let text = self.text();
+        type_error_of(text.strip_prefix('-').unwrap_or(text), true)
+    }
+}
+
+/// Returns the reason why the literal `body`, which has no minus in its text, has no type. `is_negated` says that a minus is before
+/// it.
+fn type_error_of(body: &str, is_negated: bool) -> Option<TypeError> {
+    rl_types::type_error(body, &find(body)?, is_negated)
 }

@@ -1,41 +1,48 @@
-//! Numbers as values of Rust's types.
+//! The numbers that literals represent, as values of Rust's types.
 
 use crate::common::shifted;
 use crate::numbers::{Base, LitFloat, LitInt, NumberType};
-use crate::rl_writing::IntegerType;
+#[cfg(feature = "writers")]
+use crate::rl_syntax::IntegerType;
 use core::fmt;
 use core::ops::Range;
 
 mod sealed {
     use crate::numbers::NumberType;
-    use crate::rl_writing::IntegerType;
+    #[cfg(feature = "writers")]
+    use crate::rl_syntax::IntegerType;
     use core::fmt::Debug;
     use core::str::FromStr;
 
-    /// What `value` asks of a type.
+    /// The trait that the method `value` of `LitInt` and `LitFloat` requires of a number type.
     pub trait Typed: FromStr {
         const TYPE: NumberType;
 
-        /// Whether it is a number, and no infinity.
-        fn is_number(&self) -> bool;
+        /// Whether the value is a number. Infinities and NaN aren't.
+        fn is_number(&self) -> bool {
+            true
+        }
     }
 
-    /// What writers ask of a type of integers.
+    /// The trait that functions which write integers require of an integer type.
     pub trait Whole: Typed {
+        #[cfg(feature = "writers")]
         const SUFFIX: IntegerType;
 
-        /// Whether it is below 0.
+        /// Whether the number is less than 0.
+        #[cfg(feature = "writers")]
         fn is_negative(&self) -> bool;
 
-        /// The number without its sign.
+        /// Returns the number without its sign.
+        #[cfg(feature = "writers")]
         fn magnitude(&self) -> u128;
     }
 
-    /// What writers ask of a type of floats.
+    /// The trait that functions which write floats require of a float type.
     pub trait Real: Typed + Debug {}
 }
 
-/// One of Rust's types of numbers: what [`LitInt::value`] and [`LitFloat::value`] return.
+/// A primitive number type of Rust. [`LitInt::value`] and [`LitFloat::value`] return values of such a type.
 ///
 /// ```
 /// use navyspindle::{LitInt, Number, ValueError};
@@ -48,7 +55,7 @@ mod sealed {
 /// ```
 pub trait Number: sealed::Typed {}
 
-/// One of Rust's types of integers: what [`write_integer`](crate::write_integer) and [`LitInt::suffixed`] take.
+/// A primitive integer type of Rust. [`write_integer`](crate::write_integer) and [`LitInt::suffixed`] accept values of such a type.
 ///
 /// ```
 /// use navyspindle::{Integer, LitInt};
@@ -60,7 +67,7 @@ pub trait Number: sealed::Typed {}
 /// ```
 pub trait Integer: Number + Copy + sealed::Whole {}
 
-/// One of Rust's two types of floats: what [`LitFloat::suffixed`] takes.
+/// `f32` or `f64`. [`LitFloat::suffixed`] accepts values of these types.
 ///
 /// ```
 /// use navyspindle::{Float, LitFloat};
@@ -73,35 +80,43 @@ pub trait Integer: Number + Copy + sealed::Whole {}
 /// ```
 pub trait Float: Number + Copy + sealed::Real {}
 
-macro_rules! numbers {
-    ($($name:ident $variant:ident),* => $is_number:expr) => {$(
+macro_rules! floats {
+    ($($name:ident $variant:ident),*) => {$(
         impl sealed::Typed for $name {
             const TYPE: NumberType = NumberType::$variant;
 
             fn is_number(&self) -> bool {
-                let is_number: fn($name) -> bool = $is_number;
-                is_number(*self)
+                self.is_finite()
             }
         }
 
         impl Number for $name {}
+        impl sealed::Real for $name {}
+        impl Float for $name {}
     )*};
 }
 
-numbers!(u8 U8, u16 U16, u32 U32, u64 U64, u128 U128, usize Usize => |_| true);
-numbers!(i8 I8, i16 I16, i32 I32, i64 I64, i128 I128, isize Isize => |_| true);
-numbers!(f32 F32, f64 F64 => |number| number.is_finite());
+floats!(f32 F32, f64 F64);
 
 macro_rules! integers {
     ($($name:ident $variant:ident),* => $is_negative:expr, $magnitude:ident) => {$(
+        impl sealed::Typed for $name {
+            const TYPE: NumberType = NumberType::$variant;
+        }
+
+        impl Number for $name {}
+
         impl sealed::Whole for $name {
+            #[cfg(feature = "writers")]
             const SUFFIX: IntegerType = IntegerType::$variant;
 
+            #[cfg(feature = "writers")]
             fn is_negative(&self) -> bool {
                 let is_negative: fn($name) -> bool = $is_negative;
                 is_negative(*self)
             }
 
+            #[cfg(feature = "writers")]
             fn magnitude(&self) -> u128 {
                 $magnitude!(*self) as u128
             }
@@ -111,12 +126,14 @@ macro_rules! integers {
     )*};
 }
 
+#[cfg(feature = "writers")]
 macro_rules! itself {
     ($number:expr) => {
         $number
     };
 }
 
+#[cfg(feature = "writers")]
 macro_rules! without_sign {
     ($number:expr) => {
         ($number).unsigned_abs()
@@ -126,18 +143,13 @@ macro_rules! without_sign {
 integers!(u8 U8, u16 U16, u32 U32, u64 U64, u128 U128, usize Usize => |_| false, itself);
 integers!(i8 I8, i16 I16, i32 I32, i64 I64, i128 I128, isize Isize => |number| number < 0, without_sign);
 
-impl sealed::Real for f32 {}
-impl Float for f32 {}
-impl sealed::Real for f64 {}
-impl Float for f64 {}
-
-/// Why a literal is no value of a type, and where.
+/// The reason why a literal isn't a value of a number type, with its byte range.
 ///
 /// ```
 /// use navyspindle::{LitInt, NumberType};
 ///
 /// let error = LitInt::parse("0x1FFu8").unwrap().value::<u8>().unwrap_err();
-/// assert_eq!((error.wanted(), error.range()), (NumberType::U8, 0..5));
+/// assert_eq!((error.expected(), error.range()), (NumberType::U8, 0..5));
 /// assert_eq!(error.to_string(), "number that u8 doesn't hold at byte 0");
 /// ```
 #[derive(Clone, Debug, PartialEq, Eq, Hash)]
@@ -147,7 +159,7 @@ pub struct ValueError {
     range: Range<usize>,
 }
 
-/// Why a literal is no value of a type.
+/// The reason why a literal isn't a value of a number type.
 ///
 /// ```
 /// use navyspindle::{LitInt, ValueErrorKind};
@@ -158,18 +170,32 @@ pub struct ValueError {
 #[derive(Clone, Copy, Debug, PartialEq, Eq, Hash)]
 #[non_exhaustive]
 pub enum ValueErrorKind {
-    /// Its suffix is another type's, or no type's.
+    /// The literal's suffix names another type, or isn't the name of a type.
     Suffix,
-    /// It is an integer where the type is of floats, or a float where the type is of integers.
+    /// The literal is an integer and the type is a float type, or the literal is a float and the type is an integer type.
     Form,
-    /// A minus stands before it, and the type has no negative numbers.
+    /// The literal has a minus, and the type has no negative numbers.
     Minus,
-    /// The type doesn't hold the number; of a float, as nothing but an infinity.
+    /// The number is out of the type's range. A float is out of range if it rounds to infinity.
     OutOfRange,
 }
 
+/// Prints a message that doesn't name the type. [`ValueError::message`] names it.
+impl fmt::Display for ValueErrorKind {
+    fn fmt(&self, f: &mut fmt::Formatter<'_>) -> fmt::Result {
+        f.pad(match self {
+            ValueErrorKind::Suffix => "suffix of another type",
+            ValueErrorKind::Form => "integer in place of a float, or float in place of an integer",
+            ValueErrorKind::Minus => "minus before a number of an unsigned type",
+            ValueErrorKind::OutOfRange => "number out of the type's range",
+        })
+    }
+}
+
+impl core::error::Error for ValueErrorKind {}
+
 impl ValueError {
-    /// What is wrong.
+    /// Returns the kind of the error.
     ///
     /// ```
     /// use navyspindle::{LitFloat, ValueErrorKind};
@@ -182,20 +208,20 @@ impl ValueError {
         self.kind
     }
 
-    /// The type that was asked for.
+    /// Returns the number type that the caller requested.
     ///
     /// ```
     /// use navyspindle::{LitInt, NumberType};
     ///
     /// let error = LitInt::parse("-1").unwrap().value::<u8>().unwrap_err();
-    /// assert_eq!(error.wanted(), NumberType::U8);
+    /// assert_eq!(error.expected(), NumberType::U8);
     /// ```
     #[must_use]
-    pub fn wanted(&self) -> NumberType {
+    pub fn expected(&self) -> NumberType {
         self.wanted
     }
 
-    /// The bytes of the literal's text that are wrong: its suffix, its minus, or all before the suffix.
+    /// Returns the byte range of the wrong part of the literal's text: its suffix, its minus, or the whole text before the suffix.
     ///
     /// ```
     /// assert_eq!(navyspindle::LitInt::parse("10k").unwrap().value::<u8>().unwrap_err().range(), 2..3);
@@ -206,17 +232,18 @@ impl ValueError {
         self.range.clone()
     }
 
-    /// The byte where [`range`](ValueError::range) begins, which its message names.
+    /// Returns the byte offset at which [`range`](ValueError::range) begins. The error's message names this offset.
     ///
     /// ```
-    /// assert_eq!(navyspindle::LitInt::parse("10k").unwrap().value::<u8>().unwrap_err().at(), 2);
+    /// assert_eq!(navyspindle::LitInt::parse("10k").unwrap().value::<u8>().unwrap_err().offset(), 2);
     /// ```
     #[must_use]
-    pub fn at(&self) -> usize {
+    pub fn offset(&self) -> usize {
         self.range.start
     }
 
-    /// The error with its place so many bytes on: in a text where the literal begins there.
+    /// Returns the error with its range moved forward by `by` bytes. Use it if the literal is part of a longer text and begins at
+    /// the byte offset `by`.
     ///
     /// ```
     /// let error = navyspindle::LitInt::parse("10k").unwrap().value::<u8>().unwrap_err();
@@ -230,18 +257,18 @@ impl ValueError {
         }
     }
 
-    /// What is wrong, in words without the place: for a message that stands at one, as that of a macro.
+    /// Returns the error's message without the byte offset. Use it for a message that has a position of its own, such as a macro's.
     ///
     /// ```
     /// let error = navyspindle::LitInt::parse("10k").unwrap().value::<u8>().unwrap_err();
-    /// assert_eq!(error.reason().to_string(), "suffix that isn't u8");
+    /// assert_eq!(error.message().to_string(), "suffix that isn't u8");
     /// ```
     #[must_use]
-    pub fn reason(&self) -> impl fmt::Display + '_ {
+    pub fn message(&self) -> impl fmt::Display + '_ {
         Reason(self)
     }
 
-    /// The same, written.
+    /// Writes the error's message without the byte offset.
     pub(crate) fn write_reason(&self, f: &mut fmt::Formatter<'_>) -> fmt::Result {
         let wanted = self.wanted;
         match self.kind {
@@ -265,7 +292,7 @@ impl fmt::Display for ValueError {
 
 impl core::error::Error for ValueError {}
 
-/// The words of an error without its place.
+/// Prints an error's message without the byte offset.
 struct Reason<'e>(&'e ValueError);
 
 impl fmt::Display for Reason<'_> {
@@ -274,7 +301,8 @@ impl fmt::Display for Reason<'_> {
     }
 }
 
-/// The number that these digits in base ten are, of a literal whose suffix begins there.
+/// Parses `digits`, the decimal digits of a literal, as a number of type `N`. The literal's suffix begins at the byte offset
+/// `suffix_at`. An error has the range of the minus, or the range before the suffix.
 fn number_of<N: Number>(
     digits: &str,
     suffix_at: usize,
@@ -288,7 +316,7 @@ fn number_of<N: Number>(
     }
 }
 
-/// The error with the type that was asked for.
+/// Creates the error for the requested type `N`.
 fn error_of<N: Number>((kind, range): (ValueErrorKind, Range<usize>)) -> ValueError {
     let wanted = N::TYPE;
     ValueError {
@@ -299,12 +327,14 @@ fn error_of<N: Number>((kind, range): (ValueErrorKind, Range<usize>)) -> ValueEr
 }
 
 impl LitInt<'_> {
-    /// The value of a type, as Rust takes the literal for one: its suffix is the type's name, or there is none and the type is of
-    /// integers; and the type holds the number. One minus may stand before it, where the type has negative numbers.
+    /// Returns the literal's value as a number of type `N`, if Rust accepts the literal for this type.
+    ///
+    /// The suffix must be the type's name. Without a suffix, the type must be an integer type. The number must be in the type's
+    /// range. The literal may have one minus if the type has negative numbers.
     ///
     /// # Errors
     ///
-    /// Which of these doesn't hold, and where.
+    /// Returns an error if the literal breaks one of these rules. The error has the broken rule and the range of the wrong part.
     ///
     /// ```
     /// use navyspindle::LitInt;
@@ -332,13 +362,28 @@ impl LitInt<'_> {
     }
 }
 
+#[cfg(feature = "settings")]
+impl LitInt<'_> {
+    /// Returns the value, as [`LitInt::value`] does. If `N` is a float type, an integer without a suffix is accepted too.
+    pub(crate) fn value_or_float<N: Number>(&self) -> Result<N, ValueError> {
+        if N::TYPE.is_float() && self.suffix().is_empty() {
+            return number_of(&self.base10_digits(), self.suffix_range().start)
+                .map_err(error_of::<N>);
+        }
+        self.value()
+    }
+}
+
 impl LitFloat<'_> {
-    /// The value of a type of floats, as Rust takes the literal for one: its suffix is the type's name, or there is none; and
-    /// the number isn't so large that only an infinity is near it. One minus may stand before it.
+    /// Returns the literal's value as a number of the float type `N`, if Rust accepts the literal for this type.
+    ///
+    /// The suffix must be the type's name, or there is no suffix. The number must not round to infinity. The literal may have one
+    /// minus.
     ///
     /// # Errors
     ///
-    /// Which of these doesn't hold, and where.
+    /// Returns an error if the literal breaks one of these rules, or if `N` is an integer type. The error has the broken rule and
+    /// the range of the wrong part.
     ///
     /// ```
     /// use navyspindle::LitFloat;

@@ -1,14 +1,16 @@
-//! Truth values, and texts that are no literals.
+//! The literals `true` and `false`, and texts that aren't literals.
 
 use crate::common::{literal_type, text_type};
 #[cfg(feature = "flaws")]
-use crate::flaws::{looks_like, pieces, Flaws, Pieces};
+use crate::flaws::{guess_kind, pieces, Flaws, Pieces};
 #[cfg(feature = "flaws")]
 use crate::kind::Kind;
 use crate::parse_error::ParseError;
 use alloc::borrow::Cow;
 
-/// A truth value: `true`, `false`.
+/// A `bool` literal: `true` or `false`.
+///
+/// With the feature `writers`, `LitBool::new` returns the literal of a `bool`.
 ///
 /// ```
 /// use navyspindle::LitBool;
@@ -38,7 +40,7 @@ impl<'t> LitBool<'t> {
         }
     }
 
-    /// The truth value.
+    /// Returns the `bool` that the literal represents.
     ///
     /// ```
     /// use navyspindle::LitBool;
@@ -53,8 +55,10 @@ impl<'t> LitBool<'t> {
     }
 }
 
-/// A text that has no reading, so no value and no suffix: a literal token of a list or a source such as `'\q'`, an integer
-/// past 128 bits, or any text that [`Lit::new`](crate::Lit::new) was given.
+/// A text without a value and without a suffix. It is a literal token of a list or a source such as `'\q'`, an integer above 128
+/// bits, or any text that [`Lit::new`](crate::Lit::new) can't read.
+///
+/// With the feature `flaws`, `flaws`, `pieces` and `guess_kind` return more about the text.
 ///
 /// ```
 /// use navyspindle::{FlawKind, Lit};
@@ -76,24 +80,24 @@ impl<'t> LitVerbatim<'t> {
         LitVerbatim { text }
     }
 
-    /// It has no suffix.
+    /// Returns an empty suffix, since a verbatim text has none.
     #[inline]
     pub(crate) fn suffix(&self) -> &'static str {
         ""
     }
 
-    /// It has no suffix.
+    /// Returns an empty suffix, since a verbatim text has none.
     pub(crate) fn into_suffix(self) -> Cow<'static, str> {
         Cow::Borrowed("")
     }
 
-    /// Why it is no literal of Rust with a value, and where; `None` of a float by its suffix, which
-    /// [`Lit::parse`](crate::Lit::parse) takes.
+    /// Returns the reason why the text isn't a Rust literal with a value, and its range. Returns `None` for an integer above 128
+    /// bits that is a float by its suffix, which [`Lit::parse`](crate::Lit::parse) accepts.
     ///
     /// ```
-    /// use navyspindle::{literals, FlawKind, Lit};
+    /// use navyspindle::{parse_list, FlawKind, Lit};
     ///
-    /// let (range, literal) = literals(r"1 '\q'").nth(1).unwrap()?;
+    /// let (range, literal) = parse_list(r"1 '\q'").nth(1).unwrap()?;
     /// let Lit::Verbatim(literal) = literal else { panic!() };
     /// let error = literal.explain().unwrap();
     /// assert_eq!(range.start, 2);
@@ -109,21 +113,23 @@ impl<'t> LitVerbatim<'t> {
 
 #[cfg(feature = "flaws")]
 impl LitVerbatim<'_> {
-    /// The kind of literal that it begins as; see [`looks_like`](crate::looks_like).
+    /// Returns the kind of literal that the text begins as. See [`guess_kind`](crate::guess_kind).
     ///
     /// ```
     /// use navyspindle::{Kind, Lit};
     ///
     /// let Lit::Verbatim(literal) = Lit::new(r"b'\q'") else { panic!() };
-    /// assert_eq!(literal.looks_like(), Some(Kind::Byte));
+    /// assert_eq!(literal.guess_kind(), Some(Kind::Byte));
     /// ```
     #[must_use]
-    pub fn looks_like(&self) -> Option<Kind> {
-        looks_like(&self.text)
+    pub fn guess_kind(&self) -> Option<Kind> {
+        guess_kind(&self.text)
     }
 
-    /// All its flaws, in order; see [`flaws`](crate::flaws()). The first is that of [`explain`](LitVerbatim::explain), if there is
-    /// one; a text that doesn't begin as a quoted literal has no other.
+    /// Iterates over all flaws of the text, in order. See [`flaws`](crate::flaws()).
+    ///
+    /// The first flaw is the reason that [`explain`](LitVerbatim::explain) returns, if it returns one. A text that doesn't begin as
+    /// a quoted literal has no other flaw.
     ///
     /// ```
     /// use navyspindle::{FlawKind, Lit};
@@ -136,8 +142,8 @@ impl LitVerbatim<'_> {
         Flaws::of_unread(&self.text)
     }
 
-    /// What stands between its quotes, piece by piece, good and bad; `None` where none is opened. See
-    /// [`pieces`](crate::pieces).
+    /// Returns the pieces of the text between the quotes, with and without flaws, or `None` if the text doesn't begin as a quoted
+    /// literal. See [`pieces`](crate::pieces).
     ///
     /// ```
     /// use navyspindle::{Lit, Piece};

@@ -1,8 +1,8 @@
-//! Values written as literals. Each text is a literal token of the Rust Reference, after a minus where a number is negative, and reads as the
-//! value.
+//! Functions that write values as literals. Each result is a literal token of the Rust Reference, after a minus for a negative
+//! number. Parsing the literal returns the value.
 
 use crate::numbers::Base;
-use crate::rl_forms::{write_bytes_into, write_char_into, write_str_into, Kind};
+use crate::rl_syntax::{write_bytes_into, write_char_into, write_str_into, Kind};
 use crate::rl_writing::{
     self, raw_form, raw_hashes, write_char_ascii_into, write_integer_into, write_raw_into,
     write_str_ascii_into,
@@ -12,10 +12,11 @@ use alloc::string::String;
 use alloc::vec;
 use core::ffi::CStr;
 
-/// How much room on the stack a literal is written into, where it needs no more.
+/// The size of the buffer on the stack, into which short literals are written.
 const SHORT: usize = 256;
 
-/// The literal that is written to the front of what has so much room, in no more room than it takes.
+/// Returns the literal that `write` writes to a buffer of `room` bytes. The string's capacity is its length. `write` returns the
+/// length.
 fn written_within(room: usize, write: impl FnOnce(&mut [u8]) -> usize) -> String {
     if room <= SHORT {
         let mut out = [0; SHORT];
@@ -30,16 +31,17 @@ fn written_within(room: usize, write: impl FnOnce(&mut [u8]) -> usize) -> String
     String::from_utf8(out).expect("literals are UTF-8")
 }
 
-/// The same of so many bytes, or of one character: there is room of four bytes for each, and three; seven for a character.
+/// Returns the literal that `write` writes for a value of `len` bytes, or for one character (`len` is 1). The buffer has four bytes
+/// for each byte of the value, and three more. For a character these are seven bytes.
 fn written(len: usize, write: impl FnOnce(&mut [u8]) -> usize) -> String {
     let room = len.checked_mul(4).and_then(|len| len.checked_add(3));
     written_within(room.expect("no value is that long"), write)
 }
 
-/// The string literal that stands for the text.
+/// Writes the text as a string literal.
 ///
-/// Quotes, backslashes and ASCII controls are escaped. All else stands as it is, also what turns or hides text (`U+202E`), which
-/// rustc's lint `text_direction_codepoint_in_literal` denies in sources.
+/// Quotes, backslashes and ASCII controls are escaped. All other characters are written unchanged. These include invisible and
+/// bidirectional characters such as U+202E, which rustc's lint `text_direction_codepoint_in_literal` denies in sources.
 ///
 /// ```
 /// assert_eq!(navyspindle::write_str("a\t\"é\u{1}"), r#""a\t\"é\x01""#);
@@ -51,7 +53,7 @@ pub fn write_str(value: &str) -> String {
     written(value.len(), |out| write_str_into(value, out))
 }
 
-/// The byte string literal that stands for the bytes.
+/// Writes the bytes as a byte string literal, with escapes where they are needed.
 ///
 /// ```
 /// assert_eq!(navyspindle::write_byte_str(b"a\n\xff"), r#"b"a\n\xFF""#);
@@ -64,7 +66,7 @@ pub fn write_byte_str(value: &[u8]) -> String {
     })
 }
 
-/// The C string literal that stands for the C string.
+/// Writes the C string as a C string literal, with escapes where they are needed.
 ///
 /// ```
 /// assert_eq!(navyspindle::write_c_str(c"a\n"), r#"c"a\n""#);
@@ -76,7 +78,7 @@ pub fn write_c_str(value: &CStr) -> String {
     written(bytes.len(), |out| write_bytes_into(Kind::CStr, bytes, out))
 }
 
-/// The byte literal that stands for the byte.
+/// Writes the byte as a byte literal, with an escape if it is needed.
 ///
 /// ```
 /// assert_eq!(navyspindle::write_byte(b'\''), r"b'\''");
@@ -87,7 +89,7 @@ pub fn write_byte(value: u8) -> String {
     written(1, |out| write_bytes_into(Kind::Byte, &[value], out))
 }
 
-/// The character literal that stands for the character.
+/// Writes the character as a character literal, with an escape if it is needed.
 ///
 /// ```
 /// assert_eq!(navyspindle::write_char('\n'), r"'\n'");
@@ -98,7 +100,7 @@ pub fn write_char(value: char) -> String {
     written(1, |out| write_char_into(value, out))
 }
 
-/// The string literal that stands for the text, in ASCII alone: as [`write_str`], but that each character past ASCII is `\u{..}`.
+/// Writes the text as an ASCII string literal: as [`write_str`], with `\u{..}` for each non-ASCII character.
 ///
 /// ```
 /// assert_eq!(navyspindle::write_str_ascii("a\t\u{e9}\u{1F600}"), r#""a\t\u{e9}\u{1f600}""#);
@@ -108,7 +110,7 @@ pub fn write_str_ascii(value: &str) -> String {
     written(value.len(), |out| write_str_ascii_into(value, out))
 }
 
-/// The character literal that stands for the character, in ASCII alone: as [`write_char`], but that one past ASCII is `\u{..}`.
+/// Writes the character as an ASCII character literal: as [`write_char`], with `\u{..}` for a non-ASCII character.
 ///
 /// ```
 /// assert_eq!(navyspindle::write_char_ascii('é'), r"'\u{e9}'");
@@ -118,7 +120,7 @@ pub fn write_char_ascii(value: char) -> String {
     written_within(12, |out| write_char_ascii_into(value, out))
 }
 
-/// The raw literal of the kind, with this text inside and so many hashes.
+/// Returns the raw literal of kind `kind` with the text `text` between its quotes and `hashes` hashes.
 fn raw(kind: Kind, text: &str, hashes: usize) -> String {
     let room = text.len().checked_add(2 * hashes + 4);
     written_within(room.expect("no text is that long"), |out| {
@@ -126,10 +128,10 @@ fn raw(kind: Kind, text: &str, hashes: usize) -> String {
     })
 }
 
-/// The raw string literal that stands for the text, with the fewest `#` that hold it. `None` where none stands for it: a CR is in the
-/// text, or it needs more than 255 `#`.
+/// Writes the text as a raw string literal, with the fewest `#` that it needs.
 ///
-/// All stands as it is, also what turns or hides text, as in [`write_str`].
+/// Returns `None` if the text contains a CR, or needs more than 255 `#`, because it has no raw literal then. All characters are
+/// written unchanged, including invisible and bidirectional ones, as in [`write_str`].
 ///
 /// ```
 /// use navyspindle::write_raw_str;
@@ -144,8 +146,9 @@ pub fn write_raw_str(value: &str) -> Option<String> {
     Some(raw(Kind::Str, value, hashes))
 }
 
-/// The raw byte string literal that stands for the bytes, with the fewest `#` that hold them. `None` where none stands for them: they
-/// aren't all ASCII, or for a reason of [`write_raw_str`].
+/// Writes the bytes as a raw byte string literal, with the fewest `#` that they need.
+///
+/// Returns `None` if the bytes aren't all ASCII, contain a CR, or need more than 255 `#`, because they have no raw literal then.
 ///
 /// ```
 /// use navyspindle::write_raw_byte_str;
@@ -159,8 +162,9 @@ pub fn write_raw_byte_str(value: &[u8]) -> Option<String> {
     Some(raw(Kind::ByteStr, text, hashes))
 }
 
-/// The raw C string literal that stands for the C string, with the fewest `#` that hold it. `None` where none stands for it: it isn't
-/// UTF-8, or for a reason of [`write_raw_str`].
+/// Writes the C string as a raw C string literal, with the fewest `#` that it needs.
+///
+/// Returns `None` if the C string isn't UTF-8, contains a CR, or needs more than 255 `#`, because it has no raw literal then.
 ///
 /// ```
 /// use navyspindle::write_raw_c_str;
@@ -174,12 +178,13 @@ pub fn write_raw_c_str(value: &CStr) -> Option<String> {
     Some(raw(Kind::CStr, text, hashes))
 }
 
-/// How [`write_integer`] writes an integer: in which base, in which case, in which groups, and whether with its type.
+/// The form of an integer that [`write_integer`] writes: its base, the case of its digits, the groups of its digits, and its
+/// suffix.
 ///
 /// ```
 /// use navyspindle::{write_integer, Base, IntegerStyle};
 ///
-/// const ADDRESS: IntegerStyle = IntegerStyle::new().base(Base::Hexadecimal).upper(true).group(4);
+/// const ADDRESS: IntegerStyle = IntegerStyle::new().base(Base::Hexadecimal).uppercase(true).group(4);
 /// assert_eq!(write_integer(0xB8000, ADDRESS), "0xB_8000");
 /// assert_eq!(write_integer(0xB8000u32, ADDRESS.suffixed(true)), "0xB_8000u32");
 /// ```
@@ -193,7 +198,7 @@ pub struct IntegerStyle {
 }
 
 impl IntegerStyle {
-    /// In base ten, without underscores and without a suffix.
+    /// Creates the style of base ten, without underscores and without a suffix.
     ///
     /// ```
     /// use navyspindle::{write_integer, IntegerStyle};
@@ -211,7 +216,7 @@ impl IntegerStyle {
         }
     }
 
-    /// The same in this base.
+    /// Sets the base of the digits.
     ///
     /// ```
     /// use navyspindle::{write_integer, Base, IntegerStyle};
@@ -223,21 +228,21 @@ impl IntegerStyle {
         IntegerStyle { base, ..self }
     }
 
-    /// The same with the letters among hexadecimal digits in upper case, or in lower case.
+    /// Sets whether hexadecimal digits are in upper case.
     ///
     /// ```
     /// use navyspindle::{write_integer, Base, IntegerStyle};
     ///
     /// let style = IntegerStyle::new().base(Base::Hexadecimal);
     /// assert_eq!(write_integer(255, style), "0xff");
-    /// assert_eq!(write_integer(255, style.upper(true)), "0xFF");
+    /// assert_eq!(write_integer(255, style.uppercase(true)), "0xFF");
     /// ```
     #[must_use]
-    pub const fn upper(self, upper: bool) -> Self {
+    pub const fn uppercase(self, upper: bool) -> Self {
         IntegerStyle { upper, ..self }
     }
 
-    /// The same with an underscore after each group of so many digits, counted from the last digit; of 0 with none.
+    /// Sets the number of digits between two underscores, counted from the last digit. With 0 there are no underscores.
     ///
     /// ```
     /// use navyspindle::{write_integer, IntegerStyle};
@@ -252,24 +257,24 @@ impl IntegerStyle {
         }
     }
 
-    /// The same with underscores only in numbers of so many digits or more; of 0 in all.
+    /// Sets the smallest number of digits that a number with underscores has. With 0, numbers of any length may have underscores.
     ///
     /// ```
     /// use navyspindle::{write_integer, IntegerStyle};
     ///
-    /// let style = IntegerStyle::new().group(3).least(5);
+    /// let style = IntegerStyle::new().group(3).min_digits(5);
     /// assert_eq!(write_integer(1000, style), "1000");
     /// assert_eq!(write_integer(10000, style), "10_000");
     /// ```
     #[must_use]
-    pub const fn least(self, digits: usize) -> Self {
+    pub const fn min_digits(self, digits: usize) -> Self {
         IntegerStyle {
             least: digits,
             ..self
         }
     }
 
-    /// The same with the name of the number's type as the suffix, or with none.
+    /// Sets whether the name of the number's type is written as the suffix.
     ///
     /// ```
     /// use navyspindle::{write_integer, IntegerStyle};
@@ -297,19 +302,20 @@ impl IntegerStyle {
     }
 }
 
-/// As [`IntegerStyle::new`].
+/// Returns the style of [`IntegerStyle::new`].
 impl Default for IntegerStyle {
     fn default() -> Self {
         IntegerStyle::new()
     }
 }
 
-/// The longest integer literal: two bytes of a prefix, 128 digits, an underscore after each but the last, and five of a suffix.
+/// The length of the longest integer literal: two bytes of a prefix, 128 digits, an underscore after each digit except the last,
+/// and five bytes of a suffix.
 const LONGEST_INTEGER: usize = 262;
 
-/// The integer literal that stands for the number, in this style; of a negative one a minus and the literal.
+/// Writes the number as an integer literal in the style. A negative number has a minus before the literal.
 ///
-/// It writes a number, and keeps nothing of the form of a literal that stood there: `007` is the number 7.
+/// The form of an earlier literal isn't kept: the number of `007` is written as `7`.
 ///
 /// ```
 /// use navyspindle::{write_integer, Base, IntegerStyle, LitInt};
@@ -335,7 +341,8 @@ mod tests {
     use super::*;
     use std::ffi::CString;
 
-    /// Short values, values on either side of what the stack takes, and long ones of which no byte, or each, is escaped.
+    /// Checks that a result's capacity is its length: for short values, for values just below and above the stack's buffer, and for
+    /// long values without escapes or with an escape for each byte.
     #[test]
     fn no_more_room_than_is_taken() {
         for count in [0, 1, 62, 63, 64, 1_000, 100_000] {

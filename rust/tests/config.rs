@@ -1,10 +1,12 @@
-//! Configuration files. Where a text is one of TOML too, what it holds and where it is wrong are what Python's `tomllib` says of it;
-//! values that TOML doesn't have are those that rustc makes of the same literal.
+//! Tests of configuration files. If a text is valid TOML too, the expected values and error positions come from Python's `tomllib`.
+//! The expected values of literals that TOML doesn't have come from rustc, which compiles the same literals.
 
-use navyspindle::{config, settings, Key, Lit, Part, SettingErrorKind, Settings, SyntaxErrorKind};
+use navyspindle::{
+    parse_config, parse_settings, Key, Lit, Part, SettingErrorKind, Settings, SyntaxErrorKind,
+};
 use std::ops::Range;
 
-/// A value as `tomllib` returns it.
+/// A value that `tomllib` returns.
 #[derive(Clone, Copy)]
 enum Toml {
     Int(i64),
@@ -19,7 +21,7 @@ fn value(name: &'static str) -> Key {
     Key::new(name, "a value")
 }
 
-/// That the text has these names, in this order, with these values.
+/// Checks that the settings of `text` have these names, in this order, and these values.
 fn holds(text: &str, wanted: &[(&'static str, Toml)]) {
     let read = Settings::read_config(text).unwrap_or_else(|error| panic!("{text:?}: {error}"));
     let names: Vec<&str> = read.entries().iter().map(|entry| entry.name).collect();
@@ -37,7 +39,7 @@ fn holds(text: &str, wanted: &[(&'static str, Toml)]) {
         let is_it = match toml {
             Int(it) => read.number::<i64>(value(name)) == Ok(Some(it)),
             Float(it) => read.number::<f64>(value(name)) == Ok(Some(it)),
-            Bool(it) => read.truth(value(name)) == Ok(Some(it)),
+            Bool(it) => read.bool(value(name)) == Ok(Some(it)),
             Str(it) => {
                 read.string(value(name)).map(|it| it.map(String::from)) == Ok(Some(it.to_owned()))
             }
@@ -46,7 +48,7 @@ fn holds(text: &str, wanted: &[(&'static str, Toml)]) {
     }
 }
 
-/// `tomllib` of Python 3.11.7, its tables written as names with dots.
+/// The expected values are those of `tomllib` in Python 3.11.7. The names of its nested tables are joined with dots.
 #[test]
 fn texts_that_are_toml_too() {
     let a_and_b: &[(&str, Toml)] = &[("a", Int(1)), ("b", Int(2))];
@@ -103,34 +105,69 @@ fn texts_that_are_toml_too() {
     );
 }
 
-/// What is wrong with the text, and the byte where.
+/// `serde` accepts an integer for an `f64` too. The value is that of Rust's `as`.
+#[test]
+fn an_integer_is_a_float_where_one_is_expected() {
+    let float = |text: &str| {
+        Settings::read_config(text)
+            .unwrap()
+            .number::<f64>(value("a"))
+    };
+    let single = |text: &str| Settings::read(text).unwrap().number::<f32>(value("a"));
+    assert_eq!(float("a = 1"), Ok(Some(1.0)));
+    assert_eq!(float("a = -7"), Ok(Some(-7.0)));
+    assert_eq!(float("a = 0xFF_FF"), Ok(Some(f64::from(0xFF_FF))));
+    let large = i64::MAX as f64;
+    assert_eq!(float("a = 9223372036854775807"), Ok(Some(large)));
+    assert_eq!(
+        float("a = 9007199254740993"),
+        Ok(Some(9007199254740993i64 as f64))
+    );
+    let largest = format!("a = {}", u128::MAX);
+    assert_eq!(float(&largest), Ok(Some(u128::MAX as f64)));
+    assert_eq!(single("a = 16777217"), Ok(Some(16777217i32 as f32)));
+    // `u128::MAX as f32` is infinite.
+    let error = single(&largest).unwrap_err().to_string();
+    assert_eq!(
+        error,
+        "a: expected a value: number that f32 doesn't hold at byte 4"
+    );
+    // A suffix of another type is still rejected.
+    assert_eq!(float("a = 1f64"), Ok(Some(1.0)));
+    assert!(float("a = 1u8").is_err() && float("a = 1f32").is_err());
+    assert!(float("a = 0x1f32").is_ok_and(|it| it == Some(f64::from(0x1f32))));
+    let whole = Settings::read("a = 1.0").unwrap().number::<u8>(value("a"));
+    assert!(whole.is_err());
+}
+
+/// Returns the kind and the byte offset of the error in the text.
 fn error_of(text: &str) -> (SyntaxErrorKind, usize) {
-    let error = config(text).expect_err(text);
+    let error = parse_config(text).expect_err(text);
     (error.kind(), error.range().start)
 }
 
-/// `tomllib` rejects each at this line and column, or at the text's end.
+/// `tomllib` rejects each of these texts at the line and column in its message, or at the text's end.
 #[test]
 fn texts_that_toml_rejects_too() {
     let missed = |part| SyntaxErrorKind::Expected(part);
     let ended = |part| SyntaxErrorKind::EndOfInput(part);
-    // "Expected newline or end of document after a statement (at line 1, column 7)"
+    // `tomllib` prints "Expected newline or end of document after a statement (at line 1, column 7)".
     assert_eq!(error_of("a = 1 b = 2"), (missed(Part::Comma), 6));
     assert_eq!(error_of("a = 1 2"), (missed(Part::Comma), 6));
-    // "Expected '=' after a key in a key/value pair (at line 1, column 3)", "(at end of document)"
+    // `tomllib` prints "Expected '=' after a key in a key/value pair (at line 1, column 3)", and "(at end of document)".
     assert_eq!(error_of("a 1"), (missed(Part::Equals), 2));
     assert_eq!(error_of("a"), (ended(Part::Equals), 1));
-    // "Invalid value (at line 1, column 5)", "(at end of document)"
+    // `tomllib` prints "Invalid value (at line 1, column 5)", and "(at end of document)".
     assert_eq!(error_of("a = b"), (missed(Part::Literal), 4));
     assert_eq!(error_of("a ="), (ended(Part::Literal), 3));
-    // "Invalid statement (at line 1, column 1)", "(at line 2, column 1)"
+    // `tomllib` prints "Invalid statement (at line 1, column 1)", and "(at line 2, column 1)".
     assert_eq!(error_of("= 1"), (missed(Part::Name), 0));
     assert_eq!(error_of(".a = 1"), (missed(Part::Name), 0));
     assert_eq!(error_of("a = 1\n= 2"), (missed(Part::Name), 6));
-    // "Invalid initial character for a key part (at line 1, column 4)", "(at line 1, column 3)"
+    // `tomllib` prints "Invalid initial character for a key part (at line 1, column 4)", and "(at line 1, column 3)".
     assert_eq!(error_of("a. = 1"), (missed(Part::Name), 3));
     assert_eq!(error_of("a..b = 1"), (missed(Part::Name), 2));
-    // "Cannot overwrite a value"
+    // `tomllib` prints "Cannot overwrite a value".
     assert_eq!(error_of("a = 1\na = 2"), (SyntaxErrorKind::Repeated, 6));
     assert_eq!(error_of("a.b = 1\na.b = 2"), (SyntaxErrorKind::Repeated, 8));
 }
@@ -160,7 +197,7 @@ fn commas_and_line_ends() {
         holds(&format!("a = 1{between}b = 2,"), two);
         holds(&format!("a = 1{between}b = 2\n,\n"), two);
     }
-    // No LF, no comma: also where another character that ends lines stands between.
+    // Without an LF a comma is required, even if another character that ends lines separates the settings.
     for between in [
         " ",
         "\t",
@@ -179,7 +216,7 @@ fn commas_and_line_ends() {
             "{text:?}"
         );
     }
-    // Two commas, and a comma with nothing before it.
+    // Two commas in sequence, and a comma without a setting before it, are errors.
     assert_eq!(
         error_of("a = 1,, b = 2"),
         (SyntaxErrorKind::Expected(Part::Name), 6)
@@ -205,11 +242,13 @@ fn a_line_end_inside_a_value_ends_nothing() {
             "{text:?}"
         );
         assert_eq!(
-            config(&format!("a = {string}\nb = 2")).expect("two").len(),
+            parse_config(&format!("a = {string}\nb = 2"))
+                .expect("two")
+                .len(),
             2
         );
     }
-    // Nor does one before the value.
+    // A line end before the value doesn't end the value's line either.
     assert_eq!(
         error_of("a\n=\n1 b = 2"),
         (SyntaxErrorKind::Expected(Part::Comma), 6)
@@ -231,40 +270,48 @@ fn dots() {
         "a .",
     ] {
         let dot = text.find('.').expect("a dot");
-        let error = config(text).expect_err(text);
+        let error = parse_config(text).expect_err(text);
         assert_eq!(
             (error.kind(), error.range()),
             (name, dot..dot + 1),
             "{text:?}"
         );
     }
-    assert_eq!(config("x.a . b = 1").expect_err("a dot").range(), 4..5);
-    assert_eq!(config("a.b .c = 1").expect_err("a dot").range(), 4..5);
-    let ended = config("a.b.").expect_err("no name");
+    assert_eq!(
+        parse_config("x.a . b = 1").expect_err("a dot").range(),
+        4..5
+    );
+    assert_eq!(parse_config("a.b .c = 1").expect_err("a dot").range(), 4..5);
+    let ended = parse_config("a.b.").expect_err("no name");
     assert_eq!(
         (ended.kind(), ended.range()),
         (SyntaxErrorKind::EndOfInput(Part::Name), 4..4)
     );
-    // The whole token or group that stands in the name's place.
+    // The range of the error is the whole token or group in place of the name.
     for (text, stands) in [
         ("a.12 = 1", "12"),
         ("a.(b [c]) = 1", "(b [c])"),
         ("a.\"b\" = 1", "\"b\""),
         ("a.b.- = 1", "-"),
     ] {
-        let error = config(text).expect_err(text);
+        let error = parse_config(text).expect_err(text);
         assert_eq!(
             (error.kind(), &text[error.range()]),
             (name, stands),
             "{text:?}"
         );
     }
-    // Names that end alike are two.
-    assert_eq!(config("a.x = 1\nb.x = 2").expect("two").len(), 2);
-    // A name that a dot goes on with is another one.
-    assert_eq!(config("a = 1\na.b = 2\na.b.c = 3").expect("three").len(), 3);
-    assert_eq!(config("é.ß = 1").expect("one")[0].name, "é.ß");
-    // After a value too a dot begins no name.
+    // Two names that differ only before the dot are different.
+    assert_eq!(parse_config("a.x = 1\nb.x = 2").expect("two").len(), 2);
+    // A name that continues another name after a dot is a different name.
+    assert_eq!(
+        parse_config("a = 1\na.b = 2\na.b.c = 3")
+            .expect("three")
+            .len(),
+        3
+    );
+    assert_eq!(parse_config("é.ß = 1").expect("one")[0].name, "é.ß");
+    // After a value, a dot doesn't begin a name either.
     assert_eq!(error_of("a = 1\n.b = 2"), (name, 6));
     assert_eq!(
         error_of("a = \"1\".b = 2"),
@@ -275,7 +322,7 @@ fn dots() {
 #[test]
 fn a_byte_order_mark_is_passed_and_counted() {
     let text = "\u{feff}a.b = 1\nc = 'é'";
-    let entries = config(text).expect("two");
+    let entries = parse_config(text).expect("two");
     assert_eq!(
         (
             entries[0].name_range.clone(),
@@ -302,14 +349,14 @@ fn a_byte_order_mark_is_passed_and_counted() {
         "a = #",
     ] {
         let (plain, marked) = (
-            config(text).expect_err(text),
-            config(&format!("\u{feff}{text}")).expect_err(text),
+            parse_config(text).expect_err(text),
+            parse_config(&format!("\u{feff}{text}")).expect_err(text),
         );
         assert_eq!(marked.kind(), plain.kind(), "{text:?}");
         let range = plain.range();
         assert_eq!(marked.range(), range.start + 3..range.end + 3, "{text:?}");
     }
-    // One mark, at the front alone.
+    // Only one byte order mark is skipped, and only at the start of the text.
     assert_eq!(
         error_of("\u{feff}\u{feff}a = 1"),
         (SyntaxErrorKind::StrayCharacter, 3)
@@ -320,17 +367,17 @@ fn a_byte_order_mark_is_passed_and_counted() {
     );
     let missing = Settings::read_config("\u{feff}a = 1")
         .expect("one")
-        .missing(value("b"));
+        .missing_error(value("b"));
     assert_eq!(missing.range(), 8..8);
 }
 
-/// Whether each group is closed is asked first, of the whole text, as of settings.
+/// As in `parse_settings`, an unclosed group anywhere in the text is reported before any other error.
 #[test]
 fn groups_are_asked_first() {
     for text in [")", "a = 1\nb c )", "(a = 1", "a b (]", "a = [1"] {
         let (found, wanted) = (
-            config(text).expect_err(text),
-            settings(text).expect_err(text),
+            parse_config(text).expect_err(text),
+            parse_settings(text).expect_err(text),
         );
         assert_eq!(found, wanted, "{text:?}");
     }
@@ -339,7 +386,7 @@ fn groups_are_asked_first() {
     assert_eq!(error_of("a b (]"), (SyntaxErrorKind::UnmatchedClose, 5));
 }
 
-/// Each text of settings is a configuration, of the same entries.
+/// A text of settings is a valid configuration file too, with the same entries.
 #[test]
 fn settings_are_a_configuration() {
     for text in [
@@ -349,12 +396,12 @@ fn settings_are_a_configuration() {
         "true = '\\q', x = 0b12",
         "",
     ] {
-        let read = settings(text).expect(text);
-        assert_eq!(config(text).expect(text), read);
+        let read = parse_settings(text).expect(text);
+        assert_eq!(parse_config(text).expect(text), read);
     }
 }
 
-/// A literal as a text, and as rustc reads it.
+/// Checks that the literal in a configuration file has the value that rustc gives it.
 macro_rules! both {
     ($reader:ident: $($literal:literal)*) => {
         $(
@@ -368,10 +415,10 @@ macro_rules! both {
 
 #[test]
 fn values_are_those_of_rustc() {
-    both!(character: 'a' '\'' '"' '\u{10ffff}' '\x7f' '\0' 'é');
+    both!(char: 'a' '\'' '"' '\u{10ffff}' '\x7f' '\0' 'é');
     both!(byte: b'a' b'\xff' b'\'' b'\\' b'\0');
     both!(c_string: c"" c"a\xff" c"\u{e9}é" cr"\");
-    both!(truth: true false);
+    both!(bool: true false);
     both!(string: "" "\u{e9}" r#"""# "a\
         b");
     let text = concat!(
@@ -405,10 +452,10 @@ fn a_value_of_another_kind_is_an_error_of_each_reader() {
             read.string(a).map(|_| ()),
             read.byte_string(a).map(|_| ()),
             read.c_string(a).map(|_| ()),
-            read.character(a).map(|_| ()),
+            read.char(a).map(|_| ()),
             read.byte(a).map(|_| ()),
             read.number::<u8>(a).map(|_| ()),
-            read.truth(a).map(|_| ()),
+            read.bool(a).map(|_| ()),
         ];
         for (asked, answer) in answers.into_iter().enumerate() {
             if asked == at {
@@ -425,12 +472,12 @@ fn a_value_of_another_kind_is_an_error_of_each_reader() {
     }
 }
 
-/// The error of the reader for the text's kind.
+/// Returns the error of the method that reads the value's kind, such as `char` for a character literal.
 fn rejected(text: &str) -> (SettingErrorKind, Range<usize>) {
     let read = Settings::read_config(text).expect(text);
     let a = value("a");
     let answer = match &text[4..5] {
-        "'" => read.character(a).map(|_| ()),
+        "'" => read.char(a).map(|_| ()),
         "c" => read.c_string(a).map(|_| ()),
         _ if text[5..].starts_with('"') => read.byte_string(a).map(|_| ()),
         _ => read.byte(a).map(|_| ()),
@@ -448,8 +495,9 @@ fn a_value_with_a_suffix_is_an_error() {
     assert_eq!(rejected("a = c\"b\"x"), (suffix, 8..9));
 }
 
-/// rustc rejects each: "unknown character escape: `q`", "unicode escape in byte string", "null characters in C string literals are not
-/// supported", "unknown byte escape: `q`". The place is the first character with which no literal goes on.
+/// rustc rejects each of these literals: "unknown character escape: `q`", "unicode escape in byte string", "null characters in C
+/// string literals are not supported", "unknown byte escape: `q`". The error is at the first character that can't continue a
+/// literal.
 #[test]
 fn a_value_that_rust_rejects_is_an_error_at_its_place() {
     for (text, range) in [
@@ -465,4 +513,108 @@ fn a_value_that_rust_rejects_is_an_error_at_its_place() {
         );
         assert_eq!(found, range, "{text}");
     }
+}
+
+/// Other formats allow what this format rejects: comments of TOML, YAML and INI files, tables and arrays of TOML, names with `-` (such
+/// as `cargo-features`), and strings without double quotes.
+#[test]
+fn errors_tell_what_other_formats_write() {
+    let help = |text: &str| {
+        let error = parse_config(text).expect_err(text);
+        let message = error.to_string();
+        let read = Settings::read_config(text).unwrap_err();
+        assert_eq!(
+            (read.help(), read.to_string()),
+            (error.help(), message.clone())
+        );
+        let place = format!("{} at byte {}", error.kind(), error.offset());
+        match error.help() {
+            Some(help) => assert_eq!(message, format!("{place}: {help}")),
+            None => assert_eq!(message, place),
+        }
+        error.help().unwrap_or_default()
+    };
+    let comment = "a comment begins with `//`";
+    for text in [
+        "# one",
+        "a = 1 # one",
+        "a = 1\n  # it's one",
+        "\u{feff}# (one",
+        "# ‘one’\na = 1",
+        "a # one\n= 1",
+        "; one\na = 1",
+        "a =\n# one\n1",
+    ] {
+        assert_eq!(help(text), comment, "{text:?}");
+    }
+    assert_eq!(
+        help("/// one\na = 1"),
+        "a comment begins with `//`, not with `///`"
+    );
+    let string = "a string has double quotes";
+    for text in [
+        "a = localhost",
+        "a = /usr/bin\nb = yes",
+        "a = ‘b’",
+        "a = “b”",
+        "a = `b`",
+        r"a = C:\dir",
+        "a = #fff",
+        "a = 1.2.3",
+        "a = 2024-01-01",
+        "a = 10%",
+        "a = null",
+    ] {
+        let expected = if text.starts_with("a = /") {
+            ""
+        } else {
+            string
+        };
+        assert_eq!(help(text), expected, "{text:?}");
+    }
+    for text in ["a = 'bc'", "a = 'bc"] {
+        let message = parse_config(text).unwrap_err().to_string();
+        assert!(message.contains(string), "{message}");
+    }
+    assert_eq!(help("a = True"), "write `true` or `false`");
+    assert_eq!(
+        help("[server]\nport = 1"),
+        "there are no sections: write `section.name = ..`"
+    );
+    assert_eq!(help("a = [1, 2]"), "there are no arrays");
+    assert_eq!(help("a = { b = 1 }"), "there are no tables");
+    assert_eq!(help("my-host = \"a\""), "a name has no `-`: use `_`");
+    assert_eq!(help("é-host = \"a\""), "a name has no `-`: use `_`");
+    assert_eq!(help("\"a\" = 1"), "a name has no quotes");
+    assert_eq!(help("1st = 1"), "a name begins with a letter or `_`");
+    assert_eq!(help("a = +1"), "a number has no `+`");
+    assert_eq!(help("a = .5"), "a float begins with a digit, as in `0.5`");
+    let between = "a comma or a line end is between two settings";
+    assert_eq!(help("a = 1 b = 2"), between);
+    assert_eq!(help("a = 1; b = 2"), between);
+    assert_eq!(help("a = 1 /* one */ b = 2"), between);
+    for text in [
+        "a 1",
+        "a - b = 1",
+        "a = 1,, b = 2",
+        "a = ",
+        "a = \"b",
+        "a = (1)",
+        "a = 1 }",
+    ] {
+        assert_eq!(help(text), "", "{text:?}");
+    }
+}
+
+#[test]
+fn hints_of_settings_between_commas() {
+    let help = |text: &str| parse_settings(text).expect_err(text).help();
+    assert_eq!(help("a = 1 b = 2"), Some("a comma is between two settings"));
+    assert_eq!(help("a.b = 1"), Some("a name has no `.`: use `_`"));
+    assert_eq!(help("[a]\nb = 1"), Some("there are no sections"));
+    let error = Settings::read("a = 1 b = 2").unwrap_err().shifted(10);
+    let message = "expected `,` at byte 16: a comma is between two settings";
+    assert_eq!(error.to_string(), message);
+    let repeated = Settings::read("a = 1, a = 2").unwrap_err();
+    assert_eq!(repeated.help(), None);
 }

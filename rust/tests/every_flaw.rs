@@ -1,32 +1,49 @@
-//! Every flaw of a literal, held against rustc's errors: `every_flaw.txt`, which `tools/flaws_rustc.py` writes of rustc's answers.
+//! Compares all flaws of literals with rustc's errors. The errors are in `every_flaw.txt`, which `oracle/every_flaw.py` creates
+//! from the output of rustc.
 
 use navyspindle::FlawKind::{
-    self, CarriageReturn, EmptyBraces, NoBrace, NoHexDigit, NoUnicode, NotAscii, Nul, PastAscii,
-    PastUnicode, Surrogate, TooManyDigits, UnknownEscape,
+    self, CarriageReturn, EmptyBraces, HexEscapeOutOfRange, MustEscape, NoBrace, NoCharacter,
+    NoHexDigit, NoUnicode, NotAscii, Nul, Surrogate, TooManyDigits, TwoCharacters,
+    UnderscoreSuffix, UnicodeEscapeOutOfRange, UnknownEscape,
 };
-use navyspindle::{flaws, is_token, looks_like, pieces, BadPiece, Kind, Lit, Piece};
+use navyspindle::{flaws, guess_kind, is_token, pieces, InvalidPiece, Kind, Lit, Piece};
 
 const TABLE: &str = include_str!("every_flaw.txt");
 
-/// By the beginning of rustc's message, the kinds that say the same. In bytes `\u` alone is the flaw, and of a number that is too
-/// large it is its sixth digit, whatever follows.
+/// Maps the start of each rustc message to the kinds of flaws with the same meaning. In bytes, `\u` alone is the flaw, so the
+/// message may be about the rest of the escape. In a number that is too large, the sixth digit is the flaw, even if the number has
+/// more digits.
 const SAME: &[(&str, &[FlawKind])] = &[
     ("bare CR not allowed in", &[CarriageReturn]),
     ("unknown character escape", &[UnknownEscape, CarriageReturn]),
     ("unknown byte escape", &[UnknownEscape, CarriageReturn]),
-    ("invalid character in numeric", &[NoHexDigit, PastAscii]),
+    (
+        "invalid character in numeric",
+        &[NoHexDigit, HexEscapeOutOfRange],
+    ),
     ("numeric character escape is", &[NoHexDigit]),
-    ("out of range hex escape", &[PastAscii]),
+    ("out of range hex escape", &[HexEscapeOutOfRange]),
     ("incorrect unicode escape", &[NoBrace, NoUnicode]),
     ("empty unicode escape", &[EmptyBraces, NoUnicode]),
     ("invalid start of unicode", &[NoHexDigit, NoUnicode]),
     ("invalid character in unicode", &[NoHexDigit, NoUnicode]),
     ("unterminated unicode escape", &[NoHexDigit, NoUnicode]),
-    ("overlong unicode escape", &[TooManyDigits, PastUnicode]),
-    ("invalid unicode character", &[PastUnicode, Surrogate]),
+    (
+        "overlong unicode escape",
+        &[TooManyDigits, UnicodeEscapeOutOfRange],
+    ),
+    (
+        "invalid unicode character",
+        &[UnicodeEscapeOutOfRange, Surrogate],
+    ),
     ("unicode escape in byte string", &[NoUnicode]),
     ("non-ASCII character in", &[NotAscii]),
     ("null characters in C string", &[Nul]),
+    ("character constant must be", &[MustEscape, NoCharacter]),
+    ("byte constant must be", &[MustEscape, NoCharacter]),
+    ("empty character literal", &[NoCharacter]),
+    ("character literal may only contain", &[TwoCharacters]),
+    ("underscore literal suffix", &[UnderscoreSuffix]),
 ];
 
 fn decoded(digits: &str) -> String {
@@ -34,16 +51,23 @@ fn decoded(digits: &str) -> String {
     String::from_utf8((0..digits.len()).step_by(2).map(byte).collect()).unwrap()
 }
 
-/// Whether an error of rustc's is this flaw: it says so, and marks the whole piece or the piece's last character.
-fn is_same(error: &str, bad: &BadPiece, text: &str) -> bool {
+/// Whether an error of rustc and the flaw `bad` are the same. The message must have the flaw's meaning, and rustc must mark the
+/// whole piece or its last character. For two characters in a literal rustc marks the literal, and for none the position between
+/// the quotes.
+fn is_same(error: &str, bad: &InvalidPiece, text: &str) -> bool {
     let (place, message) = error.split_once(' ').unwrap();
     let (low, high) = place.split_once("..").unwrap();
     let (low, high): (usize, usize) = (low.parse().unwrap(), high.parse().unwrap());
     let kinds = SAME.iter().find(|(said, _)| message.starts_with(said));
     let last = text[bad.range()].char_indices().last().unwrap().0;
-    kinds.unwrap().1.contains(&bad.kind())
-        && high == bad.range().end
-        && (low == bad.range().start || low == bad.range().start + last)
+    let is_place = match bad.kind() {
+        TwoCharacters => low == 0 && (low..high).contains(&bad.offset()),
+        NoCharacter if low == high => low == bad.offset(),
+        _ => {
+            high == bad.range().end && (low == bad.range().start || low == bad.range().start + last)
+        }
+    };
+    is_place && kinds.unwrap().1.contains(&bad.kind())
 }
 
 #[test]
@@ -61,10 +85,10 @@ fn rustc_names_the_same_flaws() {
         literals += 1;
         errors += ours.len();
     }
-    assert_eq!((literals, errors), (318, 1114));
+    assert_eq!((literals, errors), (452, 1297));
 }
 
-/// What stands between the quotes is its pieces, without a gap, and the bad ones are the flaws.
+/// The bad pieces of a literal are its flaws. In a string, the pieces cover the whole text between the quotes.
 #[test]
 fn pieces_fill_the_literal() {
     for text in TABLE
@@ -72,6 +96,14 @@ fn pieces_fill_the_literal() {
         .map(|line| decoded(line.split('\t').next().unwrap()))
     {
         let all: Vec<_> = pieces(&text).unwrap().collect();
+        let bad = all.iter().filter_map(|piece| match piece {
+            Piece::Bad(bad) => Some(*bad),
+            Piece::Good(_) => None,
+        });
+        assert!(bad.eq(flaws(&text)), "{text:?}");
+        if matches!(guess_kind(&text), Some(Kind::Char | Kind::Byte)) {
+            continue;
+        }
         let range = |piece: &Piece| match piece {
             Piece::Good(segment) => segment.range.clone(),
             Piece::Bad(bad) => bad.range(),
@@ -81,11 +113,6 @@ fn pieces_fill_the_literal() {
                 .all(|it| range(&it[0]).end == range(&it[1]).start),
             "{text:?}"
         );
-        let bad = all.iter().filter_map(|piece| match piece {
-            Piece::Bad(bad) => Some(*bad),
-            Piece::Good(_) => None,
-        });
-        assert!(bad.eq(flaws(&text)), "{text:?}");
         let hashes = text.bytes().rev().take_while(|byte| *byte == b'#').count();
         let opener = text.find('"').unwrap() + 1;
         assert_eq!(range(&all[0]).start, opener);
@@ -93,7 +120,7 @@ fn pieces_fill_the_literal() {
     }
 }
 
-/// Of a token the pieces are its segments, and it begins as its kind.
+/// The pieces of a valid literal token are its segments, and its kind is the kind that it begins as.
 #[test]
 fn tokens_have_no_flaws() {
     let tokens = [
@@ -118,7 +145,7 @@ fn tokens_have_no_flaws() {
     for (text, kind) in tokens {
         assert!(is_token(text));
         assert_eq!(flaws(text).next(), None, "{text}");
-        assert_eq!(looks_like(text), Some(kind), "{text}");
+        assert_eq!(guess_kind(text), Some(kind), "{text}");
         let literal = Lit::new(text);
         let Some(segments) = literal.segments() else {
             assert!(pieces(text).is_none());
@@ -131,7 +158,7 @@ fn tokens_have_no_flaws() {
     }
 }
 
-/// What a text begins as.
+/// Tests the kind of literal that `guess_kind` returns for a text.
 #[test]
 fn begins_as() {
     let texts = [
@@ -161,11 +188,12 @@ fn begins_as() {
         ("", None),
     ];
     for (text, kind) in texts {
-        assert_eq!(looks_like(text), kind, "{text}");
+        assert_eq!(guess_kind(text), kind, "{text}");
     }
 }
 
-/// A broken escape ends before a backslash, which begins the next one: there rustc takes the backslash for the digit.
+/// A broken escape ends before a backslash, which begins the next escape. rustc differs: it treats this backslash as an invalid
+/// digit.
 #[test]
 fn a_backslash_begins_the_next_escape() {
     let bad = |text| {
@@ -178,7 +206,7 @@ fn a_backslash_begins_the_next_escape() {
     assert_eq!(bad(r#""\u{1\q""#), [r"\u{1", r"\q"]);
 }
 
-/// What isn't of a character or an escape is the last flaw.
+/// A flaw after the closing quote is the last flaw, and so is the flaw that the closing quote is missing.
 #[test]
 fn the_last_flaw() {
     let of = |text| {
@@ -192,21 +220,32 @@ fn the_last_flaw() {
     );
     assert_eq!(
         of(r#""\q"b"c""#),
-        [(UnknownEscape, 1..3), (FlawKind::EarlyQuote, 3..6)]
+        [(UnknownEscape, 1..3), (FlawKind::TextAfterQuote, 3..6)]
     );
     assert_eq!(
         of(r#""\q"_"#),
-        [(UnknownEscape, 1..3), (FlawKind::UnderscoreSuffix, 4..5)]
+        [(UnknownEscape, 1..3), (UnderscoreSuffix, 4..5)]
     );
     assert_eq!(
         of("r#\"a\r\"##"),
         [(CarriageReturn, 4..5), (FlawKind::ExtraHash, 5..8)]
     );
     assert_eq!(of(r"'\qa'"), [(UnknownEscape, 1..3)]);
-    assert_eq!(of("0b12"), [(FlawKind::DigitOfBase, 0..4)]);
+    assert_eq!(
+        of(r"'\q'-"),
+        [(UnknownEscape, 1..3), (FlawKind::BadSuffix, 4..5)]
+    );
+    assert_eq!(
+        of(r"b'\q''"),
+        [(UnknownEscape, 2..4), (FlawKind::TextAfterQuote, 4..6)]
+    );
+    assert_eq!(of(r"'\q\'_"), [(UnknownEscape, 1..3)]);
+    assert_eq!(of("'-/'_"), [(TwoCharacters, 1..3)]);
+    assert_eq!(of("'-\n-'_"), [(TwoCharacters, 1..3)]);
+    assert_eq!(of("0b12"), [(FlawKind::InvalidDigit, 0..4)]);
 }
 
-/// The first flaw of a text without a reading is why it has none.
+/// The first flaw of a text without a value is the reason that `explain` returns.
 #[test]
 fn texts_without_a_reading() {
     let texts = [
@@ -224,7 +263,7 @@ fn texts_without_a_reading() {
         let error = literal.explain().unwrap();
         assert_eq!(all[0].error(), error, "{text}");
         assert_eq!(all[0].range(), error.piece(), "{text}");
-        assert_eq!(literal.looks_like(), looks_like(text));
+        assert_eq!(literal.guess_kind(), guess_kind(text));
         let bad = literal
             .pieces()
             .map(|all| all.filter(|it| matches!(it, Piece::Bad(_))).count());
@@ -232,7 +271,7 @@ fn texts_without_a_reading() {
     }
 }
 
-/// A text of many bad escapes takes the time that its length gives.
+/// The time for a text with many bad escapes grows in proportion to its length. A slower search wouldn't finish in time.
 #[test]
 fn time_grows_with_the_text() {
     let text = format!("\"{}", r"\q\u{d800}\xé".repeat(100_000));

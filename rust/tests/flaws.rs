@@ -1,22 +1,23 @@
-//! Why texts are no literals, and where: for each kind of flaw the byte where the piece begins that it spoils, and the
-//! bytes of the character that no literal goes on with.
+//! Tests of the errors of texts that aren't literals. For each kind of flaw, the rows have the range of the first character that
+//! can't continue a literal, and the byte offset at which the spoiled piece begins.
 
 use navyspindle::{
-    literals, source, FlawKind, Kind, Lit, LitFloat, LitInt, ParseError, ParseErrorKind,
+    parse_list, source, FlawKind, Kind, Lit, LitFloat, LitInt, ParseError, ParseErrorKind,
 };
 use std::collections::HashSet;
 
-/// The least integer past 128 bits.
+/// The least integer above 128 bits.
 const PAST: &str = "340282366920938463463374607431768211456";
 
-/// A text, its kind of flaw, the byte where the piece begins, that of the character, and the one after it.
+/// A text, the kind of its flaw, the byte offset at which the spoiled piece begins, and the start and the end of the range of the
+/// wrong character.
 type Row<'t> = (&'t str, FlawKind, usize, usize, usize);
 
-/// Texts that `syn` has no literal for, each with another kind of flaw.
+/// Texts that aren't literals to `syn`, each with another kind of flaw.
 const ROWS: &[Row] = &[
     ("", FlawKind::Empty, 0, 0, 0),
-    ("truex", FlawKind::NoLiteral, 0, 4, 5),
-    ("r#", FlawKind::Unfinished, 2, 2, 2),
+    ("truex", FlawKind::NotALiteral, 0, 4, 5),
+    ("r#", FlawKind::UnexpectedEnd, 2, 2, 2),
     ("r#x", FlawKind::NoQuote, 2, 2, 3),
     ("--1", FlawKind::NoNumber, 0, 1, 2),
     (r#""a"#, FlawKind::Unclosed, 2, 2, 2),
@@ -26,12 +27,18 @@ const ROWS: &[Row] = &[
     (r#""\u1""#, FlawKind::NoBrace, 1, 3, 4),
     (r#""\u{}""#, FlawKind::EmptyBraces, 1, 4, 5),
     (r#""\u{0000001}""#, FlawKind::TooManyDigits, 1, 10, 11),
-    (r#""\x80""#, FlawKind::PastAscii, 1, 3, 4),
-    (r#""\u{110000}""#, FlawKind::PastUnicode, 1, 9, 10),
+    (r#""\x80""#, FlawKind::HexEscapeOutOfRange, 1, 3, 4),
+    (
+        r#""\u{110000}""#,
+        FlawKind::UnicodeEscapeOutOfRange,
+        1,
+        9,
+        10,
+    ),
     (r#""\u{D800}""#, FlawKind::Surrogate, 1, 8, 9),
     (r#"c"\0""#, FlawKind::Nul, 2, 3, 4),
     ("b\"é\"", FlawKind::NotAscii, 2, 2, 4),
-    (r#"br"a"é""#, FlawKind::EarlyQuote, 4, 7, 8),
+    (r#"br"a"é""#, FlawKind::TextAfterQuote, 4, 7, 8),
     ("\"a\rb\"", FlawKind::CarriageReturn, 2, 2, 3),
     ("b'\t'", FlawKind::MustEscape, 2, 2, 3),
     ("''x", FlawKind::NoCharacter, 1, 1, 2),
@@ -41,11 +48,11 @@ const ROWS: &[Row] = &[
     (PAST, FlawKind::TooLarge, 0, 39, 39),
 ];
 
-/// A row for each kind of a text that is no literal of Rust.
+/// A row for each kind of flaw of a text that isn't a Rust literal.
 const OF_RUST: &[Row] = &[
     ("", FlawKind::Empty, 0, 0, 0),
-    ("truex", FlawKind::NoLiteral, 0, 4, 5),
-    ("r#", FlawKind::Unfinished, 2, 2, 2),
+    ("truex", FlawKind::NotALiteral, 0, 4, 5),
+    ("r#", FlawKind::UnexpectedEnd, 2, 2, 2),
     ("r#x", FlawKind::NoQuote, 2, 2, 3),
     ("--1", FlawKind::NoNumber, 0, 1, 2),
     (r#""\x4"#, FlawKind::Unclosed, 1, 4, 4),
@@ -55,8 +62,14 @@ const OF_RUST: &[Row] = &[
     (r#""\u1""#, FlawKind::NoBrace, 1, 3, 4),
     (r#""\u{}""#, FlawKind::EmptyBraces, 1, 4, 5),
     (r#""\u{0000001}""#, FlawKind::TooManyDigits, 1, 10, 11),
-    (r#""\x80""#, FlawKind::PastAscii, 1, 3, 4),
-    (r#""\u{110000}""#, FlawKind::PastUnicode, 1, 9, 10),
+    (r#""\x80""#, FlawKind::HexEscapeOutOfRange, 1, 3, 4),
+    (
+        r#""\u{110000}""#,
+        FlawKind::UnicodeEscapeOutOfRange,
+        1,
+        9,
+        10,
+    ),
     (r#""\u{D800}""#, FlawKind::Surrogate, 1, 8, 9),
     (r#"c"\0""#, FlawKind::Nul, 2, 3, 4),
     ("br\"é\"", FlawKind::NotAscii, 3, 3, 5),
@@ -67,16 +80,16 @@ const OF_RUST: &[Row] = &[
     ("1.5.0", FlawKind::BadSuffix, 0, 3, 4),
     (PAST, FlawKind::TooLarge, 0, 39, 39),
     ("\"a\rb\"", FlawKind::CarriageReturn, 2, 2, 3),
-    (r#"r"a"b""#, FlawKind::EarlyQuote, 3, 5, 6),
+    (r#"r"a"b""#, FlawKind::TextAfterQuote, 3, 5, 6),
     ("r#\"a\"##", FlawKind::ExtraHash, 4, 6, 7),
     (r#""a"_"#, FlawKind::UnderscoreSuffix, 3, 4, 4),
     ("0xg", FlawKind::NoDigits, 0, 2, 3),
-    ("0b102", FlawKind::DigitOfBase, 0, 4, 5),
+    ("0b102", FlawKind::InvalidDigit, 0, 4, 5),
     ("0x1.5", FlawKind::BasedFloat, 0, 3, 4),
     ("1.foo", FlawKind::NoFractionDigit, 0, 2, 3),
 ];
 
-/// The kinds of the rows, each of which has the flaw that the call returns.
+/// Checks that each row's text has the flaw that `explain` returns, and returns the kinds of all rows.
 fn kinds(rows: &[Row], explain: impl Fn(&str) -> ParseError) -> HashSet<FlawKind> {
     for &(text, kind, from, lo, hi) in rows {
         let error = explain(text);
@@ -87,7 +100,7 @@ fn kinds(rows: &[Row], explain: impl Fn(&str) -> ParseError) -> HashSet<FlawKind
     rows.iter().map(|row| row.1).collect()
 }
 
-/// Why a text that `syn` has no literal for has no value.
+/// Returns the reason why a text that isn't a literal to `syn` has no value.
 fn of_syn(text: &str) -> ParseError {
     let Lit::Verbatim(literal) = Lit::new(text) else {
         panic!("{text} reads")
@@ -113,37 +126,43 @@ fn each_kind() {
 #[test]
 fn other_places() {
     let rows: &[Row] = &[
-        ("#", FlawKind::NoLiteral, 0, 0, 1),
-        ("bx", FlawKind::NoLiteral, 0, 1, 2),
-        ("b", FlawKind::Unfinished, 0, 1, 1),
+        ("#", FlawKind::NotALiteral, 0, 0, 1),
+        ("bx", FlawKind::NotALiteral, 0, 1, 2),
+        ("b", FlawKind::UnexpectedEnd, 0, 1, 1),
         ("1e+", FlawKind::NoExponentDigit, 0, 3, 3),
         (r#""a\x4"#, FlawKind::Unclosed, 2, 5, 5),
         (r##"r#"a""##, FlawKind::Unclosed, 5, 5, 5),
         (r#""\u{00D800}""#, FlawKind::Surrogate, 1, 9, 10),
         (r#"c"\x00""#, FlawKind::Nul, 2, 5, 6),
         ("b''", FlawKind::NoCharacter, 2, 2, 3),
-        ("é", FlawKind::NoLiteral, 0, 0, 2),
+        ("é", FlawKind::NotALiteral, 0, 0, 2),
         ("1 ", FlawKind::BadSuffix, 0, 1, 2),
         ("0x1.5", FlawKind::BasedFloat, 0, 3, 4),
         (&format!("{PAST}u8"), FlawKind::TooLarge, 0, 39, 40),
     ];
     kinds(rows, of_syn);
     let rows: &[Row] = &[
-        ("-", FlawKind::Unfinished, 0, 1, 1),
+        ("-", FlawKind::UnexpectedEnd, 0, 1, 1),
         ("-\"a\"", FlawKind::NoNumber, 0, 1, 2),
         ("-0x", FlawKind::NoDigits, 0, 3, 3),
-        ("0b17e", FlawKind::DigitOfBase, 0, 3, 4),
+        ("0b17e", FlawKind::InvalidDigit, 0, 3, 4),
         ("1..2", FlawKind::NoFractionDigit, 0, 2, 3),
         ("1e_+5", FlawKind::NoExponentDigit, 0, 3, 4),
-        ("\"a\"\"", FlawKind::EarlyQuote, 2, 3, 4),
+        ("\"a\"\"", FlawKind::TextAfterQuote, 2, 3, 4),
         ("\"a\" ", FlawKind::BadSuffix, 3, 3, 4),
         ("''", FlawKind::NoCharacter, 1, 1, 2),
-        ("\"\\u{1234567\"", FlawKind::PastUnicode, 1, 9, 10),
+        (
+            "\"\\u{1234567\"",
+            FlawKind::UnicodeEscapeOutOfRange,
+            1,
+            9,
+            10,
+        ),
     ];
     kinds(rows, of_rust);
 }
 
-/// The reason and the place in the whole text of each literal that has no reading.
+/// Returns, for each literal without a value, the byte offset of its error in the whole text, and the kind of flaw.
 fn flaws<'t>(literals: impl Iterator<Item = (usize, Lit<'t>)>) -> Vec<(usize, FlawKind)> {
     literals
         .filter_map(|(at, literal)| match literal {
@@ -169,7 +188,7 @@ fn of_lists_and_sources() {
         (64, FlawKind::TooLarge),
         (69, FlawKind::NotAscii),
     ];
-    let in_list = literals(&text).map(|item| item.unwrap());
+    let in_list = parse_list(&text).map(|item| item.unwrap());
     assert_eq!(
         flaws(in_list.map(|(bytes, it)| (bytes.start, it))),
         expected
@@ -181,7 +200,8 @@ fn of_lists_and_sources() {
     );
 }
 
-/// To Rust a decimal integer with the suffix `f32` or `f64` is a float, of any magnitude; it has no reading here.
+/// Rust treats a decimal integer of any size with the suffix `f32` or `f64` as a float. Above 128 bits the package has no value for
+/// it and returns `Verbatim`.
 #[test]
 fn floats_by_suffix() {
     let taken = ["f64", "f32", "_f32", "__f64", "000_f64"].map(|end| format!("{PAST}{end}"));
@@ -228,17 +248,17 @@ fn floats_by_suffix() {
     assert_eq!(Lit::parse(&octal).unwrap_err().kind(), FlawKind::TooLarge);
 }
 
-/// In a file CR LF is an LF: what `check` says is the flaw that is left, at its place in the text as it is.
+/// In a file, CR LF counts as LF. `check` returns the next flaw of the text, with byte offsets in the text as it is.
 #[test]
 fn a_cr_lf_is_no_flaw_of_a_file() {
     const ROWS: &[Row] = &[
         ("\"a\r\n\\q\"", FlawKind::UnknownEscape, 4, 5, 6),
-        ("\"\r\n\\x80\"", FlawKind::PastAscii, 3, 5, 6),
+        ("\"\r\n\\x80\"", FlawKind::HexEscapeOutOfRange, 3, 5, 6),
         ("\"\\\r\n\\q\"", FlawKind::UnknownEscape, 4, 5, 6),
         ("\"a\r\n\"_", FlawKind::UnderscoreSuffix, 5, 6, 6),
-        ("r\"\r\n\"b\"", FlawKind::EarlyQuote, 4, 6, 7),
+        ("r\"\r\n\"b\"", FlawKind::TextAfterQuote, 4, 6, 7),
         ("\"\r\n\r\"", FlawKind::CarriageReturn, 3, 3, 4),
-        ("r\"\r\n\"\"", FlawKind::EarlyQuote, 4, 5, 6),
+        ("r\"\r\n\"\"", FlawKind::TextAfterQuote, 4, 5, 6),
         ("'\r\n'", FlawKind::MustEscape, 1, 1, 3),
     ];
     for &(text, kind, from, lo, hi) in ROWS {

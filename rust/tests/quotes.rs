@@ -1,4 +1,5 @@
-//! How sources are cut at quotes: the bytes of their literals, and the byte of the first quote that isn't closed.
+//! Tests how sources with quotes are divided into tokens: the ranges of the literals, and the byte offset of the first quote that
+//! isn't closed.
 
 use navyspindle::{source, SyntaxErrorKind};
 
@@ -76,7 +77,7 @@ fn quotes_in_sources() {
                     assert_eq!(literal.text(), &text[range.clone()]);
                     found.push((range.start, range.end));
                 }
-                Err(it) => error = Some((it.kind(), it.at())),
+                Err(it) => error = Some((it.kind(), it.offset())),
             }
         }
         let expected = unclosed.map(|at| (SyntaxErrorKind::UnclosedQuote, at));

@@ -1,4 +1,4 @@
-//! What is read after errors of a source, and that hostile texts take no longer for each byte than short ones.
+//! Tests of the literals after an error in a source. Hostile texts must not take more time per byte if they are long.
 
 use navyspindle::{source, Recover};
 use std::time::{Duration, Instant};
@@ -8,7 +8,7 @@ fn shown(items: Recover<'_>) -> Vec<String> {
     items
         .map(|item| match item {
             Ok((_, literal)) => literal.text().to_owned(),
-            Err(error) => format!("{} {:?}", error.at(), error.kind()),
+            Err(error) => format!("{} {:?}", error.offset(), error.kind()),
         })
         .collect()
 }
@@ -27,7 +27,8 @@ fn after_each_error() {
         ("/** 2\n3", &["0 UnclosedComment"]),
         ("'\n1 + 'b", &["0 UnclosedQuote", "1"]),
         ("'+\n1", &["0 UnclosedQuote", "1"]),
-        // A known opener is reported, and one that may be closed is searched for.
+        // An opening delimiter that is known to stay open is reported at once. For any other one, its closing delimiter is searched
+        // for.
         (
             "\\\"\n\\\"\n1",
             &["1 UnclosedQuote", "4 UnclosedQuote", "1"],
@@ -47,13 +48,13 @@ fn after_each_error() {
                 "3",
             ],
         ),
-        // After an escaped line end a character's line goes on, and a string's doesn't.
+        // After an escaped line end, a character's line continues, and a string's doesn't.
         ("'+ \\\n1\n2", &["0 UnclosedQuote", "2"]),
         ("b'+ \\\n1 \\\n2", &["0 UnclosedQuote"]),
         ("'+ \\\\\n1\n2", &["0 UnclosedQuote", "1", "2"]),
         ("\"+ \\\n1\n2", &["0 UnclosedQuote", "1", "2"]),
         ("'\\x\n1", &["0 UnclosedQuote", "1"]),
-        // What may stand at a source's front alone.
+        // Text that is special only at the start of a source, such as `#!`.
         ("\"\n#!1\n2", &["0 UnclosedQuote", "1", "2"]),
         ("\"\n\u{feff}1", &["0 UnclosedQuote", "1"]),
         ("\"\n/* \" */ 1", &["\"\n/* \"", "1"]),
@@ -63,7 +64,7 @@ fn after_each_error() {
     }
 }
 
-/// A clone goes on where its source stands, and is at the end where that is: after the last literal, and after an error.
+/// A clone continues at the position of its source. It is at the end if its source is: after the last literal, and after an error.
 #[test]
 fn clones() {
     for (text, count) in [("1 2", 2), ("1 \"a", 2), ("'", 1), ("/*", 1), ("", 0)] {
@@ -102,16 +103,17 @@ fn from_where_a_source_stands() {
     assert_eq!(error.range(), 2..6);
 }
 
-/// How long this thread has run, where Linux tells: so what else runs doesn't count. Elsewhere how long it is since the beginning.
+/// Returns the time for which this thread has run, if Linux reports it, so that other threads don't count. On other systems it is
+/// the time since `begin`.
 fn now(begin: Instant) -> Duration {
-    // Linux counts up to here then.
+    // Linux updates the thread's time when the thread yields.
     thread::yield_now();
     let told = fs::read_to_string("/proc/thread-self/schedstat").ok();
     let run = told.and_then(|told| told.split(' ').next()?.parse().ok());
     run.map_or_else(|| begin.elapsed(), Duration::from_nanos)
 }
 
-/// The time for all that is recovered of a text, so many times.
+/// Returns the time in which `Source::recover` is called `times` times, and lists all literals and errors of a text each time.
 fn time(text: &str, times: usize) -> Duration {
     let begin = Instant::now();
     let before = now(begin);
@@ -146,8 +148,9 @@ fn hostile_texts() {
     }
 }
 
-/// A long text takes at most eight times what short ones of as many bytes take, in the best of five rounds; it is sixteen times as
-/// long, so by a search from each line to the end it would take sixteen times that.
+/// Checks that a long text takes at most eight times as long as short texts with as many bytes in total, in the best of five
+/// rounds. The long text is sixteen times as long as a short one. A search from each line to the end would take sixteen times as
+/// long.
 fn check_growth(name: &str, short: &str, long: &str) {
     let (mut few, mut many) = (Duration::MAX, Duration::MAX);
     for _ in 0..5 {

@@ -1,7 +1,7 @@
-//! Whole sources in a style.
+//! Tests of `rewrite_source`, which rewrites whole sources in a style.
 #![cfg(all(feature = "sources", feature = "style"))]
 
-use navyspindle::{restyle, source, Case, DigitGroups, Edit, Lit, Separator, Style};
+use navyspindle::{rewrite_source, source, Case, DigitGroups, Edit, Lit, Separator, Style};
 use std::borrow::Cow;
 
 const STYLE: Style = Style::new()
@@ -15,7 +15,7 @@ const STYLE: Style = Style::new()
     .fewest_hashes(true);
 
 fn styled(text: &str) -> Cow<'_, str> {
-    restyle(text, STYLE).apply().unwrap()
+    rewrite_source(text, STYLE).apply().unwrap()
 }
 
 #[test]
@@ -53,6 +53,9 @@ fn other_numbers_do_not() {
         ("t.r\"a\" 0_1", "t.r\"a\" 1"),
         ("[1, // t.\n 0xF]", "[1, // t.\n 0xf]"),
         ("[1, 2,\n 0xF]", "[1, 2,\n 0xf]"),
+        ("\r 0xF \r\r\n\r", "\r 0xf \r\r\n\r"),
+        ("00", "0"),
+        ("1_", "1"),
     ] {
         assert_eq!(styled(text), written, "{text:?}");
     }
@@ -133,7 +136,11 @@ fn numbers_that_grow_part_no_tokens() {
         ("1..2 1...2 1..=2", "1..2 1...2 1..=2"),
         ("1.e 1._x", "1.e 1._x"),
     ] {
-        assert_eq!(restyle(text, style).apply().unwrap(), written, "{text:?}");
+        assert_eq!(
+            rewrite_source(text, style).apply().unwrap(),
+            written,
+            "{text:?}"
+        );
     }
 }
 
@@ -206,7 +213,10 @@ fn macros_are_skipped() {
         ("m!(0xA", "m!(0xA"),
     ] {
         assert_eq!(
-            restyle(text, STYLE).skip_macros(true).apply().unwrap(),
+            rewrite_source(text, STYLE)
+                .skip_macros(true)
+                .apply()
+                .unwrap(),
             written,
             "{text:?}"
         );
@@ -216,7 +226,7 @@ fn macros_are_skipped() {
 #[test]
 fn macros_are_skipped_where_the_last_word_is_true() {
     let text = "m!(0xA) #[a(0xB)] 0xC";
-    let edits = || restyle(text, STYLE);
+    let edits = || rewrite_source(text, STYLE);
     let all = "m!(0xa) #[a(0xb)] 0xc";
     assert_eq!(edits().skip_macros(false).apply().unwrap(), all);
     let edits = || edits().skip_macros(true);
@@ -247,7 +257,10 @@ fn what_looks_like_a_macro_is_not_skipped() {
         ("m + !(0xA)", "m + !(0xa)"),
     ] {
         assert_eq!(
-            restyle(text, STYLE).skip_macros(true).apply().unwrap(),
+            rewrite_source(text, STYLE)
+                .skip_macros(true)
+                .apply()
+                .unwrap(),
             written,
             "{text:?}"
         );
@@ -258,9 +271,9 @@ fn what_looks_like_a_macro_is_not_skipped() {
 #[test]
 fn an_open_quote_is_an_error() {
     let text = "0xF \"a";
-    let error = restyle(text, STYLE).apply().unwrap_err();
-    assert_eq!(error.at(), 4);
-    let found: Vec<_> = restyle(text, STYLE).collect();
+    let error = rewrite_source(text, STYLE).apply().unwrap_err();
+    assert_eq!(error.offset(), 4);
+    let found: Vec<_> = rewrite_source(text, STYLE).collect();
     assert_eq!(found.len(), 2);
     let edit = found[0].as_ref().unwrap();
     assert_eq!((edit.range(), edit.text()), (0..3, "0xf"));
@@ -271,7 +284,9 @@ fn an_open_quote_is_an_error() {
 fn edits_stand_in_order_and_once_is_enough() {
     let text =
         "f(0xFF_u8, r##\"a\"##, \"\\'\\xff\", 1_000, '\\u{aB}', b'\\x0a', 1E+5, r#\"\"\"#, t.0_0);";
-    let edits: Vec<Edit> = restyle(text, STYLE).collect::<Result<_, _>>().unwrap();
+    let edits: Vec<Edit> = rewrite_source(text, STYLE)
+        .collect::<Result<_, _>>()
+        .unwrap();
     assert!(edits
         .windows(2)
         .all(|pair| pair[0].range().end <= pair[1].range().start));
@@ -295,8 +310,8 @@ fn literals(text: &str) -> Vec<Lit<'_>> {
 
 #[test]
 fn raw_strings_stay_after_hashes_and_dots() {
-    let style = Style::new().drop_raw(true).escape_hidden(true);
-    let whole = |text| restyle(text, style).apply().unwrap();
+    let style = Style::new().drop_raw(true).escape_invisible(true);
+    let whole = |text| rewrite_source(text, style).apply().unwrap();
     assert_eq!(
         whole("a(r\"b\", br#\"c\"#, cr\"d\\\", r\"\\\u{202e}\")"),
         "a(\"b\", b\"c\", cr\"d\\\", \"\\\\\\u{202e}\")"
@@ -310,9 +325,9 @@ fn raw_strings_stay_after_hashes_and_dots() {
     }
 }
 
-/// The names of the rules by which each literal of a text is written anew.
+/// Returns, for each literal of a text that the style changes, the names of the rules each of which alone changes it.
 fn rules(text: &str, style: Style) -> Vec<Vec<&'static str>> {
-    let edits = restyle(text, style).map(|edit| edit.unwrap().rules().to_vec());
+    let edits = rewrite_source(text, style).map(|edit| edit.unwrap().rules().to_vec());
     edits.collect()
 }
 
@@ -348,7 +363,11 @@ fn each_rule_is_named_as_its_setter() {
         ("drop_quote_escapes", new.drop_quote_escapes(true), "'\\\"'"),
         ("fewest_hashes", new.fewest_hashes(true), "r#\"\"#"),
         ("drop_raw", new.drop_raw(true), "r\"\""),
-        ("escape_hidden", new.escape_hidden(true), "\"\u{202e}\""),
+        (
+            "escape_invisible",
+            new.escape_invisible(true),
+            "\"\u{202e}\"",
+        ),
     ] {
         assert_eq!(rules(text, style), [[name]], "{text}");
     }

@@ -1,7 +1,7 @@
-//! Rows of texts and what they stand for.
+//! Tests of the values of literals, in rows of texts and expected values.
 
 use navyspindle::{
-    is_token, literals, settings, source, write_str, FlawKind, Kind, Lit, LitBool, LitByte,
+    is_token, parse_list, parse_settings, source, write_str, FlawKind, Kind, Lit, LitBool, LitByte,
     LitByteStr, LitChar, LitFloat, LitInt, LitStr, NumberType, ParseErrorKind, SyntaxErrorKind,
 };
 use std::borrow::Cow;
@@ -193,7 +193,7 @@ fn what_is_owned() {
     assert_eq!(is_static(string.into_value()), "a\n");
     let plain = is_static(LitStr::try_from(String::from("r#\"ab\"#")).unwrap());
     assert_eq!(is_static(plain.into_value()), "ab");
-    // A borrowed text is borrowed from.
+    // The value of a literal with a borrowed text is borrowed too.
     let value = LitByteStr::parse("b\"ab\"").unwrap().into_value();
     assert!(matches!(value, Cow::Borrowed(b"ab")));
     assert!(matches!(
@@ -205,7 +205,7 @@ fn what_is_owned() {
 #[test]
 fn a_megabyte_of_escapes() {
     let text = format!("\"{}\"", "\\u{e9}a".repeat(150_000));
-    let places = LitStr::parse(&text).unwrap().places();
+    let places = LitStr::parse(&text).unwrap().offset_map();
     for byte in (0..450_000).step_by(4) {
         let unit = 7 * (byte / 3) + 1;
         let expected = if byte % 3 == 2 {
@@ -213,9 +213,9 @@ fn a_megabyte_of_escapes() {
         } else {
             unit..unit + 6
         };
-        assert_eq!(places.byte(byte), expected, "{byte}");
+        assert_eq!(places.byte_range(byte), expected, "{byte}");
     }
-    assert_eq!(places.byte(450_000), 1_050_001..1_050_001);
+    assert_eq!(places.byte_range(450_000), 1_050_001..1_050_001);
 }
 
 #[test]
@@ -233,7 +233,8 @@ fn how_they_are_printed() {
 #[test]
 fn of_settings() {
     let read = |text: &str| -> Result<Vec<String>, String> {
-        let entries = settings(text).map_err(|error| format!("{:?} {error}", error.range()))?;
+        let entries =
+            parse_settings(text).map_err(|error| format!("{:?} {error}", error.range()))?;
         let line = |entry: &navyspindle::Entry| {
             let (name, value) = (&entry.name_range, &entry.value_range);
             format!("{}@{name:?} {}@{value:?}", entry.name, entry.value)
@@ -257,21 +258,34 @@ fn of_settings() {
             "a = ",
             "4..4 unexpected end of input, expected literal at byte 4",
         ),
-        ("a = b", "4..5 expected literal at byte 4"),
+        (
+            "a = b",
+            "4..5 expected literal at byte 4: a string has double quotes",
+        ),
         ("a = -b", "4..5 expected literal at byte 4"),
-        ("a = 1 = 2", "6..7 expected `,` at byte 6"),
-        ("a = 1, [b (c)] 2", "7..14 expected identifier at byte 7"),
+        (
+            "a = 1 = 2",
+            "6..7 expected `,` at byte 6: a comma is between two settings",
+        ),
+        (
+            "a = 1, [b (c)] 2",
+            "7..14 expected identifier at byte 7: there are no sections",
+        ),
         ("a = 1,,", "6..7 expected identifier at byte 6"),
         ("a = 1, a", "7..8 repeated name `a` at byte 7"),
-        ("b = 1 'a", "6..8 lifetime at byte 6"),
-        ("b = \"a", "4..6 quoted literal isn't closed at byte 4"),
+        ("a = 1, a = 2", "7..8 repeated name `a` at byte 7"),
+        (
+            "b = 1 'a",
+            "6..8 unexpected lifetime: a string has double quotes at byte 6",
+        ),
+        ("b = \"a", "4..6 unclosed quote at byte 4"),
         ("a (]", "3..4 unmatched closing delimiter at byte 3"),
-        ("a ([", "3..4 group isn't closed at byte 3"),
+        ("a ([", "3..4 unclosed group at byte 3"),
     ];
     for (text, error) in rows {
         assert_eq!(read(text), Err(error.to_owned()), "{text}");
     }
-    assert!(settings(&"(".repeat(129))
+    assert!(parse_settings(&"(".repeat(129))
         .unwrap_err()
         .to_string()
         .starts_with("groups nested too deep at byte 128"));
@@ -292,12 +306,12 @@ fn each_kind() {
     ];
     for (text, kind) in rows {
         assert_eq!(Lit::new(text).kind(), kind, "{text}");
-        for item in literals(text).chain(source(text)) {
+        for item in parse_list(text).chain(source(text)) {
             let (range, literal) = item.unwrap();
             assert_eq!((range, literal.kind()), (0..text.len(), kind), "{text}");
             assert_eq!((literal.text(), literal.suffix()), (text, ""));
         }
-        assert_eq!((literals(text).count(), source(text).count()), (1, 1));
+        assert_eq!((parse_list(text).count(), source(text).count()), (1, 1));
     }
     assert_eq!(HashSet::from(rows.map(|row| row.1)).len(), 9);
 }
@@ -305,7 +319,7 @@ fn each_kind() {
 #[test]
 fn each_error() {
     let rows = [
-        ("word", SyntaxErrorKind::NoLiteral),
+        ("word", SyntaxErrorKind::NotALiteral),
         ("-word", SyntaxErrorKind::NoNumber),
         ("/// d", SyntaxErrorKind::DocComment),
         ("/* ", SyntaxErrorKind::UnclosedComment),
@@ -318,8 +332,8 @@ fn each_error() {
     ];
     for (text, kind) in rows {
         let text = format!("1 {text}");
-        let error = literals(&text).nth(1).unwrap().unwrap_err();
-        assert_eq!((error.kind(), error.at()), (kind, 2), "{text}");
+        let error = parse_list(&text).nth(1).unwrap().unwrap_err();
+        assert_eq!((error.kind(), error.offset()), (kind, 2), "{text}");
         let in_source = source(&text).find_map(Result::err);
         let stays = matches!(
             kind,
@@ -332,7 +346,7 @@ fn each_error() {
 
 #[test]
 fn equal_by_text() {
-    let found: HashSet<Lit> = literals("- /* a */ 1 -1 1 '\\q' true 1.0")
+    let found: HashSet<Lit> = parse_list("- /* a */ 1 -1 1 '\\q' true 1.0")
         .chain(source("'\\q' 1 true"))
         .map(|item| item.unwrap().1)
         .collect();
@@ -360,10 +374,10 @@ fn plain_bodies_are_borrowed() {
 fn a_list() {
     type Read = Result<Vec<(usize, usize, String)>, (SyntaxErrorKind, usize)>;
     let read = |text: &str| -> Read {
-        literals(text)
+        parse_list(text)
             .map(|item| match item {
                 Ok((range, literal)) => Ok((range.start, range.end, literal.to_string())),
-                Err(error) => Err((error.kind(), error.at())),
+                Err(error) => Err((error.kind(), error.offset())),
             })
             .collect()
     };
@@ -383,13 +397,13 @@ fn a_list() {
         read("-1 - 2.5f32 -/**/3"),
         Ok(vec![of(0, 2, "-1"), of(3, 11, "-2.5f32"), of(12, 18, "-3")])
     );
-    assert_eq!(read("1, 2"), Err((SyntaxErrorKind::NoLiteral, 1)));
-    assert_eq!(read("1 word"), Err((SyntaxErrorKind::NoLiteral, 2)));
+    assert_eq!(read("1, 2"), Err((SyntaxErrorKind::NotALiteral, 1)));
+    assert_eq!(read("1 word"), Err((SyntaxErrorKind::NotALiteral, 2)));
     assert_eq!(read("1 -"), Err((SyntaxErrorKind::NoNumber, 2)));
     assert_eq!(read("1 (2)"), Err((SyntaxErrorKind::Group, 2)));
     assert_eq!(read("[1"), Err((SyntaxErrorKind::Group, 0)));
     assert_eq!(read("1 -{"), Err((SyntaxErrorKind::NoNumber, 2)));
-    assert_eq!(read("1 @"), Err((SyntaxErrorKind::NoLiteral, 2)));
+    assert_eq!(read("1 @"), Err((SyntaxErrorKind::NotALiteral, 2)));
     assert_eq!(read("1 )"), Err((SyntaxErrorKind::UnmatchedClose, 2)));
     assert_eq!(read("]"), Err((SyntaxErrorKind::UnmatchedClose, 0)));
     assert_eq!(read("1 /* "), Err((SyntaxErrorKind::UnclosedComment, 2)));
@@ -419,7 +433,7 @@ fn literals_between_gaps() {
         expected.push((text.len()..text.len() + written.len(), shown.to_owned()));
         text += written;
     }
-    let found: Vec<_> = literals(&text)
+    let found: Vec<_> = parse_list(&text)
         .map(|item| item.map(|(range, literal)| (range, literal.to_string())))
         .collect::<Result<_, _>>()
         .unwrap();
@@ -431,7 +445,7 @@ fn what_has_no_reading() {
     let most = "340282366920938463463374607431768211455";
     let past = "340282366920938463463374607431768211456";
     let text = format!("{most} {past}u8 '\\q' \"\\q\"x");
-    let found: Vec<_> = literals(&text).collect::<Result<_, _>>().unwrap();
+    let found: Vec<_> = parse_list(&text).collect::<Result<_, _>>().unwrap();
     let lines: Vec<_> = found
         .iter()
         .map(|(range, literal)| {
@@ -451,8 +465,11 @@ fn what_has_no_reading() {
     assert!(matches!(&found[1].1, Lit::Verbatim(literal) if literal.to_string() == lines[1].2));
     assert!(Lit::parse(past).is_err());
     let negative = format!("-{past}");
-    let error = literals(&negative).next().unwrap().unwrap_err();
-    assert_eq!((error.kind(), error.at()), (SyntaxErrorKind::NoNumber, 0));
+    let error = parse_list(&negative).next().unwrap().unwrap_err();
+    assert_eq!(
+        (error.kind(), error.offset()),
+        (SyntaxErrorKind::NoNumber, 0)
+    );
 }
 
 #[test]
@@ -515,12 +532,9 @@ fn a_source() {
     );
     assert_eq!(
         rows("1 /* "),
-        ["0..1 1", "block comment isn't closed at byte 2"]
+        ["0..1 1", "unclosed block comment at byte 2"]
     );
-    assert_eq!(
-        rows("1 \"a"),
-        ["0..1 1", "quoted literal isn't closed at byte 2"]
-    );
+    assert_eq!(rows("1 \"a"), ["0..1 1", "unclosed quote at byte 2"]);
 }
 
 #[test]

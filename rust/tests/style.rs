@@ -1,10 +1,10 @@
-//! Literals written anew, held against the rows of `style.txt`, which `tools/style_model.py` writes of a model's answers.
+//! Compares rewritten literals with the rows of `style.txt`. `oracle/style_rows.py` creates these rows from a model's results.
 
 mod letters;
 
 use letters::{decoded, style_of};
 use navyspindle::{
-    is_token, rewrite, rewrite_after, write_integer, Base, FlawKind, IntegerStyle, Lit, Style,
+    is_token, rewrite, rewrite_in_context, write_integer, Base, FlawKind, IntegerStyle, Lit, Style,
 };
 use std::borrow::Cow;
 
@@ -18,7 +18,7 @@ fn the_model_writes_the_same() {
             panic!("{row}")
         };
         let (style, front, text) = (style_of(letters), decoded(front), decoded(text));
-        let answer = rewrite_after(&front, &text, style);
+        let answer = rewrite_in_context(&front, &text, style);
         if written == "!" {
             assert!(answer.is_err() && !is_token(&text), "{letters} {text}");
             continue;
@@ -32,14 +32,14 @@ fn the_model_writes_the_same() {
             continue;
         }
         assert_eq!(answer, decoded(written), "{letters} {text}");
-        let again = rewrite_after(&front, &answer, style).unwrap();
+        let again = rewrite_in_context(&front, &answer, style).unwrap();
         assert_eq!(again, answer, "{letters} {text}");
         changed += 1;
     }
     assert!(changed > 500, "{changed}");
 }
 
-/// Whether both texts read as one literal: by the package's own reader their kinds, contents and suffixes are the same.
+/// Whether the package's parser returns the same kind, value and suffix for both texts.
 fn read_alike(old: &str, new: &str) -> bool {
     let (old, new) = (Lit::new(old.to_owned()), Lit::new(new.to_owned()));
     let value = |literal: &Lit<'_>| match literal {
@@ -93,7 +93,7 @@ fn groups_are_those_of_the_writer() {
     for value in [0_u64, 1_000, 9_999, 10_000, 123_456_789] {
         let text = write_integer(value, plain.group(2));
         let written = rewrite(&text, style_of("g")).unwrap();
-        assert_eq!(written, write_integer(value, plain.group(3).least(5)));
+        assert_eq!(written, write_integer(value, plain.group(3).min_digits(5)));
     }
 }
 
@@ -113,7 +113,7 @@ fn a_zero_closes_a_float_alone() {
         let answer = rewrite(text, style);
         assert_eq!(answer.as_deref().unwrap_or("!"), written, "{text}");
     }
-    // The number is the same.
+    // The number stays the same.
     let closed = rewrite("1234567.", style).unwrap();
     assert_eq!(closed.replace('_', "").parse(), "1234567.".parse::<f64>());
 }
@@ -124,10 +124,10 @@ fn errors_are_those_of_the_reader() {
         let error = rewrite(text, style_of("xuzSepdcanqh")).unwrap_err();
         assert_eq!(error, Lit::parse(text).unwrap_err(), "{text}");
     }
-    // A minus is a token of its own.
+    // A minus is a separate token, so it isn't part of a literal token.
     let error = rewrite("-1", Style::new()).unwrap_err();
     assert_eq!(error.kind(), FlawKind::Minus);
-    assert_eq!(error.at(), 0);
+    assert_eq!(error.offset(), 0);
 }
 
 #[test]
@@ -140,7 +140,7 @@ fn long_texts_are_written_whole() {
     let hashes = "#".repeat(255);
     let raw = format!("br{hashes}\"a\"{hashes}u8");
     assert_eq!(rewrite(&raw, style_of("h")).unwrap(), "br\"a\"u8");
-    // The fewest that a raw string needs are all that it may have.
+    // The raw string already has the largest number of hashes that is allowed, and needs all of them.
     let full = format!("r{hashes}\"\"{}\"{hashes}", "#".repeat(254));
     assert_eq!(rewrite(&full, style_of("h")).unwrap(), full);
 }

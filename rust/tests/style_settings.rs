@@ -1,4 +1,4 @@
-//! Styles that settings say, beside those of the methods with the same names.
+//! Compares styles that are read from settings with the styles of the methods with the same names.
 #![cfg(all(feature = "settings", feature = "style"))]
 
 use navyspindle::{Case, DigitGroups, Separator, SettingError, SettingErrorKind, Settings, Style};
@@ -28,8 +28,8 @@ fn each_rule_is_set_by_its_name() {
         ("octal_groups = 3", new.digit_groups(groups.octal(3))),
         ("decimal_groups = 3", new.digit_groups(groups.decimal(3))),
         (
-            "hexadecimal_groups = 4, least_grouped = 5",
-            new.digit_groups(groups.hexadecimal(4).least(5)),
+            "hexadecimal_groups = 4, min_digits = 5",
+            new.digit_groups(groups.hexadecimal(4).min_digits(5)),
         ),
         ("float_zero = true", new.float_zero(true)),
         (
@@ -47,7 +47,7 @@ fn each_rule_is_set_by_its_name() {
         ("drop_quote_escapes = true", new.drop_quote_escapes(true)),
         ("fewest_hashes = true", new.fewest_hashes(true)),
         ("drop_raw = true", new.drop_raw(true)),
-        ("escape_hidden = true", new.escape_hidden(true)),
+        ("escape_invisible = true", new.escape_invisible(true)),
         ("", new),
         ("drop_raw = false, float_zero = false", new),
         (

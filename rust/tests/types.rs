@@ -1,10 +1,10 @@
-//! Literals with suffixes, and whether rustc 1.95 takes them as an expression, where literals out of their type's range are
-//! errors.
+//! Compares `type_error` with rustc 1.95, which accepts or rejects each literal as an expression. Literals out of their type's
+//! range are set to be errors.
 #![cfg(feature = "flaws")]
 
 use navyspindle::{Kind, Lit};
 
-/// Those that rustc takes, each with the minus that stood before it.
+/// Literals that rustc accepts, each with the minus before it.
 const TAKEN: &[(&str, &str)] = &[
     ("", "1u8"),
     ("", "255u8"),
@@ -38,7 +38,7 @@ const TAKEN: &[(&str, &str)] = &[
     ("", "1e-999999999999999999999999999999999999999999"),
 ];
 
-/// Those that it rejects.
+/// Literals that rustc rejects, each with the minus before it.
 const REJECTED: &[(&str, &str)] = &[
     ("", "256u8"),
     ("", "1u9"),
@@ -75,12 +75,24 @@ const REJECTED: &[(&str, &str)] = &[
     ("", "0.000_1e999999999999999999999999999999999999999999"),
 ];
 
-/// Whether Rust has a type for the literal after the minus, by the literal alone and as one with its minus.
+/// Whether Rust has a type for the literal after the minus. The function also checks that the literal without its minus and the
+/// literal with its minus have the same result.
 fn has_type((minus, text): (&str, &str)) -> bool {
-    let error = Lit::new(text).type_error(!minus.is_empty());
+    let literal = Lit::new(text);
+    let error = if minus.is_empty() {
+        literal.type_error()
+    } else {
+        literal.type_error_negated()
+    };
     let whole = Lit::new(format!("{minus}{text}"));
     if whole.kind() != Kind::Verbatim {
-        assert_eq!(whole.type_error(false), error, "{minus}{text}");
+        assert_eq!(whole.type_error(), error, "{minus}{text}");
+        let negated = Lit::new(format!("-{text}"));
+        assert_eq!(
+            negated.type_error_negated(),
+            negated.type_error(),
+            "-{text}"
+        );
     }
     error.is_none()
 }
@@ -99,14 +111,29 @@ fn what_rustc_rejects_has_none() {
     }
 }
 
+/// rustc 1.95 rejects these literals with "binary float literal is not supported" and similar messages, whatever their number is.
+#[test]
+fn a_float_of_another_base_is_in_no_range() {
+    let ones = format!("0b{}f32", "1".repeat(128));
+    let sevens = format!("0o{}f64", "7".repeat(42));
+    for text in [ones.as_str(), &sevens, "0b1f32"] {
+        assert_eq!(
+            Lit::new(text).type_error().unwrap().id(),
+            "based-float",
+            "{text}"
+        );
+    }
+}
+
 #[test]
 fn an_error_has_words_and_a_name() {
-    let error = Lit::new("1u9").type_error(false).unwrap();
-    assert_eq!(error.to_string(), error.words());
+    let error = Lit::new("1u9").type_error().unwrap();
+    assert_eq!(error.to_string(), error.message());
     assert_eq!(error.id(), "unknown-suffix");
 }
 
-/// The digits of the least numbers that round to infinity: half a step past the greatest finite ones.
+/// The digits of the least numbers that round to infinity, for `f32` and `f64`. Each number is halfway between the greatest finite
+/// number and the next step.
 const LEAST: [&str; 2] = [
     "340282356779733661637539395458142568448",
     "179769313486231580793728971405303415079934132710037826936173778980444968292764750946649017977587207096330286416692887910\
@@ -114,7 +141,8 @@ const LEAST: [&str; 2] = [
      936475292719074168444365510704342711559699508093042880177904174497792",
 ];
 
-/// A numeral with the digits, its dot after so many of them, so that the first one's power of ten is off by so much.
+/// Returns the text of a number with these digits and a dot after the first `dot` of them. The exponent gives the first of `length`
+/// digits its original power of ten, times ten to the power `off`.
 fn numeral(digits: &str, length: usize, dot: usize, off: i32) -> String {
     let power = i32::try_from(length - dot).expect("a few hundred digits") + off;
     format!("00_{}.{}e{power}", &digits[..dot], &digits[dot..])
@@ -136,17 +164,9 @@ fn floats_are_out_of_range_where_std_reads_infinity() {
                         let in_f32 = plain.parse::<f32>().expect("a float").is_infinite();
                         let in_f64 = plain.parse::<f64>().expect("a float").is_infinite();
                         infinite += usize::from(in_f32) + usize::from(in_f64);
-                        assert_eq!(
-                            Lit::new(&text).type_error(false).is_some(),
-                            in_f64,
-                            "{text}"
-                        );
+                        assert_eq!(Lit::new(&text).type_error().is_some(), in_f64, "{text}");
                         let text = format!("{text}f32");
-                        assert_eq!(
-                            Lit::new(&text).type_error(false).is_some(),
-                            in_f32,
-                            "{text}"
-                        );
+                        assert_eq!(Lit::new(&text).type_error().is_some(), in_f32, "{text}");
                     }
                 }
             }

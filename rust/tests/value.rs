@@ -1,8 +1,8 @@
-//! Numbers as values of types, beside what rustc makes of the same literals.
+//! Compares the values of numbers with the values that rustc gives to the same literals.
 
 use navyspindle::{LitFloat, LitInt, NumberType, ValueErrorKind};
 
-/// rustc's value of each literal of these types is the package's.
+/// Checks that each literal has the same value in rustc and in the package.
 macro_rules! same {
     ($($struct:ident: $type:ident: $($literal:literal)*;)*) => {$($(
         let literal = $struct::parse(stringify!($literal)).unwrap();
@@ -41,7 +41,7 @@ fn as_rustc_rejects_them() {
     macro_rules! rejected {
         ($($struct:ident $text:literal $type:ident $wanted:ident $kind:ident $range:expr;)*) => {$(
             let error = $struct::parse($text).unwrap().value::<$type>().unwrap_err();
-            let found = (error.wanted(), error.kind(), error.range());
+            let found = (error.expected(), error.kind(), error.range());
             assert_eq!(found, ($wanted, $kind, $range), "{}", $text);
         )*};
     }

@@ -1,4 +1,4 @@
-//! What is written for values, beside std's formatting and rustc's own tokens.
+//! Compares written literals with std's formatting and with rustc's own tokens.
 
 use navyspindle::{
     is_token, write_char, write_char_ascii, write_integer, write_raw_byte_str, write_raw_c_str,
@@ -10,7 +10,7 @@ use std::fmt;
 
 const HEX: IntegerStyle = IntegerStyle::new().base(Base::Hexadecimal);
 
-/// Digits in groups, counted from the last.
+/// Divides digits into groups with underscores between them, counted from the last digit.
 fn grouped(digits: &str, size: usize) -> String {
     let mut groups: Vec<&str> = Vec::new();
     let mut rest = digits;
@@ -23,8 +23,8 @@ fn grouped(digits: &str, size: usize) -> String {
     groups.join("_")
 }
 
-/// Checks what is written for a number, whose magnitude is given, in each base, with groups of each size, where it has digits
-/// enough for them and where it lacks one.
+/// Checks the literals that are written for a number of this magnitude, in each base and with groups of several sizes. `min_digits`
+/// is tested with the number of digits that the number has, and with one more.
 fn check_integer<N: Integer + fmt::Display>(value: N, magnitude: u128, name: &str) {
     let sign = if value.to_string().starts_with('-') {
         "-"
@@ -42,7 +42,7 @@ fn check_integer<N: Integer + fmt::Display>(value: N, magnitude: u128, name: &st
             format!("{magnitude:#o}"),
         ),
         (HEX, format!("{magnitude:#x}")),
-        (HEX.upper(true), format!("{magnitude:#X}")),
+        (HEX.uppercase(true), format!("{magnitude:#X}")),
     ];
     for (style, text) in rows {
         let at = if text.starts_with("0b") || text.starts_with("0o") || text.starts_with("0x") {
@@ -67,7 +67,7 @@ fn check_integer<N: Integer + fmt::Display>(value: N, magnitude: u128, name: &st
                 } else {
                     &literal
                 };
-                let written = write_integer(value, style.least(least));
+                let written = write_integer(value, style.min_digits(least));
                 assert_eq!(written, format!("{sign}{literal}"));
             }
         }
@@ -101,7 +101,7 @@ fn integers_as_std_formats_them() {
     check_integer(-7_isize, 7, "isize");
 }
 
-/// rustc reads the token as a value, for which the same text is written.
+/// Checks that the value that rustc reads from a literal is written as the same literal.
 macro_rules! written_back {
     ($($written:expr => $($literal:literal)*;)*) => {$($(
         let write = $written;
@@ -111,10 +111,10 @@ macro_rules! written_back {
 
 #[test]
 fn as_rustc_has_them() {
-    let upper = HEX.upper(true).group(4);
+    let upper = HEX.uppercase(true).group(4);
     written_back! {
         |value: u32| write_integer(value, IntegerStyle::new().group(3)) => 0 999 1_000 4_294_967_295;
-        |value: u32| write_integer(value, IntegerStyle::new().group(3).least(5)) => 0 1000 9999 10_000 1_000_000;
+        |value: u32| write_integer(value, IntegerStyle::new().group(3).min_digits(5)) => 0 1000 9999 10_000 1_000_000;
         |value: u8| write_integer(value, IntegerStyle::new().suffixed(true)) => 0u8 255u8;
         |value: u64| write_integer(value, upper) => 0x0 0xFFFF 0x1_0000 0xFFFF_FFFF_FFFF_FFFF;
         |value: i16| write_integer(value, IntegerStyle::new().base(Base::Binary).group(4)) => 0b0 0b1010_0101;
@@ -151,7 +151,7 @@ fn in_ascii_as_std_escapes() {
     );
 }
 
-/// All texts of up to so many of these characters.
+/// Returns all texts of up to `most` of these characters.
 fn texts(characters: &str, most: usize) -> Vec<String> {
     let mut texts = vec![String::new()];
     let mut last = texts.clone();
@@ -165,13 +165,13 @@ fn texts(characters: &str, most: usize) -> Vec<String> {
     texts
 }
 
-/// The first literal with hashes, from none on, that reads as these bytes.
+/// Returns the first raw literal for which `reads` returns `true`. The literals have zero, one, two hashes and so on.
 fn first_raw(opener: &str, text: &str, reads: impl Fn(&str) -> bool) -> Option<String> {
     let literal = |count: usize| {
         let hashes = "#".repeat(count);
         format!("{opener}{hashes}\"{text}\"{hashes}")
     };
-    // More hashes than characters help no text.
+    // A literal needs at most one hash more than its text has bytes.
     (0..=text.len() + 1)
         .map(literal)
         .find(|literal| reads(literal))

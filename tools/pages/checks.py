@@ -1,4 +1,4 @@
-"""What is checked of the pages and of the documentation: each check tells its errors to `tell`."""
+"""The checks of the pages and of the documentation of public items. Each check reports its errors by calling `tell`."""
 import fnmatch
 import glob
 import importlib.machinery
@@ -11,10 +11,11 @@ import textwrap
 from .items import (
     TOP, code_files, core, definition_files, libraries, pages, paths, prose_pages, public_items, read, signature_end)
 from .snippets import EXAMPLE, VALUE, Source, blanked, whole_items
+from .style import DEFINED, check_habits, check_public_names, check_terms
 
-# The Rust of a page.
+# A block of Rust code on a page.
 RUST = re.compile(r'```rust\n(.*?) *```', re.S)
-# What a newcomer meets first: each has an example, of 30 lines at most, or names the item that has it.
+# The first items that a newcomer meets. Each has an example of at most 30 lines, or names the item that has it.
 EXAMPLES = {
     'rl_tokens': """
         Kind Span Literal CString Ident Punct Group TokenTree TokenStream Tokens Sources LexError Error
@@ -30,9 +31,10 @@ EXAMPLES = {
         Number::base10_parse read_all read_next""",
     'rl_attributes': 'Attrs Attrs::get read',
 }
-# Words of others, and of what stands in no crate.
-FOREIGN = {'parse_str', 'proc_macro2'}
-# Pages that name what isn't here.
+# Words that other projects define, and names that no crate has.
+FOREIGN = {
+    'parse_str', 'proc_macro2', 'from_str_for_fuzzing', 'Lookahead1', 'Punctuated', 'hex_literal_case', 'float_literal_trailing_zero'}
+# Pages with names of other projects.
 OF_OTHERS = ['docs/DIFFERENCES.md', 'docs/COMPARISON.md', 'docs/PERFORMANCE.md']
 
 
@@ -62,12 +64,12 @@ def check_items(tell):
     return count
 
 
-# What takes memory, in a signature.
+# Types in a signature that allocate memory.
 MEMORY = re.compile(r'\b(?:Allocator|AllocError|Global|String|Vec|Box)\b')
 
 
 def check_core(tell):
-    """No function of the core has an allocator or what takes memory in its signature."""
+    """Checks that no function of the core has an allocator, or a type that allocates memory, in its signature."""
     for crate in core():
         for path in code_files(crate):
             code = blanked(read(path))
@@ -78,7 +80,7 @@ def check_core(tell):
 
 
 def words_of(definitions):
-    """The definitions without comments and white space."""
+    """Returns the definitions without comments and white space."""
     return re.sub(r'\s+', '', re.sub(r'(^|\s)--[^\n]*', r'\1', definitions))
 
 
@@ -87,32 +89,28 @@ def definitions_in(block):
 
 
 def check_definitions(tell):
-    """Each definition that a page shows stands in a crate."""
+    """Checks that each definition on a page is in a crate."""
     found = [words_of(read(it)) for it in definition_files()]
     for page in pages():
         for block in re.findall(r'```antt\n(.*?)```', read(page), re.S):
             for piece in definitions_in(block):
                 if not any(words_of(piece) in it for it in found):
-                    tell(f'{page}: stands in no source: {piece.strip().splitlines()[0]}')
-
-
-# A public definition of specs/; fields are indented.
-DEFINED = re.compile(r'^(?:(?:abbrev|unfoldable) )?pub (?!mod |use )(?:record |data )?([\w-]+)', re.M)
+                    tell(f'{page}: is in no source: {piece.strip().splitlines()[0]}')
 
 
 def check_names(tell):
-    """Each public name of specs/ stands in one file."""
+    """Checks that each public name of specs/ is in only one file."""
     found = {}
     for path in paths('crates/*/specs/**/*.antt'):
         for name in DEFINED.findall(read(path)):
             found.setdefault(name, set()).add(path)
     for name, files in sorted(found.items()):
         if len(files) > 1:
-            tell(f'{name} stands in {", ".join(sorted(files))}')
+            tell(f'{name} is in {", ".join(sorted(files))}')
 
 
 def shown_snippets():
-    """Each snippet of Rust that is shown, with where it stands."""
+    """Iterates over the shown snippets of Rust, each with its position."""
     yield from ((page, textwrap.dedent(it)) for page in pages() for it in RUST.findall(read(page)))
     for path in code_files():
         docs = '\n'.join(re.findall(r'^ *//[/!] ?(.*)$', read(path), re.M))
@@ -120,7 +118,7 @@ def shown_snippets():
 
 
 def check_snippets(tell):
-    """Each snippet of Rust that is shown is whole, and of the code of a crate; its values are printed."""
+    """Checks that each shown snippet of Rust consists of whole items of a crate, and that its values are in the rows."""
     sources = [Source(read(it)) for it in code_files() + paths('rust/examples/*.rs')]
     printed = {line.removeprefix('> ') for line in read('rust/programs/rows/tests/calls/uses.rows').split('\n')}
     for where, block in shown_snippets():
@@ -133,13 +131,13 @@ def check_snippets(tell):
         if rest or not items:
             tell(f'{where}: is no whole item: {(rest or [first])[0].splitlines()[0]}')
         elif not lacks:
-            tell(f'{where}: stands in no source: {first}')
+            tell(f'{where}: is in no source: {first}')
         elif min(lacks, key=len):
             tell(f'{where}: lacks {", ".join(sorted(min(lacks, key=len)))}: {first}')
 
 
 def kept_out():
-    """Patterns of what is built, and never committed."""
+    """Returns the patterns of files that are built and never committed."""
     return [it.rstrip('/') for it in read('.gitignore').split()]
 
 
@@ -156,15 +154,16 @@ def is_there(path, page):
 
 def check_paths(tell):
     sources = {os.path.basename(it) for it in [*code_files(), *definition_files()]}
-    folder = r'(?:docs|tools|crates|bench|\.ci|rl_\w+|rust_literals)'
+    folder = r'(?:docs|tools|oracle|crates|bench|\.ci|rl_\w+|rust_literals)'
     bare_path = re.compile(rf'(?<![\w/.-])({folder}/[\w./-]*[\w/])')
     for page in prose_pages():
         text = read(page)
         for target in re.findall(r'\]\(([^)#]+)(?:#[^)]*)?\)', text):
             if '://' not in target and not is_there(target, page):
                 tell(f'{page}: no {target}')
+        made = re.findall(r'\$ rt new (\S+)', text)
         for path in bare_path.findall(text):
-            if not is_there(path, page):
+            if not is_there(path, page) and not any(path == it or path.startswith(f'{it}/') for it in made):
                 tell(f'{page}: no {path}')
         for name in re.findall(r'`(\w+\.(?:antt|rt))`', text):
             if name not in sources:
@@ -172,7 +171,7 @@ def check_paths(tell):
 
 
 def check_words(tell):
-    """Each word in code font that is written as definitions and types are stands in a source."""
+    """Checks that each word in code font that looks like the name of a definition or a type is in a source."""
     known = set()
     for path in [*code_files(), *definition_files(), 'crates.txt', *paths('rust/src/**/*.rs', 'include/*.h')]:
         known.update(re.findall(r'\w+', read(path)))
@@ -182,10 +181,10 @@ def check_words(tell):
         prose = re.sub(r'```.*?```', '', read(page), flags=re.S)
         for word in re.findall(r'`([A-Z]\w*[a-z]\w*|[a-z]\w*_\w+)`', prose):
             if word not in known and word not in FOREIGN:
-                tell(f'{page}: {word} stands in no source')
+                tell(f'{page}: {word} is in no source')
 
 
-# What a source defines, gives out, or names a clause or a member by.
+# Code that defines or re-exports a name, or that names a clause or a member.
 OWN_CODE = re.compile(
     r'\b(?:fn|struct|enum|trait|type|mod|const|ensures|requires|ghost)\s+(\w+)'
     r'|^ +([A-Z]\w*)(?:\([^)]*\))?,|^ +pub (\w+):', re.M)
@@ -194,7 +193,7 @@ GIVEN_OUT = re.compile(r'pub use ([^;]*);')
 
 
 def owned_by(crate):
-    """The files of a crate, the names that it defines or gives out, and its commands."""
+    """Returns the files of a crate, the names that it defines or re-exports, and its commands."""
     names = {os.path.basename(it) for it in paths(f'crates/{crate}/*')}
     for path in code_files(crate):
         text = read(path)
@@ -210,7 +209,7 @@ def owned_by(crate):
 
 
 def placed_names(prose):
-    """Each name that a page says is of a crate, with the crate."""
+    """Iterates over the names that a page assigns to a crate, each with the crate."""
     listed = r'`[^`]+`(?:(?:, | and |, and | or )`[^`]+`)*'
     crate = r'`(rl_\w+|rust_literals)`'
     for it in re.finditer(rf'({listed}) of {crate}', prose):
@@ -222,7 +221,7 @@ def placed_names(prose):
 
 
 def check_owners(tell):
-    """What a page says is of a crate is of that one, where it is of any."""
+    """Checks that a name that a page assigns to a crate belongs to that crate, if it belongs to any."""
     own = {it.split('/')[1]: owned_by(it.split('/')[1]) for it in paths('crates/*/src')}
     for page in prose_pages():
         prose = re.sub(r'\s+', ' ', re.sub(r'```.*?```', '', read(page), flags=re.S))
@@ -236,7 +235,7 @@ def check_owners(tell):
 
 
 def check_errors(tell):
-    """Each kind of error stands on the page of errors."""
+    """Checks that each kind of error is on the page of errors."""
     page = read('docs/ERRORS.md')
     for _, item in [*public_items('rl_tokens'), *public_items('rl_grammar')]:
         owner, _, name = item.name.partition('::')
@@ -245,48 +244,8 @@ def check_errors(tell):
             tell(f'docs/ERRORS.md: {item.name} is missing')
 
 
-# Words that the field has others for, and what they are right in.
-TERMS = re.compile(r'\b(faults?|refus\w+|lent|lends?|want of memory|behind)\b', re.I)
-RIGHT = re.compile(r'page faults|behind a pointer|system lends memory', re.I)
-
-
-def prose_of(path):
-    """The paragraphs of a page, or of the comments of code, each with the number of its first line: without examples, code and
-    addresses."""
-    lines, is_code = [], False
-    for line in read(path).split('\n'):
-        comment = line if path.endswith('.md') else line.partition('//')[2] if line.strip().startswith('//') else ''
-        if comment.strip(' /!').startswith('```'):
-            is_code = not is_code
-        lines.append('' if is_code else comment.strip(' /!'))
-    begin = 0
-    for at, line in enumerate([*lines, '']):
-        if not line:
-            if at > begin:
-                yield begin + 1, re.sub(r'``.*?``|`[^`]*`|\]\([^)]*\)|!\[[^]]*\]', '', ' '.join(lines[begin:at]))
-            begin = at + 1
-
-
-def check_terms(tell):
-    """No page and no comment of a crate has a word that the field has another for."""
-    for path in prose_pages() + code_files():
-        for number, prose in prose_of(path):
-            for found in TERMS.finditer(RIGHT.sub('', prose)):
-                tell(f'{path}:{number}: {found[0]}: another word is the field\'s')
-
-
-def check_public_names(tell):
-    """No public item and no public definition has such a word in its name."""
-    named = [(path, item.name) for crate in libraries() for path, item in public_items(crate)]
-    named += [(path, name) for path in paths('crates/*/specs/**/*.antt') for name in DEFINED.findall(read(path))]
-    for path, name in named:
-        parts = re.findall(r'[A-Z]?[a-z]+', name)
-        if any(TERMS.fullmatch(it) for it in parts):
-            tell(f'{path}: {name}: another word is the field\'s')
-
-
 def check_limits(tell):
-    """The page of speed says how many limits are above the lowest that they were."""
+    """Checks that the page of speed has the number of limits that are above their lowest value."""
     limits = [line.split('\t') for line in read('bench/limits').split('\n') if line and not line.startswith('# ')]
     for corpus, work, limit, lowest in limits:
         if float(lowest) > float(limit):
@@ -296,8 +255,19 @@ def check_limits(tell):
         tell(f'docs/PERFORMANCE.md: {above} of the {len(limits)} limits are above the lowest that they were')
 
 
+# Files of the repository that the package has a copy of, since Cargo packs no file from outside its folder.
+COPIES = {'rust/' + name: name for name in ('CHANGELOG.md', 'LICENSE-APACHE', 'LICENSE-MIT')}
+
+
+def check_copies(tell):
+    for copy, original in COPIES.items():
+        if read(copy) != read(original):
+            tell(f'{copy}: it is not {original}: run tools/docs --write')
+
+
 def check_diagrams(tell):
-    """Each diagram shows a definition that stands and is on a page; that of the crates shows them."""
+    """Checks that each diagram shows a definition that is in a source and on a page, and that the diagram of the crates is up to
+    date."""
     loader = importlib.machinery.SourceFileLoader('diagrams', os.path.join(TOP, 'tools', 'diagrams'))
     spec = importlib.util.spec_from_loader('diagrams', loader)
     diagrams = importlib.util.module_from_spec(spec)
@@ -319,4 +289,5 @@ def check_diagrams(tell):
 
 OF_PAGES = (
     check_core, check_paths, check_snippets, check_definitions, check_names, check_words, check_owners,
-    check_errors, check_diagrams, check_limits, check_terms, check_public_names)
+    check_errors, check_diagrams, check_copies, check_limits, check_terms, check_habits,
+    check_public_names)

@@ -1,4 +1,4 @@
-"""The public items of the crates, with their documentation, as the sources have them."""
+"""Reads the public items of the crates, with their documentation, from the sources."""
 import functools
 import glob
 import os
@@ -9,8 +9,8 @@ from .snippets import EXAMPLE, PARTS, bare, blanked
 TOP = os.path.dirname(os.path.dirname(os.path.dirname(os.path.abspath(__file__))))
 # The crates whose items are for callers.
 LIBRARIES = """
-    rl_tokens rl_grammar rl_quoted rust_literals rl_attributes rl_lines rl_program rl_commands
-    rl_files rl_restyled rl_output rl_fixes rl_sources rl_uses""".split()
+    rl_tokens rl_grammar rl_quoted rust_literals rl_attributes rl_program rl_commands
+    rl_files rl_restyle rl_output rl_scan rl_sources rl_uses""".split()
 
 
 @functools.cache
@@ -40,7 +40,7 @@ def pages():
 
 
 def prose_pages():
-    """The pages, and those whose code Cargo compiles, or that show none."""
+    """Returns the pages, without those whose code Cargo compiles, or that show no code."""
     return [*pages(), 'CONTRIBUTING.md', 'rust/README.md']
 
 
@@ -52,7 +52,7 @@ class Item:
         return [it for it in EXAMPLE.findall(self.docs) if bare(it)]
 
     def named_example(self):
-        """The item whose example the documentation says is of this one too."""
+        """Returns the item whose example, by the documentation, is an example of this item too."""
         found = re.search(r'example of\s+\[`([\w:]+)`\]', self.docs)
         return found[1] if found else None
 
@@ -65,7 +65,7 @@ class Item:
 
 
 def closing(code, at):
-    """The place after the brace that closes the one at a place, past strings and characters."""
+    """Returns the position after the brace that closes the one at `at`. Strings and characters are skipped."""
     depth = 0
     for it in re.compile(PARTS.pattern + '|[{}]', re.S).finditer(code, at):
         depth += {'{': 1, '}': -1}.get(it[0], 0)
@@ -80,7 +80,7 @@ def on_a_line(code):
 
 
 def docs_before(text, at):
-    """The documentation that stands right above a place, attributes between."""
+    """Returns the documentation directly above a position. Attributes may be between."""
     lines = []
     for line in reversed(text[:at].split('\n')[:-1]):
         line = line.strip()
@@ -92,7 +92,7 @@ def docs_before(text, at):
 
 
 def holders(text):
-    """The blocks of impls and traits: where each begins and ends, of what, and of which sort."""
+    """Iterates over the blocks of impls and traits: the start and the end of each, its type, and its sort."""
     head = re.compile(r'^(pub trait|impl(?:<[^\n]*?>)?) ([^\n{]*)', re.M)
     found = []
     for it in head.finditer(text):
@@ -131,7 +131,7 @@ def items_of(path):
 
 
 def parts_of(text, code, at, name):
-    """The public fields of a struct, or the variants of an enum, whose brace stands at a place."""
+    """Iterates over the public fields of a struct, or the variants of an enum, whose brace is at `at`."""
     part = re.compile(r'^    (?:pub (\w+: [^\n]*),$|([A-Z]\w*(?:\([^)]*\))?),)', re.M)
     found = []
     for it in part.finditer(code, at, closing(code, at)):
@@ -142,7 +142,7 @@ def parts_of(text, code, at, name):
 
 
 def signature_end(code, at):
-    """The place where the signature ends that goes on from a place."""
+    """Returns the position where the signature that contains `at` ends."""
     depth = 0
     for it in re.compile(r'->|=>|[(<>)\[\]]|[;{=]|\b(?:requires|ensures)\b').finditer(code, at):
         if it[0] in '(<[':
@@ -155,18 +155,18 @@ def signature_end(code, at):
 
 
 def core():
-    """The crates of the core: those of crates.txt between the line that names it and the next comment."""
+    """Returns the crates of the core: those of crates.txt between the line that names the core and the next comment."""
     part = re.search(r'(?m)^# The core[^\n]*\n((?:[^#\n][^\n]*\n)*)', read('crates.txt'))
     return re.findall(r'(?m)^(\w+)', part[1])
 
 
 def inner():
-    """The crates that callers don't name, since the libraries give out what they have: the core, and rl_fronts."""
+    """Returns the crates that callers don't name, since the libraries re-export their items: the core, and rl_fronts."""
     return [*core(), 'rl_fronts']
 
 
 def given_by(crate, file):
-    """What a file gives out: names by crate and module, None for all of a module."""
+    """Iterates over the names that a file re-exports, by crate and module. The name is None for a whole module."""
     text = read(file)
     given = {(crate, it): None for it in re.findall(r'(?m)^pub mod (\w+);', text)}
     for owner, path, several, one in re.findall(r'pub use (\w+)((?:::\w+)*)::(?:\{([^}]*)\}|(\w+));', text):
@@ -179,16 +179,22 @@ def given_by(crate, file):
     return given
 
 
+def root_of(crate):
+    """Returns the root file of a crate, which is a library or a program."""
+    library = f'crates/{crate}/src/lib.rt'
+    return library if os.path.isfile(os.path.join(TOP, library)) else f'crates/{crate}/src/main.rt'
+
+
 def module_of(crate, name):
-    """The module whose item the root of a library gives out under this name."""
-    root = read(f'crates/{crate}/src/lib.rt')
+    """Returns the module whose item the root of a crate exports with this name."""
+    root = read(root_of(crate))
     found = re.search(rf'pub use crate::(\w+)::(?:\{{[^}}]*)?\b{name}\b', root)
     return crate, found[1]
 
 
 def modules(crate):
-    """What the root of a library and the modules that it gives out whole give out."""
-    given = given_by(crate, f'crates/{crate}/src/lib.rt')
+    """Returns the exports of a library's root, and those of the modules that it exports as a whole."""
+    given = given_by(crate, root_of(crate))
     for owner, module in [at for at, names in given.items() if names is None]:
         for at, names in given_by(owner, f'crates/{owner}/src/{module}.rt').items():
             given.setdefault(at, names)
@@ -196,14 +202,15 @@ def modules(crate):
 
 
 def is_given(item, names):
-    """Whether an item of a module is given out, where these names of it are."""
+    """Whether an item of a module is exported, if these names of the module are."""
     owner = item.name.split('::')[0]
     return names is None or owner in names
 
 
 @functools.cache
 def public_items(crate):
-    """The items that the library gives out, each with its file; those of inner crates that a library before it gives out aren't."""
+    """Iterates over the items that the library exports, each with its file. Items of inner crates that an earlier library exports
+    are left out."""
     given = modules(crate)
     before = {at for it in LIBRARIES[:LIBRARIES.index(crate)] for at in modules(it)} if crate in LIBRARIES else set()
     owners = [crate, *(it for it in inner() if any(owner == it for owner, _ in given))]

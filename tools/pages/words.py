@@ -1,27 +1,69 @@
-"""The words of each kind of flaws: the table of docs/ERRORS.md has them as the sources do."""
+"""Writes the messages and identifiers of errors in the headings of docs/ERRORS.md, from the sources."""
 import re
 
 from .items import read
 
-PAGE, FLAWS = 'docs/ERRORS.md', 'crates/rl_reasons/src/flaws.rt'
-BEGIN, END = '<!-- words: written by tools/docs --write -->', '<!-- end of words -->'
+PAGE = 'docs/ERRORS.md'
+# The files with the messages of each type of error, and with the identifiers that `rl_scan` prints.
+MESSAGES = {
+    'FlawKind': 'crates/rl_strict/src/flaws.rt', 'TypeError': 'crates/rl_types/src/type_errors.rt',
+    'LexKind': 'crates/rl_lexer/src/lex_error.rt', 'SyntaxErrorKind': 'crates/rl_settings/src/syntax_error.rt',
+}
+IDENTIFIERS = {
+    'FlawKind': 'crates/rl_strict/src/flaws.rt', 'TypeError': 'crates/rl_types/src/type_errors.rt',
+    'LexKind': 'crates/rl_output/src/error_id.rt',
+}
+# The errors of a whole source that `rl_scan` prints.
+PRINTED = ('UnclosedQuote', 'UnclosedComment', 'StrayCharacter')
+# An entry of the page: its heading, and below it its identifiers and kinds.
+ENTRY = re.compile(r'^### (.*)\n\n(?:Identifier: .*\. )?Kinds?: (.*)\.$', re.M)
 
 
-def words():
-    """The words of each kind, as `FlawKind::words` returns them."""
-    found = re.findall(r'FlawKind::(\w+) => "((?:\\.|[^"\\])*)"', read(FLAWS))
-    return {kind: re.sub(r'\\(.)', r'\1', its) for kind, its in found}
+def strings_of(path, kind, functions):
+    """Returns the string that one of the functions returns for each variant of a type."""
+    found = {}
+    for part in re.split(r'\bfn (?=\w+\()', read(path)):
+        if part.split('(')[0] in functions:
+            found.update(re.findall(kind + r'::(\w+) => "((?:\\.|[^"\\])*)"', part))
+    return {f'{kind}::{variant}': re.sub(r'\\(.)', r'\1', its) for variant, its in found.items()}
+
+
+def messages():
+    """Returns the message of each variant, by the name of its type and its own name."""
+    return {name: its for kind, path in MESSAGES.items() for name, its in strings_of(path, kind, ['words']).items()}
+
+
+def identifiers():
+    """Returns the identifier of each variant that `rl_scan` prints."""
+    found = {name: its for kind, path in IDENTIFIERS.items() for name, its in strings_of(path, kind, ['id', 'id_of']).items()}
+    return {name: its for name, its in found.items() if not name.startswith('LexKind::') or name.split('::')[1] in PRINTED}
+
+
+def in_code(text):
+    return f'`` {text} ``' if '`' in text else f'`{text}`'
+
+
+def kinds_of(listed):
+    return re.findall(r'`(\w+::\w+)`', listed)
 
 
 def with_words():
-    """The page with the words of its kinds as the sources have them."""
-    before, rest = read(PAGE).split(BEGIN)
-    table, after = rest.split(END)
-    its = words()
-    table = re.sub(r'(?m)^\| `(\w+)`:[^|]*\|', lambda it: f'| `{it[1]}`: {its.get(it[1])} |', table)
-    return f'{before}{BEGIN}{table}{END}{after}'
+    """Returns the page with the headings and identifiers of its kinds as in the sources."""
+    said, ids = messages(), identifiers()
+
+    def written(entry):
+        kinds = kinds_of(entry[2])
+        heading = ' / '.join(dict.fromkeys(in_code(said[it]) for it in kinds if it in said)) or entry[1]
+        its = dict.fromkeys(ids[it] for it in kinds if it in ids)
+        identifier = f'Identifier: {", ".join(f"`{it}`" for it in its)}. ' if its else ''
+        return f'### {heading}\n\n{identifier}Kind{"s" if len(kinds) > 1 else ""}: {entry[2]}.'
+
+    return ENTRY.sub(written, read(PAGE))
 
 
 def check_words(tell):
     if with_words() != read(PAGE):
-        tell(f'{PAGE}: its words are not those of {FLAWS}: run tools/docs --write')
+        tell(f'{PAGE}: its messages or identifiers are not those of the sources: run tools/docs --write')
+    shown = {it for entry in ENTRY.finditer(read(PAGE)) for it in kinds_of(entry[2])}
+    for name in sorted({*messages(), *identifiers()} - shown - {'LexKind::Memory'}):
+        tell(f'{PAGE}: has no entry of {name}')

@@ -1,1 +1,1 @@
-"""How tools/wrong tries wrong bodies, many in one check."""
+"""The parts of tools/wrong, which tries many wrong bodies (mutants) in one check of the prover."""

@@ -1,4 +1,4 @@
-"""The crates of the repository, copies of them, and the checks of the kit's prover over these."""
+"""The crates of the repository, copies of them, and runs of the prover of Rattle's kit on these."""
 import os
 import re
 import shutil
@@ -10,18 +10,18 @@ from .edits import files_below, read
 from .verdicts import Verdicts
 
 PARTS = ('src', 'specs', 'proofs')
-# The seconds after which a check is stopped, and the memory that is planned for one, in bytes.
+# The seconds after which a check is stopped, and the memory in bytes that is reserved for one.
 LONGEST, MEMORY = 3600, 4_000_000_000
 
 
 def lines_of(text):
-    """The lines of a crates.txt, each by its crate."""
+    """Returns the lines of a crates.txt, each by its crate."""
     lines = [line.partition('#')[0].strip() for line in text.split('\n')]
     return {line.split(':')[0].split()[0]: line for line in lines if line}
 
 
 class Crates:
-    """The crates that crates.txt lists, lowest first where each stands below those that name it."""
+    """The crates that crates.txt lists. A crate comes after those that it names."""
 
     def __init__(self, top):
         self.top, self.lines = top, lines_of(read(f'{top}/crates.txt'))
@@ -30,11 +30,11 @@ class Crates:
         return name in self.lines
 
     def right_below(self, name):
-        """The libraries that the crate names, of the repository and of the kit."""
+        """Returns the libraries that the crate names, of the repository and of the kit."""
         return self.lines[name].partition(':')[2].split()
 
     def below(self, name):
-        """The crates below it, each after those that it names."""
+        """Returns the crates below the crate. Each comes after those that it names."""
         found = []
         for it in self.right_below(name):
             if it in self:
@@ -42,19 +42,20 @@ class Crates:
         return found
 
     def copy_parts(self, names, to):
-        """Copies to a folder what the prover reads of these crates and of those below them."""
+        """Copies the files that the prover reads of these crates and of those below them to a folder."""
         for name in dict.fromkeys(it for name in names for it in [*self.below(name), name]):
             for part in PARTS:
                 if os.path.isdir(f'{self.top}/crates/{name}/{part}'):
                     shutil.copytree(f'{self.top}/crates/{name}/{part}', f'{to}/{name}/{part}')
 
     def size_of(self, folder):
-        """About how much there is to prove in a crate's folder."""
+        """Returns an estimate of the size of the proofs in a crate's folder."""
         return sum(os.path.getsize(f'{folder}/{it}') for it in files_below(folder))
 
 
 class Prover:
-    """Rattle's prover, over libraries as `rt ci` builds them: with their statements alone, which other commands of rt don't take."""
+    """Rattle's prover, with libraries as `rt ci` builds them: these have only their statements, and other commands of rt don't
+    accept them."""
 
     def __init__(self, crates, libraries):
         self.crates, self.libraries = crates, libraries
@@ -62,12 +63,12 @@ class Prover:
         self.running, self.lock, self.is_stopped = set(), threading.Lock(), False
 
     def build_below(self, names, copies):
-        """Has `rt ci` build the libraries below these crates, of which it keeps on this machine what it proved, from copies of them;
-        returns why it couldn't."""
+        """Builds the libraries below these crates with `rt ci`, from copies of the crates. `rt ci` caches its proofs on this
+        machine. Returns the error, if there is one."""
         libraries = list(dict.fromkeys(it for name in names for it in self.crates.below(name)))
         if not libraries:
             return None
-        # (what makes it the top of a repository)
+        # This folder makes it the top of a repository.
         os.makedirs(f'{self.libraries}/.git')
         shutil.copy(f'{self.crates.top}/HANDLES', self.libraries)
         with open(f'{self.libraries}/crates.txt', 'w', encoding='utf-8') as it:
@@ -78,8 +79,10 @@ class Prover:
         return None if ended.status == 0 else '\n'.join(ended.said.rstrip().split('\n')[-5:])
 
     def words(self, name, kept):
-        """The command that checks a crate in its folder, and keeps what it proved."""
-        words = [f'{self.kit}/bin/rattle', 'check', '--crate-name', name, 'src/lib.rt', '--extern', f'std={self.kit}/rlibs/std.rlib']
+        """Returns the command that checks a crate in its folder, and keeps its proofs."""
+        is_program = os.path.exists(f'{self.crates.top}/crates/{name}/src/main.rt')
+        root = 'src/main.rt' if is_program else 'src/lib.rt'
+        words = [f'{self.kit}/bin/rattle', 'check', '--crate-name', name, root, '--extern', f'std={self.kit}/rlibs/std.rlib']
         words += ['-L', f'dependency={self.kit}/rlibs']
         for it in self.crates.right_below(name):
             rlib = f'{self.libraries}/crates/{it}/out/rlib' if it in self.crates else f'{self.kit}/rlibs'
@@ -92,13 +95,13 @@ class Prover:
         return [*words, '--crate-type', 'staticlib'] if is_static else words
 
     def check(self, name, folder, kept, paths):
-        """What the prover says of these functions and of those that they call, or else of the whole crate, as it stands in the folder,
-        over what it kept there. It takes holes for proofs."""
+        """Returns the prover's output for these functions and those that they call, or for the whole crate, in the folder, with the
+        proofs that it kept there. The prover accepts holes as proofs."""
         only = [word for it in paths for word in ('--only', it)]
         return self.run([*self.words(name, kept), '--allow-holes', '--short-goals', *only], folder, LONGEST)
 
     def run(self, words, folder, longest):
-        """What a command said, and how it ended."""
+        """Returns the output of a command, and its status."""
         how = {'stdin': subprocess.DEVNULL, 'stdout': subprocess.PIPE, 'stderr': subprocess.STDOUT, 'errors': 'replace'}
         with self.lock:
             if self.is_stopped:
@@ -116,7 +119,7 @@ class Prover:
         return Verdicts(said, ran.returncode)
 
     def stop(self):
-        """Ends what runs, and lets nothing more begin."""
+        """Stops all running commands, and prevents new ones."""
         with self.lock:
             self.is_stopped = True
             for it in self.running:
@@ -129,7 +132,7 @@ def said_by(*words):
 
 
 def lanes():
-    """How many checks run side by side."""
+    """Returns the number of checks that run at the same time."""
     jobs = os.environ.get('RT_JOBS', '')
     if jobs.isdigit() and int(jobs):
         return int(jobs)

@@ -1,4 +1,4 @@
-"""Edits: what each changes of a crate's files, and in which functions."""
+"""Edits of wrong bodies: the changes of a crate's files, and the functions that they change."""
 import os
 import re
 from typing import NamedTuple
@@ -7,13 +7,13 @@ FN = re.compile(r'( *)(?:pub(?:\([^)]*\))? )?(?:const )?(?:unsafe )?(?:extern "C
 IMPL = re.compile(
     r"(?:unsafe )?impl(?:<.*?>)? (?:(?:\w+::)*(?P<trait>\w+)(?:<(?P<of>\w+).*?>)? for )?"
     r"(?:&(?:'\w+ )?(?:mut )?)?(?:\w+::)*(?P<type>\w+)")
-# What a control writes in front of a body, and the most lines of that body.
+# The text that a control inserts at the start of a body, and the largest number of lines of that body.
 NEEDLESS, SHORT = 'let _needless = true; ', 8
 
 
 class Function(NamedTuple):
-    """A function that a wrong body changes: how the names end by which the prover may call it, its file,
-    and its lines. What is outside of all functions has no name."""
+    """A function that a wrong body changes: the endings of the names by which the prover may call it, its file, and its lines. A
+    change outside of all functions has no name."""
     names: tuple
     file: str
     lines: range
@@ -30,7 +30,7 @@ def write(path, text):
 
 
 def block(lines, pattern):
-    """The last line that fits and whose block isn't closed after it, and its number; else None, 0."""
+    """Returns the last line that matches and whose block isn't closed after it, with its number, or None and 0."""
     for at in range(len(lines) - 1, -1, -1):
         found = pattern.match(lines[at])
         indent = len(lines[at]) - len(lines[at].lstrip())
@@ -40,7 +40,7 @@ def block(lines, pattern):
 
 
 def function_at(crate, file, text, place):
-    """The function of the file's text in which the place is."""
+    """Returns the function of the file's text that contains the position."""
     lines = (text[:place] + text[place:].partition('\n')[0]).split('\n')
     function, first = block(lines, FN)
     if not function:
@@ -52,7 +52,7 @@ def function_at(crate, file, text, place):
     within = range(first, last + 1)
     owner, _ = block(lines, IMPL) if function[1] else (None, 0)
     if owner:
-        # A method stands where its type does. A trait for several types has those in its name.
+        # A method is in the module of its type. If a trait is implemented for several types, its name contains the type.
         trait = owner['trait'] or ''
         owners = dict.fromkeys([owner['type'] + trait, owner['type'] + trait + (owner['of'] or '')])
         return Function(tuple(f'::{it}::{function[2]}' for it in owners), file, within)
@@ -60,12 +60,12 @@ def function_at(crate, file, text, place):
 
 
 def modules_of(file):
-    """The path of a file's module below its crate."""
+    """Returns the path of a file's module below its crate."""
     return [it for it in file[len('src/'):-len('.rt')].split('/') if it not in ('lib', 'main')]
 
 
 class Region(NamedTuple):
-    """What a wrong body writes in place of a part of a file."""
+    """The replacement of a part of a file by a wrong body."""
     file: str
     start: int
     end: int
@@ -76,7 +76,7 @@ class Region(NamedTuple):
 
 
 def with_regions(folder, regions):
-    """The texts of the files that these regions change, none of which overlap."""
+    """Returns the texts of the files that these regions change. The regions must not overlap."""
     texts = {it.file: read(f'{folder}/{it.file}') for it in regions}
     for it in sorted(regions, key=lambda it: it.start, reverse=True):
         texts[it.file] = texts[it.file][:it.start] + it.text + texts[it.file][it.end:]
@@ -84,13 +84,13 @@ def with_regions(folder, regions):
 
 
 class Edit:
-    """A wrong body: in which file what is put in place of what, in turn."""
+    """A wrong body: the file, and the replacements in it, in order."""
 
     def __init__(self, name, pairs):
         self.name, self.pairs = name, pairs
 
     def applied(self, folder):
-        """The texts of the files that it changes; None where it doesn't apply."""
+        """Returns the texts of the changed files, or None if the edit can't be applied."""
         texts = {}
         for file, old, new in self.pairs:
             text = texts[file] if file in texts else read(f'{folder}/{file}')
@@ -100,7 +100,7 @@ class Edit:
         return texts
 
     def why_bad(self, folder):
-        """Why it can't be tried on the crate as it stands, if it can't."""
+        """Returns the reason why the edit can't be tried on the crate, or nothing."""
         files = {file for file, _, _ in self.pairs}
         beyond = sorted(it for it in files if not re.fullmatch(r'src/[\w/]+\.rt', it) or not os.path.isfile(f'{folder}/{it}'))
         if not files or not all(old for _, old, _ in self.pairs):
@@ -112,7 +112,7 @@ class Edit:
         return None if self.regions(folder) else 'it changes nothing'
 
     def regions(self, folder):
-        """What it changes: of each file, from the first changed character to the last."""
+        """Returns the changed region of each file, from the first changed character to the last."""
         found = []
         for file, text in self.applied(folder).items():
             was = read(f'{folder}/{file}')
@@ -124,7 +124,7 @@ class Edit:
         return found
 
     def functions(self, crate, folder):
-        """What it changes, but for imports."""
+        """Returns the functions that the edit changes. Changed imports don't count."""
         found, texts = [], {}
         for file, old, new in self.pairs:
             text = texts[file] if file in texts else read(f'{folder}/{file}')
@@ -136,7 +136,7 @@ class Edit:
 
 
 def edit_of(path):
-    """The wrong body that a file has."""
+    """Returns the wrong body in a file."""
     pairs, file, old = [], '', ''
     for line in read(path).split('\n'):
         word, _, text = line.partition(':')
@@ -152,14 +152,14 @@ def edit_of(path):
 
 
 def files_below(folder):
-    """The files of a folder, and of those in it, by their paths from it."""
+    """Returns the files of a folder and of its subfolders, by their paths from the folder."""
     found = [os.path.join(at, it) for at, _, names in os.walk(folder) for it in names]
     return sorted(os.path.relpath(it, folder) for it in found)
 
 
 def short_bodies(folder):
-    """The short functions of a crate's modules that have no proof by hand and no loop: of each the file, the line that its body
-    begins with, and the number of that body's lines."""
+    """Iterates over the short functions of a crate's modules without a proof file and without a loop: for each the file, the line
+    with which the body begins, and the number of the body's lines."""
     for file in (f'src/{it}' for it in files_below(f'{folder}/src') if it != 'laws.rt'):
         lines = read(f'{folder}/{file}').split('\n')
         for at, line in enumerate(lines):
@@ -176,8 +176,8 @@ def short_bodies(folder):
 
 
 def control_of(crate, folder, taken):
-    """A body that changes nothing of what the crate means, in a function that isn't among those taken: the check that rejects it
-    rejects anything. None where no function is short enough."""
+    """Returns a control: a body whose change has no effect, in a function that isn't among those taken. A check that rejects it
+    would reject anything. Returns None if no function is short enough."""
     for file, first, _ in sorted(short_bodies(folder), key=lambda it: it[2]):
         control = Edit('control', [(file, first, NEEDLESS + first)])
         if not first.startswith('//') and control.why_bad(folder) is None and set(control.functions(crate, folder)).isdisjoint(taken):

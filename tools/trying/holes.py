@@ -1,13 +1,14 @@
-"""Holes in place of proofs: where a check asks only of some functions whether they are proved, it takes the others as `rt ci` proved
-them, by their contracts, and proves none of them again."""
+"""Holes in place of proofs. If a check is only about some functions, it accepts the other functions by their contracts, as `rt
+ci` proved them, and proves none of them again."""
 import os
+import re
 import shutil
 
 from .edits import FN, files_below, modules_of, read, write
 
-# The files of what a function's proof takes from us.
+# The files of a function's proof that are written by hand.
 ANSWERS = ('/Answers.antt', '/Invariants.antt')
-# What stands in place of a function's proof; `?` is the hole.
+# The text that replaces a function's proof. `?` is the hole.
 PROOF = '''use Rattle.{crate}.proofs.{module}.Statement as stated
 
 pub {name}_spec : {{M : Type 1}} → stated.statement M
@@ -16,23 +17,27 @@ pub {name}_spec : {{M : Type 1}} → stated.statement M
 
 
 def paths_of(folder):
-    """The functions of a crate that a hole can stand for, each by its path below the crate: those outside of types, and those with a
-    folder of proof files. What calls itself has none, since one proof serves all that call each other."""
+    """Returns the functions of a crate whose proofs can be replaced by holes, each by its path below the crate: those outside of
+    types, and those with a folder of proof files. A function that calls itself isn't among them, since one proof is for all
+    functions that call each other."""
     found = set()
     for file in (f'src/{it}' for it in files_below(f'{folder}/src') if it.endswith('.rt')):
         lines = read(f'{folder}/{file}').split('\n')
         for at, line in enumerate(lines):
             function = FN.match(line)
-            if function and not function[1] and 'extern' not in line and not is_in_cycle(lines, at):
+            if function and not function[1] and 'extern' not in line and not is_in_cycle(lines, at, function[2]):
                 found.add((*modules_of(file), function[2]))
     proofs = files_below(f'{folder}/proofs')
     found.update(tuple(it.split('/')[:-1]) for it in proofs if it.endswith(ANSWERS) and '+' not in it)
-    # (a proof by hand stays)
+    # A proof that is written by hand stays.
     return found - {tuple(it.split('/')[:-1]) for it in proofs if it.endswith('/Proof.antt')}
 
 
-def is_in_cycle(lines, at):
-    """Whether the attributes of the function at this line say that it is in a cycle of calls."""
+def is_in_cycle(lines, at, name):
+    """Whether the function at this line is in a cycle of calls, by its attributes, or because its body calls it."""
+    body = lines[at + 1:lines.index('}', at)] if '}' in lines[at:] else []
+    if any(re.search(rf'(?<![.:\w]){name}\(', line) for line in body):
+        return True
     while at and lines[at - 1].startswith('#['):
         at -= 1
         if lines[at].startswith('#[cycle'):
@@ -41,7 +46,7 @@ def is_in_cycle(lines, at):
 
 
 class Holes:
-    """The holes in a copy of a crate, and the proofs as they stand in another copy of it."""
+    """The holes in a copy of a crate, and the proofs of another copy of the crate."""
 
     def __init__(self, crate, folder, proved):
         self.crate, self.folder, self.proved = crate, folder, proved
@@ -51,14 +56,15 @@ class Holes:
         return '::'.join([self.crate, *path])
 
     def dig(self, functions):
-        """Has a hole in place of each proof but those of these functions; none where one of them is no function."""
+        """Replaces each proof by a hole, except those of these functions. If one of them isn't a function, every proof is left in
+        place."""
         is_all = not all(it.names for it in functions)
         wanted = {it for it in self.paths if not is_all and not any(self.name(it).endswith(function.names) for function in functions)}
         for path in self.dug - wanted:
             self.fill(path)
         for path in wanted - self.dug:
             at = f"{self.folder}/proofs/{'/'.join(path)}"
-            # (functions that stand in a module of this one's name have folders in its own)
+            # A function in a module with the same name has its folder in that module's folder.
             for it in ANSWERS:
                 if os.path.isfile(at + it):
                     os.remove(at + it)
@@ -67,7 +73,7 @@ class Holes:
         self.dug = wanted
 
     def fill(self, path):
-        """Puts the proof back."""
+        """Restores the proof."""
         at, was = (f"{it}/proofs/{'/'.join(path)}" for it in (self.folder, self.proved))
         os.remove(f'{at}/Proof.antt')
         for it in ANSWERS:
@@ -75,7 +81,7 @@ class Holes:
                 shutil.copy(was + it, at)
 
     def give_up(self, names):
-        """Leaves the proofs of these functions in their places from now on; returns whether one had a hole."""
+        """Leaves the proofs of these functions in place from now on. Returns whether one of them was replaced by a hole."""
         bad = {it for it in self.dug if self.name(it) in names}
         for it in bad:
             self.fill(it)

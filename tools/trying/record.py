@@ -6,15 +6,15 @@ from .crates import PARTS, lines_of
 from .edits import read, write
 
 HEAD = 'crate\tcommit\ttried\trejected'
-# The parts of a crate that the crates above it stand on.
+# The parts of a crate on which the crates above it depend.
 SEEN_ABOVE = ('src', 'specs')
-# The files that the verdicts on all crates depend on.
+# The files on which the verdicts for all crates depend.
 COMMON = ('HANDLES', 'tools/wrong', 'tools/trying')
 
 
 class Record:
-    """A file with a line for each crate: the commit at which its wrong bodies were tried last, how many were tried, and how many were
-    rejected. Git tells whether a crate has changed since."""
+    """A file with a line for each crate: the last commit at which its wrong bodies were tried, the number of them, and the number
+    of those that were rejected. Git shows whether a crate has changed since then."""
 
     def __init__(self, crates, path):
         self.crates, self.path, self.rows = crates, path, {}
@@ -28,7 +28,7 @@ class Record:
         return subprocess.run(['git', '-C', self.crates.top, *words], capture_output=True, text=True, check=False)
 
     def commit(self):
-        """The commit that is checked out; None where a file differs from it, except the record."""
+        """Returns the commit that is checked out, or None if a file other than the record differs from it."""
         path = os.path.relpath(self.path, self.crates.top)
         differs = self.git('status', '--porcelain', '--', '.', f':(exclude){path}')
         head = self.git('rev-parse', 'HEAD')
@@ -36,8 +36,8 @@ class Record:
         return head.stdout.strip() if is_clean else None
 
     def holds(self, name, folder):
-        """Whether all wrong bodies in this folder of the crate were rejected, at a commit since which nothing has changed that their
-        verdicts depend on. A commit that the clone doesn't have, or that isn't an ancestor, proves nothing."""
+        """Whether all wrong bodies in this folder of the crate were rejected at a commit, and nothing on which their verdicts
+        depend has changed since. A commit that the clone doesn't have, or that isn't an ancestor, doesn't count."""
         if name not in self.rows:
             return False
         commit, tried, rejected = self.rows[name]
@@ -49,7 +49,7 @@ class Record:
         return self.are_unchanged(commit, paths) and self.are_lines_unchanged(commit, [*below, name])
 
     def are_unchanged(self, commit, paths):
-        """Whether the files at these paths are those of the commit, and no others are beside them."""
+        """Whether the files at these paths are those of the commit, without additional files."""
         others = self.git('ls-files', '--others', '--exclude-standard', '--', *paths)
         is_same = self.git('diff', '--quiet', commit, '--', *paths).returncode == 0
         return is_same and others.returncode == 0 and not others.stdout
@@ -61,6 +61,6 @@ class Record:
         return was.returncode == 0 and all(lines.get(it, '').split() == self.crates.lines[it].split() for it in names)
 
     def write(self, names):
-        """Writes the lines of these crates, and drops the others."""
+        """Writes the lines of these crates, and drops the other lines."""
         rows = [[name, *self.rows[name]] for name in sorted(self.rows) if name in names]
         write(self.path, ''.join('\t'.join(row) + '\n' for row in [HEAD.split('\t'), *rows]))

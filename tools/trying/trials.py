@@ -1,32 +1,33 @@
-"""The trials of a crate's wrong bodies, in as few checks as may be."""
+"""Tries the wrong bodies of a crate in as few checks as possible."""
 import re
 import threading
 
 from .edits import control_of, read, with_regions, write
 from .holes import Holes
 
-# A check with more of them than these takes much memory.
+# A check with more wrong bodies than these takes much memory.
 MOST = 40
-# A goal that is the condition of a call, and so no clause of the function.
+# A goal that is the condition of a call, and so isn't a clause of the function.
 REQUIRES = re.compile(r'-requires(-|$)')
 NOT_REJECTED = 'not rejected'
-# The status of a check that is asked for a function that isn't there, or that several have the name of.
+# The status of a check of a function that doesn't exist, or whose name several functions have.
 NO_SUCH = 2
 SAYING = threading.Lock()
 
 
 class Trials:
-    """The wrong bodies of a crate that are tried in this run, on a copy of it, and what came of them."""
+    """The wrong bodies of a crate that are tried in this run, on a copy of the crate, and their results."""
 
     def __init__(self, crate, folder, proved, edits, check):
         self.crate, self.folder, self.check = crate, folder, check
-        # The proofs of the functions that a check doesn't ask of, which are `proved`'s.
+        # Holes in place of the proofs of the functions that a check isn't about. The proofs are those of the copy `proved`.
         self.holes = Holes(crate, folder, proved)
         self.edits, self.changed, self.regions = [], {}, {}
-        # What the prover calls a function.
+        # The prover's names of functions.
         self.names = {}
         self.control, self.is_controlled = None, False
-        # Pairs that one check can't judge: what the first changes calls what the second does.
+        # Pairs of wrong bodies that one check can't judge, because a function that the first one changes calls one that the second
+        # one changes.
         self.apart = set()
         self.rejected, self.errors, self.checks = {}, 0, 0
         for edit in edits:
@@ -41,7 +42,7 @@ class Trials:
         self.changed[edit], self.regions[edit] = edit.functions(self.crate, self.folder), edit.regions(self.folder)
 
     def add_control(self):
-        """Has the first check try a body that changes nothing too; returns whether there is one."""
+        """Adds a control to the first check: a body whose change has no effect. Returns whether there is one."""
         taken = {function for functions in self.changed.values() for function in functions}
         if not all(self.is_outside(it) for it in self.edits):
             self.control = control_of(self.crate, self.folder, taken)
@@ -59,7 +60,7 @@ class Trials:
         self.say(edit, f'ERROR: {what}')
 
     def report(self, edit, is_rejected, what):
-        """Reports what came of a wrong body: rejected, and at which goals; else why not."""
+        """Reports the result of a wrong body: rejected, with the goals that failed, or the reason why it isn't."""
         names = ', '.join(' or '.join(it.names) for it in self.changed[edit])
         if edit is self.control:
             self.is_controlled = True
@@ -77,7 +78,7 @@ class Trials:
         return any(not it.names for it in self.changed[edit])
 
     def fits(self, edit, chosen):
-        """Whether a check that has the chosen ones can have this one too."""
+        """Whether a check with the chosen wrong bodies can also have this one."""
         if self.is_outside(edit):
             return not chosen
         taken = {function for it in chosen for function in self.changed[it]}
@@ -86,7 +87,7 @@ class Trials:
         return together and taken.isdisjoint(self.changed[edit]) and all(one.is_apart(it) for one in self.regions[edit] for it in regions)
 
     def batch(self, pending):
-        """The wrong bodies of the next check."""
+        """Returns the wrong bodies for the next check."""
         chosen = []
         for edit in pending:
             if self.fits(edit, chosen):
@@ -96,12 +97,13 @@ class Trials:
         return chosen
 
     def paths(self, chosen):
-        """What the prover is to call the functions that these change, by which it checks them alone; none where it can't."""
+        """Returns the prover's names of the functions that these wrong bodies change, so that it checks only them, or nothing if a
+        name is unknown."""
         functions = [function for it in chosen for function in self.changed[it]]
         return [self.names.get(it) or it.names[0].removeprefix('::') for it in functions] if all(it.names for it in functions) else []
 
     def checked(self, chosen):
-        """What the prover says with these wrong bodies; the files are as they were then."""
+        """Returns the prover's verdicts with these wrong bodies. Afterwards the files are as before."""
         texts = with_regions(self.folder, [region for it in chosen for region in self.regions[it]])
         was = {it: read(f'{self.folder}/{it}') for it in texts}
         for file, text in texts.items():
@@ -112,12 +114,14 @@ class Trials:
         return verdicts
 
     def checked_over(self, chosen):
-        """What the prover says over holes in place of the other proofs, of which it may take none for a function."""
+        """Returns the prover's verdicts with holes in place of the other proofs. The prover may not accept a hole for some
+        functions."""
         paths = self.paths(chosen)
         self.holes.dig([function for it in chosen for function in self.changed[it]])
         verdicts = self.counted(paths)
         if verdicts.status == NO_SUCH and paths:
-            # It has a name of its own for one, as for a method of a type's alias, which the whole crate shows.
+            # The prover has its own name for the function, as for a method of a type's alias. A check of the whole crate shows the
+            # name.
             verdicts = self.counted([])
         if self.holes.give_up([it for it in verdicts.of if verdicts.is_rejected(it)]):
             return self.checked_over(chosen)
@@ -128,7 +132,7 @@ class Trials:
         return self.check(paths)
 
     def is_judged(self, edit, chosen, verdicts):
-        """Reports what came of the wrong body; false where it has to be tried again, with others left out."""
+        """Reports the result of the wrong body. Returns false if it must be tried again without some of the others."""
         if self.is_outside(edit):
             rejected = [it for it in verdicts.of if verdicts.is_rejected(it)]
             self.report(edit, bool(rejected), ', '.join(rejected) or NOT_REJECTED)
@@ -158,11 +162,11 @@ class Trials:
         return not others
 
     def tried(self, chosen):
-        """Tries these in one check, and where that comes to no end, its halves; returns those that are judged."""
+        """Tries these wrong bodies in one check. If the check doesn't end, tries its halves. Returns those that are judged."""
         verdicts = self.checked(chosen)
         self.names.update({it: verdicts.name(it) for edit in chosen for it in self.changed[edit]})
         if verdicts.status < 0 and len(chosen) == 1:
-            # It was killed, most likely for memory.
+            # The prover was killed, most likely because it took too much memory.
             verdicts = self.checked(chosen)
         if verdicts.is_whole():
             return [it for it in chosen if self.is_judged(it, chosen, verdicts)]

@@ -1,15 +1,15 @@
-//! Files of Rust, in the folder that `BENCH_SOURCES` names, and their literals.
+//! The Rust files in the folder that `BENCH_SOURCES` names, and their literals.
 
 use proc_macro2::{TokenStream, TokenTree};
 use std::path::{Path, PathBuf};
 use std::{env, fs, io};
 
-/// Whether there is such a folder.
+/// Whether the folder exists.
 pub fn are_there() -> bool {
     env::var_os("BENCH_SOURCES").is_some()
 }
 
-/// Adds the paths of the folder's files of Rust.
+/// Adds the paths of the Rust files in the folder.
 fn add_paths(folder: &Path, paths: &mut Vec<PathBuf>) {
     for entry in fs::read_dir(folder).expect("a folder") {
         let path = entry.expect("an entry").path();
@@ -21,8 +21,7 @@ fn add_paths(folder: &Path, paths: &mut Vec<PathBuf>) {
     }
 }
 
-/// The files one after another, in the order of their paths: each that still fits into so many
-/// bytes.
+/// Returns the files joined in the order of their paths. A file that would exceed `size` bytes in total is left out.
 pub fn text(size: usize) -> String {
     let mut paths = Vec::new();
     let folder = env::var_os("BENCH_SOURCES").expect("the variable BENCH_SOURCES");
@@ -38,7 +37,7 @@ pub fn text(size: usize) -> String {
     all
 }
 
-/// Whether these trees are what a doc comment is turned into.
+/// Whether these trees come from a doc comment.
 fn are_doc(trees: &[TokenTree]) -> bool {
     match trees {
         [TokenTree::Ident(word), TokenTree::Punct(mark), ..] => {
@@ -48,7 +47,7 @@ fn are_doc(trees: &[TokenTree]) -> bool {
     }
 }
 
-/// Adds the texts of literals, and of truth values.
+/// Adds the texts of the literals, including `true` and `false`.
 fn add_literals(trees: TokenStream, found: &mut Vec<String>) {
     let trees: Vec<_> = trees.into_iter().collect();
     if are_doc(&trees) {
@@ -66,14 +65,15 @@ fn add_literals(trees: TokenStream, found: &mut Vec<String>) {
     }
 }
 
-/// The literals of those files.
+/// Returns the literals of the files that `text` joins.
 pub fn literals(size: usize) -> Vec<String> {
     let mut found = Vec::new();
     add_literals(text(size).parse().expect("trees"), &mut found);
     found
 }
 
-/// Adds the paths that rl_scan reads in the folder: all `*.rs`, without hidden folders, the `target` of a package, and links.
+/// Adds the paths that rl_scan reads in the folder: all `*.rs`, except in hidden folders and in the folder `target` of a package.
+/// Links are left out.
 fn add_tree(folder: &Path, paths: &mut Vec<PathBuf>) -> io::Result<()> {
     for entry in fs::read_dir(folder)? {
         let entry = entry?;
@@ -88,7 +88,8 @@ fn add_tree(folder: &Path, paths: &mut Vec<PathBuf>) -> io::Result<()> {
     Ok(())
 }
 
-/// Does something with each text of the folders' files, one read after another; returns how many files are none.
+/// Calls `work` with each text of the folders' files, which are read one after another. Returns the number of files that aren't
+/// texts.
 pub fn each_in(folders: &[&str], mut work: impl FnMut(String)) -> io::Result<usize> {
     let mut paths = Vec::new();
     for folder in folders {

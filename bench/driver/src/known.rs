@@ -1,59 +1,32 @@
-//! Sums that were worked out by hand.
+//! Checks of the works against sums that were computed by hand.
 
 use crate::corpus::Corpus;
 use crate::package;
 
-/// All of them.
+/// Checks that the works return the known sums.
 pub fn check() -> Result<(), String> {
-    // 5 + 1, 5 + 2 + 1, 4 + 1, 5 + 4
-    wanted("package", package::value(&characters()), 28)?;
-    // none; none; one before the open quote
-    wanted("package", package::source(&sources()), 1)?;
-    // -1 and "a"; 2, before the error; none
-    wanted("package", package::list(&lists()), 3)?;
-    // 2; none, since a name is repeated; 1; none
-    wanted("package", package::attributes(&attributes()), 3)
+    // The weights are 5 + 1, 5 + 2 + 1, 4 + 1 and 5 + 4.
+    let characters = ["'a'", "'\\u{e9}'x", "b'\\n'", "'\u{1F600}'"];
+    wanted("package", package::value(&known(&characters)), 28)?;
+    // The whole sources have no literal, no literal, and one literal before the open quote.
+    let sources = ["#!x\n'a r#b/// c\n\u{2261}/* d */", "#![e]", "\"#!f\"g'"];
+    wanted("package", package::source(&known(&sources)), 1)?;
+    // The lists have the literals -1 and "a", the literal 2 before the error, and no literal.
+    let lists = ["- 1 /* x */ \"a\"", "2 x 3", "// 4"];
+    wanted("package", package::list(&known(&lists)), 3)?;
+    // The texts have two settings, none because a name is repeated, one, and none.
+    let attributes = ["a = 1, b = \"x\",", "a = 1, a = 2", "c = true", "1"];
+    wanted("package", package::attributes(&known(&attributes)), 3)
 }
 
-/// Characters and a byte, with and without escapes and a suffix.
-fn characters() -> Corpus {
-    Corpus {
-        name: "known characters",
-        bytes: "'a''\\u{e9}'xb'\\n''\u{1F600}'".as_bytes().to_vec(),
-        ends: vec![3, 12, 17, 23],
-    }
+/// Returns the corpus of these texts.
+fn known(texts: &[&str]) -> Corpus {
+    let mut corpus = Corpus::new("known texts");
+    texts.iter().for_each(|text| corpus.push(text));
+    corpus
 }
 
-/// Texts that are cut as whole sources, the last of them up to an open quote.
-fn sources() -> Corpus {
-    Corpus {
-        name: "known sources",
-        bytes: "#!x\n'a r#b/// c\n\u{2261}/* d */#![e]\"#!f\"g'"
-            .as_bytes()
-            .to_vec(),
-        ends: vec![26, 31, 38],
-    }
-}
-
-/// Lists of literals, one of them with an error.
-fn lists() -> Corpus {
-    Corpus {
-        name: "known lists",
-        bytes: b"- 1 /* x */ \"a\"2 x 3// 4".to_vec(),
-        ends: vec![15, 20, 24],
-    }
-}
-
-/// Attributes, and texts that aren't.
-fn attributes() -> Corpus {
-    Corpus {
-        name: "known attributes",
-        bytes: b"a = 1, b = \"x\",a = 1, a = 2c = true1".to_vec(),
-        ends: vec![15, 27, 35, 36],
-    }
-}
-
-/// A work has to make this sum.
+/// Returns an error if the sum of a work isn't the expected one.
 fn wanted(work: &str, sum: u64, wanted: u64) -> Result<(), String> {
     if sum == wanted {
         Ok(())

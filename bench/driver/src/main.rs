@@ -1,20 +1,20 @@
-//! Runs the same work by this repository's libraries and by others. bench/run builds and calls it.
+//! Runs the same works with this repository's libraries and with others. bench/run builds and calls it.
 //!
-//! `driver names` prints each corpus with what runs on it; `driver check BYTES` compares the sums
-//! of works that weigh alike; `driver text CORPUS BYTES` prints a corpus. The others print numbers:
-//! `driver once CORPUS WORK BYTES` runs one work once, in the function `measured`, and prints the
-//! corpus's bytes and texts and the sum; `driver none CORPUS WORK BYTES` does all but run it;
-//! `driver taken CORPUS WORK BYTES` prints, with bytes and sum, the microseconds of processor time,
-//! the page faults and the bytes of memory that it took; `driver tree WORK FOLDER..` runs a work of
-//! sources on each file of folders, and prints the bytes and the sum. Each first tries the works on texts whose
-//! sums are known.
+//! - `driver names` prints each corpus with the works that run on it.
+//! - `driver check BYTES` compares the sums of works with the same weights.
+//! - `driver text CORPUS BYTES` prints a corpus.
+//! - `driver once CORPUS WORK BYTES` runs one work once, in the function `measured`, and prints the corpus's number of bytes and
+//!   the sum.
+//! - `driver time CORPUS WORK BYTES` also prints the microseconds of processor time.
+//! - `driver tree WORK FOLDER..` runs a work for sources on each file of folders, and prints the number of bytes and the sum.
+//!
+//! Each call first runs the works on texts with known sums.
 
 mod corpus;
 mod files;
 mod known;
 mod others;
 mod package;
-mod process;
 mod weight;
 mod works;
 
@@ -24,14 +24,14 @@ use std::io::Write;
 use std::process::ExitCode;
 use works::Work;
 
-/// Runs the work. Callgrind counts what runs inside.
+/// Runs the work. Callgrind counts the instructions inside this function.
 #[no_mangle]
 #[inline(never)]
 fn measured(work: &Work, corpus: &Corpus) -> u64 {
     (work.run)(black_box(corpus))
 }
 
-/// The sums of works that weigh alike have to agree.
+/// Checks that works that sum up the same quantity return the same sum on a corpus.
 fn check_sums(works: &[Work], corpus: &Corpus) -> Result<(), String> {
     for work in works {
         let sum = measured(work, corpus);
@@ -47,7 +47,7 @@ fn check_sums(works: &[Work], corpus: &Corpus) -> Result<(), String> {
     Ok(())
 }
 
-/// The same on every corpus that is good text.
+/// Checks the sums on every corpus of valid text.
 fn check_all(size: usize) -> Result<(), String> {
     for (name, form) in corpus::all() {
         if !form.is_bad() {
@@ -57,8 +57,7 @@ fn check_all(size: usize) -> Result<(), String> {
     Ok(())
 }
 
-/// Prints each corpus and work, with a word on whether the corpus is literals, a list or bad input
-/// and the work ours.
+/// Prints each corpus and work. A line also has the form of the corpus, and whether the work is the package's.
 fn print_names() {
     for (name, form) in corpus::all() {
         for work in works::of(form) {
@@ -68,14 +67,14 @@ fn print_names() {
     }
 }
 
-/// The name and form of a corpus.
+/// Returns the name and form of a corpus.
 fn named(name: &str) -> Result<(&'static str, Form), String> {
     corpus::all()
         .find(|(known, _)| *known == name)
         .ok_or_else(|| format!("no corpus {name}"))
 }
 
-/// Prints a corpus, its texts one after another.
+/// Prints the texts of a corpus, one after another.
 fn print_text(name: &str, size: usize) -> Result<(), String> {
     let (name, form) = named(name)?;
     let corpus = corpus::make(name, form, size);
@@ -83,7 +82,7 @@ fn print_text(name: &str, size: usize) -> Result<(), String> {
     written.map_err(|error| error.to_string())
 }
 
-/// The work of this name, and the corpus of this name and size.
+/// Returns the work with this name, and the corpus with this name and size.
 fn found(name: &str, work_name: &str, size: usize) -> Result<(&'static Work, Corpus), String> {
     let (name, form) = named(name)?;
     let work = works::of(form)
@@ -93,27 +92,31 @@ fn found(name: &str, work_name: &str, size: usize) -> Result<(&'static Work, Cor
     Ok((work, corpus::make(name, form, size)))
 }
 
-/// Prints the corpus's bytes and texts, and what the work makes of it, or 0 where it isn't to run.
-fn run_once(work: &Work, corpus: &Corpus, runs: bool) {
-    let sum = if runs { measured(work, corpus) } else { 0 };
-    println!("{} {} {sum}", corpus.bytes.len(), corpus.ends.len());
+extern "C" {
+    /// The C library's function, which returns the processor time of this process in microseconds.
+    fn clock() -> i64;
 }
 
-/// Prints the corpus's bytes, the sum, and what the work takes: microseconds, page faults, and how
-/// many bytes more than before were held at most.
-fn run_taken(work: &Work, corpus: &Corpus) -> Result<(), String> {
-    process::begin_peak()?;
-    let (held, faults) = (process::held()?, process::page_faults()?);
-    let before = process::processor_time();
+/// Returns the processor time of this process up to now, in microseconds.
+fn processor_time() -> i64 {
+    // SAFETY: `clock` has no parameters, and doesn't write to memory of this program.
+    unsafe { clock() }
+}
+
+/// Prints the corpus's number of bytes and the sum, and the microseconds if the work is timed.
+fn run_once(work: &Work, corpus: &Corpus, is_timed: bool) {
+    let before = processor_time();
     let sum = measured(work, corpus);
-    let time = process::processor_time() - before;
-    let faults = process::page_faults()? - faults;
-    let peak = process::peak()?.saturating_sub(held);
-    println!("{} {sum} {time} {faults} {peak}", corpus.bytes.len());
-    Ok(())
+    let time = processor_time() - before;
+    let spent = if is_timed {
+        format!(" {time}")
+    } else {
+        String::new()
+    };
+    println!("{} {sum}{spent}", corpus.bytes.len());
 }
 
-/// Runs a work of sources on each file of the folders, and prints their bytes and the sum.
+/// Runs a work for sources on each file of the folders, and prints the number of bytes and the sum.
 fn run_tree(name: &str, folders: &[&str]) -> Result<(), String> {
     let works = works::of(Form::Source);
     let work = works.iter().find(|work| work.name == name);
@@ -133,7 +136,8 @@ fn run_tree(name: &str, folders: &[&str]) -> Result<(), String> {
     Ok(())
 }
 
-const USAGE: &str = "names | check BYTES | text CORPUS BYTES | once|none|taken CORPUS WORK BYTES | tree WORK FOLDER..";
+const USAGE: &str =
+    "names | check BYTES | text CORPUS BYTES | once|time CORPUS WORK BYTES | tree WORK FOLDER..";
 
 fn number(word: &str) -> Result<usize, String> {
     word.parse().map_err(|error| format!("{word}: {error}"))
@@ -148,12 +152,9 @@ fn run() -> Result<(), String> {
         ["check", size] => check_all(number(size)?)?,
         ["text", corpus, size] => print_text(corpus, number(size)?)?,
         ["tree", work, folders @ ..] => run_tree(work, folders)?,
-        [verb @ ("once" | "none" | "taken"), corpus, work, size] => {
+        [verb @ ("once" | "time"), corpus, work, size] => {
             let (work, corpus) = found(corpus, work, number(size)?)?;
-            match *verb {
-                "taken" => run_taken(work, &corpus)?,
-                _ => run_once(work, &corpus, *verb == "once"),
-            }
+            run_once(work, &corpus, *verb == "time");
         }
         _ => return Err(USAGE.to_string()),
     }

@@ -1,30 +1,30 @@
-//! The same work by other libraries.
+//! The works of other libraries.
 
 use crate::corpus::Corpus;
 use crate::weight::{weight, Kind};
 use proc_macro2::TokenStream;
 
-/// The number of digits in base ten.
+/// Returns the number of digits in base ten.
 fn digit_count(value: u128) -> usize {
     value.checked_ilog10().map_or(1, |log| log as usize + 1)
 }
 
-/// How many digits a float has without its underscores and pluses.
+/// Returns the number of bytes of a float's text without its underscores and pluses.
 fn float_digit_count(numeral: &str) -> usize {
     let bytes = numeral.bytes();
     bytes.filter(|byte| !matches!(byte, b'_' | b'+')).count()
 }
 
-/// What an integer and a float weigh beside kind and suffix.
+/// The part of the weight that comes from the value of an integer or a float.
 #[derive(Clone, Copy)]
 enum Numbers {
-    /// How many digits they have in base ten.
+    /// The number of digits in base ten.
     Digits,
-    /// An integer's value, and how long a float's numeral is.
+    /// For an integer its value, and for a float the length of its text.
     AsTheyStand,
 }
 
-/// The weight of a text by litrs; 0 where it rejects it.
+/// Returns the weight of a text by litrs, or 0 if litrs rejects it.
 fn litrs_weight(text: &str, numbers: Numbers) -> u64 {
     use litrs::Literal;
     let Ok(literal) = Literal::parse(text) else {
@@ -54,8 +54,8 @@ fn litrs_weight(text: &str, numbers: Numbers) -> u64 {
     }
 }
 
-/// The sum by litrs. One loop for both sums, so that the compiler can write litrs' code into it, as
-/// it does into the loop of a caller who parses in one place.
+/// Returns the sum of the weights by litrs. Both sums use this one loop, so that the compiler can inline litrs' code into it, as it
+/// does in the loop of a caller with only one call of the parser.
 #[inline(never)]
 fn litrs_sum(corpus: &Corpus, numbers: Numbers) -> u64 {
     corpus
@@ -64,7 +64,7 @@ fn litrs_sum(corpus: &Corpus, numbers: Numbers) -> u64 {
         .fold(0, u64::wrapping_add)
 }
 
-/// The length of a type's name.
+/// Returns the length of a type's name.
 fn integer_suffix(suffix: litrs::IntegerType) -> usize {
     use litrs::IntegerType;
     match suffix {
@@ -75,17 +75,17 @@ fn integer_suffix(suffix: litrs::IntegerType) -> usize {
     }
 }
 
-/// By the values, with the digits in base ten of numbers counted.
+/// Returns the sum by litrs of the values' weights, with the number of digits in base ten for numbers.
 pub fn litrs_value(corpus: &Corpus) -> u64 {
     litrs_sum(corpus, Numbers::Digits)
 }
 
-/// By what is borrowed: an integer's value, and a float's numeral as it stands.
+/// Returns the sum by litrs of the borrowed parts' weights: an integer's value, and the length of a float's text.
 pub fn litrs_borrowed(corpus: &Corpus) -> u64 {
     litrs_sum(corpus, Numbers::AsTheyStand)
 }
 
-/// How many trees proc-macro2's own lexer cuts the texts into; none where it rejects them.
+/// Returns the number of token trees of proc-macro2's own lexer, or 0 for a text that it rejects.
 pub fn proc_macro2_lex(corpus: &Corpus) -> u64 {
     corpus
         .texts()
@@ -96,7 +96,7 @@ pub fn proc_macro2_lex(corpus: &Corpus) -> u64 {
         .fold(0, u64::wrapping_add)
 }
 
-/// How many tokens rustc's lexer cuts the texts into, white space and comments among them.
+/// Returns the number of tokens of rustc's lexer, including white space and comments.
 #[cfg(feature = "rustc_lexer")]
 pub fn rustc_lex(corpus: &Corpus) -> u64 {
     corpus
@@ -109,7 +109,7 @@ pub fn rustc_lex(corpus: &Corpus) -> u64 {
         .fold(0, u64::wrapping_add)
 }
 
-/// How many bytes the texts have: that they are UTF-8 is tested, as in every other work.
+/// Returns the number of bytes of the texts. The texts are checked to be UTF-8, as in every other work.
 pub fn utf8(corpus: &Corpus) -> u64 {
     corpus
         .texts()
@@ -119,7 +119,7 @@ pub fn utf8(corpus: &Corpus) -> u64 {
 
 #[cfg(feature = "oracle")]
 pub mod syn {
-    //! By syn's own reading code.
+    //! The works of syn's own parsing code.
 
     use super::*;
     use proc_macro2::TokenTree;
@@ -146,8 +146,7 @@ pub mod syn {
             .fold(0, u64::wrapping_add)
     }
 
-    /// How many literals stand in the text: proc-macro2's trees, and of each literal's text syn's
-    /// reading.
+    /// Returns the number of literals in the text. proc-macro2 lexes the text, and syn parses the text of each literal.
     fn count(text: &str) -> Option<u64> {
         let mut literals = 0;
         let mut trees = text.parse::<TokenStream>().ok()?.into_iter();

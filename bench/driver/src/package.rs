@@ -1,16 +1,16 @@
-//! The same work by the Cargo package in rust/.
+//! The works of the Cargo package in rust/.
 
 use crate::corpus::Corpus;
 use crate::weight::{weight, Kind};
-use navyspindle::{literals, settings, source as literals_of, Lit};
+use navyspindle::{parse_list, parse_settings, source as literals_of, Lit};
 use std::hint::black_box;
 
-/// The number of digits in base ten.
+/// Returns the number of digits in base ten.
 fn digit_count(value: u128) -> usize {
     value.checked_ilog10().map_or(1, |log| log as usize + 1)
 }
 
-/// The weight of a text; 0 where it is no literal.
+/// Returns the weight of a text, or 0 if it isn't a literal.
 fn weight_of(text: &str) -> u64 {
     let Ok(literal) = Lit::parse(text) else {
         return 0;
@@ -35,31 +35,31 @@ fn weight_of(text: &str) -> u64 {
     }
 }
 
-/// By the values.
+/// Returns the sum of the weights of the literals' values.
 pub fn value(corpus: &Corpus) -> u64 {
     corpus.texts().map(weight_of).fold(0, u64::wrapping_add)
 }
 
-/// The number of literals in the texts as lists, each up to its first error.
+/// Returns the number of literals in the texts as lists, each up to its first error.
 pub fn list(corpus: &Corpus) -> u64 {
     corpus
         .texts()
         .map(|text| {
-            let literals = literals(text).map_while(Result::ok);
+            let literals = parse_list(text).map_while(Result::ok);
             literals.map(black_box).count() as u64
         })
         .fold(0, u64::wrapping_add)
 }
 
-/// The number of settings in the texts, none in a text with an error.
+/// Returns the number of settings in the texts. A text with an error has none.
 pub fn attributes(corpus: &Corpus) -> u64 {
     corpus
         .texts()
-        .map(|text| settings(text).map_or(0, |entries| black_box(entries).len() as u64))
+        .map(|text| parse_settings(text).map_or(0, |entries| black_box(entries).len() as u64))
         .fold(0, u64::wrapping_add)
 }
 
-/// How many literals stand in the texts as whole sources, each up to its first error; each literal is read.
+/// Returns the number of literals in the texts as whole sources, each up to its first error. Each literal is parsed.
 pub fn source(corpus: &Corpus) -> u64 {
     corpus
         .texts()

@@ -1,9 +1,10 @@
-//! What runs on a corpus.
+//! The works that run on a corpus.
 
 use crate::corpus::{Corpus, Form};
 use crate::{others, package};
 
-/// What is summed: works of one sum answer the same. Which are there depends on the features.
+/// The quantity that a work sums up. Works with the same quantity must return the same sum. The features decide which quantities
+/// are used.
 #[allow(dead_code)]
 #[derive(Clone, Copy, PartialEq, Eq)]
 pub enum Sum {
@@ -17,7 +18,7 @@ pub enum Sum {
     Bytes,
 }
 
-/// One piece of work.
+/// One work: a library's function that runs on a corpus.
 pub struct Work {
     pub name: &'static str,
     pub ours: bool,
@@ -25,27 +26,21 @@ pub struct Work {
     pub run: fn(&Corpus) -> u64,
 }
 
+const fn other(name: &'static str, sum: Sum, run: fn(&Corpus) -> u64) -> Work {
+    #[rustfmt::skip]
+    let work = Work { name, ours: false, sum, run };
+    work
+}
+
 const fn ours(name: &'static str, sum: Sum, run: fn(&Corpus) -> u64) -> Work {
     let ours = true;
     Work {
-        name,
         ours,
-        sum,
-        run,
+        ..other(name, sum, run)
     }
 }
 
-const fn other(name: &'static str, sum: Sum, run: fn(&Corpus) -> u64) -> Work {
-    let ours = false;
-    Work {
-        name,
-        ours,
-        sum,
-        run,
-    }
-}
-
-/// The works of texts that are a literal each.
+/// The works for texts that are one literal each.
 const OF_LITERALS: &[Work] = &[
     other("litrs, borrowed", Sum::Borrows, others::litrs_borrowed),
     ours("package", Sum::Values, package::value),
@@ -54,7 +49,7 @@ const OF_LITERALS: &[Work] = &[
     other("syn", Sum::Values, others::syn::value),
 ];
 
-/// Those of a text that is a list.
+/// The works for a text that is a list of literals.
 const OF_LISTS: &[Work] = &[
     ours("package", Sum::Literals, package::list),
     other("proc-macro2", Sum::Trees, others::proc_macro2_lex),
@@ -62,13 +57,13 @@ const OF_LISTS: &[Work] = &[
     other("proc-macro2 and syn", Sum::Literals, others::syn::read),
 ];
 
-/// Those of a text that is attributes.
+/// The works for a text that consists of attributes.
 const OF_ATTRIBUTES: &[Work] = &[
     ours("package", Sum::Settings, package::attributes),
     other("proc-macro2", Sum::Trees, others::proc_macro2_lex),
 ];
 
-/// Those of a text that is files of Rust.
+/// The works for a text that consists of Rust files.
 const OF_SOURCES: &[Work] = &[
     ours("package", Sum::SourceLiterals, package::source),
     #[cfg(feature = "rustc_lexer")]
@@ -77,13 +72,13 @@ const OF_SOURCES: &[Work] = &[
     other("UTF-8", Sum::Bytes, others::utf8),
 ];
 
-/// Those of bad input.
+/// The works for invalid input.
 const OF_BAD: &[Work] = &[
     ours("package", Sum::Values, package::value),
     ours("package, source", Sum::SourceLiterals, package::source),
 ];
 
-/// The works of a corpus of this form.
+/// Returns the works for a corpus of this form.
 pub fn of(form: Form) -> &'static [Work] {
     match form {
         Form::Literals | Form::Found => OF_LITERALS,

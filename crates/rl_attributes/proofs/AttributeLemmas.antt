@@ -1,23 +1,23 @@
--- Attributes at the front of trees, one after another.
-use Rattle.rl_text.proofs.Common.{AllByRecursion, Bool, IsTrue, List, [], ap, append-nil, append_assoc, arith, cond, false, inl, inr, length, length-append, list_any, map-append, refl, subst, sym, true, ℕ, ◌++◌, ◌<◌, ◌||◌, ◌∙◌, ◌∷◌, ◌≡◌, ◌≢◌}
+-- Lemmas about attributes at the start of token trees, one after another.
+use Rattle.rl_syntax.proofs.Common.{AllByRecursion, Bool, IsTrue, List, [], ap, append-nil, append_assoc, arith, cond, false, inl, inr, length, length-append, list_any, map-append, refl, subst, sym, true, ℕ, ◌++◌, ◌<◌, ◌||◌, ◌∙◌, ◌∷◌, ◌≡◌, ◌≢◌}
 use Rattle.std.specs.Cmp.Lexicographic.{nat_list_eq_equiv}
 use Rattle.std.specs.List.{IsDistinct}
 use Rattle.std.specs.Str.{bytes_eq}
 use Rattle.std.proofs.lemmas.List.Folds.{list_any-append}
 use Rattle.std.proofs.lemmas.Map.Keys.{IsDistinct-push, IsDistinct-head, IsDistinct-tail}
-use Rattle.rl_text.specs.declared.span.Span.{Span}
+use Rattle.rl_syntax.specs.declared.span.Span.{Span}
 use Rattle.rl_tokens.specs.declared.error.Error.{Error}
-use Rattle.rl_text.specs.Texts.{SpannedText}
+use Rattle.rl_syntax.specs.Texts.{SpannedText}
 use Rattle.rl_tokens.specs.Trees.{Tree}
 use Rattle.rl_tokens.specs.Buffers.{begins_ident, begins_mark, IsAfterMark}
 use Rattle.rl_fronts.specs.Fronts.{IsFront}
 use Rattle.rl_fronts.proofs.FrontLemmas.{one_front, front_rest}
-use Rattle.rl_attributes.specs.Attributes.{Attribute, IsAttribute, AreListed, names_of, is_named, NamesDiffer, MissesName, RepeatsName, MissesEquals, MissesLiteral, MissesComma, RejectsNextAttribute, StandBefore, RejectsAttributes, HasNewName}
+use Rattle.rl_attributes.specs.Attributes.{Attribute, IsAttribute, AreListed, names_of, is_named, NamesDiffer, MissesName, RepeatsName, MissesEquals, MissesLiteral, MissesComma, RejectsNextAttribute, AreAttributesBefore, RejectsAttributes, HasNewName}
 use Rattle.rl_attributes.specs.AttributeSteps.{IsNext}
 
--- ---- one attribute
+-- ---- lemmas about one attribute
 
--- no trees begin with one
+-- An empty list of token trees doesn't begin with an attribute.
 no_attribute : (attribute : Attribute) (rest : List Tree) → IsAttribute [] attribute rest → ⊥
 no_attribute attribute rest h = let e = h.named in absurd (cc)
 
@@ -25,11 +25,11 @@ none_listed : (list : List Attribute) → AreListed [] list → list ≡ []
 none_listed [] h = refl
 none_listed (a ∷ others) (b, i, c) = absurd (no_attribute a b i)
 
--- a character of punctuation leaves one rest
+-- If token trees begin with a punctuation character, the token trees after it are unique.
 one_mark : (ch : ℕ) (trees a b : List Tree) → IsAfterMark ch trees a → IsAfterMark ch trees b → a ≡ b
 one_mark ch trees a b h k = let e = h.trees_are in let f = k.trees_are in cc
 
--- where it stands, the test says so
+-- If token trees begin with the punctuation character `ch`, the test `begins_mark` for it is `true`.
 mark_begins : (ch : ℕ) (trees rest : List Tree) → IsAfterMark ch trees rest → begins_mark ch trees ≡ true
 mark_begins ch trees rest h = rw (h.trees_are, h.is) (search arith)
 
@@ -39,7 +39,7 @@ no_behind ch trees rest h e = let f = h.trees_are in absurd (cc)
 abbrev attribute : SpannedText → SpannedText → Attribute
 attribute name literal = record { name = name; literal = literal }
 
--- the trees begin with one attribute at most
+-- If token trees begin with two attributes, the two are equal, and so are the token trees after them.
 one_attribute : (trees : List Tree) (a b : Attribute) (r s : List Tree) → IsAttribute trees a r → IsAttribute trees b s
     → (a ≡ b) × (r ≡ s)
 one_attribute trees a b r s h k =
@@ -53,7 +53,7 @@ one_attribute trees a b r s h k =
     h.set) k.set in
     (ap (λ (n : SpannedText). attribute n a.literal) names ∙ ap (attribute b.name) one.0, one.1)
 
--- what stands after an attribute is shorter
+-- The list of the token trees after the attribute at the start is shorter than the whole list.
 behind_attribute : (trees : List Tree) (a : Attribute) (rest : List Tree) → IsAttribute trees a rest
     → length rest < length trees
 behind_attribute trees a rest h =
@@ -69,19 +69,20 @@ next_shorter trees a rest h =
       | inr n ↦ omega (arith, ap length n.0, ap length n.1)
     ]
 
--- ---- attributes that were taken, and what is left
+-- ---- lemmas about consumed attributes and the remaining token trees
 
--- These attributes were taken of the trees, each with its comma or the end, and the rest is left.
+-- The attributes `done` were consumed from the start of the token trees `trees`, each with its comma or the end after
+-- it, and the token trees `rest` remain.
 pub record AreTaken (trees : List Tree) (done : List Attribute) (rest : List Tree) : Type 0 where
-  pub stand : rest ≢ [] → StandBefore trees done rest
+  pub stand : rest ≢ [] → AreAttributesBefore trees done rest
   pub on : (more : List Attribute) → AreListed rest more → AreListed trees (done ++ more)
 
 pub taken_none : (trees : List Tree) → AreTaken trees [] trees
 taken_none trees = record { stand = λ some. refl; on = λ more h. h }
 
 stand_more : (trees : List Tree) (done : List Attribute) (rest : List Tree) (a : Attribute) (following next : List Tree)
-    → StandBefore trees done rest → IsAttribute rest a following → IsAfterMark 44 following next
-    → StandBefore trees (done ++ a ∷ []) next
+    → AreAttributesBefore trees done rest → IsAttribute rest a following → IsAfterMark 44 following next
+    → AreAttributesBefore trees (done ++ a ∷ []) next
 stand_more trees [] rest a following next h i m = (
   following,
   next,
@@ -93,7 +94,8 @@ stand_more trees [] rest a following next h i m = (
 stand_more trees (x ∷ xs) rest a following next (b, n, j, k, h) i m =
     (b, n, j, k, stand_more n xs rest a following next h i m)
 
--- a list goes on after the attribute and its comma, or ends with it
+-- If token trees begin with an attribute and its comma or the end, and a list of attributes follows, all of them are a
+-- list.
 pub listed_more : (rest : List Tree) (a : Attribute) (next : List Tree) (more : List Attribute) → IsNext rest a next
     → AreListed next more → AreListed rest (a ∷ more)
 listed_more rest a next more n h =
@@ -103,7 +105,7 @@ listed_more rest a next more n h =
     ]
 
 stands : (trees : List Tree) (done : List Attribute) (rest : List Tree) (a : Attribute) (next : List Tree)
-    → StandBefore trees done rest → IsNext rest a next → next ≢ [] → StandBefore trees (done ++ a ∷ []) next
+    → AreAttributesBefore trees done rest → IsNext rest a next → next ≢ [] → AreAttributesBefore trees (done ++ a ∷ []) next
 stands trees done rest a next s n some =
     elim n.comma [
       | inl m ↦ stand_more trees done rest a n.following next s n.is m
@@ -122,13 +124,13 @@ pub taken_all : (trees : List Tree) (done : List Attribute) (rest : List Tree) �
     → AreListed trees done
 taken_all trees done rest t e = subst (AreListed trees) (append-nil done) (t.on [] e)
 
--- ---- names
+-- ---- lemmas about the names of attributes
 
 pub differ_none : NamesDiffer []
 unfolding IsDistinct
 differ_none = tt
 
--- one more with a new name
+-- If an attribute with a new name is appended to a list with different names, all names of the list differ.
 pub differ_more : (done : List Attribute) (a : Attribute) → NamesDiffer done → is_named a.name.text done ≡ false
     → NamesDiffer (done ++ a ∷ [])
 differ_more done a h new = subst (IsDistinct bytes_eq) (sym (map-append (λ x. x.name.text) done (a ∷ [])))
@@ -147,7 +149,7 @@ named_more name done a =
     go false true e = rw (sym e) refl
     go false false e = rw (sym e) refl
 
--- a name that stands after others is none of them
+-- In a list of different names, a name differs from the names before it.
 apart_from : (name y : List ℕ) (xs ys : List (List ℕ)) → AllByRecursion (λ z. bytes_eq y z ≡ false) (xs ++ (name ∷ ys))
     → bytes_eq name y ≡ false
 apart_from name y [] ys h = nat_list_eq_equiv.symm name y ∙ h.0
@@ -166,7 +168,7 @@ names_before done a more h =
     distinct_before a.name.text (names_of done) (names_of more)
     (subst (IsDistinct bytes_eq) (map-append (λ x. x.name.text) done (a ∷ more)) h)
 
--- ---- at most one list
+-- ---- token trees are at most one list of attributes
 
 pub one_listing : (trees : List Tree) (xs ys : List Attribute) → AreListed trees xs → AreListed trees ys → xs ≡ ys
 one_listing trees [] ys h k = sym (none_listed ys (subst (λ (t : List Tree). AreListed t ys) h k))
@@ -184,16 +186,17 @@ one_listing trees (x ∷ xs) (y ∷ ys) (b, i, inr (r, m, k)) (c, j, inr (s, n, 
     ap (λ z. z ∷ xs) one.0 ∙ ap (λ zs. y ∷ zs) (one_listing s xs ys (subst (λ (t : List Tree). AreListed t xs) rests k)
     l)
 
--- ---- what is rejected is no list
+-- ---- rejected token trees aren't a list
 
--- A list whose first attributes stand before a rest that isn't empty goes on there.
+-- The list of attributes `list` begins with the consumed attributes `done`, and the remaining token trees `rest` are
+-- its other attributes.
 record GoesOn (list done : List Attribute) (rest : List Tree) : Type 0 where
   pub more : List Attribute
   pub list_is : list ≡ done ++ more
   pub listed : AreListed rest more
 
 goes_on : (trees : List Tree) (done : List Attribute) (rest : List Tree) (list : List Attribute)
-    → StandBefore trees done rest → rest ≢ [] → AreListed trees list → GoesOn list done rest
+    → AreAttributesBefore trees done rest → rest ≢ [] → AreListed trees list → GoesOn list done rest
 goes_on trees [] rest list h some k = record { more = list; list_is = refl; listed = subst (λ (t : List Tree). AreListed t list) h k }
 goes_on trees (x ∷ xs) rest [] (b, n, i, m, h) some k = absurd
     (no_attribute x b (subst (λ (t : List Tree). IsAttribute t x b) k i))
@@ -205,7 +208,7 @@ goes_on trees (x ∷ xs) rest (y ∷ ys) (b, n, i, m, h) some (c, j, inr (r, l, 
     let on = goes_on n xs rest ys h some (subst (λ (t : List Tree). AreListed t ys) rests k) in
     record { more = on.more; list_is = ap (λ z. z ∷ ys) (sym one.0) ∙ ap (λ zs. x ∷ zs) on.list_is; listed = on.listed }
 
--- a rest that a list goes on with isn't rejected
+-- Lemmas: if the remaining token trees are attributes with new names, they aren't rejected.
 misses_name : {A : Type 0} (a : Attribute) (trees following : List Tree) (scope : Span) (e : Error A)
     → IsAttribute trees a following → MissesName trees scope e → ⊥
 misses_name a trees following scope e i m = let none = rw i.named at m.none in absurd (cc)
@@ -264,7 +267,8 @@ never_refused done (a ∷ more) trees scope e some d h r =
       | inr (inr (inr (inr m))) ↦ misses_comma (λ name. is_named name done) a more trees scope e h m
     ]
 
--- attributes that differ were taken, and what is left is rejected: the trees are
+-- If attributes with different names were consumed and the remaining token trees are rejected, all of the token trees
+-- are rejected.
 pub refused_next : {A : Type 0} (trees : List Tree) (done : List Attribute) (rest : List Tree) (scope : Span)
     (e : Error A) → AreTaken trees done rest → NamesDiffer done → rest ≢ []
     → RejectsNextAttribute (λ name. is_named name done) rest scope e → RejectsAttributes trees scope e
@@ -280,7 +284,7 @@ refused_next trees done rest scope e t d some r = record {
       never_refused done on.more rest scope e some (subst NamesDiffer on.list_is are.differ) on.listed r;
 }
 
--- the error is the same where what was seen is reported otherwise
+-- If two tests of the names before give the same results, the errors of the next attribute are the same.
 same_new : (s t : List ℕ → Bool) (trees : List Tree) (name : SpannedText) (following : List Tree)
     → ((n : List ℕ) → s n ≡ t n) → HasNewName s trees name following → HasNewName t trees name following
 same_new s t trees name following e h = record { named = h.named; anew = sym (e name.text) ∙ h.anew }
@@ -297,11 +301,11 @@ same_seen s t trees scope e same r = record {
   ];
 }
 
--- attributes that were taken begin with a name
+-- If the token trees after the consumed attributes begin with an identifier, so do all of the token trees.
 pub taken_begins : (trees : List Tree) (done : List Attribute) (rest : List Tree) → AreTaken trees done rest → rest ≢ []
     → IsTrue (begins_ident rest) → IsTrue (begins_ident trees)
 taken_begins trees done rest t some h = go done (t.stand some)
   where
-    go : (done : List Attribute) → StandBefore trees done rest → IsTrue (begins_ident trees)
+    go : (done : List Attribute) → AreAttributesBefore trees done rest → IsTrue (begins_ident trees)
     go [] e = subst (λ (ts : List Tree). begins_ident ts ≡ true) (sym e) h
     go (a ∷ others) (b, n, i, m, k) = rw i.named refl

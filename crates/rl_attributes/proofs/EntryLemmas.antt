@@ -1,4 +1,4 @@
--- Entries, one after another, and the names that are kept beside them.
+-- Lemmas about the parser of a list of attributes: the attributes that it has parsed, and the set of their names.
 use Rattle.std.proofs.Common.{◌≡◌, ◌≢◌, ◌⊎◌, inl, inr, ℕ, zero, suc, ◌+◌, ◌<◌, Bool, true, false, cond, get_or, take, drop, List, [], ◌∷◌, ◌++◌, refl, sym, ◌∙◌, ap, subst, string_bytes, arith}
 use Rattle.std.specs.Prelude.{IsFalse, codes, All, Any, Result, Ok, Err, IfOk, IfErr, length}
 use Rattle.std.specs.BTreeSet.{BTreeSet, IsEmpty}
@@ -9,12 +9,12 @@ use Rattle.std.proofs.lemmas.List.{map_push, get_or_default, length-map, take-ap
 use Rattle.std.proofs.lemmas.Map.Keys.{apart_from_distinct}
 use Rattle.std.proofs.lemmas.Slice.Eq.{bytes_eq-Decides}
 use Rattle.std.proofs.lemmas.List.Elements.{All-push, All-same}
-use Rattle.rl_text.specs.declared.span.Span.{Span}
+use Rattle.rl_syntax.specs.declared.span.Span.{Span}
 use Rattle.rl_tokens.specs.declared.error.Error.{Error}
 use Rattle.rl_tokens.specs.declared.error.ErrorKind.{ErrorKind}
 use Rattle.rl_tokens.specs.declared.error.ErrorKind.TheVariants.{Expected, EndOfInput, Unexpected, Lex, Suffix, NotInteger, TooLarge, NotFloat, Repeated, Number, Memory}
 use Rattle.rl_tokens.specs.Errors.{memory_at}
-use Rattle.rl_text.specs.Texts.{SpannedText}
+use Rattle.rl_syntax.specs.Texts.{SpannedText}
 use Rattle.rl_tokens.specs.Trees.{Tree, IdentTree}
 use Rattle.rl_tokens.specs.Buffers.{begins_ident, begins_mark, first_span, IsRest, IsAfterMark, StaysRest, MissesWord, IsRejection}
 use Rattle.rl_tokens.specs.Whole.{place_at, RejectsAll, LeavesTrees}
@@ -23,7 +23,7 @@ use Rattle.rl_tokens.proofs.TreeRests.{rest_self}
 use Rattle.rust_literals.specs.Parsing.{RunsLit, IsLitFront}
 use Rattle.rl_fronts.specs.Fronts.{IsFront}
 use Rattle.rust_literals.specs.declared.lit.Lit.{Lit}
-use Rattle.rl_forms.specs.Reading.{IsReadAs}
+use Rattle.rl_syntax.specs.Reading.{IsReadAs}
 use Rattle.rust_literals.specs.Literals.{kind_of, token_of}
 use Rattle.rust_literals.proofs.ReadLemmas.{lex_memory}
 use Rattle.rl_attributes.specs.declared.attributes.Entry.{Entry}
@@ -36,7 +36,8 @@ use Rattle.rl_attributes.specs.Names.{has_name}
 use Rattle.rl_attributes.specs.AttributeSteps.{AddsName, IsNext, LacksMemoryInStep, RejectsStep, reported_at, kind_reported_at}
 use Rattle.rl_attributes.proofs.AttributeLemmas.{AreTaken, taken_none, taken_more, taken_all, taken_begins, differ_more, differ_none, named_more, refused_next, same_seen, one_listing}
 
--- The entries that were taken of the trees, the names that are kept of them, and what is left.
+-- The invariant of the parser's loop: the attributes `entries` were consumed from the token trees `trees`, `names` is
+-- the set of their names, and the token trees `rest` remain.
 pub record IsAt {A : Type 0} (trees : List Tree) (entries : List (Entry A)) (names : BTreeSet Name)
     (rest : List Tree) : Type 0 where
   pub taken : AreTaken trees (attributes_of entries) rest
@@ -45,7 +46,7 @@ pub record IsAt {A : Type 0} (trees : List Tree) (entries : List (Entry A)) (nam
   pub knows : (name : List ℕ) → has_name names name ≡ is_named name (attributes_of entries)
   pub left : IsRest trees rest
 
--- at first
+-- The invariant of the parser's loop holds at the start.
 pub at_first : {A : Type 0} (trees : List Tree) (entries : List (Entry A)) (names : BTreeSet Name) → entries
     ≡ [] → IsEmpty names → IsAt trees entries names trees
 at_first {A = A} trees entries names e n = record {
@@ -56,7 +57,7 @@ at_first {A = A} trees entries names e n = record {
   left = rest_self trees;
 }
 
--- one entry more
+-- The invariant of the parser's loop holds after one more attribute.
 pub at_next : {A : Type 0} (trees : List Tree) (entries more : List (Entry A)) (old new : BTreeSet Name)
     (rest next : List Tree) (entry : Entry A) → IsAt trees entries old rest → rest ≢ []
     → IsNext rest (attribute_of entry) next → IsFalse (has_name old (string_bytes entry.name)) → IsReadEntry entry
@@ -79,12 +80,13 @@ at_next trees entries more old new rest next entry at some n anew read adds left
       left = left trees at.left;
     }
 
--- the trees end
+-- If no token trees remain, all token trees are the consumed attributes.
 pub at_end : {A : Type 0} (trees : List Tree) (entries : List (Entry A)) (names : BTreeSet Name)
     (rest : List Tree) → IsAt trees entries names rest → rest ≡ [] → AreEntries trees entries
 at_end trees entries names rest at e = record { are = record { listed = taken_all trees (attributes_of entries) rest at.taken e; differ = at.differ }; read = at.read }
 
--- an allocation failure for what a name begins
+-- An allocation failure for the next attribute is an allocation failure for all of the token trees, which begin with an
+-- identifier.
 pub at_memory : {A B : Type 0} (trees : List Tree) (entries : List (Entry A)) (names : BTreeSet Name)
     (rest : List Tree) (e : Error B) → IsAt trees entries names rest → rest ≢ [] → LacksMemoryInStep rest e
     → LacksMemoryInStep trees e
@@ -94,7 +96,7 @@ pub next_memory : {B : Type 0} (rest next : List Tree) (a : Attribute) (e : Erro
     ≡ Memory → LacksMemoryInStep rest e
 next_memory rest next a e n m = record { begun = subst (λ (ts : List Tree). begins_ident ts ≡ true) (sym n.is.named) refl; memory = m }
 
--- what stops a step is rejected of all trees
+-- An error of the next attribute is an error of all of the token trees.
 pub at_refusal : {A B : Type 0} (trees : List Tree) (entries : List (Entry A)) (names : BTreeSet Name)
     (rest : List Tree) (scope was : Span) (e : Error B) → IsAt trees entries names rest → rest ≢ [] → was ≡ scope
     → RejectsStep (has_name names) rest was e → LacksMemoryInStep trees e ⊎ RejectsAttributes trees scope e
@@ -104,7 +106,7 @@ at_refusal trees entries names rest scope was e at some s (inr r) =
     inr (subst (λ (z : Span). RejectsAttributes trees z e) s (refused_next trees (attributes_of entries) rest was e
     at.taken at.differ some seen))
 
--- a new name, `=` and a literal are an attribute
+-- If token trees begin with a new name, `=` and a literal, they begin with that attribute.
 pub entry_taken : {A : Type 0} (seen : List ℕ → Bool) (trees at_equals at_literal rest : List Tree) (name : SpannedText)
     (text : List ℕ) (span : Span) (value : Lit A) → text ≡ name.text → span ≡ name.span
     → HasNewName seen trees name at_equals → IsAfterMark 61 at_equals at_literal → IsLitFront at_literal value rest
@@ -126,7 +128,7 @@ pub value_read : {A : Type 0} (trees : List Tree) (value : Lit A) (rest : List T
 value_read trees value rest front = subst (λ (t : SpannedText). IsReadAs (kind_of value) (chars t.text))
     (sym front.read.0) front.read.1
 
--- after a new name, what is no `=`
+-- If something other than `=` follows a new name, the error is that of the next attribute.
 pub equals_refused : {A : Type 0} (seen : List ℕ → Bool) (trees following : List Tree) (scope was : Span)
     (name : SpannedText) (e : Error A) → HasNewName seen trees name following → IsFalse (begins_mark 61 following) → was
     ≡ scope → IsRejection following was (codes "`=`") e → RejectsStep seen trees scope e
@@ -141,7 +143,7 @@ equals_refused seen trees following scope was name e begun none same rejection =
       })));
     })
 
--- after an attribute with a new name, what is no comma
+-- If something other than a comma follows an attribute with a new name, the error is that of the next attribute.
 pub comma_refused : {A : Type 0} (seen : List ℕ → Bool) (trees following : List Tree) (scope was : Span)
     (attribute : Attribute) (e : Error A) → IsAttribute trees attribute following → IsFalse (seen attribute.name.text)
     → following ≢ [] → IsFalse (begins_mark 44 following) → was ≡ scope → IsRejection following was (codes "`,`") e
@@ -159,7 +161,7 @@ comma_refused seen trees following scope was attribute e is anew some none same 
       }))));
     })
 
--- after a new name and `=`, what the parser of literals rejects
+-- If the parser of literals rejects the token trees after a new name and `=`, its error is that of the next attribute.
 pub value_refused : {A : Type 0} (seen : List ℕ → Bool) (trees at_equals at_literal after : List Tree)
     (scope was : Span) (name : SpannedText) (e : Error A) → HasNewName seen trees name at_equals
     → IsAfterMark 61 at_equals at_literal → was ≡ scope → RunsLit at_literal was (Err e) after
@@ -179,9 +181,9 @@ value_refused seen trees at_equals at_literal after scope was name e begun equal
       }))));
     })
 
--- ---- an allocation failure is reported at the first tree
+-- ---- lemmas about the span of an allocation failure, which is that of the first token tree
 
--- no error by a missed word is an allocation failure
+-- An error that names a missing part isn't an allocation failure.
 no_word : (A : Type 0) (trees : List Tree) (word : List ℕ) → MissesWord {A = A} trees word Memory → ⊥
 no_word A [] word h = h
 no_word A (t ∷ ts) word h = h
@@ -202,7 +204,7 @@ no_memory {A = A} seen trees scope e r m =
       | inr (inr (inr (inr w))) ↦ no_refusal w.following scope _ e w.rejection m
     ]
 
--- what isn't an allocation failure stays as it is
+-- The function that replaces the span of an allocation failure leaves any other error unchanged.
 stays : {A : Type 0} (kind : ErrorKind A) (span place : Span) → (kind ≡ Memory → ⊥) → kind_reported_at kind span place
     ≡ record { span = span; kind = kind }
 stays (Expected w) span place h = refl
@@ -227,7 +229,7 @@ told_refusal trees scope place e told (inr r) p t =
     r.rejected) in
     inr (subst (RejectsAttributes trees scope) (sym same) r)
 
--- ---- a whole text
+-- ---- lemmas about parsing a whole text
 
 pub text_refused : {A : Type 0} (text : List ℕ) (file : ℕ) (e : Error A) → RejectsAll (RunsAttrs {A = A}) text file e
     → RejectsAttributeText (chars text) file (length text) e
@@ -261,9 +263,9 @@ exactly {A = A} text file end (Err e) read (inr c) list a = go c.rejected
     go (inr r) = absurd (r.none list (subst (λ (t : List Tree). AreAttributes t list)
         (one_list text file a.trees c.trees a.lexes c.lexes) a.are))
 
--- ---- the entry of a name
+-- ---- lemmas about the attribute with a name
 
--- what a comparison of names tells
+-- If the comparison of two names is `true`, the names are equal.
 pub is_name : (bytes text name : List ℕ) (b : Bool) → text ≡ bytes → b ≡ bytes_eq text name → b ≡ true → bytes ≡ name
 is_name bytes text name b t e h = sym t ∙ (bytes_eq-Decides text name).0 (sym e ∙ h)
 
@@ -271,7 +273,7 @@ pub no_name : (bytes text name : List ℕ) (b : Bool) → text ≡ bytes → b �
     → ⊥
 no_name bytes text name b t e h k = let same = (bytes_eq-Decides text name).1 (t ∙ k) in absurd (cc)
 
--- the name of the entry at a place
+-- The name at an index of the list of names is the name of the attribute at that index.
 name_at : {A : Type 0} (entries : List (Entry A)) (i : ℕ) (d : Entry A) → i < length entries
     → get_or (names_of (attributes_of entries)) i [] ≡ string_bytes (get_or entries i d).name
 name_at [] i d h = absurd (omega arith)
@@ -292,7 +294,7 @@ apart entries name i k d e differ order within one other =
     let both = rw (first, second) at differs in
     absurd (cc)
 
--- it is the one entry with its name
+-- If an attribute at an index has the name, the value of each attribute with the name is the same value.
 pub value_lent : {A : Type 0} (entries : List (Entry A)) (name : List ℕ) (i : ℕ) (entry : Entry A)
     → EntriesDiffer entries → i < length entries → entry ≡ get_or entries i entry → HasName name entry
     → (k : ℕ) (d : Entry A) → k < length entries → HasName name (get_or entries k d) → entry.value
@@ -308,7 +310,8 @@ value_lent {A = A} entries name i entry differ below is named k d within other =
     here : HasName name (get_or entries i entry)
     here = subst (λ (x : Entry A). HasName name x) is named
 
--- one entry more hasn't the name
+-- If no attribute before an index has the name, nor the attribute at the index, no attribute up to and including the
+-- index has it.
 pub none_more : {A : Type 0} (entries : List (Entry A)) (name : List ℕ) (i : ℕ) (entry : Entry A) → i < length entries
     → entry ≡ get_or entries i entry → (HasName name entry → ⊥)
     → ((k : ℕ) (d : Entry A) → k < i → HasName name (get_or entries k d) → ⊥) → (k : ℕ) (d : Entry A) → k < i + 1
@@ -323,14 +326,14 @@ none_more {A = A} entries name i entry below is other none k d h has =
           other (subst (λ (x : Entry A). HasName name x) same has)
     ]
 
--- a list, where an entry of it stands
+-- A list is the elements before an index, the element at the index, and the elements after it.
 pub parted_at : {X : Type 0} (xs : List X) (i : ℕ) (x : X) → i < length xs → x ≡ get_or xs i x → xs ≡ take i xs
     ++ (x ∷ drop (i + 1) xs)
 parted_at xs i x below is =
     sym (take-append-drop i xs) ∙ ap (λ z. take i xs ++ z) (drop_more xs i x below
     ∙ ap (λ z. z ∷ drop (i + 1) xs) (sym is))
 
--- what is rejected of the value of the one entry with a name
+-- If an attribute has the name and its value has a property, an attribute with the name has a value with the property.
 pub value_rejected : {A : Type 0} (entries : List (Entry A)) (name : List ℕ) (value : Lit A) (P : Lit A → Type 0)
     → Any (HasName name) entries → All (λ e. HasName name e → value ≡ e.value) entries → P value
     → Any (λ e. HasName name e × P e.value) entries

@@ -1,12 +1,13 @@
--- Attributes of a text, read setting after setting, and the names that are kept beside them.
-use Rattle.rl_text.proofs.Common.{◌≡◌, ◌≢◌, ℕ, Bool, true, false, cond, List, [], ◌∷◌, ◌++◌, refl, sym, ◌∙◌, ap, subst, append-nil, append_assoc, chars, chars-nil, arith, string_bytes, IsFalse}
+-- Lemmas about reading the attributes of a text token by token: the attributes that were read, and the set of their
+-- names.
+use Rattle.rl_syntax.proofs.Common.{◌≡◌, ◌≢◌, ℕ, Bool, true, false, cond, List, [], ◌∷◌, ◌++◌, refl, sym, ◌∙◌, ap, subst, append-nil, append_assoc, chars, chars-nil, arith, string_bytes, IsFalse}
 use Rattle.std.specs.Prelude.{All}
 use Rattle.std.specs.BTreeSet.{BTreeSet, IsEmpty}
 use Rattle.std.specs.Str.{bytes_eq}
 use Rattle.std.proofs.lemmas.List.{map_push}
 use Rattle.std.proofs.lemmas.List.Elements.{All-push, All-same}
-use Rattle.rl_text.specs.declared.span.Span.{Span}
-use Rattle.rl_text.specs.Texts.{SpannedText}
+use Rattle.rl_syntax.specs.declared.span.Span.{Span}
+use Rattle.rl_syntax.specs.Texts.{SpannedText}
 use Rattle.rl_lexer.specs.Skipping.{Skipped}
 use Rattle.rl_lexer.specs.Cuts.{LexesUpTo}
 use Rattle.rl_lexer.specs.Cursors.{CursorState}
@@ -14,7 +15,7 @@ use Rattle.rl_settings.specs.declared.settings.NextSetting.{NextSetting}
 use Rattle.rl_settings.specs.SettingSteps.{TakesSetting}
 use Rattle.rl_tokens.specs.Trees.{Tree}
 use Rattle.rust_literals.specs.Flat.{LexesTreesUpTo}
-use Rattle.rl_forms.specs.Reading.{IsReadAs}
+use Rattle.rl_syntax.specs.Reading.{IsReadAs}
 use Rattle.rust_literals.specs.Literals.{kind_of, token_of}
 use Rattle.rl_attributes.specs.declared.attributes.Entry.{Entry}
 use Rattle.rl_attributes.specs.declared.attributes.name.Name.{Name}
@@ -26,7 +27,8 @@ use Rattle.rl_attributes.specs.NextEntries.{borrowed_token, value_token, attribu
 use Rattle.rl_attributes.proofs.AttributeLemmas.{listed_more, differ_more, differ_none, named_more}
 use Rattle.rl_attributes.proofs.FlatSettings.{TakesAttribute, takes_attribute}
 
--- The text up to the rest is these attributes, whatever trees stand after: none, at the text's end.
+-- The text up to the remaining text `rest` is the attributes `list`, whatever attributes follow. At the end of the text
+-- no attributes follow.
 pub record AreFlat (text : List ℕ) (file : ℕ) (list : List Attribute) (rest : List ℕ) : Type 0 where
   pub trees : List Tree
   pub cuts : LexesTreesUpTo (chars text) file trees (chars rest)
@@ -60,7 +62,8 @@ flat_more text file old new list a same flat some t =
           (sym (append_assoc flat.trees t.trees following)) on);
     }
 
--- The entries that were read of the text, the names that are kept of them, and what is left.
+-- The invariant of the loop: the attributes `entries` were read from the text, `names` is the set of their names, and
+-- the text `rest` remains.
 pub record IsFlatAt {A : Type 0} (text : List ℕ) (file : ℕ) (entries : List (Entry A)) (names : BTreeSet Name)
     (rest : List ℕ) : Type 0 where
   pub flat : AreFlat text file (attributes_of entries) rest
@@ -68,7 +71,7 @@ pub record IsFlatAt {A : Type 0} (text : List ℕ) (file : ℕ) (entries : List 
   pub read : All IsReadEntry entries
   pub knows : (name : List ℕ) → has_name names name ≡ is_named name (attributes_of entries)
 
--- at first
+-- The invariant of the loop over the settings of a text holds at the start.
 pub flat_first : {A : Type 0} (text rest : List ℕ) (file : ℕ) (entries : List (Entry A)) (names : BTreeSet Name)
     → entries ≡ [] → IsEmpty names → Skipped (chars text) (chars rest) → IsFlatAt text file entries names rest
 flat_first {A = A} text rest file entries names e n skips = record {
@@ -79,7 +82,8 @@ flat_first {A = A} text rest file entries names e n skips = record {
   knows = λ name. rw (e, n) refl;
 }
 
--- the entry is the setting's attribute, and reads as its literal
+-- The attribute that is built from a setting is the setting's name and literal, and its value is parsed from that
+-- literal.
 entry_is : {A : Type 0} (file : ℕ) (s : NextSetting) (entry : Entry A) → IsEntryOf file s entry → attribute_of entry
     ≡ attribute_at file s
 entry_is file s entry h =
@@ -93,7 +97,7 @@ entry_read : {A : Type 0} (file : ℕ) (s : NextSetting) (entry : Entry A) → I
 entry_read file s entry h = subst (λ (t : SpannedText). IsReadAs (kind_of entry.value) (chars t.text)) (sym h.value.0)
     h.value.1
 
--- one entry more
+-- The invariant of the loop over the settings of a text holds after one more attribute.
 pub flat_next : {A : Type 0} (text : List ℕ) (file : ℕ) (entries more : List (Entry A)) (before after : BTreeSet Name)
     (old new : CursorState) (s : NextSetting) (entry : Entry A) → old.text ≡ text
     → IsFlatAt text file entries before old.rest → old.rest ≢ [] → TakesSetting old s new → IsEntryOf file s entry
@@ -122,7 +126,7 @@ flat_next text file entries more before after old new s entry same at some takes
           ∙ ap (is_named name) (sym grown);
     }
 
--- the text ends
+-- If no text remains, the whole text is the attributes that were read.
 pub flat_end : {A : Type 0} (text rest : List ℕ) (file : ℕ) (entries : List (Entry A)) (names : BTreeSet Name)
     → IsFlatAt text file entries names rest → rest ≡ [] → AreAttributesOf (chars text) file (attributes_of entries)
 flat_end text rest file entries names at ends =

@@ -1,21 +1,21 @@
--- The trees of a setting that is cut off a text.
-use Rattle.rl_text.proofs.Common.{◌≡◌, ◌≢◌, ℕ, ◌+◌, ◌<◌, ◌≤◌, ◌⊎◌, inl, inr, Bool, true, false, List, [], ◌∷◌, ◌++◌, length, length-append, Option, Some, None, refl, sym, ◌∙◌, ap, subst, arith, nat_tests, append_assoc, chars, codes, encode_ascii, length-encode, len_utf8_bounds, replicate, if◌then◌else◌, ◌==◌}
+-- Lemmas about the token trees of a setting that is lexed token by token.
+use Rattle.rl_syntax.proofs.Common.{◌≡◌, ◌≢◌, ℕ, ◌+◌, ◌<◌, ◌≤◌, ◌⊎◌, inl, inr, Bool, true, false, List, [], ◌∷◌, ◌++◌, length, length-append, Option, Some, None, refl, sym, ◌∙◌, ap, subst, arith, nat_tests, append_assoc, chars, codes, encode_ascii, length-encode, len_utf8_bounds, replicate, if◌then◌else◌, ◌==◌}
 use Rattle.std.specs.Prelude.{min, max, IsSomeAnd}
 use Prim.Native.Char.{code}
-use Rattle.rl_text.specs.declared.span.Span.{Span}
-use Rattle.rl_text.specs.Texts.{SpannedText, IsTail, byte_len}
-use Rattle.rl_text.proofs.Rests.{tail_length}
-use Rattle.rl_forms.specs.declared.kind.Kind.{Kind}
-use Rattle.rl_forms.specs.declared.kind.Kind.TheVariants.{Bool as BoolKind}
-use Rattle.rl_forms.specs.Reading.{ReadsAs, Reads}
+use Rattle.rl_syntax.specs.declared.span.Span.{Span}
+use Rattle.rl_syntax.specs.Texts.{SpannedText, IsTail, byte_len}
+use Rattle.rl_syntax.proofs.Rests.{tail_length}
+use Rattle.rl_syntax.specs.declared.kind.Kind.{Kind}
+use Rattle.rl_syntax.specs.declared.kind.Kind.TheVariants.{Bool as BoolKind}
+use Rattle.rl_syntax.specs.Reading.{ReadsAs, Reads}
 use Rattle.rl_lexer.specs.declared.cursor.Lexeme.{Lexeme as Lent}
 use Rattle.rl_lexer.specs.Lexemes.{Lexeme, QuotedLexeme, RawLexeme, CharacterLexeme, BasedLexeme, DecimalLexeme, IdentifierLexeme, DelimiterLexeme, MarkLexeme, lexeme_text, prefix_text, body_text, character_body_text, lexed_fraction_text, lexed_exponent_text, LexemeForm, LiteralForm, IdentifierForm, DelimiterForm, MarkForm, form_of}
 use Rattle.rl_lexer.specs.Cursors.{form_view, CursorState, TakesNext}
 use Rattle.rl_lexer.proofs.CutLemmas.{byte_len-append}
-use Rattle.rl_reading.specs.declared.found.Found.{Found}
-use Rattle.rl_reading.specs.declared.next_literals.NextLiteral.{NextLiteral}
-use Rattle.rl_reading.specs.Founds.{IsFound, suffix_in}
-use Rattle.rl_reading.specs.NextLiterals.{IsLiteralToken, TakesLiteralToken, TakesNegative, TakesNextLiteral}
+use Rattle.rl_lenient.specs.declared.found.Found.{Found}
+use Rattle.rl_lenient.specs.declared.next_literals.NextLiteral.{NextLiteral}
+use Rattle.rl_lenient.specs.Founds.{IsFound, suffix_in}
+use Rattle.rl_lenient.specs.NextLiterals.{IsLiteralToken, TakesLiteralToken, TakesNegative, TakesNextLiteral}
 use Rattle.rl_settings.specs.declared.settings.NextSetting.{NextSetting}
 use Rattle.rl_settings.specs.SettingSteps.{TakesName, TakesMark, TakesComma, SetsValue, TakesSetting}
 use Rattle.rl_tokens.specs.Puncts.{Mark}
@@ -29,9 +29,9 @@ use Rattle.rl_attributes.specs.Attributes.{Attribute, IsAttribute}
 use Rattle.rl_attributes.specs.AttributeSteps.{IsNext}
 use Rattle.rl_attributes.specs.NextEntries.{borrowed_token, signed_token, value_token, attribute_at}
 
--- ---- the tokens that are cut off, as trees
+-- ---- lemmas about consumed tokens as token trees
 
--- What is cut off are these trees, of which none is a group.
+-- The tokens between the cursors `old` and `new` are the token trees `trees`, without groups.
 pub record TakesTrees (file : ℕ) (old : CursorState) (trees : List Tree) (new : CursorState) : Type 0 where
   pub cuts : (done : List Tree) → LexesTreesUpTo (chars old.text) file done (chars old.rest)
       → LexesTreesUpTo (chars old.text) file (done ++ trees) (chars new.rest)
@@ -79,7 +79,7 @@ takes_mark c file old new l t is = record {
 after_mark : (c file : ℕ) (l : Lent) (rest : List Tree) → IsAfterMark c (PunctTree (mark_at c file l) ∷ rest) rest
 after_mark c file l rest = record { mark = mark_at c file l; trees_are = refl; is = refl }
 
--- ---- the span of a minus and its number
+-- ---- lemmas about the span of a minus and its number
 
 some_char : (c : ℕ) (cs : List ℕ) → 1 ≤ byte_len (c ∷ cs)
 some_char c cs =
@@ -92,7 +92,7 @@ some_back a b h = omega (arith, byte_len-append a b)
 some_front : (a b : List ℕ) → 1 ≤ byte_len a → 1 ≤ byte_len (a ++ b)
 some_front a b h = omega (arith, byte_len-append a b)
 
--- a lexeme has bytes
+-- Each lexeme is at least one byte long.
 lexeme_long : (l : Lexeme) → 1 ≤ byte_len (lexeme_text l)
 lexeme_long (QuotedLexeme p parts x) =
     some_back (prefix_text p ++ (34 ∷ body_text parts)) (34 ∷ x) (some_char 34 x)
@@ -109,7 +109,7 @@ lexeme_long (IdentifierLexeme c more) = some_char c more
 lexeme_long (DelimiterLexeme c) = some_char c []
 lexeme_long (MarkLexeme c) = some_char c []
 
--- a minus has one
+-- A minus has one byte.
 minus_short : (l : Lexeme) → form_of l ≡ MarkForm 45 → byte_len (lexeme_text l) ≡ 1
 minus_short (MarkLexeme c) e =
     let same : c ≡ 45 = cc in
@@ -122,7 +122,7 @@ minus_short (DecimalLexeme d more fr ex x) e = absurd (cc)
 minus_short (IdentifierLexeme c more) e = absurd (cc)
 minus_short (DelimiterLexeme c) e = absurd (cc)
 
--- the number stands after the minus
+-- The byte range of a number that follows a minus begins and ends after that of the minus.
 number_behind : (old between new : CursorState) (m l : Lent) → TakesNext old m between → TakesNext between l new
     → form_view m.form ≡ MarkForm 45 → (m.lo ≤ l.lo) × (m.hi ≤ l.hi)
 number_behind old between new m l t u is =
@@ -142,18 +142,18 @@ joined_is file a b c d p q =
     ap (λ x. if x then span (min a c) (max b d) else span a b) same ∙ ap (λ n. span n (max b d)) lo
     ∙ ap (λ n. span a n) hi
 
--- ---- the literal
+-- ---- lemmas about the literal of a setting
 
--- The trees that are cut off are the literal, whatever stands after them.
+-- The tokens between the cursors `old` and `new` are the literal `value`, whatever token trees follow.
 pub record TakesFront (file : ℕ) (old : CursorState) (value : NextLiteral) (new : CursorState) : Type 0 where
   pub trees : List Tree
   pub takes : TakesTrees file old trees new
   pub front : (following : List Tree) → IsFront (trees ++ following) (value_token file value) following
 
-truth_of : (text : List ℕ) (o : Option Found) → IsSomeAnd o (λ f. IsFound text f × (f.kind ≡ BoolKind))
+bool_of : (text : List ℕ) (o : Option Found) → IsSomeAnd o (λ f. IsFound text f × (f.kind ≡ BoolKind))
     → ReadsAs BoolKind (chars text)
-truth_of text None h = absurd h
-truth_of text (Some f) (h, e) =
+bool_of text None h = absurd h
+bool_of text (Some f) (h, e) =
     subst (λ (k : Kind). ReadsAs k (chars text)) e (h.reads.0, chars (suffix_in text f.body), h.reads.1)
 
 one_token : (file : ℕ) (old new : CursorState) (value : NextLiteral) (f : LexemeForm) → TakesNext old value.token new
@@ -168,7 +168,7 @@ one_token file old new value IdentifierForm t is h none = record {
   trees = IdentTree (borrowed_token file value.token) ∷ [];
   takes = takes_name file old new value.token (t, is);
   front = λ following. (
-    truth_of value.token.text.now value.found h,
+    bool_of value.token.text.now value.found h,
     ap (λ m. signed_token file m value.token) none,
     refl,
   );
@@ -202,15 +202,16 @@ takes_value file old new value (inl t) =
     one_token file old new value (form_view value.token.form) t.takes refl t.literal t.no_minus
 takes_value file old new value (inr n) = signed file old new value n
 
--- ---- the setting
+-- ---- lemmas about a whole setting
 
--- The trees that are cut off are the attribute, whatever stands after it: nothing, at the text's end.
+-- The tokens between the cursors `old` and `new` are the attribute `a` and its comma, whatever token trees follow. At
+-- the end of the text none follow.
 pub record TakesAttribute (file : ℕ) (old : CursorState) (a : Attribute) (new : CursorState) : Type 0 where
   pub trees : List Tree
   pub takes : TakesTrees file old trees new
   pub next : (following : List Tree) → (new.rest ≡ [] → following ≡ []) → IsNext (trees ++ following) a following
 
--- an attribute's trees
+-- An identifier, `=` and the token trees of a literal are an attribute.
 attribute_trees : (file : ℕ) (name eq : Lent) (value : NextLiteral) (trees following : List Tree)
     → IsFront (trees ++ following) (value_token file value) following
     → IsAttribute ((IdentTree (borrowed_token file name) ∷ PunctTree (mark_at 61 file eq) ∷ trees) ++ following)

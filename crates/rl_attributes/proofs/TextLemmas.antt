@@ -1,4 +1,4 @@
--- What settings are set to, in words of the text.
+-- Lemmas about the values of settings in terms of the text: of its attributes, and of the texts of their literals.
 use Rattle.std.proofs.Common.{◌≡◌, ◌≢◌, ◌⊎◌, inl, inr, ℕ, ◌+◌, ◌<◌, suc, zero, Bool, true, false, List, [], ◌∷◌, ◌++◌, map, get_or, length, Option, Some, None, Result, Ok, Err, refl, sym, ◌∙◌, ap, subst, arith, rules, IsTrue, IsFalse, codes, ◌||◌}
 use Rattle.std.proofs.Props.{props}
 use Rattle.std.proofs.Math.Logic.{∥∥₁_elim}
@@ -11,11 +11,11 @@ use Rattle.std.proofs.lemmas.List.{length-map, get_or-map}
 use Rattle.std.proofs.lemmas.List.Elements.{All-contains, Contains-append_right, All-map}
 use Rattle.std.proofs.lemmas.Slice.Eq.{bytes_eq-Decides}
 use Rattle.std.proofs.lemmas.Str.{chars-IsAscii, encodes-chars}
-use Rattle.rl_forms.specs.declared.kind.Kind.{Kind}
-use Rattle.rl_forms.specs.declared.kind.Kind.TheVariants.{Str as StrKind, ByteStr as ByteStrKind, CStr as CStrKind, Byte as ByteKind, Char as CharKind, Int as IntKind, Float as FloatKind, Bool as BoolKind}
-use Rattle.rl_forms.specs.Numbers.{float_digits}
-use Rattle.rl_forms.specs.Reading.{Characters, Digits, Truth, Contents, Reads, ReadsAs, HasContents, HasNoInteger, HasNoReading, HasSuffix, IsReadAs, truth_text}
-use Rattle.rl_forms.proofs.OneReading.{one_reading}
+use Rattle.rl_syntax.specs.declared.kind.Kind.{Kind}
+use Rattle.rl_syntax.specs.declared.kind.Kind.TheVariants.{Str as StrKind, ByteStr as ByteStrKind, CStr as CStrKind, Byte as ByteKind, Char as CharKind, Int as IntKind, Float as FloatKind, Bool as BoolKind}
+use Rattle.rl_syntax.specs.Numbers.{float_digits}
+use Rattle.rl_syntax.specs.Reading.{Characters, Digits, Truth, Contents, Reads, ReadsAs, HasContents, HasNoInteger, HasNoReading, HasSuffix, IsReadAs, truth_text}
+use Rattle.rl_syntax.proofs.OneReading.{one_reading}
 use Rattle.rust_literals.specs.declared.lit.Lit.{Lit}
 use Rattle.rust_literals.specs.declared.lit.Lit.TheVariants.{Str, ByteStr, CStr, Byte, Char, Int, Float, Bool as BoolLit, Verbatim}
 use Rattle.rust_literals.specs.Base10.{AreBase10Digits, IsMadeOf}
@@ -31,7 +31,7 @@ use Rattle.rl_attributes.specs.Settings.{knows, HasSomeLitSuffix, IsStringSet, I
 use Rattle.rl_attributes.specs.TextSettings.{IsNamed, IsOneOf, setting_names, AreNamedOf, HasBareText, HaveBareTexts, IsUnset, IsSetWith, IsSetOr, IsStringOf, IsTruthOf, HasNumberDigits, IsStringAt, IsTruthAt, AreDigitsAt, IsNumberAt, IsTruthOr, IsMemoryError, IsSomeStringOrMemory, IsSomeNumberOrRejected}
 use Rattle.rl_attributes.proofs.EntryLemmas.{value_lent}
 
--- ---- mapped lists
+-- ---- lemmas about the elements of a mapped list
 
 pub any_map : {X Y : Type 0} (f : X → Y) (P : Y → Type 0) (xs : List X) → Any (λ x. P (f x)) xs → Any P (map f xs)
 any_map f P xs (k, x, lt, e, p) =
@@ -56,7 +56,7 @@ at_middle P a x b xs all e =
     let in_all : Contains xs x = rw e (Contains-append_right a (x ∷ b) x in_rest) in
     All-contains P xs x all in_all
 
--- ---- names
+-- ---- lemmas about the names that settings have
 
 one_or : (n name : List ℕ) (ns : List (List ℕ)) (b k : Bool) → bytes_eq n name ≡ b → (k ≡ true → IsOneOf ns name)
     → (b || k) ≡ true → (name ≡ n) ⊎ IsOneOf ns name
@@ -81,7 +81,7 @@ one_known (s ∷ ss) name (inl e) =
     ap (λ (b : Bool). b || knows ss name) t
 one_known (s ∷ ss) name (inr h) = or_true (bytes_eq s.name.now name) (knows ss name) (one_known ss name h)
 
--- ---- literals
+-- ---- lemmas about literals as values of settings
 
 pub string_contents : {A B : Type 0} (l : Lit A) (v : String B) → IsStringSet l v
     → HasContents StrKind (chars (token_of l).text) (Characters (chars (string_bytes v)))
@@ -112,7 +112,7 @@ truth_reads (Float l) b h = absurd h
 truth_reads (BoolLit l) b h = subst (λ (y : Bool). Reads (chars (truth_text l.value)) BoolKind (Truth y) []) h (word_reads l.value)
 truth_reads (Verbatim l) b h = absurd h
 
--- ---- a literal is the reading of its text
+-- ---- lemmas about the kind and the suffix of a literal, which are those of its text
 
 kind_by : (o : Option Kind) (t : List ℕ) → IsReadAs o t → (k : Kind) (v : Contents) (x : List ℕ)
     → Reads t k v x → o ≡ Some k
@@ -174,7 +174,7 @@ string_in_text (Float l) v h s = absurd h
 string_in_text (BoolLit l) v h s = absurd h
 string_in_text (Verbatim l) v h s = absurd h
 
--- ---- values of another kind
+-- ---- lemmas about the errors of values
 
 pub string_memory : {A : Type 0} (s : Setting) (l : Lit A) (e : SettingError A) → kind_of l ≡ Some StrKind
     → RejectsString s l e → IsMemoryError e
@@ -200,7 +200,7 @@ truth_fits s (Int l) e k h = absurd (let x = k in cc)
 truth_fits s (Float l) e k h = absurd (let x = k in cc)
 truth_fits s (Verbatim l) e k h = absurd (let x = k in cc)
 
--- ---- names and suffixes of all
+-- ---- lemmas about the check of all names and suffixes
 
 pub are_named : {A : Type 0} (settings : List Setting) (es : List (Entry A))
     → All (λ e. IsTrue (knows settings (string_bytes e.name))) es → AreNamedOf (setting_names settings) (attributes_of es)
@@ -208,9 +208,9 @@ are_named settings es h =
     All-map (λ a. IsOneOf (setting_names settings) a.name.text) attribute_of es
     (λ k d lt. knows_one settings (string_bytes (get_or es k d).name) (h k d lt))
 
-pub are_bare : {A : Type 0} (es : List (Entry A)) → AreReadValues es → All (λ e. HasLitSuffix e.value []) es
+pub need_no_escapes : {A : Type 0} (es : List (Entry A)) → AreReadValues es → All (λ e. HasLitSuffix e.value []) es
     → HaveBareTexts (attributes_of es)
-are_bare es rd h =
+need_no_escapes es rd h =
     All-map (λ a. HasBareText a.literal) attribute_of es
     (λ k d lt kind v x r. sym (suffix_is (get_or es k d).value (rd k d lt) kind v x [] r (h k d lt)))
 
@@ -241,9 +241,10 @@ check_accepts settings es err j rd kn bare =
     (all_unmap attribute_of (λ a. HasBareText a.literal) es bare) j.entries_are)
     j.rejected
 
--- ---- one name, over entries and over attributes
+-- ---- lemmas about the value of one name
 
--- what is set, in words of the text
+-- If a setting has the value `found`, the text sets the setting's name to that value, or `found` is `None` and no
+-- attribute has the name.
 pub set_in_text : {A V : Type 0} (p : Setting) (es : List (Entry A)) (Holds : Lit A → V → Type 0) (found : Option V)
     (Is : V → Attribute → Type 0) → AreReadValues es
     → ((e : Entry A) (v : V) → IsReadLit e.value → Holds e.value v → Is v (attribute_of e)) → IsSetAs p es Holds found
@@ -257,7 +258,7 @@ set_in_text p es Holds (Some v) Is rd gives set =
 set_in_text p es Holds None Is rd gives set =
     All-map (λ a. IsNamed p.name.now a → ⊥) attribute_of es (λ k d lt n. set.every k d lt n)
 
--- An entry with the name: its value, and what the text has of it.
+-- An attribute whose value has the property `Of`, and whose text has the property `Is`.
 record SetEntry {A : Type 0} (Of : Lit A → Type 0) (Is : Attribute → Type 0) : Type 0 where
   entry : Entry A
   read : IsReadLit entry.value
@@ -301,7 +302,7 @@ rejected_at {A = A} p es Rejects err Is rd (k, x, lt, e, j) text =
       is = text_at p es Is text k x lt e j.0;
     }
 
--- where no attribute has the name, nothing is set and nothing is rejected
+-- Lemmas: if no attribute has a setting's name, the setting has no value and no error.
 unset_some : {A V : Type 0} (p : Setting) (es : List (Entry A)) (Holds : Lit A → V → Type 0) (found : Option V)
     → IsSetAs p es Holds found → IsUnset p.name.now (attributes_of es) → found ≡ None
 unset_some p es Holds None set none = refl
@@ -330,7 +331,7 @@ pub text_answer : {A V : Type 0} (p : Setting) (es : List (Entry A)) (Holds : Li
 text_answer p es Holds (Ok found) Is rd gives set = set_in_text p es Holds found Is rd gives set
 text_answer p es Holds (Err e) Is rd gives set = tt
 
--- ---- strings
+-- ---- lemmas about settings that are strings
 
 pub string_in_words : {A B : Type 0} (e : Entry A) (v : String B) → IsReadLit e.value → IsStringSet e.value v
     → IsStringOf (string_bytes v) (attribute_of e)
@@ -355,7 +356,7 @@ string_exactly p es (Err e) rd set rejected w text =
     string_memory p at.entry.value e
     (is_kind at.entry.value at.read StrKind (Characters (chars w)) at.is.0 at.is.1) at.of
 
--- ---- truth values
+-- ---- lemmas about settings that are `bool` values
 
 pub truth_in_words : {A : Type 0} (e : Entry A) (b : Bool) → IsReadLit e.value → IsTruthSet e.value b
     → IsTruthOf b (attribute_of e)
@@ -378,13 +379,13 @@ truth_exactly p es (Err e) rd set rejected w text =
     let at = rejected_at p es (RejectsTruth p) e (IsTruthOf w) rd rejected text in
     absurd (truth_fits p at.entry.value e (is_kind at.entry.value at.read BoolKind (Truth w) at.is.0 at.is.1) at.of)
 
--- ---- numbers
+-- ---- lemmas about settings that are numbers
 
 no_integer : (t : List ℕ) → ∥ ReadsAs FloatKind t ∥₁ → HasNoInteger t
 no_integer t h = λ sign magnitude suffix r.
     ∥∥₁_elim h (λ p q. absurd p) (λ is. is.2.no_integer sign magnitude suffix r)
 
--- a float's digits, as its contents
+-- The digits of a text that is a float and not an integer are its value as a literal.
 float_contents : (t ds : List ℕ) → HasNoInteger t → HasDigits FloatKind t (chars ds)
     → HasContents FloatKind t (Digits (chars ds))
 float_contents t ds none h =
@@ -521,7 +522,7 @@ number_exactly gives output p es (Err e) rd set rejected ds text =
     let at = rejected_at p es (RejectsNumber gives output p) e (HasNumberDigits ds) rd rejected text in
     same_rejected gives output p at.entry.value e at.read ds at.is.is_text at.is.number at.of
 
--- ---- what a call returned
+-- ---- lemmas about an optional result, by its case
 
 pub in_some : {V : Type 0} (o : Option V) (v : V) (None_is : Type 0) (Some_is : V → Type 0) → o ≡ Some v
     → MatchOption o None_is Some_is → Some_is v
@@ -531,7 +532,7 @@ pub in_none : {V : Type 0} (o : Option V) (None_is : Type 0) (Some_is : V → Ty
     → MatchOption o None_is Some_is → None_is
 in_none o None_is Some_is e h = subst (λ y. MatchOption y None_is Some_is) e h
 
--- ---- a setting with a default
+-- ---- lemmas about a setting with a default
 
 any_none : (name : List ℕ) (list : List Attribute) → IsUnset name list → Any (IsNamed name) list → ⊥
 any_none name list none (k, x, lt, e, n) = subst (λ (y : Attribute). IsNamed name y → ⊥) e (none k x lt) n

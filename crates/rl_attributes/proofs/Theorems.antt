@@ -1,19 +1,19 @@
--- The laws (src/laws.rt), as lemmas that callers may cite; that a fact of all entries, or of some, is one of their
--- attributes; how a setting with a default follows from one that is set or isn't, and back; and an optional
--- answer by its case.
+-- The theorems of src/laws.rt, as lemmas that callers may cite. Further lemmas for callers: a fact of all entries, or
+-- of one, is a fact of their attributes; a setting with a default follows from a setting that is set or not set, and
+-- the reverse; and an optional result has one of two cases.
 pub use Rattle.rl_attributes.proofs.TextLemmas.{set_or_of_set, set_or_of_unset, set_of_set_or, default_of_set_or, rejected_named, in_some, in_none}
 use Rattle.std.proofs.Common.{◌↔◌, List, All, Any}
 use Rattle.rl_attributes.specs.declared.attributes.Entry.{Entry}
 use Rattle.rl_attributes.specs.Attributes.{Attribute}
 use Rattle.rl_attributes.specs.Entries.{attribute_of, attributes_of}
-use Rattle.rl_attributes.specs.Laws.{AStringReadsFromItsText, ATruthValueReadsFromItsText, TheTextTellsTheKind, TheTextTellsTheSuffix, AMalformedLiteralHasNoReading, AStringIsRejectedForMemory, ATruthValueIsAccepted, KnownNamesAreTheSettings}
+use Rattle.rl_attributes.specs.Laws.{AStringReadsFromItsText, ABoolReadsFromItsText, TheTextTellsTheKind, TheTextTellsTheSuffix, AMalformedLiteralHasNoReading, AStringIsRejectedForMemory, ABoolIsAccepted, KnownNamesAreTheSettings}
 use Rattle.rl_attributes.proofs.TextLemmas.{string_in_text, truth_reads, is_kind, suffix_is, malformed, string_memory, truth_fits, knows_one, one_known, all_map, all_unmap, any_map, any_unmap}
 
 pub a_string_reads_from_its_text : {A B : Type 0} → AStringReadsFromItsText A B
 a_string_reads_from_its_text = string_in_text
 
-pub a_truth_value_reads_from_its_text : {A : Type 0} → ATruthValueReadsFromItsText A
-a_truth_value_reads_from_its_text = truth_reads
+pub a_bool_reads_from_its_text : {A : Type 0} → ABoolReadsFromItsText A
+a_bool_reads_from_its_text = truth_reads
 
 pub the_text_tells_the_kind : {A : Type 0} → TheTextTellsTheKind A
 the_text_tells_the_kind = is_kind
@@ -27,8 +27,8 @@ a_malformed_literal_has_no_reading = malformed
 pub a_string_is_rejected_for_memory : {A : Type 0} → AStringIsRejectedForMemory A
 a_string_is_rejected_for_memory = string_memory
 
-pub a_truth_value_is_accepted : {A : Type 0} → ATruthValueIsAccepted A
-a_truth_value_is_accepted = truth_fits
+pub a_bool_is_accepted : {A : Type 0} → ABoolIsAccepted A
+a_bool_is_accepted = truth_fits
 
 pub known_names_are_the_settings : KnownNamesAreTheSettings
 known_names_are_the_settings settings name = (knows_one settings name, one_known settings name)

@@ -1,9 +1,9 @@
--- The statements of the laws (src/laws.rt), by name.
+-- The theorems that the functions of src/laws.rt state, by name.
 use Rattle.std.specs.Prelude.{◌≡◌, ℕ, Bool as Truth, List, [], Some, None, String, IsTrue, string_bytes}
 use Rattle.std.specs.Str.{chars}
-use Rattle.rl_forms.specs.declared.kind.Kind.{Kind}
-use Rattle.rl_forms.specs.declared.kind.Kind.TheVariants.{Str as StrKind, Bool as BoolKind}
-use Rattle.rl_forms.specs.Reading.{Contents, Characters, Truth as TruthContents, Reads, HasNoReading}
+use Rattle.rl_syntax.specs.declared.kind.Kind.{Kind}
+use Rattle.rl_syntax.specs.declared.kind.Kind.TheVariants.{Str as StrKind, Bool as BoolKind}
+use Rattle.rl_syntax.specs.Reading.{Contents, Characters, Truth as TruthContents, Reads, HasNoReading}
 use Rattle.rust_literals.specs.declared.lit.Lit.{Lit}
 use Rattle.rust_literals.specs.Literals.{kind_of, token_of}
 use Rattle.rust_literals.specs.LitParts.{HasLitSuffix}
@@ -13,46 +13,48 @@ use Rattle.rl_attributes.specs.Entries.{IsReadLit}
 use Rattle.rl_attributes.specs.Settings.{knows, IsStringSet, IsTruthSet, RejectsString, RejectsTruth}
 use Rattle.rl_attributes.specs.TextSettings.{IsOneOf, setting_names, IsMemoryError}
 
--- A literal that is set to a string, and has no suffix, reads as that string.
+-- A theorem: if an attribute's value is a string without a suffix, the text of the value is parsed as that string.
 abbrev pub AStringReadsFromItsText : (A B : Type 0) → Type 0
 AStringReadsFromItsText A B =
     (l : Lit A) (v : String B) → IsStringSet l v → HasLitSuffix l []
     → Reads (chars (token_of l).text) StrKind (Characters (chars (string_bytes v))) []
 
--- A literal that is set to a truth value reads as that value.
-abbrev pub ATruthValueReadsFromItsText : (A : Type 0) → Type 0
-ATruthValueReadsFromItsText A =
+-- A theorem: if an attribute's value is a `bool`, the text of the value is parsed as that `bool`.
+abbrev pub ABoolReadsFromItsText : (A : Type 0) → Type 0
+ABoolReadsFromItsText A =
     (l : Lit A) (b : Truth) → IsTruthSet l b → Reads (chars (token_of l).text) BoolKind (TruthContents b) []
 
--- A literal has the kind as which its text reads.
+-- A theorem: the kind of an attribute's value is the kind as which the text of the value is parsed.
 abbrev pub TheTextTellsTheKind : (A : Type 0) → Type 0
 TheTextTellsTheKind A =
     (l : Lit A) → IsReadLit l → (k : Kind) (v : Contents) (x : List ℕ)
     → Reads (chars (token_of l).text) k v x → kind_of l ≡ Some k
 
--- A literal has the suffix with which its text reads.
+-- A theorem: the suffix of an attribute's value is the suffix with which the text of the value is parsed.
 abbrev pub TheTextTellsTheSuffix : (A : Type 0) → Type 0
 TheTextTellsTheSuffix A =
     (l : Lit A) → IsReadLit l → (k : Kind) (v : Contents) (x y : List ℕ)
     → Reads (chars (token_of l).text) k v x → HasLitSuffix l y → y ≡ x
 
--- The text of a literal without a kind, which is reported as malformed, has no reading.
+-- A theorem: if an attribute's value has no kind, and so is reported as malformed, the text of the value isn't a valid
+-- literal or is an integer above 128 bits.
 abbrev pub AMalformedLiteralHasNoReading : (A : Type 0) → Type 0
 AMalformedLiteralHasNoReading A =
     (l : Lit A) → IsReadLit l → kind_of l ≡ None → HasNoReading (chars (token_of l).text)
 
--- A string is rejected only for an allocation failure.
+-- A theorem: the only error for a setting whose value is a string, and which must be a string, is an allocation
+-- failure.
 abbrev pub AStringIsRejectedForMemory : (A : Type 0) → Type 0
 AStringIsRejectedForMemory A =
     (s : Setting) (l : Lit A) (e : SettingError A) → kind_of l ≡ Some StrKind → RejectsString s l e
     → IsMemoryError e
 
--- A truth value isn't rejected.
-abbrev pub ATruthValueIsAccepted : (A : Type 0) → Type 0
-ATruthValueIsAccepted A =
+-- A theorem: there is no error for a setting whose value is a `bool`, and which must be a `bool`.
+abbrev pub ABoolIsAccepted : (A : Type 0) → Type 0
+ABoolIsAccepted A =
     (s : Setting) (l : Lit A) (e : SettingError A) → kind_of l ≡ Some BoolKind → RejectsTruth s l e → ⊥
 
--- The names that settings know are those of the settings.
+-- A theorem: a name is known to a list of settings exactly if one of the settings has that name.
 abbrev pub KnownNamesAreTheSettings : Type 0
 KnownNamesAreTheSettings =
     (settings : List Setting) (name : List ℕ)

@@ -1,4 +1,4 @@
-//! Attributes, and what they hold.
+//! The types of attributes, which are settings `name = literal`, and of lists of them.
 
 ghost use Rattle.std.proofs.Props.{props};
 ghost use Rattle.rl_attributes.specs.Entries.{AreReadValues, EntriesDiffer};
@@ -12,18 +12,20 @@ use rust_literals::Lit;
 use std::alloc::{Allocator, Global};
 pub use whole::read;
 
-/// An attribute: a name, and the literal that it is set to.
+/// An attribute, `name = literal`: a name, and the literal that the name is set to.
 #[derive(Drop)]
 pub struct Entry<A: Allocator = Global> {
-    /// The name.
+    /// The attribute's name.
     pub name: String<A>,
-    /// Where the name stands.
+    /// The span of the attribute's name.
     pub span: Span,
-    /// What it is set to, `Verbatim` too.
+    /// The literal that the name is set to. It is `Verbatim` if the text isn't a valid literal or is an integer above
+    /// 128 bits.
     pub value: Lit<A>,
 }
 
-/// Attributes in their order. No two have one name, and each value is the reading of its literal.
+/// A list of attributes `name = literal`, in the order of their text. No two attributes have the same name, and each
+/// value is parsed from the text of its literal.
 ///
 /// See the example of [`Attrs::get`].
 #[derive(Drop)]
@@ -40,7 +42,7 @@ impl<A: Allocator> Attrs<A> {
     ghost use Rattle.rl_attributes.specs.Entries.{HasName};
     ghost use Rattle.rl_attributes.specs.AttributeParsing.{entries_of, attrs_end};
 
-    /// The attributes, in their order.
+    /// Returns the list's attributes, in the order of their text, borrowed.
     pub fn entries(&self) -> &[Entry<A>]
         ensures entries { result.now ≡ entries_of self.now }
         ensures differ { EntriesDiffer result.now }
@@ -49,15 +51,16 @@ impl<A: Allocator> Attrs<A> {
         self.entries.as_slice()
     }
 
-    /// Where they end, which is where a name that is missed is reported: of a text that [`read`] was given the span of no
-    /// bytes at its end; of what a parser took the scope of its buffer.
+    /// Returns the span of the error for a missing name. For attributes that [`read`] parsed it is the empty span at
+    /// the text's end. For attributes that were parsed from a parse buffer it is the buffer's scope.
     pub fn end(&self) -> Span
         ensures { result ≡ attrs_end self.now }
     {
         self.end
     }
 
-    /// What the name is set to; `None` where no attribute has the name. It goes over the entries.
+    /// Returns the value of the attribute with the name `name`, or `None` if no attribute has that name. The search is
+    /// linear.
     ///
     /// # Example
     ///
@@ -76,10 +79,10 @@ impl<A: Allocator> Attrs<A> {
     /// // string_setting(alloc, "host = \"a\", port = 80", "host") == Some("a")
     /// ```
     pub fn get(&self, name: &str) -> Option<&Lit<A>>
-        // What is borrowed is the value of each entry with the name, of which there is one at most.
+        // The result is the value of each attribute with the name. At most one attribute has it.
         ensures borrowed { All (λ entry. HasName name.now entry
             → IsSomeAnd result (λ value. value.now ≡ entry.value)) (entries_of self.now) }
-        // Where something is borrowed, an entry has the name.
+        // If the result isn't `None`, an attribute has the name.
         ensures named { IfSome result
             (λ value. Any (λ entry. HasName name.now entry) (entries_of self.now)) }
     {

@@ -1,45 +1,48 @@
-//! Laws of the definitions: each function does nothing, and its contract is the law.
+//! Theorems about the values of attributes and about settings. Each function here does nothing when it is called: its
+//! contract is a theorem.
 
-ghost use Rattle.rl_attributes.specs.Laws.{AStringReadsFromItsText, ATruthValueReadsFromItsText, TheTextTellsTheKind, TheTextTellsTheSuffix, AMalformedLiteralHasNoReading, AStringIsRejectedForMemory, ATruthValueIsAccepted, KnownNamesAreTheSettings};
+ghost use Rattle.rl_attributes.specs.Laws.{AStringReadsFromItsText, ABoolReadsFromItsText, TheTextTellsTheKind, TheTextTellsTheSuffix, AMalformedLiteralHasNoReading, AStringIsRejectedForMemory, ABoolIsAccepted, KnownNamesAreTheSettings};
 
 use std::alloc::Allocator;
 
-/// A literal that is set to a string, and has no suffix, reads as that string.
+/// Proves that if an attribute's value is a string without a suffix, the text of the value is parsed as that string.
 pub fn a_string_reads_from_its_text<A: Allocator, B: Allocator>()
     ensures { AStringReadsFromItsText A B }
 {}
 
-/// A literal that is set to a truth value reads as that value.
-pub fn a_truth_value_reads_from_its_text<A: Allocator>()
-    ensures { ATruthValueReadsFromItsText A }
+/// Proves that if an attribute's value is a `bool`, the text of the value is parsed as that `bool`.
+pub fn a_bool_reads_from_its_text<A: Allocator>()
+    ensures { ABoolReadsFromItsText A }
 {}
 
-/// A literal has the kind as which its text reads.
+/// Proves that the kind of an attribute's value is the kind as which the text of the value is parsed.
 pub fn the_text_tells_the_kind<A: Allocator>()
     ensures { TheTextTellsTheKind A }
 {}
 
-/// A literal has the suffix with which its text reads.
+/// Proves that the suffix of an attribute's value is the suffix with which the text of the value is parsed.
 pub fn the_text_tells_the_suffix<A: Allocator>()
     ensures { TheTextTellsTheSuffix A }
 {}
 
-/// The text of a literal without a kind, which is reported as malformed, has no reading.
+/// Proves that if an attribute's value is `Verbatim`, which is reported as malformed, the text of the value isn't a
+/// valid literal or is an integer above 128 bits.
 pub fn a_malformed_literal_has_no_reading<A: Allocator>()
     ensures { AMalformedLiteralHasNoReading A }
 {}
 
-/// A string is rejected only for an allocation failure.
+/// Proves that the only error for a setting whose value is a string, and which must be a string, is an allocation
+/// failure.
 pub fn a_string_is_rejected_for_memory<A: Allocator>()
     ensures { AStringIsRejectedForMemory A }
 {}
 
-/// A truth value isn't rejected.
-pub fn a_truth_value_is_accepted<A: Allocator>()
-    ensures { ATruthValueIsAccepted A }
+/// Proves that there is no error for a setting whose value is a `bool`, and which must be a `bool`.
+pub fn a_bool_is_accepted<A: Allocator>()
+    ensures { ABoolIsAccepted A }
 {}
 
-/// The names that settings know are those of the settings.
+/// Proves that a name is known to a list of settings exactly if one of the settings has that name.
 pub fn known_names_are_the_settings()
     ensures { KnownNamesAreTheSettings }
 {}

@@ -1,4 +1,21 @@
-//! Attributes, `name = literal` with commas between: a layer above the literals, by their public calls alone.
+//! A parser of settings: `name = literal`, with commas between the settings. The crate is built on the public functions
+//! of the crates of literals only.
+//!
+//! # Example
+//!
+//! ```
+//! use rl_attributes::{Setting, read};
+//! use std::alloc::Global;
+//!
+//! pub fn host_in(alloc: Global, text: &str) -> Option<String> {
+//!     let host = Setting {
+//!         name: "host",
+//!         expected: "a string",
+//!     };
+//!     read(alloc, text, 0).ok()?.required_string(alloc, host).ok()
+//! }
+//! // host_in(alloc, "host = \"a\", port = 80") == Some("a")
+//! ```
 #![tactic(auto)]
 
 mod attributes;

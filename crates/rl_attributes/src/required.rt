@@ -1,4 +1,4 @@
-//! The value of a setting that has to be set, and of one with a default.
+//! Functions that return the value of a required setting, or of a setting with a default.
 
 ghost use Rattle.std.specs.Prelude.{◌≡◌, ℕ, List, Bool, IfOk, IfErr, Ok, string_bytes};
 ghost use Rattle.rl_attributes.specs.AttributeParsing.{entries_of};
@@ -12,11 +12,12 @@ use std::fmt::Display;
 use std::str::FromStr;
 
 impl<A: Allocator> Attrs<A> {
-    /// The string of a setting that has to be set, decoded.
+    /// Returns the decoded string that the setting `setting` is set to. The setting is required.
     ///
     /// # Errors
     ///
-    /// The errors of [`Attrs::string`], and `Missing` at the end of the settings if it isn't set.
+    /// Returns the errors of [`Attrs::string`]. Returns `Missing` at the end of the settings if no attribute has the
+    /// setting's name.
     ///
     /// # Example
     ///
@@ -47,11 +48,12 @@ impl<A: Allocator> Attrs<A> {
         }
     }
 
-    /// The number of a setting that has to be set.
+    /// Returns the number that the setting `setting` is set to. The setting is required.
     ///
     /// # Errors
     ///
-    /// The errors of [`Attrs::number`], and `Missing` at the end of the settings if it isn't set.
+    /// Returns the errors of [`Attrs::number`]. Returns `Missing` at the end of the settings if no attribute has the
+    /// setting's name.
     ///
     /// See the example of [`Attrs::required_string`].
     pub fn required_number<N: FromStr>(
@@ -75,11 +77,12 @@ impl<A: Allocator> Attrs<A> {
         }
     }
 
-    /// The truth value of a setting that has to be set.
+    /// Returns the `bool` that the setting `setting` is set to. The setting is required.
     ///
     /// # Errors
     ///
-    /// The errors of [`Attrs::truth`], and `Missing` at the end of the settings if it isn't set.
+    /// Returns the errors of [`Attrs::truth`]. Returns `Missing` at the end of the settings if no attribute has the
+    /// setting's name.
     ///
     /// See the example of [`Attrs::required_string`].
     pub fn required_truth(&self, setting: Setting) -> Result<bool, SettingError<A>>
@@ -95,11 +98,11 @@ impl<A: Allocator> Attrs<A> {
         }
     }
 
-    /// The truth value of a setting, or this one if it isn't set.
+    /// Returns the `bool` that the setting `setting` is set to, or `default` if no attribute has the setting's name.
     ///
     /// # Errors
     ///
-    /// The errors of [`Attrs::truth`].
+    /// Returns the errors of [`Attrs::truth`].
     ///
     /// See the example of [`Attrs::required_string`].
     pub fn truth_or(&self, setting: Setting, default: bool) -> Result<bool, SettingError<A>>

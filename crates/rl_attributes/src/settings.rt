@@ -1,4 +1,4 @@
-//! What a reader asks of settings: which names are known, that no value has a suffix, and what a value has to be.
+//! The type of settings, the check that names are known and values have no suffix, and the type of errors.
 
 ghost use Rattle.std.specs.Prelude.{◌≡◌, ◌≢◌, [], All, IfErr, IsOk, IsTrue, OnOk, MatchBool, string_bytes};
 ghost use Rattle.std.specs.Str.{chars};
@@ -13,16 +13,16 @@ use rust_literals::Lit;
 use std::alloc::{AllocError, Allocator, Global};
 use std::fmt;
 
-/// A setting that a reader knows. Its two texts are what messages say of it.
+/// A setting that a program accepts, as the program describes it in error messages: its name, and its expected value.
 #[derive(Clone, Copy, PartialEq, Eq, Debug)]
 pub struct Setting {
-    /// The name.
+    /// The setting's name.
     pub name: &'static str,
-    /// What its value has to be, such as `an integer from 0 to 65535`.
+    /// The setting's expected value, as text for messages. An example is `an integer from 0 to 65535`.
     pub expected: &'static str,
 }
 
-/// The name, and what was expected of its value.
+/// Writes the setting's name and its expected value, as in `port: expected an integer`.
 impl fmt::Display for Setting {
     ghost use Rattle.std.specs.Prelude.{Some};
     ghost use Rattle.rl_attributes.specs.Settings.{expectation};
@@ -36,28 +36,28 @@ impl fmt::Display for Setting {
     }
 }
 
-/// Why a text gives a reader no settings. `Display` prints the message; [`SettingError::span`] is the place.
+/// An error of settings. `Display` prints the message. [`SettingError::span`] returns the position.
 #[derive(Drop)]
 pub enum SettingError<A: Allocator = Global> {
-    /// The text is no attributes, or an allocation failed.
+    /// The text isn't a list of attributes, or an allocation failed.
     Text(Error<A>),
-    /// The name at this span is none of the known ones.
+    /// An attribute's name, at this span, is unknown.
     Unknown(Span),
-    /// The value at this span has a suffix.
+    /// An attribute's value, at this span, has a suffix.
     Suffix(Span),
-    /// The setting's value, at this span, is a literal of another kind than was expected.
+    /// The setting's value, at this span, is a literal of another kind than the expected one.
     Kind(Setting, Span),
-    /// The setting's value, at this span, has no reading: a malformed literal, or an integer above 128 bits. Rust's grammar has
-    /// the reason (`explain_value` of `rl_grammar`, of the literal's text).
+    /// The setting's value, at this span, isn't a valid literal, or is an integer above 128 bits. `explain_value` of
+    /// `rl_grammar` returns the reason for the literal's text.
     Malformed(Setting, Span),
-    /// The setting's value was rejected for this error, as `base10_parse` reports one.
+    /// The number type of the setting rejected the value with this error, which `base10_parse` returned.
     Value(Setting, Error<A>),
-    /// The setting has to be set and isn't; this is where the settings end.
+    /// The setting is required, and no attribute has its name. The span is the end of the settings.
     Missing(Setting, Span),
 }
 
 impl<A: Allocator> SettingError<A> {
-    /// The place of the error, in bytes of the text.
+    /// Returns the error's span, a byte range of the text.
     pub fn span(&self) -> Span
         ensures { result ≡ span_of self.now }
     {
@@ -95,7 +95,7 @@ impl<A: Allocator> fmt::Display for SettingError<A> {
     }
 }
 
-/// What [`crate::read`] reports, as `Text`.
+/// Converts an error of [`crate::read`] to `Text`.
 impl<A: Allocator> From<Error<A>> for SettingError<A> {
     ghost use Rattle.std.specs.Prelude.{◌≡◌};
     ghost use Rattle.rl_attributes.specs.declared.settings.SettingError.TheVariants.{Text};
@@ -107,11 +107,12 @@ impl<A: Allocator> From<Error<A>> for SettingError<A> {
     }
 }
 
-/// std's error for an allocation failure, which has no place: `Memory` at [`Span::call_site`], as `Text`.
+/// Converts std's error for an allocation failure, which has no position, to `Text` with `Memory` at
+/// [`Span::call_site`].
 impl<A: Allocator> From<AllocError> for SettingError<A> {
     ghost use Rattle.std.specs.Prelude.{◌≡◌};
     ghost use Rattle.rl_tokens.specs.Errors.{memory_at};
-    ghost use Rattle.rl_text.specs.Spans.{nowhere};
+    ghost use Rattle.rl_syntax.specs.Spans.{nowhere};
     ghost use Rattle.rl_attributes.specs.declared.settings.SettingError.TheVariants.{Text};
 
     ghost from_gives = { λ failed setting. setting ≡ Text (memory_at nowhere) };
@@ -121,28 +122,28 @@ impl<A: Allocator> From<AllocError> for SettingError<A> {
     }
 }
 
-/// Whether one of the settings has the name.
+/// Whether one of `settings` has the name `name`.
 fn is_known(settings: &[Setting], name: &str) -> bool
     ensures { result ≡ knows settings.now name.now }
 {
     settings.iter().any(|setting| setting.name == name)
 }
 
-/// Whether a text has characters.
+/// Whether `text` isn't empty.
 fn is_some(text: &str) -> bool
     ensures { MatchBool result (chars text.now ≢ []) (chars text.now ≡ []) }
 {
     !text.is_empty()
 }
 
-/// Whether the literal has a suffix.
+/// Whether `literal` has a suffix.
 fn has_suffix<A: Allocator>(literal: &Lit<A>) -> bool
     ensures { MatchBool result (HasSomeLitSuffix literal.now) (HasLitSuffix literal.now []) }
 {
     is_some(literal.suffix())
 }
 
-/// That the entry's name is known, and that its value has no suffix.
+/// Checks that one of `settings` has the name of the attribute `entry`, and that the attribute's value has no suffix.
 fn check_entry<A: Allocator>(entry: &Entry<A>, settings: &[Setting]) -> Result<(), SettingError<A>>
     ensures accepted { OnOk result (IsAccepted settings.now entry.now) }
     ensures rejected { IfErr result (IsRejectedEntry settings.now entry.now) }
@@ -157,24 +158,26 @@ fn check_entry<A: Allocator>(entry: &Entry<A>, settings: &[Setting]) -> Result<(
 }
 
 impl<A: Allocator> Attrs<A> {
-    /// That each name is one of the settings', and that no value has a suffix. It changes nothing, and takes no memory.
+    /// Checks that each attribute has the name of one of `settings`, and that no value has a suffix. Nothing is changed
+    /// or allocated.
     ///
     /// # Errors
     ///
-    /// That of the first attribute, in their order, that isn't so: `Unknown` at its name, where no setting has the name;
-    /// else `Suffix` at its value.
+    /// Returns the error of the first attribute with an unknown name or a suffix. The error is `Unknown` at the
+    /// attribute's name if the name is unknown. Otherwise it is `Suffix` at the attribute's value.
     pub fn check(&self, settings: &[Setting]) -> Result<(), SettingError<A>>
-        // Every name is known, and no value has a suffix.
+        // On success every attribute's name is known, and no attribute's value has a suffix.
         ensures known { OnOk result (All (λ entry. IsTrue (knows settings.now (string_bytes entry.name)))
             (entries_of self.now)) }
         ensures bare { OnOk result
             (All (λ entry. HasLitSuffix entry.value []) (entries_of self.now)) }
-        // The same in words of the text, and attributes of which it is so are accepted.
+        // On success each attribute's name in the text is known, and the text of no attribute's value has a suffix.
+        // Conversely, if all attributes have both properties, the check succeeds.
         ensures names { OnOk result (AreNamedOf (setting_names settings.now) (list_of self.now)) }
         ensures bare_texts { OnOk result (HaveBareTexts (list_of self.now)) }
         ensures exactly { AreNamedOf (setting_names settings.now) (list_of self.now)
             → HaveBareTexts (list_of self.now) → IsOk result }
-        // Else the first entry that isn't accepted, at its place.
+        // The returned error is that of the first attribute that isn't accepted.
         ensures first { IfErr result (RejectsFirst settings.now (entries_of self.now)) }
     {
         for entry in self.entries() {

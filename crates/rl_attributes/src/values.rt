@@ -1,4 +1,4 @@
-//! What a setting is set to: a string, a number or a truth value.
+//! Functions that return the value of a setting as a string, a number or a `bool`.
 
 ghost use Rattle.std.specs.Prelude.{◌≡◌, ℕ, List, Bool, Some, None, Ok, IfOk, IfErr, IsOkAnd, MatchOption, string_bytes};
 ghost use Rattle.rl_attributes.specs.AttributeParsing.{entries_of, attrs_end};
@@ -23,7 +23,8 @@ use std::alloc::Allocator;
 use std::fmt::Display;
 use std::str::FromStr;
 
-/// The error that the literal is of another kind than the setting expects, or has no reading.
+/// Returns the error for a setting whose value is of another kind than expected: `Kind` at the value, or `Malformed` if
+/// the value isn't a valid literal or is an integer above 128 bits.
 fn other_kind<A: Allocator>(setting: Setting, value: &Lit<A>) -> SettingError<A>
     ensures { IsOtherKind setting value.now result }
 {
@@ -33,7 +34,8 @@ fn other_kind<A: Allocator>(setting: Setting, value: &Lit<A>) -> SettingError<A>
     }
 }
 
-/// The contents of a string that a setting is set to.
+/// Returns the decoded value of `value`, the literal that the setting `setting` is set to, which must be a string
+/// literal.
 fn string_of<A: Allocator>(
     alloc: A,
     setting: Setting,
@@ -48,8 +50,9 @@ fn string_of<A: Allocator>(
     }
 }
 
-/// The truth value that a setting is set to.
-fn truth_of<A: Allocator>(setting: Setting, value: &Lit<A>) -> Result<bool, SettingError<A>>
+/// Returns the `bool` that the literal `value` represents. `value` is the value of the setting `setting`, and must be a
+/// `bool` literal.
+fn bool_of<A: Allocator>(setting: Setting, value: &Lit<A>) -> Result<bool, SettingError<A>>
     ensures read { IfOk result (IsTruthSet value.now) }
     ensures rejected { IfErr result (RejectsTruth setting value.now) }
 {
@@ -59,7 +62,8 @@ fn truth_of<A: Allocator>(setting: Setting, value: &Lit<A>) -> Result<bool, Sett
     }
 }
 
-/// The number that a setting is set to.
+/// Returns the number that the literal `value` represents, as the number type `N` parses it. `value` is the value of
+/// the setting `setting`, and must be an integer or float literal.
 fn number_of<N: FromStr, A: Allocator>(
     alloc: A,
     setting: Setting,
@@ -83,7 +87,8 @@ where
 }
 
 impl<A: Allocator> Attrs<A> {
-    /// The string that a setting is set to.
+    /// Returns the decoded string that the setting `setting` is set to, or `None` if no attribute has the setting's
+    /// name.
     fn found_string(&self, alloc: A, setting: Setting) -> Result<Option<String<A>>, SettingError<A>>
         ensures set { IfOk result (IsSetAs setting (entries_of self.now) IsStringSet) }
         ensures rejected { IfErr result
@@ -98,7 +103,7 @@ impl<A: Allocator> Attrs<A> {
         }
     }
 
-    /// The number that a setting is set to.
+    /// Returns the number that the setting `setting` is set to, or `None` if no attribute has the setting's name.
     fn found_number<N: FromStr>(
         &self,
         alloc: A,
@@ -120,7 +125,7 @@ impl<A: Allocator> Attrs<A> {
         }
     }
 
-    /// The truth value that a setting is set to.
+    /// Returns the `bool` that the setting `setting` is set to, or `None` if no attribute has the setting's name.
     fn found_truth(&self, setting: Setting) -> Result<Option<bool>, SettingError<A>>
         ensures set { IfOk result (IsSetAs setting (entries_of self.now) IsTruthSet) }
         ensures rejected { IfErr result
@@ -129,7 +134,7 @@ impl<A: Allocator> Attrs<A> {
         let Some(value) = self.get(setting.name) else {
             return Ok(None);
         };
-        match truth_of(setting, value) {
+        match bool_of(setting, value) {
             Ok(truth) => Ok(Some(truth)),
             Err(error) => Err(error),
         }
@@ -137,12 +142,13 @@ impl<A: Allocator> Attrs<A> {
 }
 
 impl<A: Allocator> Attrs<A> {
-    /// The string that a setting is set to, decoded; `None` where it isn't set.
+    /// Returns the decoded string that the setting `setting` is set to, or `None` if no attribute has the setting's
+    /// name.
     ///
     /// # Errors
     ///
-    /// `Malformed` at a value without a reading, `Kind` at another value that isn't a string, and `Text` there if an allocation
-    /// fails.
+    /// Returns `Malformed` at a value that isn't a valid literal or is an integer above 128 bits. Returns `Kind` at any
+    /// other literal that isn't a string. Returns `Text` with `Memory` at the value if an allocation fails.
     ///
     /// # Example
     ///
@@ -164,7 +170,9 @@ impl<A: Allocator> Attrs<A> {
         ensures set { IfOk result (IsSetAs setting (entries_of self.now) IsStringSet) }
         ensures rejected { IfErr result
             (RejectsSetValue setting (entries_of self.now) (RejectsString setting)) }
-        // The same in words of the text, and the way back.
+        // If the result is a string, the text sets the setting's name to that string. If it is `None`, no attribute in
+        // the text has the name. Conversely, a string in the text is returned unless an allocation fails, and a missing
+        // name gives `None`.
         ensures text { IfOk result (λ found. MatchOption found (IsUnset setting.name.now (list_of self.now))
             (λ text. IsStringAt setting.name.now (string_bytes text) (list_of self.now))) }
         ensures exactly { (value : List ℕ) → IsStringAt setting.name.now value (list_of self.now)
@@ -174,13 +182,14 @@ impl<A: Allocator> Attrs<A> {
         self.found_string(alloc, setting)
     }
 
-    /// The number that a setting is set to, as its type makes one of the digits in base ten; `None` where it isn't set. Of
-    /// `0x50` as a `u16` it is 80.
+    /// Returns the number that the setting `setting` is set to, or `None` if no attribute has the setting's name. The
+    /// number type `N` parses the digits of the value in base ten: `0x50` as a `u16` is 80.
     ///
     /// # Errors
     ///
-    /// `Malformed` at a value without a reading, `Kind` at another value that is neither an integer nor a float, and else
-    /// `Value` with the error that `base10_parse` reports.
+    /// Returns `Malformed` at a value that isn't a valid literal or is an integer above 128 bits. Returns `Kind` at any
+    /// other literal that is neither an integer nor a float. Returns `Value` with the error of `base10_parse` if the
+    /// number type rejects the value.
     ///
     /// See the example of [`Attrs::string`].
     pub fn number<N: FromStr>(
@@ -194,7 +203,9 @@ impl<A: Allocator> Attrs<A> {
             (IsSetAs setting (entries_of self.now) (IsNumberSet N.from_str_gives)) }
         ensures rejected { IfErr result (RejectsSetValue setting (entries_of self.now)
             (RejectsNumber N.from_str_gives N.Err.output setting)) }
-        // The same in words of the text, and the way back.
+        // If the result is a number, the text sets the setting's name to a literal from whose digits the number type
+        // parses that number. If it is `None`, no attribute in the text has the name. Conversely, a number in the text
+        // is returned unless its type rejects it, and a missing name gives `None`.
         ensures text { IfOk result (λ found. MatchOption found (IsUnset setting.name.now (list_of self.now))
             (λ number. IsNumberAt N.from_str_gives setting.name.now number (list_of self.now))) }
         ensures exactly { (digits : List ℕ) → AreDigitsAt setting.name.now digits (list_of self.now)
@@ -204,18 +215,21 @@ impl<A: Allocator> Attrs<A> {
         self.found_number(alloc, setting)
     }
 
-    /// The truth value that a setting is set to; `None` where it isn't set. It takes no memory.
+    /// Returns the `bool` that the setting `setting` is set to, or `None` if no attribute has the setting's name.
+    /// Nothing is allocated.
     ///
     /// # Errors
     ///
-    /// `Malformed` at a value without a reading, and `Kind` at another value that is neither `true` nor `false`.
+    /// Returns `Malformed` at a value that isn't a valid literal or is an integer above 128 bits. Returns `Kind` at any
+    /// other literal that is neither `true` nor `false`.
     ///
     /// See the example of [`Attrs::string`].
     pub fn truth(&self, setting: Setting) -> Result<Option<bool>, SettingError<A>>
         ensures set { IfOk result (IsSetAs setting (entries_of self.now) IsTruthSet) }
         ensures rejected { IfErr result
             (RejectsSetValue setting (entries_of self.now) (RejectsTruth setting)) }
-        // The same in words of the text, and the way back.
+        // If the result is a `bool`, the text sets the setting's name to that `bool`. If it is `None`, no attribute in
+        // the text has the name. Conversely, a `bool` in the text is returned, and a missing name gives `None`.
         ensures text { IfOk result (λ found. MatchOption found (IsUnset setting.name.now (list_of self.now))
             (λ truth. IsTruthAt setting.name.now truth (list_of self.now))) }
         ensures exactly { (value : Bool) → IsTruthAt setting.name.now value (list_of self.now)
@@ -225,8 +239,8 @@ impl<A: Allocator> Attrs<A> {
         self.found_truth(setting)
     }
 
-    /// The error that a setting has to be set and isn't, where the settings end: what a reader returns who was given `None`
-    /// of a setting that it requires.
+    /// Returns the error `Missing` for the required setting `setting`, at the end of the settings. A caller that
+    /// requires a setting returns this error if the setting's value is `None`.
     ///
     /// # Example
     ///

@@ -1,18 +1,18 @@
--- The lines of entries, one after another.
-use Rattle.rl_text.proofs.Common.{List, [], ap, append_assoc, chars, refl, string_bytes, ℕ, ◌++◌, ◌∙◌, ◌∷◌, ◌≡◌}
+-- Lemmas about the output lines of attributes.
+use Rattle.rl_syntax.proofs.Common.{List, [], ap, append_assoc, chars, refl, string_bytes, ℕ, ◌++◌, ◌∙◌, ◌∷◌, ◌≡◌}
 use Rattle.std.specs.Prelude.{All}
 use Rattle.std.proofs.lemmas.List.Elements.{All-head, All-tail}
 use Rattle.rust_literals.specs.Literals.{token_of}
-use Rattle.rl_lines.specs.Lines.{IsLineOf, Appends}
+use Rattle.rl_program.specs.Lines.{IsLineOf, Appends}
 use Rattle.rl_commands.specs.LitLines.{IsLineOfLit}
-use Rattle.rl_lines.proofs.LineLemmas.{space}
+use Rattle.rl_program.proofs.LineLemmas.{space}
 use Rattle.rl_commands.proofs.LitLineLemmas.{line_of_text}
 use Rattle.rl_attributes.specs.declared.attributes.Entry.{Entry}
 use Rattle.rl_attributes.specs.Attributes.{AreAttributesOf}
 use Rattle.rl_attributes.specs.Entries.{attributes_of, IsReadEntry}
 use Rattle.rl_commands.specs.EntryLines.{AreAttributeLines, ShowsAttributes, IsLineOfEntry, AreLinesOfEntries}
 
--- a name, a space and a line at the end
+-- The output line of an attribute is appended as its name, a space and the line of its literal.
 pub entry_pushed : {A : Type 0} (entry : Entry A) (name a b c d : List ℕ) → name ≡ string_bytes entry.name → b ≡ a
     ++ chars name → c ≡ b ++ chars (32 ∷ []) → Appends (IsLineOfLit entry.value) c d → Appends (IsLineOfEntry entry) a d
 entry_pushed entry name a b c d e p q (line, prints, r) = (
@@ -23,7 +23,7 @@ entry_pushed entry name a b c d e p q (line, prints, r) = (
       ∙ append_assoc a (chars name) (32 ∷ line),
 )
 
--- the lines of entries that were read are those of their attributes
+-- The output lines of attributes in the program are those of the parsed attributes.
 lines_of_attributes : {A : Type 0} (es : List (Entry A)) (shown : List ℕ) → All IsReadEntry es
     → AreLinesOfEntries es shown → AreAttributeLines (attributes_of es) shown
 lines_of_attributes [] shown read e = e
@@ -32,7 +32,7 @@ lines_of_attributes (x ∷ es) shown read (first, others, (line, p, b), h, e) =
     (token_of x.value).text line (refl, All-head IsReadEntry x es read) refl p in
     (first, others, (line, is, b), lines_of_attributes es others (All-tail IsReadEntry x es read) h, e)
 
--- the lines of all entries are those of the text
+-- The output lines of all attributes in the program are those of the text.
 pub shows_attributes : {A : Type 0} (text : List ℕ) (es : List (Entry A)) (shown : List ℕ)
     → AreAttributesOf text 0 (attributes_of es) → All IsReadEntry es → AreLinesOfEntries es shown
     → ShowsAttributes text shown

@@ -3,3 +3,4 @@ pub mod ListLemmas
 pub mod EntryLineLemmas
 pub mod LitLineLemmas
 pub mod TokenLines
+pub mod EndingLemmas

@@ -1,5 +1,5 @@
--- The lines of a list, literal by literal.
-use Rattle.rl_text.proofs.Common.{List, None, Option, Result, Some, [], ap, chars, chars-nil, string_bytes, subst, sym, ℕ, ◌++◌, ◌∙◌, ◌∷◌, ◌≡◌}
+-- Lemmas about the output lines of a list, literal by literal.
+use Rattle.rl_syntax.proofs.Common.{List, None, Option, Result, Some, [], ap, chars, chars-nil, string_bytes, subst, sym, ℕ, ◌++◌, ◌∙◌, ◌∷◌, ◌≡◌}
 use Rattle.std.proofs.Common.{IfErr, IfOk}
 use Rattle.std.specs.Prelude.{String, IfSome}
 use Rattle.std.specs.Option.{ok_or}
@@ -7,7 +7,7 @@ use Rattle.rust_literals.specs.declared.lit.Lit.{Lit}
 use Rattle.rust_literals.specs.Parsing.{AreRead}
 use Rattle.rust_literals.specs.declared.literals.Literals.{Literals}
 use Rattle.rust_literals.specs.Iterating.{HasReturned}
-use Rattle.rl_lines.proofs.JoinLemmas.{joins_more}
+use Rattle.rl_program.proofs.JoinLemmas.{joins_more}
 use Rattle.rl_commands.specs.LitLines.{IsLineOfLit, AreLinesOfLits}
 use Rattle.rl_commands.proofs.TokenLines.{lines_of_text}
 use Rattle.rl_commands.specs.declared.command.Command.TheVariants.{Read}
@@ -16,7 +16,7 @@ use Rattle.rl_program.specs.declared.program_error.ProgramError.TheVariants.{Mem
 use Rattle.rl_commands.specs.Runs.{Shows, IsRejectionOf}
 use Rattle.rl_commands.specs.Lists.{Lengthens, HasLines}
 
--- one line more
+-- The output lines of some literals with the line of one more.
 lengthened : {A : Type 0} (lines longer : Option (String A)) (list : List (Lit A)) (lit : Lit A)
     → IfSome lines (λ l. AreLinesOfLits list (chars (string_bytes l))) → IfSome longer (Lengthens lines lit)
     → IfSome longer (λ l. AreLinesOfLits (list ++ lit ∷ []) (chars (string_bytes l)))
@@ -25,19 +25,19 @@ lengthened None (Some longer) list lit h k = absurd k
 lengthened (Some lines) (Some longer) list lit h k = joins_more IsLineOfLit list lit (chars (string_bytes lines))
     (chars (string_bytes longer)) h k
 
--- no literal yet, and no line
+-- Before the first literal of a list, the output has no line.
 pub first_none : {A : Type 0} (text : List ℕ) (literals : Literals A) (lines : String A) → string_bytes lines ≡ []
     → HasReturned text 0 [] literals → HasLines text literals (Some lines)
 first_none text literals lines empty returned = record { list = []; returned = returned; lines_are = ap chars empty ∙ chars-nil }
 
--- one literal more, whose line is made
+-- The loop's invariant stays true after one more literal.
 pub first_more : {A : Type 0} (text : List ℕ) (old new : Literals A) (lines longer : Option (String A)) (lit : Lit A)
     (has : HasLines text old lines) → HasReturned text 0 (has.list ++ lit ∷ []) new
     → IfSome longer (Lengthens lines lit) → HasLines text new longer
 first_more text old new lines longer lit has returned pushed = record
     { list = has.list ++ lit ∷ []; returned = returned; lines_are = lengthened lines longer has.list lit has.lines_are pushed }
 
--- the answer where the text is a list: its lines, or an allocation failure for them
+-- The result of the command `read` for a list of literals: its output lines, or an error.
 pub record Answers {A : Type 0} (text : List ℕ) (r : Result (String A) (ProgramError A)) : Type 0 where
   pub lines : IfOk r (λ lines. Shows Read (chars text) (chars (string_bytes lines)))
   pub rejection : IfErr r (IsRejectionOf Read text)

@@ -1,5 +1,5 @@
--- What a run does with its lines.
-use Rattle.rl_text.proofs.Common.{IsUtf8, List, None, Option, Some, chars, encodes-chars, subst, sym, ℕ, ◌≡◌}
+-- Lemmas about the effect of a command after its output lines are formatted.
+use Rattle.rl_syntax.proofs.Common.{IsUtf8, List, None, Option, Some, chars, encodes-chars, subst, sym, ℕ, ◌≡◌}
 use Rattle.std.specs.Prelude.{IfSome}
 use Rattle.std.specs.Io.KnownBytes.{Appends}
 use Rattle.std.proofs.KnownBytes.{Keeps-refl}
@@ -9,13 +9,13 @@ use Rattle.rl_program.specs.declared.program_error.ProgramError.TheVariants.{Wri
 use Rattle.rl_program.specs.Streams.{AppendsBeginning}
 use Rattle.rl_commands.specs.Runs.{Shows, Prints, PrintsBeginning, IsRejectionOf, IsErrorOf}
 
--- a fact of the bytes that were read is one of the known bytes
+-- A property of the bytes that were read is one of the known bytes of the reader.
 known : (P : List ℕ → Type 0) (input : Option (List ℕ)) (bytes : List ℕ) → IfSome input (λ all. bytes ≡ all) → P bytes
     → IfSome input P
 known P None bytes e p = tt
 known P (Some all) bytes e p = subst P e p
 
--- an input that is rejected writes nothing
+-- If the input is rejected, nothing is written.
 pub rejection_error : {A : Type 0} (command : Command) (input old : Option (List ℕ)) (bytes : List ℕ) (error : ProgramError A)
     → IfSome input (λ all. bytes ≡ all) → IsRejectionOf command bytes error → IsErrorOf command input old old error
 rejection_error command input old bytes NotText e r = (Keeps-refl old, known (λ b. IsUtf8 b → ⊥) input bytes e r)
@@ -27,7 +27,7 @@ rejection_error command input old bytes (Literal error) e r = (
 )
 rejection_error command input old bytes kind e r = absurd r
 
--- all of the line was written
+-- The output lines were written.
 pub prints_known : (command : Command) (input old new : Option (List ℕ)) (bytes line : List ℕ)
     → IfSome input (λ all. bytes ≡ all) → IsUtf8 bytes → Shows command (chars bytes) (chars line) → IsUtf8 line
     → Appends old new line → IfSome input (λ b. Prints command b old new)
@@ -50,7 +50,7 @@ write_error {A = A} command input old new bytes line error e u l w f a =
     bytes e (u, (chars line, l, subst (λ z. AppendsBeginning old new z) (sym (encodes-chars line w)) a)) in
     subst (IsErrorOf command input old new) (sym f) write
 
--- a beginning of the line was written
+-- A beginning of the output lines was written.
 pub begins_known : {A : Type 0} (command : Command) (input old new : Option (List ℕ)) (bytes line : List ℕ)
     → IfSome input (λ all. bytes ≡ all) → IsUtf8 bytes → Shows command (chars bytes) (chars line) → IsUtf8 line
     → (error : ProgramError A) → (error ≡ Write) × AppendsBeginning old new line → IsErrorOf command input old new error

@@ -1,14 +1,14 @@
--- The lines of the literals of a text.
+-- Lemmas about the output lines of the literals in a text.
 use Rattle.std.proofs.Common.{ℕ, List, [], ◌∷◌, refl}
-use Rattle.rl_text.specs.Texts.{SpannedText}
+use Rattle.rl_syntax.specs.Texts.{SpannedText}
 use Rattle.rl_tokens.specs.Trees.{Tree}
 use Rattle.rust_literals.specs.declared.lit.Lit.{Lit}
 use Rattle.rust_literals.specs.Parsing.{ReadsLiterals, AreRead}
-use Rattle.rl_lines.specs.Lines.{AreLinesOf, ReadsTokens, AreLinesOfText}
+use Rattle.rl_program.specs.Lines.{AreLinesOf, ReadsTokens, AreLinesOfText}
 use Rattle.rl_commands.specs.LitLines.{AreLinesOfLits}
 use Rattle.rl_commands.proofs.LitLineLemmas.{line_of_text}
 
--- The tokens that literals were read from, and their lines.
+-- The token trees are the tokens of literals, and `shown` are the output lines of these tokens.
 record TokenLines (trees : List Tree) (shown : List ℕ) : Type 0 where
   pub tokens : List SpannedText
   pub used : ReadsTokens trees tokens
@@ -25,7 +25,7 @@ token_lines trees (l ∷ ls) shown (after, front, h) (first, others, p, k, e) =
       lines = (first, others, line_of_text front.token l front.token.text first front.read refl p, rest.lines, e);
     }
 
--- the lines of the literals that a text is read as
+-- The output lines of literals are those of the text from which they were parsed.
 pub lines_of_text : {A : Type 0} (text : List ℕ) (list : List (Lit A)) (shown : List ℕ) → AreRead text 0 list
     → AreLinesOfLits list shown → AreLinesOfText text shown
 lines_of_text text list shown r p =

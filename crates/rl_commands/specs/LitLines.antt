@@ -1,20 +1,20 @@
--- The lines of literals that are held. Texts and lines are lists of characters.
+-- The output lines of `Lit` values. Texts and lines are lists of characters.
 use Rattle.std.specs.Prelude.{◌≡◌, ℕ, List, []}
 use Rattle.std.specs.Str.{chars}
-use Rattle.rl_forms.specs.declared.kind.Kind.TheVariants.{Str, ByteStr, CStr, Byte, Char, Int, Float, Bool}
-use Rattle.rl_forms.specs.Numbers.{FloatReads, float_digits}
-use Rattle.rl_forms.specs.Reading.{Digits, Truth}
+use Rattle.rl_syntax.specs.declared.kind.Kind.TheVariants.{Str, ByteStr, CStr, Byte, Char, Int, Float, Bool}
+use Rattle.rl_syntax.specs.Numbers.{FloatReads, float_digits}
+use Rattle.rl_syntax.specs.Reading.{Digits, Truth}
 use Rattle.rust_literals.specs.declared.lit.Lit.{Lit}
 use Rattle.rust_literals.specs.declared.lit.Lit.TheVariants.{Str as StrLit, ByteStr as ByteStrLit, CStr as CStrLit, Byte as ByteLit, Char as CharLit, Int as IntLit, Float as FloatLit, Bool as BoolLit, Verbatim}
-use Rattle.rl_lines.specs.Lines.{IsLineOfKind, Joins, literal_line, verbatim_line}
+use Rattle.rl_program.specs.Lines.{IsLineOfKind, Joins, literal_line, verbatim_line}
 
--- the line of a text's reading as a float, by the float rule alone
+-- The output line of a text that is parsed as a float.
 abbrev pub IsLineOfFloat : List ℕ → List ℕ → Type 0
 IsLineOfFloat text shown =
     (numeral : List ℕ) × (suffix : List ℕ) × FloatReads text numeral suffix
     × (shown ≡ literal_line Float (Digits (float_digits numeral)) suffix)
 
--- a literal's line
+-- The output line of a literal.
 abbrev pub IsLineOfLit : {A : Type 0} → Lit A → List ℕ → Type 0
 IsLineOfLit (StrLit l) shown = IsLineOfKind Str (chars l.text) shown
 IsLineOfLit (ByteStrLit l) shown = IsLineOfKind ByteStr (chars l.text) shown
@@ -26,6 +26,6 @@ IsLineOfLit (FloatLit l) shown = IsLineOfFloat (chars l.text) shown
 IsLineOfLit (BoolLit l) shown = shown ≡ literal_line Bool (Truth l.value) []
 IsLineOfLit (Verbatim l) shown = shown ≡ verbatim_line (chars l.text)
 
--- the lines of literals, one after another
+-- The output lines of literals, in order.
 abbrev pub AreLinesOfLits : {A : Type 0} → List (Lit A) → List ℕ → Type 0
 AreLinesOfLits literals shown = Joins IsLineOfLit literals shown

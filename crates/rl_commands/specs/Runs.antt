@@ -1,10 +1,10 @@
--- What a run does with its whole input, where the reader and the writer tell their bytes.
+-- The effect of a command of `rl_tool` on its whole input, if the bytes of reader and writer are known.
 use Rattle.std.specs.Prelude.{◌≡◌, ℕ, List, length, Option, IfSome, ⊤, encode_utf8_all}
 use Rattle.std.specs.Str.{chars, IsUtf8}
 use Rattle.std.specs.Io.KnownBytes.{Appends, Keeps}
 use Rattle.rl_tokens.specs.declared.error.Error.{Error}
 use Rattle.rl_tokens.specs.Errors.{memory_at}
-use Rattle.rl_text.specs.Texts.{SpannedText}
+use Rattle.rl_syntax.specs.Texts.{SpannedText}
 use Rattle.rust_literals.specs.LitParts.{ReadsAsNumber}
 use Rattle.rust_literals.specs.declared.lit.Lit.{Lit}
 use Rattle.rust_literals.specs.Parsing.{AreRead, RejectsText}
@@ -12,57 +12,55 @@ use Rattle.rl_commands.specs.declared.command.Command.{Command}
 use Rattle.rl_commands.specs.declared.command.Command.TheVariants.{Text, Read as ReadCommand, Attr}
 use Rattle.rl_program.specs.declared.program_error.ProgramError.{ProgramError}
 use Rattle.rl_program.specs.declared.program_error.ProgramError.TheVariants.{Read, Write, NotText, Memory, Literal}
-use Rattle.rl_lines.specs.Lines.{IsLineOf, AreLinesOfText}
+use Rattle.rl_program.specs.Lines.{IsLineOf, AreLinesOfText}
 use Rattle.rl_program.specs.Streams.{AppendsBeginning}
 use Rattle.rl_attributes.specs.Attributes.{Attribute, AreAttributesOf, RejectsAttributeText}
 use Rattle.rl_commands.specs.EntryLines.{ShowsAttributes}
 
--- what a command prints of a text
+-- The output lines of a command for a text.
 abbrev pub Shows : Command → List ℕ → List ℕ → Type 0
 Shows Text text shown = IsLineOf text shown
 Shows ReadCommand text shown = AreLinesOfText text shown
 Shows Attr text shown = ShowsAttributes text shown
 
--- the bytes are a text, and its lines are what was written
+-- The bytes are UTF-8, and the output lines for their text were written.
 abbrev pub Prints : Command → List ℕ → Option (List ℕ) → Option (List ℕ) → Type 0
 Prints command bytes old new =
     IsUtf8 bytes
     × ((lines : List ℕ) × Shows command (chars bytes) lines
     × Appends old new (encode_utf8_all lines))
 
--- the bytes are a text, and a beginning of its lines is what was written
+-- The bytes are UTF-8, and a beginning of the output lines for their text was written.
 abbrev pub PrintsBeginning : Command → List ℕ → Option (List ℕ) → Option (List ℕ) → Type 0
 PrintsBeginning command bytes old new =
     IsUtf8 bytes
     × ((lines : List ℕ) × Shows command (chars bytes) lines
     × AppendsBeginning old new (encode_utf8_all lines))
 
--- the bytes of a whole input as one token
+-- The bytes of the whole input as one token.
 abbrev pub whole_token : List ℕ → SpannedText
 whole_token bytes = record { text = bytes; span = record { file = 0; lo = 0; hi = length bytes } }
 
--- the error is a literal's, and this is its error
+-- The program's error is that of a literal, and has the property.
 abbrev pub IsLiteralError : {A : Type 0} → (Error A → Type 0) → ProgramError A → Type 0
 IsLiteralError rejects (Literal error) = rejects error
 IsLiteralError rejects _ = ⊥
 
--- what the call that reads the literals rejects of a text: an allocation failure for a number's
--- digits, or as `read_all` or `attr::read` does
+-- The errors of parsing the text: those of `read_all` or `attr::read`, or a failed allocation for the digits of a number.
 abbrev pub RejectsAsCommand : {A : Type 0} → Command → List ℕ → Error A → Type 0
 RejectsAsCommand Text bytes error =
     (error ≡ memory_at (whole_token bytes).span) × ReadsAsNumber (chars bytes)
 RejectsAsCommand ReadCommand bytes error = RejectsText (chars bytes) 0 (length bytes) error
 RejectsAsCommand Attr bytes error = RejectsAttributeText (chars bytes) 0 (length bytes) error
 
--- where memory may be wanted that is no literal's: under `text` for the token or its line, under
--- `read` and `attr` for the lines alone, after literals or attributes that were read
+-- An allocation may fail that isn't one for a literal. For `text` it is for the token or its output line. For `read` and `attr` it
+-- is for output lines, after all literals or attributes were parsed.
 abbrev pub MayWantMemory : Type 0 → Command → List ℕ → Type 0
 MayWantMemory A Text bytes = ⊤
 MayWantMemory A ReadCommand bytes = (list : List (Lit A)) × AreRead (chars bytes) 0 list
 MayWantMemory A Attr bytes = (list : List Attribute) × AreAttributesOf (chars bytes) 0 list
 
--- why the whole input was rejected: it is no text, its literals were rejected, an allocation failed,
--- elsewhere
+-- The reason why the whole input is rejected: it isn't UTF-8, its literals are invalid, or another allocation failed.
 abbrev pub IsRejectionOf : {A : Type 0} → Command → List ℕ → ProgramError A → Type 0
 IsRejectionOf command bytes NotText = IsUtf8 bytes → ⊥
 IsRejectionOf command bytes (Literal error) = IsUtf8 bytes × RejectsAsCommand command bytes error
@@ -70,7 +68,7 @@ IsRejectionOf {A} command bytes Memory = MayWantMemory A command bytes
 IsRejectionOf command bytes Read = ⊥
 IsRejectionOf command bytes Write = ⊥
 
--- why a run failed, and what it wrote: nothing, but where a write failed
+-- The error of a run, and the bytes that it has written. They are none, or a beginning of the lines after a failed write.
 abbrev pub IsErrorOf : {A : Type 0} → Command → Option (List ℕ) → Option (List ℕ) → Option (List ℕ)
     → ProgramError A → Type 0
 IsErrorOf command input old new Read = Keeps old new

@@ -1,3 +1,3 @@
-//! Attributes, as `rl_attributes` reads them.
+//! Attributes, as `rl_attributes` parses them.
 
 pub use rl_attributes::{Attrs, Entry, read};

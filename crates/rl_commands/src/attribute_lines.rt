@@ -1,8 +1,8 @@
-//! The lines of attributes.
+//! Writes the output lines of attributes.
 
 ghost use Rattle.std.specs.Prelude.{IfOk, IfErr, OnOk, string_bytes};
 ghost use Rattle.std.specs.Str.{chars};
-ghost use Rattle.rl_lines.specs.Lines.{Appends};
+ghost use Rattle.rl_program.specs.Lines.{Appends};
 ghost use Rattle.rl_commands.specs.declared.command.Command.TheVariants.{Attr};
 ghost use Rattle.rl_commands.specs.EntryLines.{IsLineOfEntry, AreLinesOfEntries};
 ghost use Rattle.rl_commands.specs.Runs.{Shows, IsRejectionOf};
@@ -12,7 +12,7 @@ use crate::lit_line::push_literal;
 use rl_program::ProgramError;
 use std::alloc::{AllocError, Allocator};
 
-/// Writes an attribute's line at the end: its name, a space, and its literal's line.
+/// Appends the output line of an attribute: its name, a space, and the output line of its literal.
 fn push_entry<A: Allocator + Copy>(
     alloc: A,
     out: &mut String<A>,
@@ -26,11 +26,11 @@ fn push_entry<A: Allocator + Copy>(
     push_literal(alloc, out, &entry.value)
 }
 
-/// The lines of attributes, one after another: of each its name, a space, and its literal's line.
+/// Returns the output lines of attributes, in order. Each has the attribute's name, a space, and the output line of its literal.
 ///
 /// # Errors
 ///
-/// An allocation failure.
+/// Returns an error if an allocation fails.
 pub fn entry_lines<A: Allocator + Copy>(
     alloc: A,
     entries: &[Entry<A>],
@@ -44,7 +44,7 @@ pub fn entry_lines<A: Allocator + Copy>(
     Ok(lines)
 }
 
-/// The lines of the text's attributes.
+/// Parses a text as attributes, and returns their output lines.
 pub fn attribute_lines<A: Allocator + Copy>(
     alloc: A,
     text: &str,

@@ -1,15 +1,15 @@
-//! The commands, and which one the arguments ask for.
+//! The commands of `rl_tool`.
 
 use std::alloc::Allocator;
 
-/// What the program does with its input.
+/// A command of `rl_tool`.
 #[derive(Clone, Copy, PartialEq, Eq, Debug)]
 pub enum Command {
     /// Reads the whole input as one literal.
     Text,
-    /// Reads the input as literals, with white space and comments between them.
+    /// Reads the input as literals. White space and comments separate them.
     Read,
-    /// Reads the input as attributes, each a name that is set to a literal, with commas between them.
+    /// Reads the input as attributes. An attribute is a name, `=` and a literal, and commas separate attributes.
     Attr,
 }
 
@@ -18,7 +18,7 @@ impl Command {
     ghost use Rattle.rl_commands.specs.declared.command.Command.{Command};
     ghost use Rattle.rl_commands.specs.Commands.{command_word, AskFor};
 
-    /// The command of this name.
+    /// Returns the command with the name, or `None` if it is unknown.
     pub fn from_name(name: &str) -> Option<Command>
         ensures known { IfSome result (λ command. name.now ≡ command_word command) }
         ensures unknown { IfNone result ((command : Command) → name.now ≢ command_word command) }
@@ -31,9 +31,9 @@ impl Command {
         }
     }
 
-    /// The command that the program's arguments ask for: after the program's own name stands the command's, and
-    /// nothing else.
-    pub fn asked_by<A: Allocator>(args: &[String<A>]) -> Option<Command>
+    /// Returns the command that the program's arguments name. The arguments must be the program's name and the name of a command,
+    /// else the result is `None`.
+    pub fn parse_arguments<A: Allocator>(args: &[String<A>]) -> Option<Command>
         ensures asked { IfSome result (AskFor args.now) }
         ensures unasked { IfNone result ((command : Command) → AskFor args.now command → ⊥) }
     {

@@ -1,4 +1,4 @@
-//! The lines of a list, made as its literals are read: each literal is let go when its line stands.
+//! Writes the output lines of the literals in a list. Each literal is dropped after its line is written.
 
 ghost use Rattle.std.specs.Prelude.{IfErr, IfOk, IfSome, string_bytes};
 ghost use Rattle.std.specs.Str.{chars};
@@ -11,7 +11,8 @@ use rl_program::ProgramError;
 use rust_literals::{Lit, Literals};
 use std::alloc::Allocator;
 
-/// The lines, and after them that of the literal. `None` where an allocation fails, or was before.
+/// Returns `lines` with the output line of the literal appended. Returns `None` if the allocation for it fails, or if `lines` is
+/// `None`.
 fn with_line<A: Allocator + Copy>(
     alloc: A,
     lines: Option<String<A>>,
@@ -21,7 +22,7 @@ fn with_line<A: Allocator + Copy>(
 {
     let mut longer = lines?;
     let pushed = push_literal(alloc, &mut longer, &literal);
-    // By a call: letting go of a literal here is as many steps again to prove.
+    // A call of `drop`: dropping the literal in place, without a call, doubles the steps of the proof.
     drop(literal);
     match pushed {
         Ok(()) => Some(longer),
@@ -29,7 +30,7 @@ fn with_line<A: Allocator + Copy>(
     }
 }
 
-/// The lines of the text's literals.
+/// Parses a text as a list of literals, and returns their output lines.
 pub fn literal_lines<A: Allocator + Copy>(
     alloc: A,
     text: &str,

@@ -1,4 +1,4 @@
--- A pattern and what it is held against.
+-- Lemmas about matching a pattern, a list of parts, against a list of elements.
 use Rattle.std.proofs.Common.{◌≡◌, ℕ, zero, suc, ◌&&◌, ◌+◌, ◌≤◌, ◌==◌, ◌||◌, Bool, true, false, List, [], ◌∷◌, ◌++◌, drop, length, refl, sym, ap, ◌∙◌, subst, arith, drop-drop, All, append_assoc, length-append}
 use Rattle.std.proofs.lemmas.Bool.{and_parts, cond-false, cond-true, false≢true}
 use Rattle.std.proofs.lemmas.List.Elements.{All-nil, All-cons, All-head, All-tail, All-append}
@@ -38,7 +38,7 @@ module _ {X : Type 0} (test : List X → Bool) where
 -- ---- up to the first star
 
 module _ {P X : Type 0} (star : P → Bool) (one : P → X → Bool) where
-  -- a part that is no star matches one
+  -- The next part of the pattern isn't a star and matches one element.
   pub one_more : (p : P) (ps : List P) (xs : List X) → star p ≡ false
       → all_match star one (p ∷ ps) xs ≡ first_and (one p) (all_match star one ps) xs
   one_more p ps xs e = cond-false (star p) _ _ e
@@ -47,7 +47,7 @@ module _ {P X : Type 0} (star : P → Bool) (one : P → X → Bool) where
       → all_match star one (p ∷ ps) xs ≡ any_end (all_match star one ps) xs
   star_more p ps xs e = cond-true (star p) _ _ e
 
-  -- after the parts before a star what is left matches
+  -- After the parts before a star have matched, the rest of the list is matched against the pattern after the star.
   shifted : (passed : List P) (at : P) (after : List P) (xs : List X) → All (λ p. star p ≡ false) passed
       → star at ≡ true → all_match star one (passed ++ at ∷ after) xs ≡ true
       → any_end (all_match star one after) (drop (length passed) xs) ≡ true
@@ -59,7 +59,7 @@ module _ {P X : Type 0} (star : P → Bool) (one : P → X → Bool) where
       (All-head (λ z. star z ≡ false) p ps plain)) ∙ e) in
       shifted ps at after xs (All-tail (λ z. star z ≡ false) p ps plain) is both.1
 
-  -- where a pattern stops first at a star, no later place need be tried
+  -- If matching reaches a star, later starts for the parts before the star can't give another result.
   first_enough : (pattern : List P) (text : List X) (after : List P) (rest : List X)
       → IsReached star pattern text after rest
       → all_match star one pattern text ≡ any_end (all_match star one after) rest
@@ -83,7 +83,8 @@ module _ {P X : Type 0} (star : P → Bool) (one : P → X → Bool) where
       go true e = any_end_here (all_match star one pattern) text (same ∙ e) ∙ sym e
       go false e = any_end_none (all_match star one pattern) text (λ k h. false≢true (sym e ∙ later k h)) ∙ sym e
 
-  -- so much of both is left
+  -- The invariant of the loop over parts: the pattern matches the text if the parts `after` match the elements `rest`. The
+  -- parts before `after` aren't stars.
   pub record Goes (pattern : List P) (text : List X) (after : List P) (rest : List X) : Type 0 where
     pub passed : List P
     pub plain : All (λ p. star p ≡ false) passed
@@ -132,12 +133,12 @@ module _ {P X : Type 0} (star : P → Bool) (one : P → X → Bool) where
       };
     }
 
-    -- nothing is left of the pattern
+    -- At the end of the pattern, it matches if no element is left.
     pub stops_at_end : (pattern : List P) (text rest : List X) → Goes pattern text [] rest
         → StopsAs star one pattern_of text_of pattern text (Decided (length rest == 0))
     stops_at_end pattern text rest g = record { same = g.same; stands = tt }
 
-    -- nothing is left for a part that matches one, or it doesn't match
+    -- The pattern doesn't match, since no element is left for a part, or the part doesn't match the next element.
     pub stops_short : (pattern : List P) (text : List X) (p : P) (after : List P) → Goes pattern text (p ∷ after) []
         → star p ≡ false → StopsAs star one pattern_of text_of pattern text (Decided false)
     stops_short pattern text p after g plain = record {
@@ -181,7 +182,7 @@ module _ {P X : Type 0} (star : P → Bool) (one : P → X → Bool) where
       smaller = reached_smaller pattern text (pattern_of after) (text_of rest) s.stands;
     }
 
-    -- a place that fails
+    -- The pattern doesn't match from this start, so a later start is tried.
     pub fails_here : (pattern : List P) (first : List X) (x : X) (rest : List X)
         → any_end (all_match star one pattern) first ≡ any_end (all_match star one pattern) (x ∷ rest)
         → all_match star one pattern (x ∷ rest) ≡ false

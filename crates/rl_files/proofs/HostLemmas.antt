@@ -1,7 +1,7 @@
--- What is read of a reader up to a limit, and one byte more.
+-- Lemmas about reading at most a number of bytes and one more.
 use Rattle.std.proofs.Common.{◌≡◌, ℕ, ◌+◌, ◌≤◌, List, length, take, Option, Some, None, IfSome, option_map, ap, ◌∙◌, arith, take_all, length-take}
 
--- where what was read keeps to the limit, it is all there was
+-- If the number of read bytes is within the limit, they are all bytes of the reader.
 pub all_read : (most asked : ℕ) (known : Option (List ℕ)) (bytes : List ℕ) → asked ≡ most + 1
     → IfSome (option_map (take asked) known) (λ xs. bytes ≡ xs) → length bytes ≤ most
     → IfSome known (λ all. bytes ≡ all)

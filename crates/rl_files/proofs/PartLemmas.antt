@@ -1,4 +1,4 @@
--- The names in a path, and the parts of a pattern.
+-- Lemmas about the names in a path, and the parts of a pattern. Slashes separate them.
 use Rattle.std.proofs.Common.{◌≡◌, ◌≢◌, ℕ, ◌+◌, ◌-◌, ◌<◌, ◌≤◌, ◌==◌, ◌&&◌, not, Bool, true, false, List, [], ◌∷◌, ◌++◌, take, drop, length, slice_index, refl, sym, ap, ◌∙◌, subst, arith, cond, codes, take_all, length-drop, rules, eq-eqb, ne_eqb, All}
 use Rattle.std.proofs.lemmas.Grind.{common_steps}
 use Rattle.std.proofs.lemmas.Bool.{cond-false, cond-true, false≢true}
@@ -16,7 +16,7 @@ use Rattle.rl_files.proofs.GlobLemmas.{Goes, stops_at_end}
 abbrev pub NoSlash : ℕ → Type 0
 NoSlash b = (b == 47) ≡ false
 
--- one byte more that is no slash
+-- The first bytes with one more byte that isn't a slash contain no slash.
 pub no_slash_more : (xs : List ℕ) (at : ℕ) → at < length xs → All NoSlash (take at xs) → slice_index xs at ≢ 47
     → All NoSlash (take (at + 1) xs)
 no_slash_more xs at within before differs =
@@ -24,7 +24,7 @@ no_slash_more xs at within before differs =
     subst (λ (z : List ℕ). All NoSlash z) (sym cut) (All-append NoSlash (take at xs) (slice_index xs at ∷ []) before
     (All-cons NoSlash (slice_index xs at) [] (ne_eqb (slice_index xs at) 47 differs) (All-nil NoSlash)))
 
--- a slash
+-- The first slash of a path ends its first name.
 pub slash_cuts : (xs : List ℕ) (at : ℕ) → at < length xs → All NoSlash (take at xs) → slice_index xs at ≡ 47
     → path_parts xs ≡ take at xs ∷ path_parts (take (length xs - (at + 1)) (drop (at + 1) xs))
 slash_cuts xs at within before slash =
@@ -34,12 +34,12 @@ slash_cuts xs at within before slash =
     ap path_parts cut ∙ slice_split_at (λ b. b == 47) (take at xs) (slice_index xs at) (drop (at + 1) xs) before
     (eq-eqb (slice_index xs at) 47 slash) ∙ ap (λ (z : List ℕ). take at xs ∷ path_parts z) (sym whole)
 
--- no slash
+-- A path without a slash is one name.
 pub no_slash_cuts : (xs : List ℕ) (at : ℕ) → length xs ≤ at → All NoSlash (take at xs) → path_parts xs ≡ xs ∷ []
 no_slash_cuts xs at end none = slice_split_none (λ b. b == 47) xs
     (subst (λ (z : List ℕ). All NoSlash z) (take_all at xs end) none)
 
--- there is always a part
+-- A path has at least one part.
 some_part : (xs : List ℕ) → (length (path_parts xs) == 0) ≡ false
 some_part [] = refl
 some_part (x ∷ xs) = go (x == 47)
@@ -56,13 +56,13 @@ and_false : (a b : Bool) → b ≡ false → (a && b) ≡ false
 and_false true b e = e
 and_false false b e = refl
 
--- more parts follow
+-- The pattern is one part and the parts after its slash.
 pub pattern_more : (pattern part after : List ℕ) → path_parts pattern ≡ part ∷ path_parts after
     → pattern_parts pattern ≡ part ∷ pattern_parts after
 pattern_more pattern part after cut = ap with_inside cut
     ∙ cond-false _ _ _ (and_false (is_double_star part) (length (path_parts after) == 0) (some_part after))
 
--- the last is `**`, or another
+-- The last part of the pattern is `**`, which is followed by `*`. `pattern_last` is the lemma for another last part.
 pub pattern_inside : (pattern part : List ℕ) → path_parts pattern ≡ part ∷ [] → is_double_star part ≡ true
     → pattern_parts pattern ≡ part ∷ pattern_parts (codes "*")
 pattern_inside pattern part cut stars = ap with_inside cut ∙ cond-true _ _ _ (both (is_double_star part) stars)
@@ -79,7 +79,7 @@ pattern_last pattern part cut other = ap with_inside cut ∙ cond-false _ _ _ (n
     none true e = e
     none false e = refl
 
--- nothing is left of a pattern
+-- At the end of the pattern, it matches if no name is left.
 pub path_ends : (pattern path : List (List ℕ)) (left : Option (Bor (List ℕ))) (none : Bool) → is_some left ≡ not none
     → Goes is_double_star name_matches pattern path [] (parts_left left)
     → StopsAs is_double_star name_matches pattern_left parts_left pattern path (Decided none)

@@ -1,16 +1,16 @@
--- Characters that are appended as they are printed.
+-- Lemmas about texts with escapes for invisible characters.
 use Rattle.std.proofs.Common.{◌≡◌, ℕ, List, [], ◌∷◌, ◌++◌, ap, ◌∙◌, sym, append_assoc, append-nil, encode_utf8_all, Bool, true, false, ◌&&◌, ◌||◌, ◌<◌, arith, cond, nat_le, nat_lt, ◌==◌, refl, take, drop, take-append-drop}
 use Rattle.std.specs.Str.{chars, IsUtf8, IsAscii}
 use Rattle.std.specs.List.{flat_map, list_all}
 use Rattle.std.proofs.lemmas.Bool.Decides.{nat_tests}
 use Rattle.std.proofs.lemmas.Bool.{and_parts}
 use Rattle.std.specs.Char.{is_control}
-use Rattle.rl_files.specs.Visible.{is_hiding, visible_char, visible_in_line, visible_lines, is_plain_byte}
+use Rattle.rl_files.specs.Visible.{is_invisible_or_bidi, visible_char, visible_in_line, visible_lines, is_plain_byte}
 use Rattle.std.proofs.lemmas.Grind.{flat_map-append}
 use Rattle.std.proofs.lemmas.Str.{encodes-append, encodes-chars, chars_from_encodes, chars-append, chars-IsAscii}
 use Rattle.std.proofs.lemmas.Str.Ascii.{IsAscii-nil, IsAscii-cons}
 
--- one character more is appended, as `f` writes it
+-- The loop's invariant stays true after one more character is appended, as the function `f` writes it.
 pub written_more : (f : ℕ → List ℕ) (first old new done : List ℕ) (c : ℕ) → old ≡ first
     ++ encode_utf8_all (flat_map f done)
     → new ≡ old ++ encode_utf8_all (f c) → new ≡ first ++ encode_utf8_all (flat_map f (done ++ c ∷ []))
@@ -21,21 +21,21 @@ written_more f first old new done c before now =
     ∙ ap (λ (z : List ℕ). first ++ encode_utf8_all z)
     (ap (λ (z : List ℕ). flat_map f done ++ z) (sym (append-nil (f c))) ∙ sym (flat_map-append f done (c ∷ [])))
 
--- what is appended, as characters
+-- The characters of a text after a piece is appended in UTF-8.
 pub chars_written : (old new piece : List ℕ) → IsUtf8 old → IsUtf8 new → new ≡ old ++ encode_utf8_all piece
     → chars new ≡ chars old ++ piece
 chars_written old new piece u v e =
     sym (chars_from_encodes (chars old ++ piece) new v (encodes-append (chars old) piece
     ∙ ap (λ (z : List ℕ). z ++ encode_utf8_all piece) (encodes-chars old u) ∙ sym e))
 
--- ASCII hides nothing
-low_not_hiding : (c : ℕ) → c < 127 → is_hiding c ≡ false
+-- ASCII characters are neither invisible nor bidirectional.
+low_not_hiding : (c : ℕ) → c < 127 → is_invisible_or_bidi c ≡ false
 low_not_hiding c h = grind (arith, nat_tests)
 
 not_control : (c : ℕ) → nat_le 32 c ≡ true → c < 127 → is_control c ≡ false
 not_control c low high = grind (arith, nat_tests)
 
--- a plain byte is printed as it is
+-- A byte that is printable ASCII or LF is unchanged in a line.
 plain_byte : (b : ℕ) → is_plain_byte b ≡ true → visible_in_line b ≡ b ∷ []
 plain_byte b h = go (b == 10) h
   where
@@ -49,7 +49,7 @@ plain_byte b h = go (b == 10) h
 plain_is_ascii : (b : ℕ) → is_plain_byte b ≡ true → b < 128
 plain_is_ascii b h = grind (arith, nat_tests)
 
--- so are plain bytes
+-- Bytes that are printable ASCII or LF are unchanged in lines.
 pub plain_lines : (bs : List ℕ) → list_all is_plain_byte bs ≡ true → (visible_lines bs ≡ bs) × IsAscii bs
 plain_lines [] h = (refl, IsAscii-nil)
 plain_lines (b ∷ bs) h =
@@ -59,7 +59,7 @@ plain_lines (b ∷ bs) h =
       IsAscii-cons b bs (plain_is_ascii b parts.0) rest.1,
     )
 
--- lines at the end of a text that are printed as they are
+-- Lines at the end of a text that need no escapes are unchanged.
 pub plain_end : (text : List ℕ) (from : ℕ) → IsUtf8 (take from text) → list_all is_plain_byte (drop from text) ≡ true
     → chars text ≡ chars (take from text) ++ visible_lines (chars (drop from text))
 plain_end text from utf8 plain =

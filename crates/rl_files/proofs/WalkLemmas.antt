@@ -1,4 +1,4 @@
--- Names in order, and steps of a walk.
+-- Lemmas about the order of names, and about the steps of a walk.
 use Rattle.std.proofs.Common.{◌≡◌, inl, inr, ℕ, ◌+◌, ◌<◌, List, [], ◌∷◌, ◌++◌, length, refl, sym, ap, ◌∙◌, subst, arith, string_bytes}
 use Rattle.std.specs.Prelude.{String, Option, Some, None, Ok, Err, IfSome, ◌⊎◌}
 use Rattle.std.specs.List.Sorted.{IsSorted, IsPermutation}
@@ -9,11 +9,12 @@ use Rattle.std.proofs.lemmas.List.{get_or-map, length-map}
 use Rattle.std.proofs.lemmas.List.Sorted.{IsPermutation-map}
 use Rattle.rl_files.specs.Trees.{World, string_texts}
 use Rattle.rl_files.specs.declared.walk.Selection.{Selection}
+use Rattle.rl_files.specs.declared.walk.WalkError.TheVariants.{TooManyDirectories}
 use Rattle.rl_files.specs.declared.tree.PathError.{PathError}
 use Rattle.rl_files.specs.declared.tree.PathError.TheVariants.{NotADirectory, OutOfMemory, NameNotUtf8}
-use Rattle.rl_files.specs.Walks.{Waypoint, AtDirectory, AtFile, AtBadName, Visited, FileAt, ErrorAt, Visits, VisitsNothing, VisitsFile, VisitsBadName, EntersDirectory, MissesDirectory, IsGivenFile, WalksOn, VisitsFirst, VisitsNone, EntersInOrder, given_length, waypoints_in}
+use Rattle.rl_files.specs.Walks.{Waypoint, AtDirectory, AtFile, AtBadName, Visited, FileAt, ErrorAt, Visits, VisitsNothing, VisitsFile, VisitsBadName, EntersDirectory, MissesDirectory, IsGivenFile, WalksOn, VisitsFirst, VisitsNone, EntersInOrder, EntersInTurn, EntersNone, EntersNext, EndsEarly, given_length, waypoints_in}
 
--- texts in order are lists of bytes in order
+-- If strings are in order, the lists of their bytes are in order.
 pub texts_sorted : {A : Type 0} (xs : List (String A)) → IsSorted string_cmp xs
     → IsSorted (slice_cmp nat_cmp) (string_texts xs)
 texts_sorted [] h k d low high = absurd (omega arith)
@@ -24,7 +25,7 @@ texts_sorted {A} (x ∷ xs) h k d low high =
     let first = get_or-map (λ (s : String A). string_bytes s) (x ∷ xs) k x d (omega (arith, short)) in
     rw (second, first) (h k x low short)
 
--- names that were sorted and gone to
+-- The sorted names of a directory become the entries that the walk visits next.
 pub enters : {A : Type 0} (selection : Selection) (from : ℕ) (directory : List ℕ) (names sorted : List (String A)) (old new : List Waypoint)
     → IsPermutation names sorted → IsSorted string_cmp sorted → new
     ≡ waypoints_in selection from directory (string_texts sorted)
@@ -39,26 +40,31 @@ enters {A} selection from directory names sorted old new same inorder is = (
   is,
 )
 
--- nothing is left
+-- The invariant of a walk before its first step.
+pub go_start : (selection : Selection) (holds : Option World) (old : List Waypoint) → WalksOn selection holds old old
+go_start selection None old = tt
+go_start selection (Some w) old = λ visits m. m
+
+-- Without an entry to visit, the walk returns nothing.
 pub go_none : (selection : Selection) (holds : Option World) (old mid : List Waypoint) → WalksOn selection holds old mid → mid ≡ [] → VisitsNone selection holds old
 go_none selection None old mid on is = tt
 go_none selection (Some w) old mid on is = on [] (subst (λ (z : List Waypoint). Visits selection w z []) (sym is) VisitsNothing)
 
--- a file is first
+-- The next entry is a file, which the walk returns.
 pub go_file : (selection : Selection) (holds : Option World) (old mid rest : List Waypoint) (path : List ℕ) → WalksOn selection holds old mid → mid
     ≡ AtFile path ∷ rest → VisitsFirst selection holds old (FileAt path) rest
 go_file selection None old mid rest path on is = tt
 go_file selection (Some w) old mid rest path on is = λ visited m. on (FileAt path ∷ visited)
     (subst (λ (z : List Waypoint). Visits selection w z (FileAt path ∷ visited)) (sym is) (VisitsFile m))
 
--- a name that is no text is first
+-- The next entry is a name that isn't UTF-8, which the walk reports.
 pub go_bad_name : (selection : Selection) (holds : Option World) (old mid rest : List Waypoint) (path : List ℕ) → WalksOn selection holds old mid → mid
     ≡ AtBadName path ∷ rest → VisitsFirst selection holds old (ErrorAt path NameNotUtf8) rest
 go_bad_name selection None old mid rest path on is = tt
 go_bad_name selection (Some w) old mid rest path on is = λ visited m. on (ErrorAt path NameNotUtf8 ∷ visited)
     (subst (λ (z : List Waypoint). Visits selection w z (ErrorAt path NameNotUtf8 ∷ visited)) (sym is) (VisitsBadName m))
 
--- a directory is first, and can't be gone into
+-- The next entry is a directory that can't be read, which the walk reports.
 pub go_missing : (selection : Selection) (holds : Option World) (old mid rest : List Waypoint) (given : Option ℕ) (path : List ℕ) (why : PathError)
     → WalksOn selection holds old mid → mid ≡ AtDirectory given path ∷ rest → (why ≡ OutOfMemory)
     ⊎ IfSome holds (λ w. w.names path ≡ Err why) → VisitsFirst selection holds old (ErrorAt path why) rest
@@ -66,7 +72,7 @@ go_missing selection None old mid rest given path why on is found = tt
 go_missing selection (Some w) old mid rest given path why on is found = λ visited m. on (ErrorAt path why ∷ visited)
     (subst (λ (z : List Waypoint). Visits selection w z (ErrorAt path why ∷ visited)) (sym is) (MissesDirectory why found m))
 
--- what an argument names is first, and is no directory
+-- The next entry is a path that the user passed. It isn't a directory, and the walk returns it as a file.
 pub go_given : (selection : Selection) (holds : Option World) (old mid rest : List Waypoint) (given : Option ℕ) (path : List ℕ) → WalksOn selection holds old mid
     → mid ≡ AtDirectory given path ∷ rest → given ≡ None → (NotADirectory ≡ OutOfMemory)
     ⊎ IfSome holds (λ w. w.names path ≡ Err NotADirectory) → VisitsFirst selection holds old (FileAt path) rest
@@ -76,7 +82,7 @@ go_given selection (Some w) old mid rest given path on is given_is (inr found) =
     (subst (λ (z : List Waypoint). Visits selection w z (FileAt path ∷ visited))
     (sym (is ∙ ap (λ (b : Option ℕ). AtDirectory b path ∷ rest) given_is)) (IsGivenFile found m))
 
--- a directory is first, and is gone into
+-- The next entry is a directory, which the walk enters.
 pub go_enter : (selection : Selection) (holds : Option World) (old mid rest new : List Waypoint) (given : Option ℕ) (path : List ℕ)
     (names : List (List ℕ)) → WalksOn selection holds old mid → mid ≡ AtDirectory given path ∷ rest
     → IfSome holds (λ w. w.names path ≡ Ok names) → EntersInOrder selection (given_length given path) path names rest new → WalksOn selection holds old new
@@ -85,7 +91,7 @@ go_enter selection (Some w) old mid rest new given path names on is found (sorte
     (subst (λ (z : List Waypoint). Visits selection w z visited) (sym is) (EntersDirectory names sorted found order
     (subst (λ (z : List Waypoint). Visits selection w z visited) new_is m)))
 
--- from any places on something may be visited: of each directory, that memory ran out
+-- For any entries, a walk with some results exists: an allocation failure for each directory.
 pub some_visits : (selection : Selection) (w : World) (waypoints : List Waypoint) → (visits : List Visited) × Visits selection w waypoints visits
 some_visits selection w [] = ([], VisitsNothing)
 some_visits selection w (AtFile path ∷ rest) = let more = some_visits selection w rest in (FileAt path ∷ more.0, VisitsFile more.1)
@@ -93,3 +99,27 @@ some_visits selection w (AtBadName path ∷ rest) = let more = some_visits selec
     (ErrorAt path NameNotUtf8 ∷ more.0, VisitsBadName more.1)
 some_visits selection w (AtDirectory given path ∷ rest) = let more = some_visits selection w rest in
     (ErrorAt path OutOfMemory ∷ more.0, MissesDirectory OutOfMemory (inl refl) more.1)
+
+-- The walk has entered `turns` directories, and has returned nothing.
+abbrev pub HasEntered : Selection → Option World → List Waypoint → ℕ → List Waypoint → Type 0
+HasEntered selection holds old turns new = IfSome holds (λ w. EntersInTurn selection w old turns new)
+
+pub entered_none : (selection : Selection) (holds : Option World) (old : List Waypoint) → HasEntered selection holds old 0 old
+entered_none selection None old = tt
+entered_none selection (Some w) old = EntersNone
+
+pub entered_next : (selection : Selection) (holds : Option World) (old mid rest new : List Waypoint) (turns : ℕ) (given : Option ℕ)
+    (path : List ℕ) (names : List (List ℕ)) → HasEntered selection holds old turns mid → mid ≡ AtDirectory given path ∷ rest
+    → IfSome holds (λ w. w.names path ≡ Ok names) → EntersInOrder selection (given_length given path) path names rest new
+    → HasEntered selection holds old (turns + 1) new
+entered_next selection None old mid rest new turns given path names entered is found enters = tt
+entered_next selection (Some w) old mid rest new turns given path names entered is found (sorted, order, new_is) =
+    subst (λ (z : List Waypoint). EntersInTurn selection w old (turns + 1) z) (sym new_is) (EntersNext names sorted
+    (subst (λ (z : List Waypoint). EntersInTurn selection w old turns z) is entered) found order)
+
+-- The walk has entered the largest number of directories, and ends early.
+pub ended_early : (selection : Selection) (holds : Option World) (old new : List Waypoint) (turns : ℕ)
+    → HasEntered selection holds old turns new → turns ≡ 4294967295 → EndsEarly selection holds old TooManyDirectories
+ended_early selection None old new turns entered all = tt
+ended_early selection (Some w) old new turns entered all =
+    (new, subst (λ (n : ℕ). EntersInTurn selection w old n new) all entered)

@@ -1,28 +1,28 @@
--- Patterns of paths, as gitignore has them, but for `[..]`, `!` and `\`. Patterns, names and paths are lists of bytes.
+-- Patterns of paths in the syntax of gitignore files, except `[..]`, `!` and `\`. Patterns, names and paths are lists of bytes.
 use Rattle.std.specs.Prelude.{ℕ, ◌==◌, Bool, false, cond, not, ◌||◌, ◌&&◌, ◌-◌, List, [], ◌∷◌, take, length, codes, map, Option, Some, None}
 use denote.Ref.{Bor}
 use Prim.Native.Char.{code}
 use Rattle.std.specs.List.{ends_with, list_any, slice_split}
 use Rattle.std.specs.Str.{bytes_eq}
 
--- the list passes, or one that it ends with
+-- The list or one of its ends passes the test.
 abbrev pub any_end : {X : Type 0} → (List X → Bool) → List X → Bool
 any_end test [] = test []
 any_end test (x ∷ xs) = test (x ∷ xs) || any_end test xs
 
--- there is a first, which passes, and so do the others
+-- The list has a first element that passes the test `one`, and the list after it passes the test `others`.
 abbrev pub first_and : {X : Type 0} → (X → Bool) → (List X → Bool) → List X → Bool
 first_and one others [] = false
 first_and one others (x ∷ xs) = one x && others xs
 
--- Whether the parts of a pattern match all that is in a list, one after another: a star matches as many as
--- there may be, perhaps none, another part one.
+-- The parts of a pattern match the whole list, in order. A star matches any number of elements, perhaps none. Another part matches
+-- one element.
 abbrev pub all_match : {P X : Type 0} → (P → Bool) → (P → X → Bool) → List P → List X → Bool
 all_match star one [] xs = length xs == 0
 all_match star one (p ∷ ps) xs =
     cond (star p) (any_end (all_match star one ps) xs) (first_and (one p) (all_match star one ps) xs)
 
--- in a name `*` matches as many bytes as there may be, `?` one, another byte itself
+-- A byte of a pattern is `*`, which matches any number of bytes of a name.
 abbrev pub is_star : ℕ → Bool
 is_star p = p == code "*"
 
@@ -32,16 +32,16 @@ is_byte_match p b = (p == code "?") || (p == b)
 abbrev pub name_matches : List ℕ → List ℕ → Bool
 name_matches pattern name = all_match is_star is_byte_match pattern name
 
--- the names in a path, with slashes between them
+-- The names in a path. Slashes separate them.
 abbrev pub path_parts : List ℕ → List (List ℕ)
 path_parts path = slice_split (λ b. b == code "/") path
 
--- those of what is left of one
+-- The names in a path, or none without a path.
 abbrev pub parts_left : Option (Bor (List ℕ)) → List (List ℕ)
 parts_left None = []
 parts_left (Some path) = path_parts path.now
 
--- `**` matches as many names as there may be; at the end of a pattern, one or more
+-- The part of a pattern is `**`, which matches any number of names. At the end of a pattern it matches one name or more.
 abbrev pub is_double_star : List ℕ → Bool
 is_double_star part = bytes_eq part (codes "**")
 
@@ -57,7 +57,7 @@ abbrev pub pattern_left : Option (Bor (List ℕ)) → List (List ℕ)
 pattern_left None = []
 pattern_left (Some pattern) = pattern_parts pattern.now
 
--- so a path matches, name by name
+-- The parts of a pattern match the names of a path, in order.
 abbrev pub path_matches : List (List ℕ) → List (List ℕ) → Bool
 path_matches patterns names = all_match is_double_star name_matches patterns names
 
@@ -74,19 +74,19 @@ abbrev pub after_slash : List ℕ → List ℕ
 after_slash [] = []
 after_slash (b ∷ path) = cond (b == code "/") path (b ∷ path)
 
--- A pattern with a slash, but at its end, matches paths from where they begin; one without matches the last name
--- of a path, at any depth.
+-- A pattern matches a path. A pattern with a slash, other than at its end, matches the path from its start. A pattern without one
+-- matches the last name of the path.
 abbrev pub glob_matches : List ℕ → List ℕ → Bool
 glob_matches pattern path = cond (has_slash pattern)
     (path_matches (pattern_parts (after_slash pattern)) (path_parts path))
     (any_end (path_matches (pattern_parts pattern)) (path_parts path))
 
--- A pattern with a slash at its end matches directories alone; the path of one ends with a slash.
+-- A pattern matches a path. The path of a directory ends with a slash. A pattern with a slash at its end matches only directories.
 abbrev pub excludes : List ℕ → List ℕ → Bool
 excludes pattern path =
     (not (ends_in_slash pattern) || ends_in_slash path) && glob_matches (without_slash pattern) (without_slash path)
 
--- one of the patterns matches
+-- The texts behind a list of references.
 abbrev pub borrowed_texts : List (Bor (List ℕ)) → List (List ℕ)
 borrowed_texts words = map (λ word. word.now) words
 

@@ -1,4 +1,4 @@
--- A tree of files in memory.
+-- Files and directories in memory.
 use Rattle.std.specs.Prelude.{ℕ, cond, List, [], ◌∷◌, map, Ok, Err}
 use Rattle.std.specs.Str.{bytes_eq}
 use Rattle.std.specs.declared.result.Result.{Result}
@@ -21,7 +21,7 @@ abbrev pub listed : Result (Bor (List (Bor (List ℕ)))) PathError → Result (L
 listed (Ok names) = Ok (words names.now)
 listed (Err why) = Err why
 
--- what is at a path: what the first of that path holds
+-- The bytes of the first file in the list with the path.
 abbrev pub file_at : List MemoryFile → List ℕ → Result (List ℕ) PathError
 file_at [] path = Err NotFound
 file_at (f ∷ fs) path = cond (bytes_eq f.path.now path) (held f.bytes) (file_at fs path)

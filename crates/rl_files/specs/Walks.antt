@@ -1,5 +1,5 @@
--- A walk of a tree: which files are visited, and in which order.
-use Rattle.std.specs.Prelude.{◌≡◌, ◌⊎◌, ℕ, ◌==◌, Bool, cond, not, ◌&&◌, ◌||◌, ◌+◌, ◌-◌, List, [], ◌∷◌, ◌++◌, map, take, drop, length, codes, string_bytes, Option, Some, None, IfSome}
+-- A walk through directories: the files that it visits, and their order.
+use Rattle.std.specs.Prelude.{◌≡◌, ◌⊎◌, ℕ, ◌==◌, Bool, cond, not, ◌&&◌, ◌||◌, ◌+◌, ◌-◌, List, [], ◌∷◌, ◌++◌, map, take, drop, length, codes, string_bytes, Option, Some, None, IfSome, ⊤}
 use Rattle.std.specs.Fmt.{decimal}
 use Rattle.std.specs.List.{starts_with, ends_with, flat_map, list_any}
 use Rattle.std.specs.Str.{bytes_eq}
@@ -11,22 +11,22 @@ use Rattle.rl_files.specs.declared.tree.PathError.{PathError}
 use Rattle.rl_files.specs.declared.tree.PathError.TheVariants.{NotFound, PermissionDenied, IsADirectory, NotADirectory, PathTooLong, NameNotUtf8, NotUtf8, TooLong, OutOfMemory, NotAFile, Changed, NoRoom, ReadOnly, DirectoryDenied, ReadFailed, WriteFailed}
 use Rattle.rl_files.specs.declared.walk.WalkError.{WalkError}
 use Rattle.rl_files.specs.declared.walk.WalkError.TheVariants as walk
-use Rattle.rl_files.specs.declared.walk.Pending.{Pending}
-use Rattle.rl_files.specs.declared.walk.Pending.TheVariants.{Directory, File, BadName}
+use Rattle.rl_files.specs.declared.walk.WalkEntry.{WalkEntry}
+use Rattle.rl_files.specs.declared.walk.WalkEntry.TheVariants.{Directory, File, BadName}
 use Rattle.rl_files.specs.declared.walk.Selection.{Selection}
 use Rattle.rl_files.specs.declared.walk.Visit.{Visit}
 use Rattle.rl_files.specs.declared.walk.Visit.TheVariants as visit
 use Rattle.rl_files.specs.Globs.{is_excluded, borrowed_texts}
 use Rattle.rl_files.specs.Trees.{World}
 
--- why a path can't be read, or its file can't be replaced
+-- The message of the reason why a path can't be read, or why its file can't be replaced.
 abbrev pub path_error_message : PathError → List ℕ
 path_error_message NotFound = codes "no such file or directory"
 path_error_message PermissionDenied = codes "permission denied"
 path_error_message IsADirectory = codes "is a directory"
 path_error_message NotADirectory = codes "not a directory"
 path_error_message PathTooLong = codes "path too long"
-path_error_message NameNotUtf8 = codes "holds a name that is not UTF-8"
+path_error_message NameNotUtf8 = codes "skipped a name that is not UTF-8"
 path_error_message (NotUtf8 at) = codes "not UTF-8 at byte " ++ decimal at
 path_error_message TooLong = codes "longer than 1 GiB"
 path_error_message OutOfMemory = codes "out of memory"
@@ -38,57 +38,58 @@ path_error_message DirectoryDenied = codes "no permission to write in its direct
 path_error_message ReadFailed = codes "read failed"
 path_error_message WriteFailed = codes "write failed"
 
--- why a walk ends early
+-- The message of the reason why a walk ends before all files are visited.
 abbrev pub walk_error_message : WalkError → List ℕ
 walk_error_message walk.OutOfMemory = codes "out of memory"
 walk_error_message walk.TooManyDirectories = codes "too many directories"
 
--- a name and a slash is a directory's
+-- The name is that of a directory: it ends with a slash.
 abbrev pub is_directory : List ℕ → Bool
 is_directory name = ends_with ◌==◌ name (codes "/")
 
--- the name is a file's that ends with a dot and this
+-- The name ends with a dot and the extension.
 abbrev pub has_extension : List ℕ → List ℕ → Bool
 has_extension extension name =
     ends_with ◌==◌ name extension && ends_with ◌==◌ (take (length name - length extension) name) (codes ".")
 
--- the names are those of a directory that holds a package of Cargo
+-- The names in a directory include `Cargo.toml`, so that it is a Cargo package.
 abbrev pub are_of_package : List (List ℕ) → Bool
 are_of_package names = list_any (λ name. bytes_eq name (codes "Cargo.toml")) names
 
--- a directory is left out: a hidden one, and in a package `target`, into which Cargo builds
+-- A name is left out: a hidden one, and in a Cargo package the directory `target`, into which Cargo builds.
 abbrev pub is_left_out : Bool → List ℕ → Bool
 is_left_out in_package name =
     starts_with ◌==◌ name (codes ".") || (in_package && bytes_eq name (codes "target/"))
 
--- the name ends with a dot and one of these
+-- The name ends with a dot and one of the extensions.
 abbrev pub has_one_of : List (List ℕ) → List ℕ → Bool
 has_one_of extensions name = list_any (λ extension. has_extension extension name) extensions
 
--- A walk goes on to directories that aren't left out, and to all where all are wanted; and to files of an extension; a name
--- that is no text is visited too.
+-- The walk visits the name. Directories and files with a selected extension are visited, unless the name is left out. A name that
+-- isn't UTF-8 is empty, and is visited to be reported.
 abbrev pub is_wanted : Selection → Bool → List ℕ → Bool
-is_wanted selection in_package name = cond (is_directory name)
+is_wanted selection in_package name =
     (selection.all || not (is_left_out in_package name))
-    (has_one_of (borrowed_texts selection.extensions.now) name || (length name == 0))
+    && (is_directory name || (has_one_of (borrowed_texts selection.extensions.now) name || (length name == 0)))
 
--- the path of a name in a directory
+-- The path of a name in a directory.
 abbrev pub path_in : List ℕ → List ℕ → List ℕ
 path_in directory name = cond (is_directory directory) directory (directory ++ codes "/") ++ name
 
--- What a walk has still to go to: a directory, and how many bytes of its path are those of the directory that an argument
--- names, or none where it is that itself and may be a file; a file; a name in a directory that is no text.
+-- An entry that a walk still has to visit. `AtDirectory` is a directory with the length of its start that is the directory passed
+-- by the user. Without that length, the path itself was passed, and may also be a file. `AtFile` is a file. `AtBadName` is a
+-- directory with a name that isn't UTF-8.
 pub data Waypoint : Type 0 where
   AtDirectory : (from : Option ℕ) → (path : List ℕ) → Waypoint
   AtFile : (path : List ℕ) → Waypoint
   AtBadName : (directory : List ℕ) → Waypoint
 
--- what a walk meets: a file to read, or a path that it can't go into
+-- A result of a walk: a file to read, or a path that can't be read.
 pub data Visited : Type 0 where
   FileAt : (path : List ℕ) → Visited
   ErrorAt : (path : List ℕ) → (why : PathError) → Visited
 
-abbrev pub waypoint : {A : Type 0} → Pending A → Waypoint
+abbrev pub waypoint : {A : Type 0} → WalkEntry A → Waypoint
 waypoint (Directory from path) = AtDirectory from (string_bytes path)
 waypoint (File path) = AtFile (string_bytes path)
 waypoint (BadName directory) = AtBadName (string_bytes directory)
@@ -97,42 +98,43 @@ abbrev pub visited : {A : Type 0} → Visit A → Visited
 visited (visit.File path) = FileAt (string_bytes path)
 visited (visit.Failed path why) = ErrorAt (string_bytes path) why
 
--- where a walk goes to for what arguments name
+-- The entries to visit for the paths that the user passed.
 abbrev pub given_waypoints : List (List ℕ) → List Waypoint
 given_waypoints paths = map (λ path. AtDirectory None path) paths
 
--- how many bytes of the paths in a directory are those of the directory that an argument names, and its slash
+-- The length, with a slash, of the directory that the user passed. Without the first argument, that directory is `path`. Else
+-- `path` is below it, and the first argument is the length.
 abbrev pub given_length : Option ℕ → List ℕ → ℕ
 given_length None path = cond (is_directory path) (length path) (length path + 1)
 given_length (Some from) path = from
 
--- where a walk goes to that goes on to a name in a directory
+-- The entry to visit for a name in a directory. `from` is the length of the directory that the user passed.
 abbrev pub waypoint_of : ℕ → List ℕ → List ℕ → Waypoint
 waypoint_of from directory name = cond (is_directory name) (AtDirectory (Some from) (path_in directory name))
     (cond (length name == 0) (AtBadName directory) (AtFile (path_in directory name)))
 
--- a pattern that is to be left out matches the path of a name, without so many bytes of it
+-- An excluding pattern matches the path of a name in a directory. The first `from` bytes of the path aren't compared.
 abbrev pub is_pruned : Selection → ℕ → List ℕ → List ℕ → Bool
 is_pruned selection from directory name =
     is_excluded (borrowed_texts selection.excludes.now) (drop from (path_in directory name))
 
--- where a walk goes to for a name in a directory: to what is wanted, and isn't excluded
+-- The entries to visit for a name in a directory: one if the name is selected and not excluded, else none.
 abbrev pub waypoints_of : Selection → Bool → ℕ → List ℕ → List ℕ → List Waypoint
 waypoints_of selection in_package from directory name =
     cond (is_wanted selection in_package name && not (is_pruned selection from directory name))
     (waypoint_of from directory name ∷ []) []
 
--- where it goes to for names in a directory
+-- The entries to visit for the names in a directory.
 abbrev pub waypoints_in : Selection → ℕ → List ℕ → List (List ℕ) → List Waypoint
 waypoints_in selection from directory names =
     flat_map (waypoints_of selection (are_of_package names) from directory) names
 
--- these are the same names, in the order of their bytes
+-- `sorted` has all the names, in the order of their bytes.
 abbrev pub IsOrderOf : List (List ℕ) → List (List ℕ) → Type 0
 IsOrderOf names sorted = IsPermutation names sorted × IsSorted (slice_cmp nat_cmp) sorted
 
--- What is visited from these places on, in order: of a directory what is visited in it, in the order of the
--- names, before what comes after it.
+-- The results of a walk with a list of entries to visit, in order. The results in a directory are in the order of its names, and
+-- before those of the next entry.
 pub data Visits (selection : Selection) (w : World) : List Waypoint → List Visited → Type 0 where
   VisitsNothing : Visits selection w [] []
   VisitsFile : {path : List ℕ} {rest : List Waypoint} {visits : List Visited} → Visits selection w rest visits
@@ -151,20 +153,36 @@ pub data Visits (selection : Selection) (w : World) : List Waypoint → List Vis
       → Visits selection w rest visits
       → Visits selection w (AtDirectory None path ∷ rest) (FileAt path ∷ visits)
 
--- whatever is visited from the new places on is visited from the old ones on
+-- Each result of a walk with the entries `new` is one with the entries `old`.
 abbrev pub WalksOn : Selection → Option World → List Waypoint → List Waypoint → Type 0
 WalksOn selection holds old new = IfSome holds (λ w. (visits : List Visited) → Visits selection w new visits → Visits selection w old visits)
 
--- this is visited first, and then whatever is visited from the new places on
+-- A walk with the entries `old` first returns `first`, and then continues with the entries `new`.
 abbrev pub VisitsFirst : Selection → Option World → List Waypoint → Visited → List Waypoint → Type 0
 VisitsFirst selection holds old first new =
     IfSome holds (λ w. (visits : List Visited) → Visits selection w new visits → Visits selection w old (first ∷ visits))
 
--- nothing more is visited
+-- A walk with the entries `old` returns nothing.
 abbrev pub VisitsNone : Selection → Option World → List Waypoint → Type 0
 VisitsNone selection holds old = IfSome holds (λ w. Visits selection w old [])
 
--- a walk goes to the names in a directory, in the order of their bytes, before the other places
+-- The walk enters a number of directories, one right after another, and returns nothing before, between or after them. The entries
+-- were `old` before.
+pub data EntersInTurn (selection : Selection) (w : World) (old : List Waypoint) : ℕ → List Waypoint → Type 0 where
+  EntersNone : EntersInTurn selection w old 0 old
+  EntersNext : {turns : ℕ} {from : Option ℕ} {path : List ℕ} {rest : List Waypoint} (names sorted : List (List ℕ))
+      → EntersInTurn selection w old turns (AtDirectory from path ∷ rest)
+      → w.names path ≡ Ok names → IsOrderOf names sorted
+      → EntersInTurn selection w old (turns + 1)
+      (waypoints_in selection (given_length from path) path sorted ++ rest)
+
+-- The walk ends early, since an allocation failed, or 4,294,967,295 directories were entered without a result.
+abbrev pub EndsEarly : Selection → Option World → List Waypoint → WalkError → Type 0
+EndsEarly selection holds old walk.OutOfMemory = ⊤
+EndsEarly selection holds old walk.TooManyDirectories =
+    IfSome holds (λ w. (new : List Waypoint) × EntersInTurn selection w old 4294967295 new)
+
+-- The walk visits the names in a directory, in the order of their bytes, before the other entries.
 abbrev pub EntersInOrder : Selection → ℕ → List ℕ → List (List ℕ) → List Waypoint → List Waypoint → Type 0
 EntersInOrder selection from directory names old new =
     (sorted : List (List ℕ)) × IsOrderOf names sorted

@@ -1,26 +1,27 @@
-//! Patterns of paths, as gitignore has them, matched in time that grows with the product of both lengths. They take no memory.
+//! Matches paths against patterns in the syntax of gitignore files, without allocations. The time grows with the product of the
+//! lengths of pattern and path.
 
 ghost use Rattle.std.specs.Prelude.{◌≡◌, [], ◌∷◌, false, MatchBool, MatchOption};
 ghost use Rattle.rl_files.specs.declared.glob.Stop.TheVariants.{Decided};
 ghost use Rattle.rl_files.specs.Globs.{after_slash as slash_passed, ends_in_slash as slash_ends, excludes as excluded_by, glob_matches, has_slash as slash_in, is_byte_match as byte_matches, is_double_star as double_star, is_excluded as excluded, is_star, name_matches, parts_left, path_matches, path_parts, pattern_left, pattern_parts, borrowed_texts, without_slash as slash_cut};
 ghost use Rattle.rl_files.specs.GlobStops.{borrowed_bytes, says, StopsAs, StopsAfter};
 
-/// Where a pattern stops: it matches or doesn't, or there is a star, and after it so much is left of the pattern and of what it
-/// is held against.
+/// The result of matching a pattern up to its first star. `Decided` has the final result. `Star` has the pattern after the star,
+/// and the unmatched part of the name or path.
 #[derive(Clone, Copy)]
 enum Stop<P, T> {
     Decided(bool),
     Star(P, T),
 }
 
-/// Whether a pattern stopped where it doesn't match.
+/// Whether matching a pattern failed before its first star was reached.
 fn is_failed<P: Copy, T: Copy>(stop: Stop<P, T>) -> bool
     ensures { MatchBool result (stop ≡ Decided false) (stop ≡ Decided false → ⊥) }
 {
     matches!(stop, Stop::Decided(false))
 }
 
-/// The first byte, and those after it.
+/// Returns the first byte and the bytes after it, or `None` for an empty list.
 fn first_byte(bytes: &[u8]) -> Option<(u8, &[u8])>
     ensures { MatchOption result (bytes.now ≡ []) (λ r. bytes.now ≡ r.0 ∷ r.1.now) }
 {
@@ -30,14 +31,14 @@ fn first_byte(bytes: &[u8]) -> Option<(u8, &[u8])>
     }
 }
 
-/// Whether a byte of a pattern that is no star matches one.
+/// Whether `p`, a byte of a pattern other than `*`, matches `byte`. A `?` matches any byte.
 fn is_byte_match(p: u8, byte: u8) -> bool
     ensures { result ≡ byte_matches p byte }
 {
     p == b'?' || p == byte
 }
 
-/// Where a pattern of a name stops first.
+/// Matches a name against a pattern, up to the pattern's first `*`.
 fn name_stop<'p, 'n>(pattern: &'p [u8], name: &'n [u8]) -> Stop<&'p [u8], &'n [u8]>
     ensures { StopsAs is_star byte_matches borrowed_bytes borrowed_bytes pattern.now name.now result }
 {
@@ -59,7 +60,8 @@ fn name_stop<'p, 'n>(pattern: &'p [u8], name: &'n [u8]) -> Stop<&'p [u8], &'n [u
     Stop::Decided(bytes.is_empty())
 }
 
-/// Where a pattern of a name stops next, which is left after a star.
+/// Matches a pattern that follows a `*` against each end of `name`, up to the pattern's next `*`. Returns the first result that
+/// didn't fail.
 fn name_stop_after<'p, 'n>(pattern: &'p [u8], name: &'n [u8]) -> Stop<&'p [u8], &'n [u8]>
     ensures { StopsAfter is_star byte_matches borrowed_bytes borrowed_bytes pattern.now name.now result }
 {
@@ -76,7 +78,7 @@ fn name_stop_after<'p, 'n>(pattern: &'p [u8], name: &'n [u8]) -> Stop<&'p [u8], 
     }
 }
 
-/// Whether a name matches a pattern.
+/// Whether the pattern of a name matches the whole name. Its `*` matches any number of bytes.
 fn is_name_match(pattern: &[u8], name: &[u8]) -> bool
     ensures { result ≡ name_matches pattern.now name.now }
 {
@@ -87,7 +89,7 @@ fn is_name_match(pattern: &[u8], name: &[u8]) -> bool
     matches!(stop, Stop::Decided(true))
 }
 
-/// The first name in a path, and what stands after its slash, where it has one.
+/// Returns the first name in a path, and the path after its slash, or `None` if it has no slash.
 fn first_part(path: &[u8]) -> (&[u8], Option<&[u8]>)
     ensures { path_parts path.now ≡ result.0.now ∷ parts_left result.1 }
 {
@@ -99,14 +101,15 @@ fn first_part(path: &[u8]) -> (&[u8], Option<&[u8]>)
     (path, None)
 }
 
-/// Whether a part of a pattern matches any number of names.
+/// Whether a part of a pattern is `**`, which matches any number of names.
 fn is_double_star(part: &[u8]) -> bool
     ensures { result ≡ double_star part.now }
 {
     part == b"**".as_slice()
 }
 
-/// The first part of a pattern, and what stands after it; after `**` at its end stands `*`.
+/// Returns the first part of a pattern, and the pattern after its slash. After `**` at the pattern's end a part `*` follows, so
+/// that at least one name must match.
 fn first_of_pattern(pattern: &[u8]) -> (&[u8], Option<&[u8]>)
     ensures { pattern_parts pattern.now ≡ result.0.now ∷ pattern_left result.1 }
 {
@@ -117,7 +120,7 @@ fn first_of_pattern(pattern: &[u8]) -> (&[u8], Option<&[u8]>)
     }
 }
 
-/// Where a pattern of a path stops first.
+/// Matches a path against a pattern, name by name, up to the pattern's first `**`. `None` is an empty pattern or path.
 fn path_stop<'p, 'n>(
     pattern: Option<&'p [u8]>,
     path: Option<&'n [u8]>,
@@ -145,7 +148,8 @@ fn path_stop<'p, 'n>(
     Stop::Decided(names.is_none())
 }
 
-/// Where a pattern of a path stops next, which is left after a star.
+/// Matches a pattern that follows `**` against each end of a path, up to the pattern's next `**`. Returns the first result that
+/// didn't fail. `None` is an empty pattern or path.
 fn path_stop_after<'p, 'n>(
     pattern: Option<&'p [u8]>,
     path: Option<&'n [u8]>,
@@ -166,7 +170,7 @@ fn path_stop_after<'p, 'n>(
     }
 }
 
-/// Whether a pattern matches that stopped so.
+/// Whether a pattern matches a path, where `first` is the result up to the pattern's first `**`.
 fn is_path_match(first: Stop<Option<&[u8]>, Option<&[u8]>>) -> bool
     ensures { result ≡ says double_star name_matches pattern_left parts_left first.entry }
 {
@@ -184,7 +188,7 @@ fn ends_in_slash(path: &[u8]) -> bool
     path.ends_with(b"/".as_slice())
 }
 
-/// A path without the slash at its end.
+/// Returns a path without the slash at its end.
 fn without_slash(path: &[u8]) -> &[u8]
     ensures { result.now ≡ slash_cut path.now }
 {
@@ -195,14 +199,14 @@ fn without_slash(path: &[u8]) -> &[u8]
     }
 }
 
-/// Whether a path has a slash.
+/// Whether a path contains a slash.
 fn has_slash(path: &[u8]) -> bool
     ensures { result ≡ slash_in path.now }
 {
     path.contains(&b'/')
 }
 
-/// A path without the slash at its front.
+/// Returns a path without the slash at its start.
 fn after_slash(path: &[u8]) -> &[u8]
     ensures { result.now ≡ slash_passed path.now }
 {
@@ -212,7 +216,9 @@ fn after_slash(path: &[u8]) -> &[u8]
     }
 }
 
-/// Whether a pattern matches a path, where both have no slash at their end.
+/// Whether a pattern matches a path. Neither ends with a slash.
+///
+/// A pattern with a slash matches the whole path. A pattern without one matches the last name of the path.
 fn is_glob_match(pattern: &[u8], path: &[u8]) -> bool
     ensures { result ≡ glob_matches pattern.now path.now }
 {
@@ -223,7 +229,8 @@ fn is_glob_match(pattern: &[u8], path: &[u8]) -> bool
     }
 }
 
-/// Whether a pattern excludes a path; that of a directory ends with a slash.
+/// Whether a pattern matches a path. The path of a directory ends with a slash, and a pattern that ends with a slash matches only
+/// directories.
 fn excludes(pattern: &[u8], path: &[u8]) -> bool
     ensures { result ≡ excluded_by pattern.now path.now }
 {
@@ -231,7 +238,7 @@ fn excludes(pattern: &[u8], path: &[u8]) -> bool
         && is_glob_match(without_slash(pattern), without_slash(path))
 }
 
-/// Whether one of the patterns matches a path; that of a directory ends with a slash.
+/// Returns `true` if at least one pattern matches a path. The path of a directory ends with a slash.
 pub fn is_excluded(patterns: &[&str], path: &[u8]) -> bool
     ensures { result ≡ excluded (borrowed_texts patterns.now) path.now }
 {

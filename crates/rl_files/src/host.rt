@@ -1,6 +1,7 @@
-//! The files of the system.
+//! Files of the operating system.
 
 ghost use Rattle.std.specs.Prelude.{◌≡◌, ◌≢◌, ◌<◌, ◌≤◌, length, IfOk, IfErr, IfSome};
+ghost use Rattle.rl_files.specs.SystemErrors.{read_error};
 
 use crate::replace::Replace;
 use crate::tree::{PathError, Tree};
@@ -11,19 +12,20 @@ use std::io::{ErrorKind, Read};
 use std::rt::Files;
 use std::{fs, io};
 
-/// The most bytes that a file or standard input may hold: 1 GiB.
+/// The maximum length of a file or of standard input: 1 GiB.
 pub const LONGEST: u64 = 1 << 30;
 
-/// The files of the system, and at `-` standard input. Of what it holds nothing is known.
+/// The files of the operating system, and standard input at the path `-`. Nothing is proved about their contents.
 #[derive(Clone, Copy)]
 pub struct Host<'r, R> {
-    /// The system's handle.
+    /// The handle for calls of the operating system.
     pub rt: &'r R,
 }
 
-/// Why a call of the system failed.
+/// Returns the reason why a file or a directory can't be read, for the kind of the standard library's error.
 pub(crate) fn error_of(kind: ErrorKind) -> PathError
-    ensures { result ≢ PathError.TooLong }
+    ensures table { result ≡ read_error kind }
+    ensures read { result ≢ PathError.TooLong }
 {
     match kind {
         ErrorKind::NotFound => PathError::NotFound,
@@ -36,12 +38,13 @@ pub(crate) fn error_of(kind: ErrorKind) -> PathError
     }
 }
 
-/// Whether this is std's own error for a name that isn't UTF-8.
+/// Whether `error` is the standard library's own error for a name that isn't UTF-8.
 pub(crate) fn is_bad_name(error: &io::Error) -> bool {
     error.kind() == ErrorKind::InvalidFilename && error.raw_os_error().is_none()
 }
 
-/// The name of a file or a directory as `Tree::names` gives it. What vanished since it was listed has none.
+/// Returns the name of a directory's entry: a file's name, or a directory's name and a slash. Returns `None` for links and devices,
+/// and for an entry that has vanished since it was listed.
 fn name_of_entry<A: Allocator, R: Files, B: Allocator>(
     alloc: A,
     entry: &DirEntry<R, B>,
@@ -61,7 +64,8 @@ fn name_of_entry<A: Allocator, R: Files, B: Allocator>(
     Ok(Some(name))
 }
 
-/// The name of an entry as `Tree::names` gives it: an empty one where it isn't UTF-8.
+/// Returns the name of a directory's entry: a file's name, or a directory's name and a slash. It is empty if the name isn't UTF-8.
+/// Returns `None` for links and devices, and for an entry that has vanished since it was listed.
 fn name_of<A: Allocator, R: Files + Drop, B: Allocator>(
     alloc: A,
     entry: io::Result<DirEntry<R, B>>,
@@ -73,7 +77,8 @@ fn name_of<A: Allocator, R: Files + Drop, B: Allocator>(
     }
 }
 
-/// All bytes of a reader, where there are at most `LONGEST`. Of a longer one, one byte more is read.
+/// Returns all bytes of a reader, or the error `TooLong` if it has more than `LONGEST` bytes. At most one byte above `LONGEST` is
+/// read.
 pub(crate) fn read_all<A: Allocator, R: Read + Drop>(
     alloc: A,
     reader: R,
@@ -92,7 +97,8 @@ pub(crate) fn read_all<A: Allocator, R: Read + Drop>(
     }
 }
 
-/// The names in a directory.
+/// Returns the names of the files and directories in a directory. A directory's name ends with a slash. A name that isn't UTF-8 is
+/// empty.
 fn list_directory<A: Allocator + Copy, R: Files + Alloc + Clone + Drop>(
     rt: &R,
     alloc: A,
@@ -150,7 +156,7 @@ impl<R: Files + Alloc> Replace for Host<'_, R> {
 
     ghost rejects = { λ _. None };
 
-    /// Standard input has no file.
+    /// Replaces a file of the operating system. Standard input can't be replaced, since it isn't a file.
     fn replace<A: Allocator + Copy>(
         &mut self,
         alloc: A,

@@ -1,4 +1,4 @@
-//! Trees of files: what a path holds, which files a walk visits, in which order, and files that are replaced as a whole.
+//! Trees of files: directories with the files in them. Reads files, walks through directories, and replaces files.
 #![tactic(auto)]
 
 mod glob;
@@ -18,5 +18,5 @@ pub use crate::memory::{
 pub use crate::replace::Replace;
 pub use crate::tree::{PathError, Tree};
 pub use crate::visible::{make_visible, push_visible};
-pub use crate::walk::{Pending, Selection, Visit, Walk, WalkError};
-pub use rl_writing::{is_hiding, needs_escape};
+pub use crate::walk::{Selection, Visit, Walk, WalkEntry, WalkError};
+pub use rl_writing::{is_invisible_or_bidi, needs_escape};

@@ -1,4 +1,4 @@
-//! A tree of files in memory.
+//! Files and directories in memory.
 
 ghost use Rattle.std.specs.Prelude.{◌≡◌, IfOk};
 ghost use Rattle.rl_files.specs.Replacements.{replacing, replacement_of, why_unwritable};
@@ -9,35 +9,34 @@ use crate::replace::Replace;
 use crate::tree::{PathError, Tree};
 use std::alloc::{AllocError, Allocator, Global};
 
-/// A file of a tree in memory: its bytes, or why they can't be read.
+/// A file in memory: its bytes, or the reason why it can't be read.
 #[derive(Clone, Copy)]
 pub struct MemoryFile<'a> {
-    /// Its path.
+    /// The path of the file.
     pub path: &'a str,
-    /// Its bytes, or why they can't be read.
+    /// The bytes of the file, or the reason why they can't be read.
     pub bytes: Result<&'a [u8], PathError>,
 }
 
-/// A directory of a tree in memory: the names in it, as `Tree::names` gives them, or why they can't be
-/// read.
+/// A directory in memory: the names in it, as `Tree::names` returns them, or the reason why it can't be read.
 #[derive(Clone, Copy)]
 pub struct MemoryDirectory<'a> {
-    /// Its path.
+    /// The path of the directory.
     pub path: &'a str,
-    /// The names in it, or why they can't be read.
+    /// The names in the directory, or the reason why they can't be read.
     pub names: Result<&'a [&'a str], PathError>,
 }
 
-/// A tree of files in memory.
+/// Files and directories in memory.
 #[derive(Clone, Copy)]
 pub struct MemoryTree<'a> {
-    /// Its files.
+    /// The files of the tree.
     pub files: &'a [MemoryFile<'a>],
-    /// Its directories.
+    /// The directories of the tree.
     pub directories: &'a [MemoryDirectory<'a>],
 }
 
-/// What the first file of this path holds.
+/// Returns the bytes of the first file in the list with the path.
 fn find_file<'a>(files: &[MemoryFile<'a>], path: &str) -> Result<&'a [u8], PathError>
     ensures { held result ≡ file_at files.now path.now }
 {
@@ -51,7 +50,7 @@ fn find_file<'a>(files: &[MemoryFile<'a>], path: &str) -> Result<&'a [u8], PathE
     Err(PathError::NotFound)
 }
 
-/// The names in the first directory of this path.
+/// Returns the names in the first directory in the list with the path.
 fn find_directory<'a>(
     directories: &[MemoryDirectory<'a>],
     path: &str,
@@ -68,7 +67,7 @@ fn find_directory<'a>(
     Err(PathError::NotADirectory)
 }
 
-/// A copy of the bytes.
+/// Returns a copy of the bytes.
 fn copy_bytes<A: Allocator>(alloc: A, bytes: &[u8]) -> Result<Vec<u8, A>, AllocError>
     ensures { IfOk result (λ copy. copy.items ≡ bytes.now) }
 {
@@ -77,7 +76,7 @@ fn copy_bytes<A: Allocator>(alloc: A, bytes: &[u8]) -> Result<Vec<u8, A>, AllocE
     Ok(copy)
 }
 
-/// A copy of the names.
+/// Returns a copy of the names.
 fn copy_names<A: Allocator + Copy>(
     alloc: A,
     names: &[&str],
@@ -124,38 +123,39 @@ impl Tree for MemoryTree<'_> {
     }
 }
 
-/// A path of a tree in memory whose file can't be replaced.
+/// A file in memory that can't be replaced, and the reason.
 #[derive(Clone, Copy)]
 pub struct Unwritable<'a> {
-    /// The path.
+    /// The path of the file.
     pub path: &'a str,
-    /// Why it can't be.
+    /// The reason why the file can't be replaced.
     pub why: PathError,
 }
 
-/// What was handed on for a file in memory.
+/// A replacement of a file in memory: its bytes before and after.
 #[derive(Drop)]
 pub struct MemoryReplacement<A: Allocator = Global> {
     /// The file's path.
     pub path: String<A>,
-    /// The bytes that it held.
+    /// The bytes of the file before the replacement.
     pub old: Vec<u8, A>,
-    /// Its new bytes.
+    /// The bytes of the file after the replacement.
     pub new: Vec<u8, A>,
 }
 
-/// Keeps the new bytes of files in memory.
+/// The replacements of files in memory, and the files that can't be replaced.
 #[derive(Drop)]
 pub struct MemoryReplacements<'a, A: Allocator = Global> {
-    /// What the list takes memory from.
+    /// The allocator of the list of replacements.
     pub alloc: A,
-    /// Which files it takes no bytes for.
+    /// The files that can't be replaced.
     pub unwritable: &'a [Unwritable<'a>],
-    /// What was handed to it, in order.
+    /// The replacements, in order.
     pub handed: Vec<MemoryReplacement<A>, A>,
 }
 
-/// Why the file at a path can't be replaced, if it can't be: what the first of this path says.
+/// Returns the reason why the file at `path` can't be replaced, from the first entry with this path. Returns `None` if it can be
+/// replaced.
 fn find_unwritable(unwritable: &[Unwritable<'_>], path: &str) -> Option<PathError>
     ensures { result ≡ why_unwritable unwritable.now path.now }
 {
@@ -169,7 +169,7 @@ fn find_unwritable(unwritable: &[Unwritable<'_>], path: &str) -> Option<PathErro
     None
 }
 
-/// A copy of what is handed on for a file.
+/// Returns a replacement with copies of the path, the old bytes and the new bytes.
 fn copy_replacement<A: Allocator + Copy>(
     alloc: A,
     path: &str,

@@ -1,4 +1,4 @@
-//! Text as it is printed, with what turns or hides text as escapes.
+//! Writes texts with escapes for control characters and for invisible and bidirectional characters.
 
 ghost use Rattle.std.specs.Prelude.{◌≡◌, ◌++◌, ◌∷◌, ◌==◌, [], cond, take, drop, OnOk, IsTrue, string_bytes, encode_utf8_all};
 ghost use Rattle.std.specs.List.{flat_map, list_all};
@@ -9,7 +9,7 @@ ghost use Rattle.rl_files.specs.Visible.{visible_char, visible, visible_in_line,
 use rl_writing::needs_escape;
 use std::alloc::{AllocError, Allocator};
 
-/// Appends an escape of a character: `\n`, `\r`, `\t`, or its number, as `\u{202e}`.
+/// Appends the escape of a character: `\n`, `\r`, `\t`, or its number, as `\u{202e}`.
 fn push_escape<A: Allocator>(out: &mut String<A>, c: char) -> Result<(), AllocError>
     ensures { OnOk result (string_bytes out.new
         ≡ string_bytes out.old ++ encode_utf8_all (escape_default c)) }
@@ -20,7 +20,7 @@ fn push_escape<A: Allocator>(out: &mut String<A>, c: char) -> Result<(), AllocEr
     Ok(())
 }
 
-/// Appends a character as it is printed.
+/// Appends a character, or its escape if it is a control, invisible or bidirectional character.
 fn push_visible_char<A: Allocator>(out: &mut String<A>, c: char) -> Result<(), AllocError>
     ensures { OnOk result (string_bytes out.new
         ≡ string_bytes out.old ++ encode_utf8_all (visible_char c)) }
@@ -32,12 +32,12 @@ fn push_visible_char<A: Allocator>(out: &mut String<A>, c: char) -> Result<(), A
     Ok(())
 }
 
-/// Appends a text as it is printed: a control character, and one that turns or hides text, as an escape, as
-/// `\n` and `\u{202e}`; whatever else as it is.
+/// Appends a text with escapes, as `\n` and `\u{202e}`, for control, invisible and bidirectional characters. Other characters are
+/// unchanged.
 ///
 /// # Errors
 ///
-/// An allocation failure. A beginning of the text may have been appended then.
+/// Returns an error if an allocation fails. A beginning of the text may have been appended then.
 pub fn push_visible<A: Allocator>(out: &mut String<A>, text: &str) -> Result<(), AllocError>
     ensures { OnOk result (chars (string_bytes out.new)
         ≡ chars (string_bytes out.old) ++ visible (chars text.now)) }
@@ -48,7 +48,7 @@ pub fn push_visible<A: Allocator>(out: &mut String<A>, text: &str) -> Result<(),
     Ok(())
 }
 
-/// Appends a character of a line as it is printed.
+/// Appends a character, or its escape if it is a control character other than LF, or an invisible or bidirectional character.
 fn push_in_line<A: Allocator>(out: &mut String<A>, c: char) -> Result<(), AllocError>
     ensures { OnOk result (string_bytes out.new
         ≡ string_bytes out.old ++ encode_utf8_all (visible_in_line c)) }
@@ -60,7 +60,7 @@ fn push_in_line<A: Allocator>(out: &mut String<A>, c: char) -> Result<(), AllocE
     push_visible_char(out, c)
 }
 
-/// Appends lines as they are printed.
+/// Appends lines with escapes for control characters except LF, and for invisible and bidirectional characters.
 fn push_visible_lines<A: Allocator>(out: &mut String<A>, lines: &str) -> Result<(), AllocError>
     ensures { OnOk result (chars (string_bytes out.new)
         ≡ chars (string_bytes out.old) ++ visible_lines (chars lines.now)) }
@@ -71,26 +71,26 @@ fn push_visible_lines<A: Allocator>(out: &mut String<A>, lines: &str) -> Result<
     Ok(())
 }
 
-/// Whether a byte is printed as it is: ASCII that prints, and LF.
+/// Whether a byte needs no escape in a line: it is printable ASCII or LF.
 fn is_plain(byte: u8) -> bool
     ensures { result ≡ is_plain_byte byte }
 {
     byte == b'\n' || byte >= b' ' && byte < 127
 }
 
-/// Whether all bytes are printed as they are.
+/// Whether no byte needs an escape in a line: all are printable ASCII or LF.
 fn are_plain(bytes: &[u8]) -> bool
     ensures { result ≡ list_all is_plain_byte bytes.now }
 {
     bytes.iter().all(|byte| is_plain(*byte))
 }
 
-/// Makes the lines at the end of a text, from this byte on, what is printed of them: a control character but LF, and
-/// one that turns or hides text, becomes an escape.
+/// Replaces control characters except LF, and invisible and bidirectional characters, by escapes. Only the text from the byte
+/// offset `from` is changed.
 ///
 /// # Errors
 ///
-/// An allocation failure. A part of the lines may be missing then.
+/// Returns an error if an allocation fails. A part of the text from `from` may be missing then.
 pub fn make_visible<A: Allocator>(
     alloc: A,
     text: &mut String<A>,

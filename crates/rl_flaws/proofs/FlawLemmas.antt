@@ -1,125 +1,213 @@
--- What the cursor gives is what the definitions say.
-use Rattle.rl_text.proofs.Common.{◌≡◌, ◌+◌, ◌&&◌, ℕ, Bool, Bor, true, false, List, ◌++◌, Some, Option, IfSome, length, length-append, refl, sym, ap, subst, ◌∙◌, arith, and_parts, encode_utf8_all, encodes-append, encodes-chars, IsUtf8}
+-- The flaw that the cursor returns is the one that the definitions describe.
+use Rattle.rl_syntax.proofs.Common.{◌≡◌, ◌≢◌, ◌⊎◌, ◌≤◌, ◌<◌, ◌+◌, ◌&&◌, ℕ, Bool, Bor, true, false, not, List, [], ◌++◌, codes, Some, drop, length, length-append, refl, sym, ap, subst, inl, inr, ◌∙◌, arith, and_parts, both_ways, IsUtf8}
 use Rattle.std.specs.Str.{chars}
-use Rattle.rl_text.specs.Texts.{IsTail, byte_len}
-use Rattle.rl_reading.proofs.Names.{is_string}
-use Rattle.rl_forms.specs.Written.{closer}
-use Rattle.rl_reasons.specs.declared.flaws.Flaw.{Flaw}
-use Rattle.rl_reasons.specs.declared.flaws.FlawAt.{FlawAt}
-use Rattle.rl_reasons.specs.Flaws.{first_len}
-use Rattle.rl_reasons.specs.StrictFlaws.{ExplainsStrictly}
-use Rattle.rl_reasons.specs.StrictRead.{IsFlawAt}
-use Rattle.rl_flaws.specs.BadPieces.{after_bad_piece, is_of_unit}
-use Rattle.rl_flaws.specs.Flawed.{EndsWhere, IsLeftBy, TakesFlaw}
-use Rattle.rl_flaws.specs.Left.{FollowsPiece, IsLeft, StaysOpen, state_of}
-use Rattle.rl_flaws.specs.Opened.{IsOpened, opened_front}
-use Rattle.rl_flaws.specs.declared.bad_piece.BadPiece.{BadPiece}
+use Rattle.rl_syntax.specs.Texts.{byte_len}
+use Rattle.rl_lenient.proofs.Names.{Kind, is_single, is_string, opener}
+use Rattle.rl_lenient.specs.declared.quoted_forms.QuotedForm.{QuotedForm}
+use Rattle.rl_lenient.specs.declared.quoted_forms.QuotedForm.TheVariants.{Cooked as CookedForm, Raw as RawForm, Single as SingleForm}
+use Rattle.rl_syntax.specs.Written.{closer}
+use Rattle.rl_strict.specs.LineEnds.{IsRestOf, read_of}
+use Rattle.rl_strict.specs.declared.flaws.FlawAt.{FlawAt}
+use Rattle.rl_strict.specs.declared.line_ends.LineEnds.{LineEnds}
+use Rattle.rl_strict.specs.StrictRead.{IsFlawAt}
+use Rattle.rl_strict.proofs.EndLemmas.{step_in}
+use Rattle.rl_strict.proofs.FileUnits.{not_string}
+use Rattle.rl_flaws.specs.BadPieces.{after_bad_piece, is_flaw_after_quote, is_flaw_of_unit}
+use Rattle.rl_flaws.specs.Flawed.{EndsWhere, FollowsCharacterOf, FollowsPieceOf, IsLeftBy, IsNeverClosed, ReadsFrom, TakesFlaw, left_count}
+use Rattle.rl_flaws.specs.Left.{FollowsCharacter, FollowsPiece, IsLeft, IsLeftAfter, StaysOpen, state_of}
+use Rattle.rl_flaws.specs.Opened.{HasForm, IsOpened, front_of, opened_front}
+use Rattle.rl_flaws.specs.declared.invalid_piece.InvalidPiece.{InvalidPiece}
 use Rattle.rl_flaws.specs.declared.flaws.Left.{Left}
-use Rattle.rl_flaws.specs.declared.flaws.Left.TheVariants.{Whole, Inside, Nothing}
+use Rattle.rl_flaws.specs.declared.flaws.Left.TheVariants.{Whole, Inside, Closed, Nothing}
 use Rattle.rl_flaws.specs.declared.walks.Opened.{Opened}
+use Rattle.rl_flaws.proofs.EndLemmas.{less_after}
+use Rattle.rl_flaws.proofs.PlaceLemmas.{ends_in, place_at, place_in}
 
-pub some_of : {A : Type 0} (P : A → Type 0) (r : Option A) (x : A) → r ≡ Some x → IfSome r P → P x
-some_of P r x e h = subst (λ z. IfSome z P) e h
+-- ---- flaws inside a literal
 
--- ---- a text as a whole
+len_of : (how : LineEnds) (len : ℕ) (left : Left) → (state_of how len left).len ≡ len
+len_of how len (Whole t) = refl
+len_of how len (Inside o t) = refl
+len_of how len (Closed k t) = refl
+len_of how len Nothing = refl
 
-pub cut_len : (t a b : List ℕ) → t ≡ a ++ b → byte_len t ≡ byte_len a + byte_len b
-cut_len t a b e = ap byte_len e ∙ ap length (encodes-append a b) ∙ length-append (encode_utf8_all a) (encode_utf8_all b)
+ends_of : (how : LineEnds) (len : ℕ) (left : Left) → (state_of how len left).ends ≡ how
+ends_of how len (Whole t) = refl
+ends_of how len (Inside o t) = refl
+ends_of how len (Closed k t) = refl
+ends_of how len Nothing = refl
 
-pub whole_takes : (text : Bor (List ℕ)) (flaw : Flaw) → IsUtf8 text.now → ExplainsStrictly (chars text.now) flaw
-    → TakesFlaw (state_of (length text.now) (Whole text)) (record { flaw = flaw; end = flaw.hi })
-    (state_of (length text.now) Nothing)
-whole_takes text flaw u e =
-    let long : byte_len (chars text.now) ≡ length text.now = ap length (encodes-chars text.now u) in
-    let from = cut_len (chars text.now) e.before e.piece e.text_is in
-    let lo = cut_len (chars text.now) e.place.stops.front e.place.rest e.place.stops.text_is in
+open_left : (how : LineEnds) (o : Opened) (rest : Bor (List ℕ)) (len : ℕ) (piece : List ℕ) (left : Left)
+    → IsRestOf how (chars rest.now) (chars piece) → FollowsPiece how o piece left
+    → FollowsPieceOf (state_of how len (Inside o rest)) (read_of how (chars piece)) (state_of how len left)
+open_left how o rest len piece (Whole t) r f = absurd f
+open_left how o rest len piece Nothing r f = absurd f
+open_left how o rest len piece (Closed k t) r f = absurd f
+open_left how o rest len piece (Inside p after) r f = record {
+  rest_in = step_in how (chars rest.now) (chars piece) (chars after.now) r f.1.rest_in;
+  reads = f.1.reads;
+  same_kind = ap (λ (z : Opened). Some z.kind) f.0;
+  same_front = ap opened_front f.0;
+  some_left = refl;
+}
+
+-- ---- the unchecked text after a flaw, by the two tests
+
+pub after_unit : (how : LineEnds) (o : Opened) (inside piece : List ℕ) (left : Left) (b d : Bool) → b ≡ true
+    → FollowsPiece how o piece left → IsLeftAfter b d how o inside piece left
+after_unit how o inside piece left b d e f = subst (λ z. IsLeftAfter z d how o inside piece left) (sym e) f
+
+pub after_single : (how : LineEnds) (o : Opened) (inside piece : List ℕ) (left : Left) (b d : Bool) → b ≡ false
+    → d ≡ true → FollowsCharacter how o.kind inside left → IsLeftAfter b d how o inside piece left
+after_single how o inside piece left b d e h f = subst (λ z. IsLeftAfter z d how o inside piece left) (sym e)
+    (subst (λ z. IsLeftAfter false z how o inside piece left) (sym h) f)
+
+pub after_other : (how : LineEnds) (o : Opened) (inside piece : List ℕ) (left : Left) (b d : Bool) → b ≡ false
+    → d ≡ false → left ≡ Nothing → IsLeftAfter b d how o inside piece left
+after_other how o inside piece left b d e h f = subst (λ z. IsLeftAfter z d how o inside piece left) (sym e)
+    (subst (λ z. IsLeftAfter false z how o inside piece left) (sym h) f)
+
+-- ---- a character or byte literal
+
+-- The opening delimiter of a character or byte literal.
+single_front : (form : QuotedForm) (k : Kind) (h : List ℕ) → is_single k ≡ true → HasForm form k h
+    → front_of form k h ≡ opener k
+single_front CookedForm k h s has = refl
+single_front SingleForm k h s has = refl
+single_front RawForm k h s has = absurd (both_ways (is_string k) (not_string k s) has.0)
+
+single_left : (how : LineEnds) (o : Opened) (rest : Bor (List ℕ)) (len : ℕ) (left : Left) → IsOpened o
+    → is_single o.kind ≡ true → FollowsCharacter how o.kind rest.now left
+    → FollowsCharacterOf (state_of how len (Inside o rest)) (state_of how len left)
+    ⊎ IsNeverClosed (state_of how len (Inside o rest)) (state_of how len left)
+single_left how o rest len (Whole t) opens s f = absurd f
+single_left how o rest len (Inside p t) opens s f = absurd f
+single_left how o rest len Nothing opens s f = inr (f, refl)
+single_left how o rest len (Closed k t) opens s f = inl (record {
+  rest_in = f.2;
+  closed = f.1;
+  no_kind = refl;
+  front_is = ap (λ z. opener z ++ codes "x") f.0
+      ∙ ap (λ z. z ++ codes "x") (sym (single_front o.form o.kind (chars o.hashes.now) s opens));
+  some_left = refl;
+})
+
+pub inside_takes : (how : LineEnds) (o : Opened) (rest : Bor (List ℕ)) (len q : ℕ) (found : FlawAt) (bad : InvalidPiece)
+    (left : Left) → IsUtf8 found.piece.now → IsUtf8 found.rest.now
+    → IsRestOf how (chars rest.now) (chars found.piece.now) → IsRestOf how (chars rest.now) (chars found.rest.now)
+    → IsFlawAt (opened_front o ++ read_of how (chars rest.now)) found.kind (read_of how (chars found.piece.now))
+    (read_of how (chars found.rest.now))
+    → q ≡ closer o.kind → bad.flaw.kind ≡ found.kind → bad.flaw.from + length found.piece.now ≡ len
+    → bad.flaw.lo + length found.rest.now ≡ len
+    → ReadsFrom how len (chars found.rest.now) (drop 1 (read_of how (chars found.rest.now))) bad.flaw.hi
+    → EndsWhere (is_flaw_of_unit bad.flaw.kind) (ReadsFrom how len (chars found.piece.now)
+    (after_bad_piece q (read_of how (chars found.piece.now)))) bad.flaw.hi bad.end
+    → IsOpened o → IsLeftAfter (is_string o.kind && is_flaw_of_unit found.kind)
+    (is_single o.kind && not (is_flaw_after_quote found.kind)) how o rest.now found.piece.now left
+    → TakesFlaw (state_of how len (Inside o rest)) bad (state_of how len left)
+inside_takes how o rest len q found bad left up uz piece stop f quote kind from lo hi end opens after =
+    let text : List ℕ = chars rest.now in
+    let read : List ℕ = read_of how (chars found.piece.now) in
     record {
       some_left = refl;
-      piece = e.piece;
+      piece = read;
       is_bad = record {
-        stop = e.place.rest;
-        flaw = record { none = e.no_token; stops = e.place.stops; says = e.kind };
-        from_is = omega (arith, long, from, e.from_is);
-        lo_is = omega (arith, long, lo, e.place.lo_is);
-        hi_is = e.place.hi_is;
-        end_is = refl;
+        stop = read_of how (chars found.rest.now);
+        flaw = subst (λ k. IsFlawAt (opened_front o ++ read_of how text) k read (read_of how (chars found.rest.now)))
+            (sym kind) f;
+        from = place_at how len text found.piece.now read bad.flaw.from up piece refl from;
+        lo = place_at how len text found.rest.now (read_of how (chars found.rest.now)) bad.flaw.lo uz stop refl lo;
+        hi = place_in how len text (chars found.rest.now) (drop 1 (read_of how (chars found.rest.now))) bad.flaw.hi stop
+            hi;
+        end = ends_in how len text (chars found.piece.now) (after_bad_piece (closer o.kind) read) bad.flaw.hi bad.end
+            (is_flaw_of_unit bad.flaw.kind) piece (subst (λ z. EndsWhere (is_flaw_of_unit bad.flaw.kind)
+            (ReadsFrom how len (chars found.piece.now) (after_bad_piece z read)) bad.flaw.hi bad.end) quote end);
       };
-      left = refl;
-      same_len = refl;
+      left = subst (λ k. IsLeftBy (is_string o.kind && is_flaw_of_unit k) (is_single o.kind && not (is_flaw_after_quote k))
+          (state_of how len (Inside o rest)) read (state_of how len left)) (sym kind)
+          (go (is_string o.kind && is_flaw_of_unit found.kind) (is_single o.kind && not (is_flaw_after_quote found.kind)) refl after);
+      same = record { same_ends = ends_of how len left; same_len = len_of how len left };
     }
-
--- ---- inside a literal
-
-len_of : (len : ℕ) (left : Left) → (state_of len left).len ≡ len
-len_of len (Whole t) = refl
-len_of len (Inside o t) = refl
-len_of len Nothing = refl
-
-open_left : (o : Opened) (rest : Bor (List ℕ)) (len : ℕ) (piece closing : List ℕ) (left : Left) → FollowsPiece o closing left
-    → piece ≡ closing → IsLeftBy true (state_of len (Inside o rest)) (chars piece) (state_of len left)
-open_left o rest len piece closing (Whole t) f e = absurd f
-open_left o rest len piece closing (Inside p r) f e = (
-  f.1 ∙ ap (λ z. after_bad_piece (closer o.kind) (chars z)) (sym e),
-  ap (λ (z : Opened). Some z.kind) f.0,
-  ap opened_front f.0,
-  refl,
-)
-open_left o rest len piece closing Nothing f e = absurd f
-
-pub inside_takes : (o : Opened) (rest : Bor (List ℕ)) (len q : ℕ) (found : FlawAt) (closing : List ℕ) (bad : BadPiece)
-    (left : Left) → IsUtf8 found.piece.now → IsUtf8 found.rest.now
-    → IsFlawAt (opened_front o ++ chars rest.now) found.kind (chars found.piece.now) (chars found.rest.now)
-    → q ≡ closer o.kind → bad.flaw.kind ≡ found.kind → bad.flaw.from + length found.piece.now ≡ len
-    → bad.flaw.lo + length found.rest.now ≡ len → bad.flaw.hi ≡ bad.flaw.lo + first_len (chars found.rest.now)
-    → EndsWhere (is_of_unit bad.flaw.kind) len q (chars found.piece.now) bad.flaw.hi bad.end
-    → (is_of_unit found.kind ≡ true → found.piece.now ≡ closing)
-    → ((is_string o.kind && is_of_unit found.kind) ≡ true → FollowsPiece o closing left)
-    → ((is_string o.kind && is_of_unit found.kind) ≡ false → left ≡ Nothing)
-    → TakesFlaw (state_of len (Inside o rest)) bad (state_of len left)
-inside_takes o rest len q found closing bad left up uz f quote kind from lo hi end at inside nothing = record {
-  some_left = refl;
-  piece = chars found.piece.now;
-  is_bad = record {
-    stop = chars found.rest.now;
-    flaw = subst (λ k. IsFlawAt (opened_front o ++ chars rest.now) k (chars found.piece.now)
-        (chars found.rest.now)) (sym kind) f;
-    from_is = omega (arith, from, ap length (encodes-chars found.piece.now up));
-    lo_is = omega (arith, lo, ap length (encodes-chars found.rest.now uz));
-    hi_is = hi;
-    end_is = subst (λ z. EndsWhere (is_of_unit bad.flaw.kind) len z (chars found.piece.now) bad.flaw.hi bad.end) quote
-        end;
-  };
-  left = subst (λ k. IsLeftBy (is_string o.kind && is_of_unit k) (state_of len (Inside o rest))
-      (chars found.piece.now) (state_of len left)) (sym kind)
-      (go (is_string o.kind && is_of_unit found.kind) refl);
-  same_len = len_of len left;
-}
   where
-    go : (b : Bool) → (is_string o.kind && is_of_unit found.kind) ≡ b
-        → IsLeftBy b (state_of len (Inside o rest)) (chars found.piece.now) (state_of len left)
-    go true e = open_left o rest len found.piece.now closing left (inside e)
-        (at (and_parts (is_string o.kind) (is_of_unit found.kind) e).1)
-    go false e = ap (λ z. (state_of len z).over) (nothing e)
+    go : (b d : Bool) → (is_single o.kind && not (is_flaw_after_quote found.kind)) ≡ d
+        → IsLeftAfter b d how o rest.now found.piece.now left
+        → IsLeftBy b d (state_of how len (Inside o rest)) (read_of how (chars found.piece.now)) (state_of how len left)
+    go true d e h = open_left how o rest len found.piece.now left piece h
+    go false true e h =
+        single_left how o rest len left opens (and_parts (is_single o.kind) (not (is_flaw_after_quote found.kind)) e).0 h
+    go false false e h = ap (λ z. (state_of how len z).over) h
 
-pub inside_left : (o : Opened) (rest : Bor (List ℕ)) (len : ℕ) (closing : List ℕ) (b : Bool) (left : Left)
-    → IsLeft len (Inside o rest) → IsTail rest.now closing → (b ≡ true → FollowsPiece o closing left)
-    → (b ≡ false → left ≡ Nothing) → IsLeft len left
-inside_left o rest len closing false left l t inside nothing = subst (IsLeft len) (sym (nothing refl)) tt
-inside_left o rest len closing true (Whole w) l t inside nothing = absurd (inside refl)
-inside_left o rest len closing true Nothing l t inside nothing = tt
-inside_left o rest len closing true (Inside p r) l t inside nothing =
-    let f = inside refl in
-    let a : length rest.now ≡ length t.front + length closing = ap length t.text_is ∙ length-append t.front closing in
-    let b : length closing ≡ length f.2.front + length r.now = ap length f.2.text_is ∙ length-append f.2.front r.now in
-    let same : byte_len (opened_front p) ≡ byte_len (opened_front o) = ap (λ (z : Opened). byte_len (opened_front z)) f.0 in (
+pub inside_left : (how : LineEnds) (o : Opened) (rest : Bor (List ℕ)) (len : ℕ) (piece : List ℕ) (b single closed : Bool)
+    (left : Left)
+    → IsLeft len (Inside o rest) → length piece ≤ length rest.now → single ≡ is_single o.kind
+    → IsLeftAfter b (single && closed) how o rest.now piece left → IsLeft len left
+inside_left how o rest len piece false single closed left l t s after = go (single && closed) refl after
+  where
+    go : (d : Bool) → (single && closed) ≡ d → IsLeftAfter false d how o rest.now piece left → IsLeft len left
+    go false e h = subst (IsLeft len) (sym h) tt
+    go true e h = ends left h
+      where
+        ends : (left : Left) → FollowsCharacter how o.kind rest.now left → IsLeft len left
+        ends (Whole w) h = absurd h
+        ends (Inside p r) h = absurd h
+        ends Nothing h = tt
+        ends (Closed k r) h =
+            let tail = h.3 in
+            let n : length rest.now ≡ length tail.front + length r.now = ap length tail.text_is
+            ∙ length-append tail.front r.now in (
+              ap is_single h.0 ∙ sym s ∙ (and_parts single closed e).0,
+              h.4,
+              omega (arith, l.1, n),
+              tail.is_text,
+            )
+inside_left how o rest len piece true single closed (Whole w) l t s after = absurd after
+inside_left how o rest len piece true single closed (Closed k r) l t s after = absurd after
+inside_left how o rest len piece true single closed Nothing l t s after = absurd after
+inside_left how o rest len piece true single closed (Inside p r) l t s f =
+    let tail = f.1.following in
+    let b : length piece ≡ length tail.front + length r.now = ap length tail.text_is ∙ length-append tail.front r.now in
+    let same : byte_len (opened_front p) ≡ byte_len (opened_front o) = ap (λ (z : Opened). byte_len (opened_front z))
+    f.0 in (
       subst IsOpened (sym f.0) l.0,
-      omega (arith, l.1, a, b, same),
-      f.2.is_text,
+      omega (arith, l.1, t, b, same),
+      tail.is_text,
     )
 
-pub stays_open : (o : Opened) (piece : List ℕ) (b : Bool) (left : Left) → (b ≡ true → FollowsPiece o piece left)
-    → (b ≡ false → left ≡ Nothing) → StaysOpen o left
-stays_open o piece false left inside nothing = subst (StaysOpen o) (sym (nothing refl)) tt
-stays_open o piece true (Whole w) inside nothing = absurd (inside refl)
-stays_open o piece true Nothing inside nothing = tt
-stays_open o piece true (Inside p r) inside nothing = (inside refl).0
+pub stays_open : (how : LineEnds) (o : Opened) (rest piece : List ℕ) (b d : Bool) (left : Left)
+    → IsLeftAfter b d how o rest piece left → StaysOpen o left
+stays_open how o rest piece true d (Whole w) f = absurd f
+stays_open how o rest piece true d (Closed k r) f = tt
+stays_open how o rest piece true d Nothing f = tt
+stays_open how o rest piece true d (Inside p r) f = f.0
+stays_open how o rest piece false true (Whole w) f = absurd f
+stays_open how o rest piece false true (Inside p r) f = absurd f
+stays_open how o rest piece false true (Closed k r) f = tt
+stays_open how o rest piece false true Nothing f = tt
+stays_open how o rest piece false false left f = subst (StaysOpen o) (sym f) tt
+
+-- After a flaw, the unchecked text is shorter.
+pub inside_less : (how : LineEnds) (o : Opened) (rest : Bor (List ℕ)) (len : ℕ) (piece : List ℕ) (s u d : Bool)
+    (left : Left)
+    → length piece ≤ length rest.now → (u ≡ true → chars piece ≢ [])
+    → IsLeftAfter (s && u) d how o rest.now piece left
+    → left_count (state_of how len left) < left_count (state_of how len (Inside o rest))
+inside_less how o rest len piece s u d left t some after = go (s && u) d left refl after
+  where
+    go : (b d : Bool) (l : Left) → (s && u) ≡ b → IsLeftAfter b d how o rest.now piece l
+        → left_count (state_of how len l) < left_count (state_of how len (Inside o rest))
+    go false false l e h = subst (λ (z : Left). left_count (state_of how len z)
+        < left_count (state_of how len (Inside o rest))) (sym h) (omega arith)
+    go false true (Whole w) e h = absurd h
+    go false true (Inside p r) e h = absurd h
+    go false true Nothing e h = omega arith
+    go false true (Closed k r) e h =
+        let tail = h.3 in
+        let n : length rest.now ≡ length tail.front + length r.now = ap length tail.text_is
+        ∙ length-append tail.front r.now in
+        omega (arith, n)
+    go true d (Whole w) e h = absurd h
+    go true d (Closed k r) e h = absurd h
+    go true d Nothing e h = absurd h
+    go true d (Inside p r) e h =
+        let less = less_after how (closer o.kind) piece r.now (some (and_parts s u e).1) h.1.reads h.1.following in
+        omega (arith, less, t)

@@ -1,38 +1,39 @@
--- The laws of what a text begins as.
-use Rattle.rl_text.proofs.Common.{◌≡◌, ◌⊎◌, ◌==◌, ◌||◌, ℕ, Bool, true, false, not, List, [], ◌∷◌, ◌++◌, Option, Some, None, IfNone, IfSome, refl, sym, ap, subst, ◌∙◌, inl, inr, append_assoc, and_parts, or_from, or_right, both_ways, not-true, cond, is_ascii_digit, list_all, replicate, flat_map}
-use Rattle.rl_text.specs.Texts.{first_passes, is_run_part}
-use Rattle.rl_reading.proofs.Names.{Kind, Str, ByteStr, CStr, Byte, Char, Int, Float, BoolKind, Contents, is_single, is_string, opener, raw_opener, strict_text, truth_text}
-use Rattle.rl_forms.specs.Numbers.{Base, Binary, Octal, Decimal, Hexadecimal, IsAfterPrefix, begins_base, exponent_text, fraction_text, is_digit, is_exponent_letter, prefix}
-use Rattle.rl_forms.specs.Strict.{IsDigits, IsDotAlone, IsPointed, IsScientific, IsStrictExponent, Strict, StrictCooked, StrictFloat, StrictInt, StrictRaw, strict_closer, strict_opener, strict_raw_opener}
-use Rattle.rl_forms.proofs.StrictNumbers.{digit_front as number_front, foreign_dot, letter_no_part, strict_float, strict_int, suffix_no_part, suffix_without}
-use Rattle.rl_forms.proofs.StrictQuoted.{between}
-use Rattle.rl_reading.specs.Mirrors.NumberAt.{after_digits, after_minus}
-use Rattle.rl_reading.specs.Mirrors.OpenerAt.{FoundOpener, opener_at}
-use Rattle.rl_reading.proofs.OpenerLemmas.{word_has_none}
-use Rattle.rl_reading.proofs.ReadingLemmas.{front_not_quoted}
-use Rattle.rl_reading.proofs.RunLemmas.{run_past}
-use Rattle.rl_reading.proofs.TestLemmas.{passes_more}
+-- The theorems about the kind of literal that a text begins as.
+use Rattle.rl_syntax.proofs.Common.{◌≡◌, ◌⊎◌, ◌==◌, ◌||◌, ℕ, Bool, true, false, not, List, [], ◌∷◌, ◌++◌, Option, Some, None, IfNone, IfSome, refl, sym, ap, subst, ◌∙◌, inl, inr, append_assoc, and_parts, or_from, or_right, both_ways, not-true, cond, is_ascii_digit, list_all, replicate, flat_map}
+use Rattle.rl_syntax.specs.Texts.{first_passes, is_run_part}
+use Rattle.rl_lenient.proofs.Names.{Kind, Str, ByteStr, CStr, Byte, Char, Int, Float, BoolKind, Contents, is_single, is_string, opener, raw_opener, strict_text, truth_text}
+use Rattle.rl_syntax.specs.Numbers.{Base, Binary, Octal, Decimal, Hexadecimal, IsAfterPrefix, begins_base, exponent_text, fraction_text, is_digit, is_exponent_letter, prefix}
+use Rattle.rl_syntax.specs.Strict.{IsDigits, IsDotAlone, IsPointed, IsScientific, IsStrictExponent, Strict, StrictCooked, StrictFloat, StrictInt, StrictRaw, strict_closer, strict_opener, strict_raw_opener}
+use Rattle.rl_syntax.proofs.StrictNumbers.{digit_front as number_front, foreign_dot, letter_no_part, strict_float, strict_int, suffix_no_part, suffix_without}
+use Rattle.rl_syntax.proofs.StrictQuoted.{between}
+use Rattle.rl_lenient.specs.Mirrors.NumberAt.{after_digits, after_minus}
+use Rattle.rl_lenient.specs.Mirrors.OpenerAt.{FoundOpener, opener_at}
+use Rattle.rl_lenient.proofs.OpenerLemmas.{word_has_none}
+use Rattle.rl_lenient.proofs.ReadingLemmas.{front_not_quoted}
+use Rattle.rl_lenient.proofs.RunLemmas.{run_past}
+use Rattle.rl_lenient.proofs.TestLemmas.{passes_more}
 use Rattle.std.specs.Prelude.{codes, if◌then◌else◌}
-use Rattle.rl_reasons.specs.StrictNumberFlaws.{is_float_mark}
-use Rattle.rl_reasons.proofs.StrictTokens.{digit_front}
-use Rattle.rl_text.proofs.Basics.{all_same, digit_is_ten}
+use Rattle.rl_strict.specs.StrictNumberFlaws.{is_float_mark}
+use Rattle.rl_strict.proofs.StrictTokens.{digit_front}
+use Rattle.rl_syntax.proofs.Basics.{all_same, digit_is_ten}
 use Rattle.rl_flaws.specs.Looks.{SpellsTruth, LooksLike, LooksLikeOne, OpensNumber, OpensSingle, OpensString, TokenLooks, number_kind}
 use Rattle.rl_flaws.proofs.LookLemmas.{by_row, minus_past}
 use Rattle.rl_flaws.proofs.WalkLemmas.{single_told, string_told}
 
--- ---- one kind
+-- ---- a text begins as at most one kind
 
 told_kind : FoundOpener → Option Kind
 told_kind None = None
 told_kind (Some p) = Some p.1
 
--- a quoted literal is told by its opener; else none is
+-- The opening delimiter identifies the kind of a quoted literal. Otherwise the text begins as no quoted literal.
 Told : List ℕ → Kind → Type 0
 Told t k = (told_kind (opener_at t) ≡ Some k)
     ⊎ ((told_kind (opener_at t) ≡ None) × (OpensNumber k t ⊎ SpellsTruth k t))
 
 number_closed : (t : List ℕ) (k : Kind) → OpensNumber k t → opener_at t ≡ None
-number_closed t k (d, inl e, digit, is) = front_not_quoted t (digit_front t (ap (first_passes is_ascii_digit) e ∙ digit))
+number_closed t k (d, inl e, digit, is) = front_not_quoted t
+    (digit_front t (ap (first_passes is_ascii_digit) e ∙ digit))
 number_closed t k (d, inr e, digit, is) = ap opener_at e ∙ front_not_quoted (45 ∷ d) refl
 
 told : (t : List ℕ) (k : Kind) → LooksLike t k → Told t k
@@ -45,7 +46,7 @@ told t k (inr (inl s)) = let p = single_told t k s in inl (ap told_kind p.1)
 told t k (inr (inr (inl n))) = inr (ap told_kind (number_closed t k n), inl n)
 told t k (inr (inr (inr (e, (b, is))))) = inr (ap told_kind (ap opener_at is ∙ word_has_none b), inr (e, (b, is)))
 
--- what follows a minus
+-- The digits of a number, after its minus if it has one.
 number_digits : (t : List ℕ) (k : Kind) → OpensNumber k t → (k ≡ number_kind (after_minus t))
     × (first_passes is_ascii_digit (after_minus t) ≡ true)
 number_digits t k (d, e, digit, is) =
@@ -76,7 +77,7 @@ told_once t k l (inr a) (inr b) = plain_once t k l a.1 b.1
 pub looks_once : (t : List ℕ) → LooksLikeOne t
 looks_once t k l a b = told_once t k l (told t k a) (told t l b)
 
--- ---- tokens: quoted
+-- ---- a quoted token begins as its kind
 
 cooked_looks : (k : Kind) (t : List ℕ) (v : Contents) (x : List ℕ) → is_string k ≡ true → strict_opener k ≡ opener k
     → StrictCooked t k v x → OpensString k t
@@ -103,7 +104,8 @@ raw_joined : (o h i x : List ℕ) → ((((o ++ h) ++ (34 ∷ i)) ++ (34 ∷ h)) 
     ≡ (o ++ (h ++ (34 ∷ []))) ++ (i ++ (34 ∷ (h ++ x)))
 raw_joined o h i x = simp append_assoc
 
-raw_looks : (k : Kind) (t : List ℕ) (v : Contents) (x : List ℕ) → is_string k ≡ true → strict_raw_opener k ≡ raw_opener k
+raw_looks : (k : Kind) (t : List ℕ) (v : Contents) (x : List ℕ) → is_string k ≡ true → strict_raw_opener k
+    ≡ raw_opener k
     → StrictRaw t k v x → OpensString k t
 raw_looks k t v x s same r =
     let h : List ℕ = replicate r.hashes 35 in (
@@ -114,11 +116,12 @@ raw_looks k t v x s same r =
           ∙ ap (λ z. (z ++ (h ++ (34 ∷ []))) ++ (r.inside ++ (34 ∷ (h ++ x)))) same,
     )
 
--- ---- tokens: numbers
+-- ---- a number begins as its kind
 
 plain_kind : (t : List ℕ) (m : Bool) → begins_base t ≡ false → first_passes is_float_mark (after_digits 10 t) ≡ m
     → number_kind t ≡ cond m Float Int
-plain_kind t m n h = ap (λ b. by_row b (first_passes is_float_mark (after_digits 10 t))) n ∙ ap (λ b. cond b Float Int) h
+plain_kind t m n h = ap (λ b. by_row b (first_passes is_float_mark (after_digits 10 t))) n
+    ∙ ap (λ b. cond b Float Int) h
 
 integer_base : (b : Base) (t w x : List ℕ) → IsAfterPrefix b w → t ≡ prefix b ++ w → (begins_base t ≡ true)
     ⊎ ((b ≡ Decimal) × (begins_base t ≡ false))
@@ -145,7 +148,8 @@ int_kind t v x s =
       | inl h ↦ sym (ap (λ b. by_row b (first_passes is_float_mark (after_digits 10 t))) h)
       | inr p ↦
           let part : (c : ℕ) → Bool = is_run_part (is_digit Decimal) in
-          let each : list_all part r.digits ≡ true = subst (λ b. list_all (is_run_part (is_digit b)) r.digits ≡ true) p.0
+          let each : list_all part r.digits ≡ true = subst (λ b. list_all (is_run_part (is_digit b)) r.digits ≡ true)
+          p.0
           r.each in
           let text : t ≡ r.digits ++ x = r.text_is ∙ ap (λ b. prefix b ++ (r.digits ++ x)) p.0 in
           let after : after_digits 10 t ≡ x = ap (after_digits 10) text
@@ -179,7 +183,8 @@ float_digit t v x s =
     ap (first_passes is_ascii_digit) f.text_is
     ∙ passes_more is_ascii_digit (f.whole ++ more) x (passes_more is_ascii_digit f.whole more f.first)
 
-point_kind : (t d f x numeral : List ℕ) → IsDigits d → t ≡ numeral ++ x → numeral ≡ d ++ (46 ∷ f) → begins_base t ≡ false
+point_kind : (t d f x numeral : List ℕ) → IsDigits d → t ≡ numeral ++ x → numeral ≡ d ++ (46 ∷ f) → begins_base t
+    ≡ false
     → Float ≡ number_kind t
 point_kind t d f x numeral is text e n = float_kind t d (f ++ x) 46 is
     (text ∙ ap (λ z. z ++ x) e ∙ append_assoc d (46 ∷ f) x) refl refl n
@@ -196,7 +201,7 @@ form_kind t numeral x text n (inr (inr (d, p, is, is_p, inr (f, is_f, e)))) =
 float_looks : (t : List ℕ) (v : Contents) (x : List ℕ) → StrictFloat t v x → OpensNumber Float t
 float_looks t v x s = (t, inl refl, float_digit t v x s, form_kind t s.numeral x s.text s.no_prefix s.form)
 
--- ---- tokens
+-- ---- a token begins as its kind
 
 truth_word : (b : Bool) → (if b then codes "true" else codes "false") ≡ truth_text b
 truth_word true = refl

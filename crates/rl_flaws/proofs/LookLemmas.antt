@@ -1,20 +1,20 @@
--- What a text begins as.
-use Rattle.rl_text.proofs.Common.{◌≡◌, ◌≢◌, ◌⊎◌, ◌==◌, ◌&&◌, ℕ, Bool, true, false, not, List, [], ◌∷◌, refl, sym, ap, subst, ◌∙◌, inl, inr, both_ways, cases_Bool, eqb-true, cond, is_ascii_digit, ◌||◌}
-use Rattle.rl_text.proofs.Basics.{apart}
-use Rattle.rl_text.specs.Texts.{first_passes}
-use Rattle.rl_reading.proofs.Names.{Kind, Int, Float}
-use Rattle.rl_forms.specs.Numbers.{begins_base}
-use Rattle.rl_reading.specs.Mirrors.NumberAt.{after_digits, after_minus, radix_at, radix_of}
-use Rattle.rl_reading.proofs.IntegerLemmas.{not_based}
-use Rattle.rl_reasons.specs.StrictNumberFlaws.{is_float_mark}
+-- The kind of literal that a text begins as.
+use Rattle.rl_syntax.proofs.Common.{◌≡◌, ◌≢◌, ◌⊎◌, ◌==◌, ◌&&◌, ℕ, Bool, true, false, not, List, [], ◌∷◌, refl, sym, ap, subst, ◌∙◌, inl, inr, both_ways, cases_Bool, eqb-true, cond, is_ascii_digit, ◌||◌}
+use Rattle.rl_syntax.proofs.Basics.{apart}
+use Rattle.rl_syntax.specs.Texts.{first_passes}
+use Rattle.rl_lenient.proofs.Names.{Kind, Int, Float}
+use Rattle.rl_syntax.specs.Numbers.{begins_base}
+use Rattle.rl_lenient.specs.Mirrors.NumberAt.{after_digits, after_minus, radix_at, radix_of}
+use Rattle.rl_lenient.proofs.IntegerLemmas.{not_based}
+use Rattle.rl_strict.specs.StrictNumberFlaws.{is_float_mark}
 use Rattle.rl_flaws.specs.Looks.{OpensNumber, number_kind}
 
--- ---- the base
+-- ---- the base of a number
 
 abbrev pub Read : Type 0
 Read = ℕ × List ℕ
 
--- a letter that names a base after the zero
+-- The letter of a base prefix, after the first zero, is that of a base other than ten.
 based_letter : (c : ℕ) (cs : List ℕ) → begins_base (48 ∷ c ∷ cs) ≡ true → radix_of c ≡ 10 → ⊥
 based_letter c cs h e =
     elim (cases_Bool (c == 98)) [
@@ -50,7 +50,8 @@ based (z ∷ []) h e = both_ways (begins_base (z ∷ [])) (go (z == 48)) h
     go false = refl
 based (z ∷ c ∷ cs) h e = go (z == 48) refl
   where
-    named : (b : Bool) → (radix_of c == 10) ≡ b → (cond {A = Read} (not b) (radix_of c, cs) (10, 48 ∷ c ∷ cs)).0 ≡ 10 → radix_of c ≡ 10
+    named : (b : Bool) → (radix_of c == 10) ≡ b → (cond {A = Read} (not b) (radix_of c, cs) (10, 48 ∷ c ∷ cs)).0 ≡ 10
+        → radix_of c ≡ 10
     named true y r = eqb-true (radix_of c) 10 y
     named false y r = r
 
@@ -65,7 +66,7 @@ based (z ∷ c ∷ cs) h e = go (z == 48) refl
         let radix : (radix_at (48 ∷ c ∷ cs)).0 ≡ 10 = subst (λ d. (radix_at (d ∷ c ∷ cs)).0 ≡ 10) is e in
         based_letter c cs first (named (radix_of c == 10) refl radix)
 
--- the kind by the base and what follows the digits
+-- The kind of a number, by whether it has a base prefix and how the text after its digits begins.
 abbrev pub by_row : Bool → Bool → Kind
 by_row base mark = cond base Int (cond mark Float Int)
 
@@ -86,7 +87,7 @@ ten t w rest r mark e is after m =
           ∙ sym (ap (λ b. by_row b (first_passes is_float_mark (after_digits 10 t))) a)
     ]
 
--- ---- a minus
+-- ---- a minus before a number
 
 pub minus_or : (t d : List ℕ) → d ≡ after_minus t → (t ≡ d) ⊎ (t ≡ 45 ∷ d)
 minus_or [] d e = inl (sym e)
@@ -95,7 +96,8 @@ minus_or (c ∷ cs) d e = elim (cases_Bool (c == 45)) [
   | inr a ↦ inl (sym (e ∙ ap (λ b. cond b cs (c ∷ cs)) a))
 ]
 
-pub number_some : (t d : List ℕ) (b : Bool) (k : Kind) → d ≡ after_minus t → b ≡ first_passes is_ascii_digit d → b ≡ true
+pub number_some : (t d : List ℕ) (b : Bool) (k : Kind) → d ≡ after_minus t → b ≡ first_passes is_ascii_digit d → b
+    ≡ true
     → k ≡ number_kind d → OpensNumber k t
 number_some t d b k e h y is = (d, minus_or t d e, sym h ∙ y, is)
 

@@ -1,27 +1,27 @@
--- What is good inside a literal, and its segments.
-use Rattle.rl_text.proofs.Common.{◌≡◌, ◌≤◌, ◌+◌, ◌-◌, ℕ, Bool, Bor, true, false, List, [], ◌∷◌, ◌++◌, map, length, length-append, refl, sym, ap, subst, ◌∙◌, inl, inr, arith, and_from, append_cancel_right, append-nil, encodes-chars, flat_map, IsUtf8, IsUtf8-nil, chars-nil}
+-- The valid content of a quoted literal, and its segments.
+use Rattle.rl_syntax.proofs.Common.{◌≡◌, ◌≤◌, ◌+◌, ◌-◌, ℕ, Bool, Bor, true, false, List, [], ◌∷◌, ◌++◌, map, length, length-append, refl, sym, ap, subst, ◌∙◌, inl, inr, arith, and_from, append_cancel_right, append-nil, encodes-chars, flat_map, IsUtf8, IsUtf8-nil, chars-nil}
 use Rattle.std.specs.Str.{chars}
-use Rattle.rl_text.specs.Texts.{byte_len}
-use Rattle.rl_reading.proofs.Names.{first_passes, is_dropped_blank, Kind, Plain, QuotedUnit, StrictUnit, Itself, QuoteEscape, PlainEscape, AsciiEscape, ByteEscape, UnicodeEscape, LineBreak, strict_text, is_strict_unit}
-use Rattle.rl_forms.specs.Strict.{BlanksEnd}
-use Rattle.rl_forms.proofs.StrictQuoted.{stand_row}
-use Rattle.rl_reading.specs.Segments.{AreUnitsIn, IsSegmentsState}
-use Rattle.rl_reading.specs.StrictUnits.{BreaksEnd}
-use Rattle.rl_reading.specs.declared.quoted_forms.QuotedForm.{QuotedForm}
-use Rattle.rl_reading.specs.declared.quoted_forms.QuotedForm.TheVariants.{Cooked as CookedForm, Raw as RawForm, Single as SingleForm}
-use Rattle.rl_reasons.specs.StrictFlawKinds.{is_raw_form}
-use Rattle.rl_flaws.specs.Inside.{StandsUpTo}
+use Rattle.rl_syntax.specs.Texts.{byte_len}
+use Rattle.rl_lenient.proofs.Names.{first_passes, is_dropped_blank, Kind, Plain, QuotedUnit, StrictUnit, Itself, QuoteEscape, PlainEscape, AsciiEscape, ByteEscape, UnicodeEscape, LineBreak, strict_text, is_strict_unit}
+use Rattle.rl_syntax.specs.Strict.{BlanksEnd}
+use Rattle.rl_syntax.proofs.StrictQuoted.{stand_row}
+use Rattle.rl_lenient.specs.Segments.{AreUnitsIn, IsSegmentsState}
+use Rattle.rl_lenient.specs.StrictUnits.{BreaksEnd}
+use Rattle.rl_lenient.specs.declared.quoted_forms.QuotedForm.{QuotedForm}
+use Rattle.rl_lenient.specs.declared.quoted_forms.QuotedForm.TheVariants.{Cooked as CookedForm, Raw as RawForm, Single as SingleForm}
+use Rattle.rl_strict.specs.StrictFlawKinds.{is_raw_form}
+use Rattle.rl_flaws.specs.Inside.{IsInsideUpTo}
 use Rattle.rl_flaws.specs.Left.{IsLeft, IsSameLiteral, StaysOpen}
 use Rattle.rl_flaws.specs.Opened.{IsOpened, opened_front}
 use Rattle.rl_flaws.specs.PiecesLeft.{ArePiecesLeft, IsGoodLeft, IsOpenAs}
 use Rattle.rl_flaws.specs.declared.flaws.Left.{Left}
-use Rattle.rl_flaws.specs.declared.flaws.Left.TheVariants.{Whole, Inside, Nothing}
+use Rattle.rl_flaws.specs.declared.flaws.Left.TheVariants.{Whole, Inside, Closed, Nothing}
 use Rattle.rl_flaws.specs.declared.walks.Opened.{Opened}
 
 abbrev pub HasUnitsIn : Kind → Bool → List ℕ → Type 0
 HasUnitsIn kind plain t = (units : List QuotedUnit) × AreUnitsIn kind plain t units
 
--- ---- the blanks of line breaks end where what is good does
+-- ---- an escaped line end skips no white space beyond the valid content
 
 front_passes : (test : ℕ → Bool) (a b : List ℕ) → first_passes test (a ++ b) ≡ false → first_passes test a ≡ false
 front_passes test [] b h = refl
@@ -38,23 +38,26 @@ blanks_end (AsciiEscape high low ∷ us) rest b = blanks_end us rest b.1
 blanks_end (ByteEscape high low ∷ us) rest b = blanks_end us rest b.1
 blanks_end (UnicodeEscape digits ∷ us) rest b = blanks_end us rest b.1
 
--- ---- units
+-- ---- the characters and escapes of the valid content
 
 strict_units : (kind : Kind) (us : List StrictUnit) (t rest good : List ℕ)
     → Rattle.std.specs.List.list_all (is_strict_unit kind) us ≡ true → BreaksEnd us rest
     → t ≡ flat_map strict_text us ++ rest → t ≡ good ++ rest → HasUnitsIn kind false good
 strict_units kind us t rest good each ends text cut =
     let run = stand_row kind us each (blanks_end us rest ends) in
-    let same : flat_map strict_text us ≡ good = append_cancel_right (flat_map strict_text us) good rest (sym text ∙ cut) in
+    let same : flat_map strict_text us ≡ good = append_cancel_right (flat_map strict_text us) good rest (sym text ∙ cut)
+    in
     (run.units, record { each = run.each; ends = run.ends; text_is = sym same ∙ sym run.text_is })
 
 pub no_units : (kind : Kind) (plain : Bool) → HasUnitsIn kind plain []
 no_units kind true = ([], refl)
 no_units kind false = ([], record { each = tt; ends = tt; text_is = refl })
 
-pub good_units : (form : QuotedForm) (kind : Kind) (hashes t good closing : List ℕ) → StandsUpTo form kind hashes t closing
+pub good_units : (form : QuotedForm) (kind : Kind) (hashes t good closing : List ℕ)
+    → IsInsideUpTo form kind hashes t closing
     → t ≡ good ++ closing → HasUnitsIn kind (is_raw_form form) good
-good_units CookedForm kind hashes t good closing (r, none) e = strict_units kind r.units t closing good r.each r.ends r.text_is e
+good_units CookedForm kind hashes t good closing (r, none) e = strict_units kind r.units t closing good r.each r.ends
+    r.text_is e
 good_units RawForm kind hashes t good closing s e = (map Plain good, refl)
 good_units SingleForm kind hashes t good closing (inl (u, q)) e = strict_units kind (u.unit ∷ []) t closing good
     (and_from (is_strict_unit kind u.unit) true u.is_unit refl) (u.ends, tt)
@@ -63,15 +66,17 @@ good_units SingleForm kind hashes t good closing (inr (same, none)) e =
     let nothing : good ≡ [] = append_cancel_right good [] closing (sym e ∙ sym same) in
     subst (HasUnitsIn kind false) (sym nothing) (no_units kind false)
 
--- ---- what is good
+-- ---- the valid content
 
 pub good_left : (o : Opened) (rest : Bor (List ℕ)) (len end : ℕ) (good closing : List ℕ) → IsOpened o
     → byte_len (opened_front o) + length rest.now ≤ len → IsUtf8 good → IsUtf8 closing → rest.now ≡ good ++ closing
-    → chars rest.now ≡ chars good ++ chars closing → StandsUpTo o.form o.kind (chars o.hashes.now) (chars rest.now) (chars closing)
+    → chars rest.now ≡ chars good ++ chars closing → IsInsideUpTo o.form o.kind (chars o.hashes.now) (chars rest.now)
+    (chars closing)
     → end ≡ len - length closing → IsGoodLeft len (Inside o rest) good end
 good_left o rest len end good closing opens room ug uc bytes text up_to is =
     let long : length rest.now ≡ length good + length closing = ap length bytes ∙ length-append good closing in
-    let units = good_units o.form o.kind (chars o.hashes.now) (chars rest.now) (chars good) (chars closing) up_to text in (
+    let units = good_units o.form o.kind (chars o.hashes.now) (chars rest.now) (chars good) (chars closing) up_to text
+    in (
       record {
         form = o.form;
         hashes = chars o.hashes.now;
@@ -88,20 +93,23 @@ good_left o rest len end good closing opens room ug uc bytes text up_to is =
       record { room = omega (arith, room, long, is); is_text = ug; has = units },
     )
 
-pub nothing_good : (kind : Kind) (plain : Bool) (end : ℕ) (good : List ℕ) → good ≡ [] → IsSegmentsState kind plain end good
+pub nothing_good : (kind : Kind) (plain : Bool) (end : ℕ) (good : List ℕ) → good ≡ []
+    → IsSegmentsState kind plain end good
 nothing_good kind plain end good e = subst (IsSegmentsState kind plain end) (sym e)
     (record { room = omega arith; is_text = IsUtf8-nil; has = subst (HasUnitsIn kind plain) (sym chars-nil) (no_units kind plain) })
 
--- ---- the next piece
+-- ---- the next piece of the cursor
 
 of_kind : (kind : Kind) (plain : Bool) (o : Opened) (new : Left) → o.kind ≡ kind → is_raw_form o.form ≡ plain
     → StaysOpen o new → IsOpenAs kind plain new
 of_kind kind plain o (Inside p q) k f same =
     (ap (λ (z : Opened). z.kind) same ∙ k, ap (λ (z : Opened). is_raw_form z.form) same ∙ f)
+of_kind kind plain o (Closed q t) k f same = tt
 of_kind kind plain o Nothing k f same = tt
 of_kind kind plain o (Whole t) k f same = absurd same
 
-pub pieces_left : (kind : Kind) (plain : Bool) (len end : ℕ) (good : List ℕ) (left new : Left) → IsOpenAs kind plain left
+pub pieces_left : (kind : Kind) (plain : Bool) (len end : ℕ) (good : List ℕ) (left new : Left)
+    → IsOpenAs kind plain left
     → IsSameLiteral left new → IsGoodLeft len left good end → IsLeft len new → ArePiecesLeft kind plain end good len new
 pieces_left kind plain len end good (Inside o r) new same literal fine l = record {
   segments = subst (λ k. IsSegmentsState k plain end good) same.0
@@ -110,6 +118,11 @@ pieces_left kind plain len end good (Inside o r) new same literal fine l = recor
   same = of_kind kind plain o new same.0 same.1 literal;
 }
 pieces_left kind plain len end good (Whole t) new same literal fine l = record {
+  segments = nothing_good kind plain end good fine;
+  is_left = l;
+  same = subst (IsOpenAs kind plain) (sym literal) tt;
+}
+pieces_left kind plain len end good (Closed k t) new same literal fine l = record {
   segments = nothing_good kind plain end good fine;
   is_left = l;
   same = subst (IsOpenAs kind plain) (sym literal) tt;

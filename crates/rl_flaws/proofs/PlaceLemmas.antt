@@ -1,17 +1,31 @@
--- The places of bad pieces.
-use Rattle.rl_text.proofs.Common.{◌≡◌, ◌≤◌, ◌+◌, ◌-◌, ℕ, Bool, true, List, length, length-append, sym, ap, subst, ◌∙◌, arith, encodes-chars}
+-- The byte offsets of invalid pieces.
+use Rattle.rl_syntax.proofs.Common.{◌≡◌, ◌+◌, ℕ, Bool, true, false, List, length, sym, ap, subst, ◌∙◌, arith, encodes-chars, IsUtf8}
 use Rattle.std.specs.Str.{chars}
-use Rattle.rl_text.specs.Texts.{IsTail, byte_len}
-use Rattle.rl_flaws.specs.BadPieces.{after_bad_piece}
-use Rattle.rl_flaws.specs.Flawed.{EndsWhere}
+use Rattle.rl_strict.specs.LineEnds.{IsRestOf, read_of}
+use Rattle.rl_strict.specs.declared.line_ends.LineEnds.{LineEnds}
+use Rattle.rl_strict.proofs.EndLemmas.{step_in}
+use Rattle.rl_flaws.specs.Flawed.{EndsWhere, ReadsFrom}
 
-pub ends_after : (len q : ℕ) (piece rest : List ℕ) (hi end : ℕ) (b u : Bool) → b ≡ u → b ≡ true → length piece ≤ len
-    → chars rest ≡ after_bad_piece q (chars piece) → IsTail piece rest → end ≡ len - length rest
-    → EndsWhere u len q (chars piece) hi end
-ends_after len q piece rest hi end b u same y room after tail is =
-    let long : byte_len (after_bad_piece q (chars piece)) ≡ length rest = ap byte_len (sym after)
-    ∙ ap length (encodes-chars rest tail.is_text) in
-    let less : length piece ≡ length tail.front + length rest = ap length tail.text_is ∙ length-append tail.front rest in
-    let At : Bool → Type 0 = λ z. EndsWhere z len q (chars piece) hi end in
-    let at : At true = omega (arith, room, long, less, is) in
-    subst At (sym y ∙ same) at
+-- The byte offset at which an end of the text begins.
+pub place_at : (how : LineEnds) (len : ℕ) (text rest read : List ℕ) (at : ℕ) → IsUtf8 rest
+    → IsRestOf how text (chars rest) → read_of how (chars rest) ≡ read → at + length rest ≡ len
+    → ReadsFrom how len text read at
+place_at how len text rest read at u r e is =
+    record { rest = chars rest; rest_in = r; reads = e; at_is = omega (arith, is, ap length (encodes-chars rest u)) }
+
+-- An offset in a text is also one in a longer text.
+pub place_in : (how : LineEnds) (len : ℕ) (a b read : List ℕ) (at : ℕ) → IsRestOf how a b → ReadsFrom how len b read at
+    → ReadsFrom how len a read at
+place_in how len a b read at r p =
+    record { rest = p.rest; rest_in = step_in how a b p.rest r p.rest_in; reads = p.reads; at_is = p.at_is }
+
+-- ---- the end of an invalid piece
+
+pub ends_there : (GoesOnAt : ℕ → Type 0) (hi end : ℕ) (b u : Bool) → b ≡ u → b ≡ true → GoesOnAt end
+    → EndsWhere u GoesOnAt hi end
+ends_there GoesOnAt hi end b u same y at = subst (λ z. EndsWhere z GoesOnAt hi end) (sym y ∙ same) at
+
+pub ends_in : (how : LineEnds) (len : ℕ) (a b read : List ℕ) (hi end : ℕ) (u : Bool) → IsRestOf how a b
+    → EndsWhere u (ReadsFrom how len b read) hi end → EndsWhere u (ReadsFrom how len a read) hi end
+ends_in how len a b read hi end true r e = place_in how len a b read end r e
+ends_in how len a b read hi end false r e = e

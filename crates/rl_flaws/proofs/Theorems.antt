@@ -1,5 +1,5 @@
--- The laws (src/laws.rt), as lemmas that callers may cite.
-use Rattle.rl_flaws.specs.Laws.{ATextBeginsAsOneKind, ATokenBeginsAsItsKind, TheFirstFlawExplainsTheText, ATokenHasNoFlaw, WhatIsLeftHasOneNextFlaw}
+-- The theorems of src/laws.rt, as lemmas that callers may cite.
+use Rattle.rl_flaws.specs.Laws.{ATextBeginsAsOneKind, ATokenBeginsAsItsKind, TheFirstFlawExplainsTheText, ATokenHasNoFlaw, TheRestHasOneNextFlaw}
 use Rattle.rl_flaws.proofs.LookLaws.{looks_once, token_looks}
 use Rattle.rl_flaws.proofs.FlawLaws.{first_explains, tokens_none, one_next}
 
@@ -15,5 +15,5 @@ the_first_flaw_explains_the_text = first_explains
 pub a_token_has_no_flaw : ATokenHasNoFlaw
 a_token_has_no_flaw = tokens_none
 
-pub what_is_left_has_one_next_flaw : WhatIsLeftHasOneNextFlaw
-what_is_left_has_one_next_flaw = one_next
+pub the_rest_has_one_next_flaw : TheRestHasOneNextFlaw
+the_rest_has_one_next_flaw = one_next

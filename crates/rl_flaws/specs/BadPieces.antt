@@ -1,64 +1,72 @@
--- How far a piece of a quoted literal goes that is no unit, and where reading goes on after it.
+-- The end of an invalid character or escape in a quoted literal, where parsing continues.
 --
--- An escape that is none goes as far as rustc reads one: up to the character that it is broken at, and past it. But that
--- character isn't passed where it is a backslash, which begins the next escape, or the quote, which closes the literal.
+-- An invalid escape ends after the character that makes it invalid, as in rustc. If that character is a backslash, which begins
+-- the next escape, or the quote, which closes the literal, the escape ends before it.
 use Rattle.std.specs.Prelude.{ℕ, ◌==◌, ◌||◌, Bool, true, false, List, [], ◌∷◌, if◌then◌else◌}
 use Prim.Native.Char.{code}
-use Rattle.rl_text.specs.Texts.{is_underscore}
-use Rattle.rl_forms.specs.Quoted.{is_hex_digit}
-use Rattle.rl_reasons.specs.declared.flaws.FlawKind.{FlawKind}
-use Rattle.rl_reasons.specs.declared.flaws.FlawKind.TheVariants.{UnknownEscape, NoUnicode, NoHexDigit, NoBrace, EmptyBraces, TooManyDigits, PastAscii, PastUnicode, Surrogate, Nul, NotAscii, MustEscape, CarriageReturn}
+use Rattle.rl_syntax.specs.Texts.{is_underscore}
+use Rattle.rl_syntax.specs.Quoted.{is_hex_digit}
+use Rattle.rl_strict.specs.declared.flaws.FlawKind.{FlawKind}
+use Rattle.rl_strict.specs.declared.flaws.FlawKind.TheVariants.{UnknownEscape, NoUnicode, NoHexDigit, NoBrace, EmptyBraces, TooManyDigits, HexEscapeOutOfRange, UnicodeEscapeOutOfRange, Surrogate, Nul, NotAscii, MustEscape, CarriageReturn, TextAfterQuote, ExtraHash, UnderscoreSuffix, BadSuffix}
 
--- past one character, but for those two
+-- The text after one character. If this is a backslash or the quote, the text is unchanged.
 abbrev pub after_one : ℕ → List ℕ → List ℕ
 after_one quote [] = []
 after_one quote (c ∷ cs) = if c == code "\\" || c == quote then (c ∷ cs) else cs
 
--- after \x: two digits, or up to what is none
+-- The text after the two digits that follow \x. A character that isn't a digit ends the escape.
 abbrev pub after_hex : ℕ → List ℕ → List ℕ
 after_hex quote [] = []
 after_hex quote (c ∷ cs) = if is_hex_digit c then after_one quote cs else after_one quote (c ∷ cs)
 
--- after a digit between the braces: digits and underscores, and the brace or what is none of these
+-- The text after the digits and underscores between braces, and after one more character, such as the closing brace.
 unfoldable pub after_code_digits : ℕ → List ℕ → List ℕ
 after_code_digits quote [] = []
 after_code_digits quote (c ∷ cs) =
     if is_hex_digit c || is_underscore c then after_code_digits quote cs else after_one quote (c ∷ cs)
 
--- after the opening brace
+-- The text after the digits and the closing brace of \u{..}. It begins after the opening brace.
 abbrev pub after_brace : ℕ → List ℕ → List ℕ
 after_brace quote [] = []
 after_brace quote (c ∷ cs) = if is_hex_digit c then after_code_digits quote cs else after_one quote (c ∷ cs)
 
--- after \u
+-- The text after an invalid \u escape. It begins after \u.
 abbrev pub after_unicode : ℕ → List ℕ → List ℕ
 after_unicode quote [] = []
 after_unicode quote (c ∷ cs) = if c == code "{" then after_brace quote cs else after_one quote (c ∷ cs)
 
--- after a backslash
+-- The text after an invalid escape. It begins after the escape's backslash.
 abbrev pub after_escape : ℕ → List ℕ → List ℕ
 after_escape quote [] = []
 after_escape quote (c ∷ cs) =
     if c == code "x" then after_hex quote cs else (if c == code "u" then after_unicode quote cs else cs)
 
--- What is left after the piece at the front: after an escape, or after one character.
+-- The text after the invalid escape or character at its beginning.
 abbrev pub after_bad_piece : ℕ → List ℕ → List ℕ
 after_bad_piece quote [] = []
 after_bad_piece quote (c ∷ cs) = if c == code "\\" then after_escape quote cs else cs
 
--- The flaw is of a character or an escape between the quotes, so that reading goes on after it.
-abbrev pub is_of_unit : FlawKind → Bool
-is_of_unit UnknownEscape = true
-is_of_unit NoUnicode = true
-is_of_unit NoHexDigit = true
-is_of_unit NoBrace = true
-is_of_unit EmptyBraces = true
-is_of_unit TooManyDigits = true
-is_of_unit PastAscii = true
-is_of_unit PastUnicode = true
-is_of_unit Surrogate = true
-is_of_unit Nul = true
-is_of_unit NotAscii = true
-is_of_unit MustEscape = true
-is_of_unit CarriageReturn = true
-is_of_unit kind = false
+-- The flaw is of a character or an escape between the quotes. In a string, parsing continues after it.
+abbrev pub is_flaw_of_unit : FlawKind → Bool
+is_flaw_of_unit UnknownEscape = true
+is_flaw_of_unit NoUnicode = true
+is_flaw_of_unit NoHexDigit = true
+is_flaw_of_unit NoBrace = true
+is_flaw_of_unit EmptyBraces = true
+is_flaw_of_unit TooManyDigits = true
+is_flaw_of_unit HexEscapeOutOfRange = true
+is_flaw_of_unit UnicodeEscapeOutOfRange = true
+is_flaw_of_unit Surrogate = true
+is_flaw_of_unit Nul = true
+is_flaw_of_unit NotAscii = true
+is_flaw_of_unit MustEscape = true
+is_flaw_of_unit CarriageReturn = true
+is_flaw_of_unit kind = false
+
+-- The flaw is after the closing quote of a literal.
+abbrev pub is_flaw_after_quote : FlawKind → Bool
+is_flaw_after_quote TextAfterQuote = true
+is_flaw_after_quote ExtraHash = true
+is_flaw_after_quote UnderscoreSuffix = true
+is_flaw_after_quote BadSuffix = true
+is_flaw_after_quote kind = false

@@ -1,143 +1,182 @@
--- All flaws of a text, one after another: the first is the text's own, and the next is what the text has that is left after that
--- flaw's piece, where it is read after the same opener.
-use Rattle.std.specs.Prelude.{◌≡◌, ◌⊎◌, ◌+◌, ◌<◌, ◌&&◌, ℕ, suc, Bool, true, false, List, [], ◌++◌, length, Option, None, Some, IsFalse, IsTrue, MatchOption, if◌then◌else◌}
+-- All flaws of a text, in order. The first flaw is the one that explains why the text isn't a literal token. In a string, the
+-- next flaw is that of the text after the faulty piece, read after the same opening delimiter. In a character or byte literal,
+-- the next flaw is that of the text from the closing quote on, read after the opening quote and a valid character. In a file,
+-- CR LF is read as LF, and offsets are in bytes of the file.
+use Rattle.std.specs.Prelude.{◌≡◌, ◌⊎◌, ◌+◌, ◌&&◌, ℕ, suc, Bool, true, false, not, List, [], ◌++◌, codes, drop, length, Option, None, Some, IsFalse, IsTrue, MatchOption, if◌then◌else◌}
 use Rattle.std.specs.Str.{chars, IsUtf8}
 use Prim.Native.Char.{code}
-use Rattle.rl_text.specs.Texts.{byte_len}
-use Rattle.rl_forms.specs.declared.kind.Kind.{Kind}
-use Rattle.rl_forms.specs.Quoted.{is_single, is_string, opener}
-use Rattle.rl_forms.specs.Written.{closer}
-use Rattle.rl_reasons.specs.Flaws.{first_len}
-use Rattle.rl_reasons.specs.StrictFlaws.{ExplainsStrictly}
-use Rattle.rl_reasons.specs.StrictRead.{IsFlawAt}
+use Rattle.rl_syntax.specs.Texts.{byte_len}
+use Rattle.rl_syntax.specs.declared.kind.Kind.{Kind}
+use Rattle.rl_syntax.specs.Quoted.{is_single, is_string, opener}
+use Rattle.rl_syntax.specs.Written.{closer}
+use Rattle.rl_strict.specs.LineEnds.{IsRestOf, read_of}
+use Rattle.rl_strict.specs.Readings.{ExplainsOf}
+use Rattle.rl_strict.specs.StrictRead.{IsFlawAt}
 use Rattle.rl_strict.specs.StrictShapes.{IsToken}
-use Rattle.rl_flaws.specs.BadPieces.{after_bad_piece, is_of_unit}
-use Rattle.rl_flaws.specs.Inside.{IsEndOf}
+use Rattle.rl_strict.specs.declared.line_ends.LineEnds.{LineEnds}
+use Rattle.rl_flaws.specs.BadPieces.{after_bad_piece, is_flaw_after_quote, is_flaw_of_unit}
+use Rattle.rl_flaws.specs.Closings.{IsClosedBy}
 use Rattle.rl_flaws.specs.Looks.{IsStringOpener, OpensSingle, OpensString}
-use Rattle.rl_flaws.specs.declared.bad_piece.BadPiece.{BadPiece}
+use Rattle.rl_flaws.specs.declared.invalid_piece.InvalidPiece.{InvalidPiece}
 
--- What a cursor over the flaws of a text has left.
+-- The state of a cursor over the flaws of a text.
 pub record FlawsState : Type 0 where
-  -- the kind of the quoted literal that is open; none where the text is judged as a whole
+  -- How CR LF is read.
+  pub ends : LineEnds
+  -- The kind of the quoted literal that is open, or none if the text doesn't begin as a quoted literal.
   pub kind : Option Kind
-  -- what opened it
+  -- The opening delimiter of the literal.
   pub front : List ℕ
-  -- what is left of the text, in bytes
+  -- The unchecked rest of the text, in bytes.
   pub rest : List ℕ
-  -- how many bytes the whole text has
+  -- The length of the whole text in bytes.
   pub len : ℕ
-  -- nothing is left to be judged
+  -- The whole text is checked.
   pub over : Bool
 
--- what is left, as it reads after the opener
+-- The literal's opening delimiter and the unchecked rest of the text as it is read.
 abbrev pub judged : FlawsState → List ℕ
-judged s = s.front ++ chars s.rest
+judged s = s.front ++ read_of s.ends (chars s.rest)
 
--- the quote that closes what is open
+-- The closing quote of the literal that is open.
 abbrev pub quote_of : Option Kind → ℕ
 quote_of (Some kind) = closer kind
 quote_of None = code "'"
 
--- quotes are open, so that a character or an escape may stand there
+-- A quoted literal is open.
 abbrev pub is_open : Option Kind → Bool
 is_open (Some kind) = true
 is_open None = false
 
--- a string is open, which has any number of these
+-- A string is open. It may contain any number of characters and escapes.
 abbrev pub is_string_open : Option Kind → Bool
 is_string_open (Some kind) = is_string kind
 is_string_open None = false
 
--- The piece of a character or an escape ends where reading goes on, and any other with its flaw.
-abbrev pub EndsWhere : Bool → ℕ → ℕ → List ℕ → ℕ → ℕ → Type 0
-EndsWhere true len quote piece hi end = end + byte_len (after_bad_piece quote piece) ≡ len
-EndsWhere false len quote piece hi end = end ≡ hi
+-- A character or byte literal is open.
+abbrev pub is_single_open : Option Kind → Bool
+is_single_open (Some kind) = is_single kind
+is_single_open None = false
 
--- The piece has the flaw of what is left, at its places in the whole text, which are counted from the text's end.
-pub record IsBadPiece (s : FlawsState) (bad : BadPiece) (piece : List ℕ) : Type 0 where
+-- The end of the text at the byte offset `at` is `read`, as it is read. The whole text has `len` bytes. The offset isn't
+-- between a CR and an LF that are read as one character.
+pub record ReadsFrom (ends : LineEnds) (len : ℕ) (text read : List ℕ) (at : ℕ) : Type 0 where
+  pub rest : List ℕ
+  pub rest_in : IsRestOf ends text rest
+  pub reads : read_of ends rest ≡ read
+  pub at_is : at + byte_len rest ≡ len
+
+-- The unchecked rest of the text has, at the byte offset `at` of the whole text, the end `read`.
+abbrev pub LeftReadsFrom : FlawsState → List ℕ → ℕ → Type 0
+LeftReadsFrom s read at = ReadsFrom s.ends s.len (chars s.rest) read at
+
+-- The end of a flaw's piece. An invalid character or escape ends where parsing continues. Any other piece ends with the flaw,
+-- at `hi`.
+abbrev pub EndsWhere : Bool → (ℕ → Type 0) → ℕ → ℕ → Type 0
+EndsWhere true GoesOnAt hi end = GoesOnAt end
+EndsWhere false GoesOnAt hi end = end ≡ hi
+
+-- The flaw `bad` is the next one of the unchecked text, with its byte offsets in the whole text. `piece` begins at its piece.
+pub record IsBadPiece (s : FlawsState) (bad : InvalidPiece) (piece : List ℕ) : Type 0 where
   pub stop : List ℕ
   pub flaw : IsFlawAt (judged s) bad.flaw.kind piece stop
-  pub from_is : bad.flaw.from + byte_len piece ≡ s.len
-  pub lo_is : bad.flaw.lo + byte_len stop ≡ s.len
-  pub hi_is : bad.flaw.hi ≡ bad.flaw.lo + first_len stop
-  pub end_is : EndsWhere (is_open s.kind && is_of_unit bad.flaw.kind) s.len (quote_of s.kind) piece bad.flaw.hi bad.end
+  pub from : LeftReadsFrom s piece bad.flaw.from
+  pub lo : LeftReadsFrom s stop bad.flaw.lo
+  pub hi : LeftReadsFrom s (drop 1 stop) bad.flaw.hi
+  pub end : EndsWhere (is_open s.kind && is_flaw_of_unit bad.flaw.kind)
+      (LeftReadsFrom s (after_bad_piece (quote_of s.kind) piece))
+      bad.flaw.hi bad.end
 
--- In a string what follows the piece is left, and reads after the same opener; else nothing.
-abbrev pub IsLeftBy : Bool → FlawsState → List ℕ → FlawsState → Type 0
-IsLeftBy true old piece new =
-    (chars new.rest ≡ after_bad_piece (quote_of old.kind) piece) × (new.kind ≡ old.kind) × (new.front ≡ old.front)
-    × IsFalse new.over
-IsLeftBy false old piece new = IsTrue new.over
+-- The literal stays open, and the unchecked text is now the text after the faulty piece.
+pub record FollowsPieceOf (old : FlawsState) (piece : List ℕ) (new : FlawsState) : Type 0 where
+  pub rest_in : IsRestOf old.ends (chars old.rest) (chars new.rest)
+  pub reads : read_of old.ends (chars new.rest) ≡ after_bad_piece (quote_of old.kind) piece
+  pub same_kind : new.kind ≡ old.kind
+  pub same_front : new.front ≡ old.front
+  pub some_left : IsFalse new.over
 
--- The cursor gives the next flaw, and has gone on.
-pub record TakesFlaw (old : FlawsState) (bad : BadPiece) (new : FlawsState) : Type 0 where
+-- The unchecked text is now the text that begins at the closing quote. It is read after the literal's opening quote and a valid
+-- character (`x`).
+pub record FollowsCharacterOf (old new : FlawsState) : Type 0 where
+  pub rest_in : IsRestOf old.ends (chars old.rest) (chars new.rest)
+  pub closed : IsClosedBy (read_of old.ends (chars old.rest)) (read_of old.ends (chars new.rest))
+  pub no_kind : new.kind ≡ None
+  pub front_is : new.front ≡ old.front ++ codes "x"
+  pub some_left : IsFalse new.over
+
+-- No quote closes the literal, and no text is left to check.
+abbrev pub IsNeverClosed : FlawsState → FlawsState → Type 0
+IsNeverClosed old new =
+    ((closing : List ℕ) → IsClosedBy (read_of old.ends (chars old.rest)) closing → ⊥) × IsTrue new.over
+
+-- The unchecked text after a flaw. After an invalid character or escape of a string, it follows the faulty piece. After another
+-- flaw before the closing quote of a character or byte literal, it begins at this quote. After any other flaw no text is left
+-- to check.
+abbrev pub IsLeftBy : Bool → Bool → FlawsState → List ℕ → FlawsState → Type 0
+IsLeftBy true single old piece new = FollowsPieceOf old piece new
+IsLeftBy false true old piece new = FollowsCharacterOf old new ⊎ IsNeverClosed old new
+IsLeftBy false false old piece new = IsTrue new.over
+
+-- The cursor's text is unchanged.
+pub record IsSameText (old new : FlawsState) : Type 0 where
+  pub same_ends : new.ends ≡ old.ends
+  pub same_len : new.len ≡ old.len
+
+-- The cursor returns the next flaw `bad`, and its new state is `new`.
+pub record TakesFlaw (old : FlawsState) (bad : InvalidPiece) (new : FlawsState) : Type 0 where
   pub some_left : IsFalse old.over
   pub piece : List ℕ
   pub is_bad : IsBadPiece old bad piece
-  pub left : IsLeftBy (is_string_open old.kind && is_of_unit bad.flaw.kind) old piece new
-  pub same_len : new.len ≡ old.len
+  pub left : IsLeftBy (is_string_open old.kind && is_flaw_of_unit bad.flaw.kind)
+      (is_single_open old.kind && not (is_flaw_after_quote bad.flaw.kind)) old piece new
+  pub same : IsSameText old new
 
--- What is left has none: nothing, or a token.
+-- The unchecked text has no flaw: no text is left to check, or it is a literal token.
 pub record HasNoFlaw (old new : FlawsState) : Type 0 where
   pub none : IsTrue old.over ⊎ IsToken (judged old)
   pub over : IsTrue new.over
-  pub same_len : new.len ≡ old.len
+  pub same : IsSameText old new
 
-abbrev pub GivesFlaw : FlawsState → Option BadPiece → FlawsState → Type 0
+abbrev pub GivesFlaw : FlawsState → Option InvalidPiece → FlawsState → Type 0
 GivesFlaw old bad new = MatchOption bad (HasNoFlaw old new) (λ it. TakesFlaw old it new)
 
--- The place is one of what is left.
-pub record IsPlaceInLeft (s : FlawsState) (at : ℕ) : Type 0 where
-  pub front : List ℕ
-  pub back : List ℕ
-  pub text_is : chars s.rest ≡ front ++ back
-  pub at_is : at + byte_len back ≡ s.len
-
--- how much is left: where all is judged, nothing; else what is left, and its end
+-- A number that decreases with each flaw, so that the cursor ends: about the length of the unchecked text.
 abbrev pub left_count : FlawsState → ℕ
-left_count s = if s.over then 0 else suc (length s.rest)
+left_count s = if s.over then 0 else (if is_open s.kind then suc (suc (length s.rest)) else suc (length s.rest))
 
--- The flaw stands in what was left, and so does its piece where that is a character or an escape; what is left now follows, and is
--- less.
-pub record StandsInLeft (old : FlawsState) (bad : BadPiece) (new : FlawsState) : Type 0 where
-  pub lo : IsPlaceInLeft old bad.flaw.lo
-  pub hi : IsPlaceInLeft old bad.flaw.hi
-  pub from : IsTrue (is_of_unit bad.flaw.kind) → IsPlaceInLeft old bad.flaw.from
-  pub end : IsTrue (is_of_unit bad.flaw.kind) → IsPlaceInLeft old bad.end
-  pub following : IsEndOf (chars old.rest) (chars new.rest)
-  pub less : left_count new < left_count old
-
--- what opens a quoted literal of the kind
+-- The opening delimiter of a quoted literal of the kind.
 abbrev pub IsOpener : Kind → List ℕ → Type 0
 IsOpener kind front = IsStringOpener kind front ⊎ (IsTrue (is_single kind) × (front ≡ opener kind))
 
--- A quoted literal is open by its opener; or the text begins as none.
+-- A quoted literal of the kind is open, with this opening delimiter; or the text begins as no quoted literal.
 abbrev pub IsOpenBy : Option Kind → List ℕ → List ℕ → Type 0
 IsOpenBy (Some kind) text front = IsOpener kind front
 IsOpenBy None text front = (front ≡ []) × ((kind : Kind) → OpensString kind text ⊎ OpensSingle kind text → ⊥)
 
--- The cursor stands before the first flaw of this text.
-pub record AreFlawsOf (text : List ℕ) (s : FlawsState) : Type 0 where
+-- The cursor is before the first flaw of this text.
+pub record AreFlawsOf (ends : LineEnds) (text : List ℕ) (s : FlawsState) : Type 0 where
+  pub ends_is : s.ends ≡ ends
   pub opened : IsOpenBy s.kind (chars text) s.front
-  pub judged_is : judged s ≡ chars text
+  pub rest_in : IsRestOf ends (chars text) (chars s.rest)
+  pub judged_is : judged s ≡ read_of ends (chars text)
   pub len_is : s.len ≡ length text
   pub all_left : IsFalse s.over
 
--- ---- laws
+-- ---- theorems
 
--- The first flaw is the one that explains the text.
-abbrev pub FirstFlawExplains : List ℕ → Type 0
-FirstFlawExplains text =
-    IsUtf8 text → (start new : FlawsState) (bad : BadPiece) → AreFlawsOf text start → TakesFlaw start bad new
-    → ExplainsStrictly (chars text) bad.flaw
+-- The first flaw that the cursor returns explains why the text isn't a literal token.
+abbrev pub FirstFlawExplains : LineEnds → List ℕ → Type 0
+FirstFlawExplains ends text =
+    IsUtf8 text → (start new : FlawsState) (bad : InvalidPiece) → AreFlawsOf ends text start → TakesFlaw start bad new
+    → ExplainsOf ends false (chars text) bad.flaw
 
--- A token has none.
-abbrev pub TokensHaveNone : List ℕ → Type 0
-TokensHaveNone text =
-    (start new : FlawsState) (bad : BadPiece) → AreFlawsOf text start → TakesFlaw start bad new
-    → IsToken (chars text) → ⊥
+-- A literal token has no flaw.
+abbrev pub TokensHaveNone : LineEnds → List ℕ → Type 0
+TokensHaveNone ends text =
+    (start new : FlawsState) (bad : InvalidPiece) → AreFlawsOf ends text start → TakesFlaw start bad new
+    → IsToken (read_of ends (chars text)) → ⊥
 
--- What is left has one next flaw at most.
+-- The unchecked rest of a text has at most one next flaw.
 abbrev pub HasOneNextFlaw : FlawsState → Type 0
 HasOneNextFlaw s =
-    (bad other : BadPiece) (new next : FlawsState) → TakesFlaw s bad new → TakesFlaw s other next → bad ≡ other
+    (bad other : InvalidPiece) (new next : FlawsState) → TakesFlaw s bad new → TakesFlaw s other next → bad ≡ other

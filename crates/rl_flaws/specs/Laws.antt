@@ -1,31 +1,32 @@
--- The statements of the laws (src/laws.rt), by name.
+-- The statements of the theorems in src/laws.rt, by name.
 use Rattle.std.specs.Prelude.{List, ℕ}
+use Rattle.rl_strict.specs.declared.line_ends.LineEnds.{LineEnds}
 use Rattle.rl_flaws.specs.Flawed.{FirstFlawExplains, FlawsState, HasOneNextFlaw, TokensHaveNone}
 use Rattle.rl_flaws.specs.Looks.{LooksLikeOne, TokenLooks}
 
--- A text begins as one kind of literal at most. So what it begins as is the kind that `looks_like` returns.
+-- A text begins as at most one kind of literal. So `guess_kind` returns the only possible kind.
 abbrev pub ATextBeginsAsOneKind : Type 0
 ATextBeginsAsOneKind =
     (text : List ℕ) → LooksLikeOne text
 
--- A literal token begins as its kind.
+-- A valid literal token begins as its own kind, the one that `guess_kind` returns for its text.
 abbrev pub ATokenBeginsAsItsKind : Type 0
 ATokenBeginsAsItsKind =
     (text : List ℕ) → TokenLooks text
 
--- The first flaw that `Flaws` gives of a text explains it: it is the one that `explain`
--- returns, since a text has one such flaw.
+-- The first flaw that a `Flaws` cursor returns explains why the text isn't a literal token. `read` returns it as its error,
+-- since a text has only one such flaw.
 abbrev pub TheFirstFlawExplainsTheText : Type 0
 TheFirstFlawExplainsTheText =
-    (text : List ℕ) → FirstFlawExplains text
+    (ends : LineEnds) (text : List ℕ) → FirstFlawExplains ends text
 
--- A literal token has no flaw.
+-- A valid literal token has no flaw.
 abbrev pub ATokenHasNoFlaw : Type 0
 ATokenHasNoFlaw =
-    (text : List ℕ) → TokensHaveNone text
+    (ends : LineEnds) (text : List ℕ) → TokensHaveNone ends text
 
--- What is left of a text has one next flaw at most, in one piece, at one place: the one that
--- `Flaws::next` returns.
-abbrev pub WhatIsLeftHasOneNextFlaw : Type 0
-WhatIsLeftHasOneNextFlaw =
+-- The unchecked rest of a text has at most one next flaw, with one kind, one range and one piece. `Flaws::next` returns this
+-- flaw.
+abbrev pub TheRestHasOneNextFlaw : Type 0
+TheRestHasOneNextFlaw =
     (left : FlawsState) → HasOneNextFlaw left

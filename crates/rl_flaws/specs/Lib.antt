@@ -1,5 +1,6 @@
 pub mod Looks
 pub mod BadPieces
+pub mod Closings
 pub mod Inside
 pub mod Opened
 pub mod Flawed

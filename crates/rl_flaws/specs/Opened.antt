@@ -1,20 +1,20 @@
--- A quoted literal that is open, as the walk over it keeps it.
+-- The opening delimiter of a quoted literal, as its parser stores it.
 use Rattle.std.specs.Prelude.{◌≡◌, ◌≤◌, ℕ, List, ◌++◌, codes, replicate, IsTrue}
 use Rattle.std.specs.Str.{chars}
 use Prim.Native.Char.{code}
-use Rattle.rl_forms.specs.declared.kind.Kind.{Kind}
-use Rattle.rl_forms.specs.Quoted.{is_single, is_string, opener, raw_opener}
-use Rattle.rl_reading.specs.declared.quoted_forms.QuotedForm.{QuotedForm}
-use Rattle.rl_reading.specs.declared.quoted_forms.QuotedForm.TheVariants.{Cooked as CookedForm, Raw as RawForm, Single as SingleForm}
+use Rattle.rl_syntax.specs.declared.kind.Kind.{Kind}
+use Rattle.rl_syntax.specs.Quoted.{is_single, is_string, opener, raw_opener}
+use Rattle.rl_lenient.specs.declared.quoted_forms.QuotedForm.{QuotedForm}
+use Rattle.rl_lenient.specs.declared.quoted_forms.QuotedForm.TheVariants.{Cooked as CookedForm, Raw as RawForm, Single as SingleForm}
 use Rattle.rl_flaws.specs.declared.walks.Opened.{Opened}
 
--- what opens a literal of the form: prefix, hashes and quote
+-- The opening delimiter of a literal of the form: its prefix, a raw string's hashes, and the quote.
 abbrev pub front_of : QuotedForm → Kind → List ℕ → List ℕ
 front_of CookedForm kind hashes = opener kind
 front_of SingleForm kind hashes = opener kind
 front_of RawForm kind hashes = raw_opener kind ++ (hashes ++ codes "\"")
 
--- the kind has the form, with so many hashes
+-- A literal of the kind may have the form, with these hashes.
 abbrev pub HasForm : QuotedForm → Kind → List ℕ → Type 0
 HasForm CookedForm kind hashes = IsTrue (is_string kind)
 HasForm SingleForm kind hashes = IsTrue (is_single kind)

@@ -1,30 +1,31 @@
--- What a cursor over pieces keeps, and what it shows of that.
+-- The fields of a cursor over pieces, and the state that they represent.
 use Rattle.std.specs.Prelude.{◌≡◌, ◌-◌, ℕ, Bool, List, [], length, Option, ⊤}
-use Rattle.rl_forms.specs.declared.kind.Kind.{Kind}
-use Rattle.rl_reading.specs.Segments.{IsSegmentsState, SegmentsState}
-use Rattle.rl_reasons.specs.StrictFlawKinds.{is_raw_form}
+use Rattle.rl_syntax.specs.declared.kind.Kind.{Kind}
+use Rattle.rl_lenient.specs.Segments.{IsSegmentsState, SegmentsState}
+use Rattle.rl_strict.specs.StrictFlawKinds.{is_raw_form}
+use Rattle.rl_strict.specs.declared.line_ends.LineEnds.TheVariants.{Text}
 use Rattle.rl_flaws.specs.Left.{IsLeft, state_of}
 use Rattle.rl_flaws.specs.Pieces.{IsGoodInside, PiecesState}
-use Rattle.rl_flaws.specs.declared.bad_piece.BadPiece.{BadPiece}
+use Rattle.rl_flaws.specs.declared.invalid_piece.InvalidPiece.{InvalidPiece}
 use Rattle.rl_flaws.specs.declared.flaws.Left.{Left}
 use Rattle.rl_flaws.specs.declared.flaws.Left.TheVariants.{Inside}
 
--- the segments of what is good and ends at this place
+-- The segments of the valid text `good`, which ends at the byte offset `end`.
 abbrev pub segments_at : Kind → Bool → ℕ → List ℕ → SegmentsState
 segments_at kind plain end good = record { kind = kind; plain = plain; at = end - length good; rest = good }
 
--- What is good of what is left, and ends at this place.
+-- The valid text of the unchecked part. It ends at the byte offset `end`.
 abbrev pub IsGoodLeft : ℕ → Left → List ℕ → ℕ → Type 0
 IsGoodLeft len (Inside o rest) good end =
-    IsGoodInside o.kind (state_of len (Inside o rest)) (segments_at o.kind (is_raw_form o.form) end good)
+    IsGoodInside o.kind (state_of Text len (Inside o rest)) (segments_at o.kind (is_raw_form o.form) end good)
     × IsSegmentsState o.kind (is_raw_form o.form) end good
 IsGoodLeft len left good end = good ≡ []
 
-abbrev pub pieces_of : Kind → Bool → ℕ → List ℕ → Option BadPiece → ℕ → Left → PiecesState
+abbrev pub pieces_of : Kind → Bool → ℕ → List ℕ → Option InvalidPiece → ℕ → Left → PiecesState
 pieces_of kind plain end good bad len left =
-    record { segments = segments_at kind plain end good; bad = bad; flaws = state_of len left }
+    record { segments = segments_at kind plain end good; bad = bad; flaws = state_of Text len left }
 
--- the literal that is open is of this kind, and raw or not
+-- The open literal is of this kind, and raw if `plain` is true.
 abbrev pub IsOpenAs : Kind → Bool → Left → Type 0
 IsOpenAs kind plain (Inside o rest) = (o.kind ≡ kind) × (is_raw_form o.form ≡ plain)
 IsOpenAs kind plain left = ⊤

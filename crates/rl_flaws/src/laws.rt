@@ -1,30 +1,30 @@
-//! Laws of the definitions: each function does nothing, and its contract is the law.
+//! Theorems about the definitions. Each function here does nothing: its contract states the theorem.
 
-ghost use Rattle.rl_flaws.specs.Laws.{ATextBeginsAsOneKind, ATokenBeginsAsItsKind, TheFirstFlawExplainsTheText, ATokenHasNoFlaw, WhatIsLeftHasOneNextFlaw};
+ghost use Rattle.rl_flaws.specs.Laws.{ATextBeginsAsOneKind, ATokenBeginsAsItsKind, TheFirstFlawExplainsTheText, ATokenHasNoFlaw, TheRestHasOneNextFlaw};
 
-/// A text begins as one kind of literal at most. So what it begins as is the kind that [`looks_like`](crate::looks_like) returns.
+/// A text begins as at most one kind of literal. So [`guess_kind`](crate::guess_kind) returns the only possible kind.
 pub fn a_text_begins_as_one_kind()
     ensures { ATextBeginsAsOneKind }
 {}
 
-/// A literal token begins as its kind.
+/// A valid literal token begins as its own kind, the one that [`guess_kind`](crate::guess_kind) returns for its text.
 pub fn a_token_begins_as_its_kind()
     ensures { ATokenBeginsAsItsKind }
 {}
 
-/// The first flaw that [`Flaws`](crate::Flaws) gives of a text explains it: it is the one that [`explain`](rl_reasons::explain)
-/// returns, since a text has one such flaw.
+/// The first flaw that a [`Flaws`](crate::Flaws) cursor returns explains why the text isn't a literal token.
+/// [`read`](rl_strict::read) returns it as its error, since a text has only one such flaw.
 pub fn the_first_flaw_explains_the_text()
     ensures { TheFirstFlawExplainsTheText }
 {}
 
-/// A literal token has no flaw.
+/// A valid literal token has no flaw: a [`Flaws`](crate::Flaws) cursor over its text returns none.
 pub fn a_token_has_no_flaw()
     ensures { ATokenHasNoFlaw }
 {}
 
-/// What is left of a text has one next flaw at most, in one piece, at one place: the one that
-/// [`Flaws::next`](crate::Flaws::next) returns.
-pub fn what_is_left_has_one_next_flaw()
-    ensures { WhatIsLeftHasOneNextFlaw }
+/// The unchecked rest of a text has at most one next flaw, with one kind, one range and one piece.
+/// [`Flaws::next`](crate::Flaws::next) returns this flaw.
+pub fn the_rest_has_one_next_flaw()
+    ensures { TheRestHasOneNextFlaw }
 {}

@@ -1,115 +1,138 @@
-//! How far a piece of a quoted literal goes that is no unit.
+//! Finds the end of an invalid character or escape in a quoted literal.
 
-ghost use Rattle.std.specs.Prelude.{◌≡◌, ◌||◌};
+ghost use Rattle.std.specs.Prelude.{◌≡◌, ◌||◌, drop};
 ghost use Rattle.std.specs.Str.{chars};
-ghost use Rattle.rl_text.specs.Texts.{IsTail, is_underscore};
-ghost use Rattle.rl_forms.specs.Quoted.{is_hex_digit};
-ghost use Rattle.rl_flaws.specs.BadPieces.{after_brace, after_code_digits, after_escape, after_hex, after_one, after_bad_piece, after_unicode, is_of_unit};
+ghost use Rattle.rl_syntax.specs.Texts.{IsTail, is_underscore};
+ghost use Rattle.rl_syntax.specs.Quoted.{is_hex_digit};
+ghost use Rattle.rl_flaws.specs.BadPieces.{after_brace, after_code_digits, after_escape, after_hex, after_one, after_bad_piece, after_unicode, is_flaw_after_quote, is_flaw_of_unit};
+ghost use Rattle.rl_strict.specs.LineEnds.{IsRestOf, read_of};
 
-use rl_reasons::FlawKind;
-use rl_text::text::split_char;
+use rl_strict::walk_units::split;
+use rl_strict::{FlawKind, LineEnds};
 
-/// What follows the first character of the text; all of it, where that is a backslash or the quote.
-#[tactic(auto, using(rl_text::proofs::TailLemmas::tail_self, rl_text::proofs::TailLemmas::tail_step))]
-fn after_one(quote: char, text: &str) -> &str
-    ensures rest { chars result.now ≡ after_one quote (chars text.now) }
+/// Returns the text after its first character, or an empty text. In a file a CR LF is one character.
+#[tactic(auto, using(rl_syntax::proofs::TailLemmas::tail_self, rl_syntax::proofs::TailLemmas::tail_step, rl_strict::proofs::EndLemmas::self_in, rl_strict::proofs::EndLemmas::step_in))]
+pub fn after_first(ends: LineEnds, text: &str) -> &str
+    ensures read { read_of ends (chars result.now) ≡ drop 1 (read_of ends (chars text.now)) }
+    ensures rest { IsRestOf ends (chars text.now) (chars result.now) }
     ensures following { IsTail text.now result.now }
 {
-    match split_char(text) {
+    match split(ends, text) {
+        Some((_, rest)) => rest,
+        None => text,
+    }
+}
+
+/// Returns the text after its first character. If that character is a backslash or the quote `quote`, the result is all of the
+/// text.
+#[tactic(auto, using(rl_syntax::proofs::TailLemmas::tail_self, rl_syntax::proofs::TailLemmas::tail_step, rl_strict::proofs::EndLemmas::self_in, rl_strict::proofs::EndLemmas::step_in))]
+fn after_one(ends: LineEnds, quote: char, text: &str) -> &str
+    ensures read { read_of ends (chars result.now) ≡ after_one quote (read_of ends (chars text.now)) }
+    ensures rest { IsRestOf ends (chars text.now) (chars result.now) }
+    ensures following { IsTail text.now result.now }
+{
+    match split(ends, text) {
         Some((c, rest)) if c != '\\' && c != quote => rest,
         _ => text,
     }
 }
 
-/// What follows the digits of `\x` that is no escape.
-#[tactic(auto, using(rl_text::proofs::TailLemmas::tail_self, rl_text::proofs::TailLemmas::tail_step))]
-fn after_hex(quote: char, text: &str) -> &str
-    ensures rest { chars result.now ≡ after_hex quote (chars text.now) }
+/// Returns the text after an invalid `\x` escape. `text` begins after `\x`.
+#[tactic(auto, using(rl_syntax::proofs::TailLemmas::tail_self, rl_syntax::proofs::TailLemmas::tail_step, rl_strict::proofs::EndLemmas::self_in, rl_strict::proofs::EndLemmas::step_in))]
+fn after_hex(ends: LineEnds, quote: char, text: &str) -> &str
+    ensures read { read_of ends (chars result.now) ≡ after_hex quote (read_of ends (chars text.now)) }
+    ensures rest { IsRestOf ends (chars text.now) (chars result.now) }
     ensures following { IsTail text.now result.now }
 {
-    match split_char(text) {
-        Some((c, rest)) if c.is_ascii_hexdigit() => after_one(quote, rest),
-        _ => after_one(quote, text),
+    match split(ends, text) {
+        Some((c, rest)) if c.is_ascii_hexdigit() => after_one(ends, quote, rest),
+        _ => after_one(ends, quote, text),
     }
 }
 
-/// Whether the character is a digit or an underscore between braces.
+/// Whether the character may occur between the braces of `\u{..}`: a hexadecimal digit or an underscore.
 fn is_code_part(c: char) -> bool
     ensures { result ≡ (is_hex_digit c || is_underscore c) }
 {
     c.is_ascii_hexdigit() || c == '_'
 }
 
-/// What follows the digits and underscores between braces, and the character after them.
-#[tactic(auto, using(rl_text::proofs::TailLemmas::tail_self, rl_text::proofs::TailLemmas::tail_step))]
-fn after_code_digits(quote: char, text: &str) -> &str
-    ensures rest { chars result.now ≡ after_code_digits quote (chars text.now) }
+/// Returns the text after an invalid `\u{..}` escape. `text` begins after the escape's first digit. Its digits and underscores
+/// are skipped, and then one character that isn't a backslash or the quote.
+#[tactic(auto, using(rl_syntax::proofs::TailLemmas::tail_self, rl_syntax::proofs::TailLemmas::tail_step, rl_strict::proofs::EndLemmas::self_in, rl_strict::proofs::EndLemmas::step_in))]
+fn after_code_digits(ends: LineEnds, quote: char, text: &str) -> &str
+    ensures read { read_of ends (chars result.now) ≡ after_code_digits quote (read_of ends (chars text.now)) }
+    ensures rest { IsRestOf ends (chars text.now) (chars result.now) }
     ensures following { IsTail text.now result.now }
 {
     let mut rest = text;
-    while let Some((c, following)) = split_char(rest) {
+    while let Some((c, following)) = split(ends, rest) {
         if !is_code_part(c) {
-            return after_one(quote, rest);
+            return after_one(ends, quote, rest);
         }
         rest = following;
     }
     rest
 }
 
-/// What follows `\u{` and what stands after it.
-#[tactic(auto, using(rl_text::proofs::TailLemmas::tail_self, rl_text::proofs::TailLemmas::tail_step))]
-fn after_brace(quote: char, text: &str) -> &str
-    ensures rest { chars result.now ≡ after_brace quote (chars text.now) }
+/// Returns the text after an invalid `\u{..}` escape. `text` begins after `\u{`.
+#[tactic(auto, using(rl_syntax::proofs::TailLemmas::tail_self, rl_syntax::proofs::TailLemmas::tail_step, rl_strict::proofs::EndLemmas::self_in, rl_strict::proofs::EndLemmas::step_in))]
+fn after_brace(ends: LineEnds, quote: char, text: &str) -> &str
+    ensures read { read_of ends (chars result.now) ≡ after_brace quote (read_of ends (chars text.now)) }
+    ensures rest { IsRestOf ends (chars text.now) (chars result.now) }
     ensures following { IsTail text.now result.now }
 {
-    match split_char(text) {
-        Some((c, rest)) if c.is_ascii_hexdigit() => after_code_digits(quote, rest),
-        _ => after_one(quote, text),
+    match split(ends, text) {
+        Some((c, rest)) if c.is_ascii_hexdigit() => after_code_digits(ends, quote, rest),
+        _ => after_one(ends, quote, text),
     }
 }
 
-/// What follows `\u` and what stands after it.
-#[tactic(auto, using(rl_text::proofs::TailLemmas::tail_self, rl_text::proofs::TailLemmas::tail_step))]
-fn after_unicode(quote: char, text: &str) -> &str
-    ensures rest { chars result.now ≡ after_unicode quote (chars text.now) }
+/// Returns the text after an invalid `\u` escape. `text` begins after `\u`.
+#[tactic(auto, using(rl_syntax::proofs::TailLemmas::tail_self, rl_syntax::proofs::TailLemmas::tail_step, rl_strict::proofs::EndLemmas::self_in, rl_strict::proofs::EndLemmas::step_in))]
+fn after_unicode(ends: LineEnds, quote: char, text: &str) -> &str
+    ensures read { read_of ends (chars result.now) ≡ after_unicode quote (read_of ends (chars text.now)) }
+    ensures rest { IsRestOf ends (chars text.now) (chars result.now) }
     ensures following { IsTail text.now result.now }
 {
-    match split_char(text) {
-        Some(('{', rest)) => after_brace(quote, rest),
-        _ => after_one(quote, text),
+    match split(ends, text) {
+        Some(('{', rest)) => after_brace(ends, quote, rest),
+        _ => after_one(ends, quote, text),
     }
 }
 
-/// What follows the escape whose backslash stands before the text.
-#[tactic(auto, using(rl_text::proofs::TailLemmas::tail_self, rl_text::proofs::TailLemmas::tail_step))]
-fn after_escape(quote: char, text: &str) -> &str
-    ensures rest { chars result.now ≡ after_escape quote (chars text.now) }
+/// Returns the text after an invalid escape. `text` begins after the escape's backslash.
+#[tactic(auto, using(rl_syntax::proofs::TailLemmas::tail_self, rl_syntax::proofs::TailLemmas::tail_step, rl_strict::proofs::EndLemmas::self_in, rl_strict::proofs::EndLemmas::step_in))]
+fn after_escape(ends: LineEnds, quote: char, text: &str) -> &str
+    ensures read { read_of ends (chars result.now) ≡ after_escape quote (read_of ends (chars text.now)) }
+    ensures rest { IsRestOf ends (chars text.now) (chars result.now) }
     ensures following { IsTail text.now result.now }
 {
-    match split_char(text) {
-        Some(('x', rest)) => after_hex(quote, rest),
-        Some(('u', rest)) => after_unicode(quote, rest),
+    match split(ends, text) {
+        Some(('x', rest)) => after_hex(ends, quote, rest),
+        Some(('u', rest)) => after_unicode(ends, quote, rest),
         Some((_, rest)) => rest,
         None => text,
     }
 }
 
-/// What follows the piece at the front of the text that is no unit.
-#[tactic(auto, using(rl_text::proofs::TailLemmas::tail_self, rl_text::proofs::TailLemmas::tail_step))]
-pub fn after_bad_piece(quote: char, text: &str) -> &str
-    ensures rest { chars result.now ≡ after_bad_piece quote (chars text.now) }
+/// Returns the text after the invalid escape or character at its beginning, where parsing a string continues.
+#[tactic(auto, using(rl_syntax::proofs::TailLemmas::tail_self, rl_syntax::proofs::TailLemmas::tail_step, rl_strict::proofs::EndLemmas::self_in, rl_strict::proofs::EndLemmas::step_in))]
+pub fn after_bad_piece(ends: LineEnds, quote: char, text: &str) -> &str
+    ensures read { read_of ends (chars result.now) ≡ after_bad_piece quote (read_of ends (chars text.now)) }
+    ensures rest { IsRestOf ends (chars text.now) (chars result.now) }
     ensures following { IsTail text.now result.now }
 {
-    match split_char(text) {
-        Some(('\\', rest)) => after_escape(quote, rest),
+    match split(ends, text) {
+        Some(('\\', rest)) => after_escape(ends, quote, rest),
         Some((_, rest)) => rest,
         None => text,
     }
 }
 
-/// Whether a flaw of the kind is one of a character or an escape between the quotes.
-pub fn is_of_unit(kind: FlawKind) -> bool
-    ensures { result ≡ is_of_unit kind }
+/// Returns `true` if a flaw of this kind is an invalid character or an invalid escape between the quotes of a literal.
+pub fn is_flaw_of_unit(kind: FlawKind) -> bool
+    ensures { result ≡ is_flaw_of_unit kind }
 {
     matches!(
         kind,
@@ -119,12 +142,25 @@ pub fn is_of_unit(kind: FlawKind) -> bool
             | FlawKind::NoBrace
             | FlawKind::EmptyBraces
             | FlawKind::TooManyDigits
-            | FlawKind::PastAscii
-            | FlawKind::PastUnicode
+            | FlawKind::HexEscapeOutOfRange
+            | FlawKind::UnicodeEscapeOutOfRange
             | FlawKind::Surrogate
             | FlawKind::Nul
             | FlawKind::NotAscii
             | FlawKind::MustEscape
             | FlawKind::CarriageReturn
+    )
+}
+
+/// Returns `true` if a flaw of this kind is after the closing quote of a literal.
+pub fn is_flaw_after_quote(kind: FlawKind) -> bool
+    ensures { result ≡ is_flaw_after_quote kind }
+{
+    matches!(
+        kind,
+        FlawKind::TextAfterQuote
+            | FlawKind::ExtraHash
+            | FlawKind::UnderscoreSuffix
+            | FlawKind::BadSuffix
     )
 }

@@ -1,26 +1,26 @@
--- At most one literal begins the trees.
-use Rattle.rl_text.proofs.Common.{◌≡◌, ◌≢◌, ℕ, ◌<◌, Bool, false, List, [], ◌∷◌, length, refl, sym, ap, ap₂, ◌∙◌, subst, arith, IsTrue}
-use Rattle.rl_reading.proofs.Names.{◌↔◌, Kind, BoolKind, SpannedText, Truth, ReadsAs, HasNoReading, Reads, truth_text}
+-- Lemmas about the literal at the start of token trees: there is at most one.
+use Rattle.rl_syntax.proofs.Common.{◌≡◌, ◌≢◌, ℕ, ◌<◌, Bool, false, List, [], ◌∷◌, length, refl, sym, ap, ap₂, ◌∙◌, subst, arith, IsTrue}
+use Rattle.rl_lenient.proofs.Names.{◌↔◌, Kind, BoolKind, SpannedText, Truth, ReadsAs, HasNoReading, Reads, truth_text}
 use Rattle.std.specs.Prelude.{Option, Some, None, IfSome, IfNone}
 use Rattle.std.specs.Option.{is_some}
 use Rattle.std.specs.Str.{chars}
 use Rattle.rl_tokens.specs.Puncts.{Mark}
 use Rattle.rl_tokens.specs.declared.error.Error.{Error}
 use Rattle.rl_tokens.specs.declared.error.ErrorKind.{ErrorKind}
-use Rattle.rl_text.specs.declared.span.Span.{Span}
+use Rattle.rl_syntax.specs.declared.span.Span.{Span}
 use Rattle.rl_tokens.specs.Errors.{memory_at}
 use Rattle.rl_tokens.specs.Trees.{Tree, GroupTree, IdentTree, PunctTree, LiteralTree}
 use Rattle.rl_tokens.specs.Buffers.{IsRest}
 use Rattle.rl_fronts.specs.Fronts.{IsFront, IsFrontOf, HasFrontOf, HasNoFront, joined}
 use Rattle.rl_fronts.specs.FrontTokens.{HasNoWord, HasNoMinus}
-use Rattle.rl_forms.proofs.OneReading.{one_reading}
+use Rattle.rl_syntax.proofs.OneReading.{one_reading}
 use Rattle.rl_tokens.proofs.TreeRests.{rest_one, rest_two}
-use Rattle.rl_reading.specs.declared.found.Found.{Found}
-use Rattle.rl_reading.specs.Founds.{IsFound}
-use Rattle.rl_reading.proofs.FoundLemmas.{found_reads}
-use Rattle.rl_reading.proofs.MinusLemmas.{no_truth, minus_chars}
+use Rattle.rl_lenient.specs.declared.found.Found.{Found}
+use Rattle.rl_lenient.specs.Founds.{IsFound}
+use Rattle.rl_lenient.proofs.FoundLemmas.{found_reads}
+use Rattle.rl_lenient.proofs.MinusLemmas.{no_truth, minus_chars}
 
--- at most one literal begins the trees
+-- If token trees begin with two literals, the two literals are equal, and so are the token trees after them.
 pub one_front : (trees : List Tree) (a b : SpannedText) (r s : List Tree) → IsFront trees a r → IsFront trees b s
     → (a ≡ b) × (r ≡ s)
 one_front [] a b r s h k = absurd h
@@ -33,7 +33,7 @@ one_front (PunctTree p ∷ PunctTree x ∷ trees) a b r s h k = absurd h
 one_front (PunctTree p ∷ GroupTree d inside at ∷ trees) a b r s h k = absurd h
 one_front (GroupTree d inside at ∷ trees) a b r s h k = absurd h
 
--- after a literal the rest stands
+-- The token trees after the literal at the start are the end of all token trees.
 pub front_rest : (trees rest : List Tree) (token : SpannedText) → IsFront trees token rest → IsRest trees rest
 front_rest [] rest token h = absurd h
 front_rest (LiteralTree x ∷ trees) rest token (_, f) = rest_one _ _ _ (ap (λ ts. LiteralTree x ∷ ts) (sym f))
@@ -46,7 +46,7 @@ front_rest (PunctTree p ∷ PunctTree x ∷ trees) rest token h = absurd h
 front_rest (PunctTree p ∷ GroupTree d inside at ∷ trees) rest token h = absurd h
 front_rest (GroupTree d inside at ∷ trees) rest token h = absurd h
 
--- and is shorter
+-- The list of the token trees after the literal at the start is shorter than the whole list.
 pub front_shorter : (trees : List Tree) (token : SpannedText) (rest : List Tree) → IsFront trees token rest
     → length rest < length trees
 front_shorter [] token rest h = absurd h
@@ -59,16 +59,16 @@ front_shorter (PunctTree p ∷ PunctTree x ∷ trees) token rest h = absurd h
 front_shorter (PunctTree p ∷ GroupTree d inside at ∷ trees) token rest h = absurd h
 front_shorter (GroupTree d inside at ∷ trees) token rest h = absurd h
 
--- a literal at the front that reads as the kind is one of it
+-- If the literal at the start of token trees is parsed as a kind, the token trees begin with a literal of the kind.
 pub front_of : (kind : Kind) (trees : List Tree) (token : SpannedText) (rest : List Tree) → IsFront trees token rest
     → ReadsAs kind (chars token.text) → IsFrontOf kind trees token rest
 front_of kind trees token rest h r = record { front = h; reads = r; shorter = front_shorter trees token rest h }
 
--- a text reads as one kind
+-- If a text is parsed as two kinds, the two kinds are equal.
 pub one_kind : (t : List ℕ) (k l : Kind) → ReadsAs k t → ReadsAs l t → k ≡ l
 one_kind t k l (v, x, r) (w, y, s) = (one_reading t k l v w x y r s).0
 
--- what was found, or was not, decides whether the text reads as the kind
+-- A parse result of the kind exists exactly if the text is of the kind.
 pub found_as : (kind : Kind) (t : List ℕ) (o : Option Found) → IfSome o (IsFound t) → IfSome o (λ f. f.kind ≡ kind)
     → IfNone o (ReadsAs kind (chars t) → ⊥) → IsTrue (is_some o) ↔ ReadsAs kind (chars t)
 found_as kind t (Some f) found is none = (
@@ -77,27 +77,27 @@ found_as kind t (Some f) found is none = (
 )
 found_as kind t None found is none = ((λ h. absurd (cc)), (λ r. absurd (none r)))
 
--- what one literal at the front reads as, each does
+-- If token trees begin with a literal of a kind, each literal at their start is of that kind.
 pub same_front : (k : Kind) (trees : List Tree) (token : SpannedText) (rest : List Tree) → IsFront trees token rest
     → HasFrontOf k trees → ReadsAs k (chars token.text)
 same_front k trees token rest h (other, left, of) =
     subst (λ (x : SpannedText). ReadsAs k (chars x.text)) ((one_front trees other token left rest of.front h).0)
     of.reads
 
--- where a literal that doesn't read as the kind begins the trees, none of the kind does
+-- If token trees begin with a literal that isn't of a kind, they don't begin with a literal of that kind.
 pub other_of : (kind : Kind) (trees : List Tree) (token : SpannedText) (rest : List Tree) → IsFront trees token rest
     → (ReadsAs kind (chars token.text) → ⊥) → HasFrontOf kind trees → ⊥
 other_of kind trees token rest h other has = other (same_front kind trees token rest h has)
 
--- a word that is a truth value reads as it
+-- The text `true` or `false` is parsed as a `bool`.
 pub truth_reads : (t : List ℕ) (b : Bool) → t ≡ truth_text b → ReadsAs BoolKind t
 truth_reads t b e = (Truth b, [], record { truth = b; text_is = e; suffix_is = refl; contents_is = refl })
 
--- after a minus no truth value stands
+-- A text that begins with a minus isn't a `bool`.
 pub no_negative_truth : (t : List ℕ) → ReadsAs BoolKind (45 ∷ t) → ⊥
 no_negative_truth t (v, x, r) = no_truth t x v r
 
--- a minus and a literal that read together begin the trees
+-- If token trees begin with a minus and a literal token that together are one literal, that literal is at their start.
 pub negative_front : (trees following rest : List Tree) (m : Mark) (l : SpannedText) (f : Found) → trees
     ≡ PunctTree m ∷ following → following ≡ LiteralTree l ∷ rest → m.ch ≡ 45 → IsFound (45 ∷ l.text) f
     → IsFront trees (joined m l) rest
@@ -105,25 +105,26 @@ negative_front trees following rest m l f first second minus found =
     subst (λ ts. IsFront ts (joined m l) rest) (sym (first ∙ ap (λ ts. PunctTree m ∷ ts) second))
     (minus, (f.kind, subst (ReadsAs f.kind) (minus_chars l.text) (found_reads (45 ∷ l.text) f found)), refl, refl)
 
--- a word that is no truth value is none of the two at the front
+-- If token trees begin with an identifier other than `true` and `false`, no `bool` literal is at their start.
 pub no_word_at : (trees rest : List Tree) (i : SpannedText) (t : List ℕ) → trees ≡ IdentTree i ∷ rest → t ≡ i.text
     → ((b : Bool) → chars t ≢ truth_text b) → HasNoWord trees
 no_word_at trees rest i t first text none = λ j other e (v, x, r).
     let same : t ≡ j.text = cc in none r.truth (ap chars same ∙ r.text_is)
 
--- a minus and a literal that don't read together are none at the front
+-- If token trees begin with a minus and a literal token that aren't a literal together, no negative number is at their
+-- start.
 pub no_minus_at : (trees following rest : List Tree) (m : Mark) (l : SpannedText) (t : List ℕ) → trees
     ≡ PunctTree m ∷ following → following ≡ LiteralTree l ∷ rest → t ≡ l.text → HasNoReading (45 ∷ chars t)
     → HasNoMinus trees
 no_minus_at trees following rest m l t first second text none = λ n k other e minus (kind, (v, x, r)).
     let same : t ≡ k.text = cc in none kind v x (subst (λ z. Reads (45 ∷ chars z) kind v x) (sym same) r)
 
--- an error of memory, reported elsewhere
+-- An allocation failure whose span is replaced is an allocation failure at the new span.
 pub memory_moved : {A : Type 0} (e f : Error A) (at to from : Span) → e ≡ record { span = at; kind = f.kind } → at ≡ to
     → f ≡ memory_at from → e ≡ memory_at to
 memory_moved {A} e f at to from made there is = made ∙ ap₂ (λ (s : Span) (k : ErrorKind A). record
     { span = s; kind = k }) there (ap (λ (x : Error A). x.kind) is)
 
--- where none begins the trees, none of any kind does
+-- If token trees don't begin with a literal, they don't begin with a literal of any kind.
 pub none_of_kind : (kind : Kind) (trees : List Tree) → HasNoFront trees → IsTrue false ↔ HasFrontOf kind trees
 none_of_kind kind trees none = ((λ e. absurd (cc)), (λ (token, rest, of). absurd (none token rest of.front)))

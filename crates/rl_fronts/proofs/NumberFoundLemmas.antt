@@ -1,27 +1,27 @@
--- The digits of a number that was found.
-use Rattle.rl_text.proofs.Common.{◌≡◌, ◌≢◌, ℕ, inl, inr, true, List, ◌++◌, refl, sym, ap, subst, ◌∙◌, append_cancel_right, chars-append, IsUtf8}
-use Rattle.rl_reading.proofs.Names.{decimal, Kind, Byte, Char, Int, Float, BoolKind, FloatReads, float_digits, sign_text, HasSuffix}
+-- Lemmas about the digits of a number, from the parse result of its text.
+use Rattle.rl_syntax.proofs.Common.{◌≡◌, ◌≢◌, ℕ, inl, inr, true, List, ◌++◌, refl, sym, ap, subst, ◌∙◌, append_cancel_right, chars-append, IsUtf8}
+use Rattle.rl_lenient.proofs.Names.{decimal, Kind, Byte, Char, Int, Float, BoolKind, FloatReads, float_digits, sign_text, HasSuffix}
 use Rattle.std.specs.Str.{chars}
-use Rattle.rl_reading.specs.declared.found.Found.{Found}
-use Rattle.rl_reading.specs.Founds.{IsFound, IsFoundFloat, IsFoundNumber, StandsIn, body_in, suffix_in}
-use Rattle.rl_reading.specs.Mirrors.NumberAt.{sign_at}
-use Rattle.rl_reading.specs.NumberShapes.{AreDigits, IsNumber}
-use Rattle.rl_reading.specs.WholeShapes.{IsSplit, IsPlain}
-use Rattle.rl_reading.proofs.DigitLemmas.{int_contents, same_numeral}
-use Rattle.rl_reading.proofs.FoundLemmas.{body_text, Whether}
-use Rattle.rl_reading.proofs.PlainNumberLemmas.{IsSplitInteger, plain_integer, plain_float, plain_contents, plain_numeral}
+use Rattle.rl_lenient.specs.declared.found.Found.{Found}
+use Rattle.rl_lenient.specs.Founds.{IsFound, IsFoundFloat, IsFoundNumber, IsBodyWithin, body_in, suffix_in}
+use Rattle.rl_lenient.specs.Mirrors.NumberAt.{sign_at}
+use Rattle.rl_lenient.specs.NumberShapes.{AreDigits, IsNumber}
+use Rattle.rl_lenient.specs.WholeShapes.{IsSplit, IsPlain}
+use Rattle.rl_lenient.proofs.DigitLemmas.{int_contents, same_numeral}
+use Rattle.rl_lenient.proofs.FoundLemmas.{body_text, Whether}
+use Rattle.rl_lenient.proofs.PlainNumberLemmas.{IsSplitInteger, plain_integer, plain_float, plain_contents, plain_numeral}
 
--- ---- which number was found
+-- ---- lemmas about the parse result of a number
 
-pub number_stands : (t : List ℕ) (f : Found) → IsFoundNumber t f → StandsIn t f.body
+pub number_stands : (t : List ℕ) (f : Found) → IsFoundNumber t f → IsBodyWithin t f.body
 number_stands t f (inl h) = h.0.stands
 number_stands t f (inr h) = h.stands
 
-float_chars : (t : List ℕ) (f : Found) → IsUtf8 t → StandsIn t f.body → t ≡ body_in t f.body ++ suffix_in t f.body
+float_chars : (t : List ℕ) (f : Found) → IsUtf8 t → IsBodyWithin t f.body → t ≡ body_in t f.body ++ suffix_in t f.body
     → chars t ≡ chars (body_in t f.body) ++ chars (suffix_in t f.body)
 float_chars t f u s e = ap chars e ∙ chars-append (body_in t f.body) (suffix_in t f.body) (body_text t f.body u s)
 
--- a float among all literals is one by the rule of floats
+-- A text that is parsed as a float among literals of all kinds is also a float by the rule for floats only.
 pub found_float : (t : List ℕ) (f : Found) → IsUtf8 t → f.kind ≡ Float → IsFound t f → IsFoundFloat t f
 found_float t f u e h =
     let b = body_in t f.body in
@@ -70,7 +70,7 @@ integer_cut t f u e h = record {
   cut = float_chars t f u h.stands (subst (λ k. IsSplit k t (body_in t f.body) (suffix_in t f.body)) e h.cut);
 }
 
--- ---- its digits
+-- ---- lemmas about the digits of a number
 
 integer_plain : (t : List ℕ) (f : Found) → IsUtf8 t → f.kind ≡ Int → f.body.plain ≡ true → IsFound t f
     → AreDigits Int (chars t) (chars (body_in t f.body))
@@ -108,7 +108,7 @@ numeral_digits t bs f u n h is =
     (λ m x g. same_numeral (chars t) (chars (body_in t f.body)) (chars (suffix_in t f.body)) (chars bs) m x r.reads
     is g)
 
--- ---- what isn't found is no number
+-- ---- lemmas about the kind of a number
 
 pub int_number : (k : Kind) (t : List ℕ) → IsNumber k t → k ≡ Int → IsNumber Int t
 int_number k t h e = subst (λ j. IsNumber j t) e h
@@ -118,7 +118,7 @@ is_float Int t h n = absurd (n refl)
 is_float Float t h n = h
 is_float kind t h n = absurd h
 
--- and its kind is that of floats
+-- A number whose kind isn't that of integers has the kind of floats.
 pub float_kind : (k : Kind) (t : List ℕ) → IsNumber k t → k ≢ Int → k ≡ Float
 float_kind Int t h n = absurd (n refl)
 float_kind Float t h n = refl

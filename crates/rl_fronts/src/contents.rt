@@ -1,21 +1,22 @@
-//! What quoted literals stand for, in memory that is taken.
+//! Functions that return the decoded values of string, byte string and C string literals as new strings or vectors.
 
 ghost use Rattle.std.specs.Prelude.{◌≡◌, ◌⊎◌, ℕ, List, IsTrue, IfOk, IfErr, string_bytes};
 ghost use Rattle.std.specs.Str.{chars};
 ghost use Rattle.rl_tokens.specs.Errors.{memory_at};
-ghost use Rattle.rl_text.specs.Spans.{nowhere};
-ghost use Rattle.rl_forms.specs.Quoted.{is_string};
-ghost use Rattle.rl_forms.specs.Reading.{Characters, Bytes, ReadsAs, HasContents};
-ghost use Rattle.rl_reading.specs.Bodies.{HasBody, IsStringBody, StandsFor};
-ghost use Rattle.rl_reading.specs.Decoded.{HoldsBytes};
-ghost use Rattle.rl_reading.specs.Mirrors.Decodes.{Decodes};
+ghost use Rattle.rl_syntax.specs.Spans.{nowhere};
+ghost use Rattle.rl_syntax.specs.Quoted.{is_string};
+ghost use Rattle.rl_syntax.specs.Reading.{Characters, Bytes, ReadsAs, HasContents};
+ghost use Rattle.rl_lenient.specs.Bodies.{HasBody, IsStringBody, Represents};
+ghost use Rattle.rl_lenient.specs.Decoded.{HoldsBytes};
+ghost use Rattle.rl_lenient.specs.Mirrors.Decodes.{Decodes};
 
-use rl_reading::contents::decode_into;
-use rl_reading::found::found_in;
+use rl_lenient::contents::decode_into;
+use rl_lenient::found::found_in;
 use rl_tokens::{Error, Kind};
 use std::alloc::{AllocError, Allocator};
 
-/// The bytes of the units at the front of a text, in one allocation: they are never more than the text's own.
+/// Returns the bytes to which the characters and escapes at the start of `text` decode, in one allocation. The result
+/// is never longer than the text.
 fn decode<A: Allocator>(alloc: A, kind: Kind, text: &str) -> Result<Vec<u8, A>, AllocError>
     requires { IsTrue (is_string kind) }
     ensures { IfOk result (λ bytes. Decodes kind (chars text.now) bytes.items) }
@@ -26,7 +27,8 @@ fn decode<A: Allocator>(alloc: A, kind: Kind, text: &str) -> Result<Vec<u8, A>, 
     Ok(bytes)
 }
 
-/// The bytes that the body of a string stands for, those of characters in UTF-8: the body itself where it is plain.
+/// Returns the bytes to which `body`, the text between a string's quotes, decodes. Characters become UTF-8. If `plain`
+/// is `true`, the decoded value equals the body, which is copied.
 fn body_bytes<A: Allocator>(
     alloc: A,
     kind: Kind,
@@ -44,11 +46,12 @@ fn body_bytes<A: Allocator>(
     }
 }
 
-/// The text that a string literal stands for. The text has to read as `Str`, as [`shape`](crate::shape) says.
+/// Returns the decoded value of the string literal `text`. The text must be a literal of the kind `Str`, which
+/// [`shape`](crate::shape) checks.
 ///
 /// # Errors
 ///
-/// `Memory` where an allocation fails, reported at `Span::call_site`.
+/// Returns `Memory` at `Span::call_site` if an allocation fails.
 ///
 /// # Example
 ///
@@ -74,12 +77,12 @@ pub fn str_of<A: Allocator>(alloc: A, text: &str) -> Result<String<A>, Error<A>>
     str_of_body(alloc, found.body_in(text), found.body.plain)
 }
 
-/// The bytes that a byte string or a C string literal stands for, with no zero added at the end. The text has to
-/// read as `ByteStr` or `CStr`, as [`shape`](crate::shape) says.
+/// Returns the decoded bytes of the byte string or C string literal `text`. No zero is added at the end. The text must
+/// be a literal of the kind `ByteStr` or `CStr`, which [`shape`](crate::shape) checks.
 ///
 /// # Errors
 ///
-/// `Memory` where an allocation fails, reported at `Span::call_site`.
+/// Returns `Memory` at `Span::call_site` if an allocation fails.
 pub fn bytes_of<A: Allocator>(alloc: A, text: &str) -> Result<Vec<u8, A>, Error<A>>
     requires { ReadsAs Kind.ByteStr (chars text.now) ⊎ ReadsAs Kind.CStr (chars text.now) }
     ensures reads { IfOk result
@@ -91,27 +94,29 @@ pub fn bytes_of<A: Allocator>(alloc: A, text: &str) -> Result<Vec<u8, A>, Error<
     bytes_of_body(alloc, found.kind, found.body_in(text), found.body.plain)
 }
 
-/// The text that a string literal with this body stands for, as [`find`](crate::find) returned it.
+/// Returns the decoded value of a string literal from `body`, the text between its quotes. `plain` tells whether the
+/// decoded value equals the body. [`find`](crate::find) returns both.
 ///
 /// # Errors
 ///
-/// `Memory` where an allocation fails, reported at `Span::call_site`.
+/// Returns `Memory` at `Span::call_site` if an allocation fails.
 pub fn str_of_body<A: Allocator>(alloc: A, body: &str, plain: bool) -> Result<String<A>, Error<A>>
     requires { IsStringBody Kind.Str body.now plain }
     ensures value { IfOk result
-        (λ s. StandsFor Kind.Str body.now plain (Characters (chars (string_bytes s)))) }
+        (λ s. Represents Kind.Str body.now plain (Characters (chars (string_bytes s)))) }
     ensures memory { IfErr result (λ e. e ≡ memory_at nowhere) }
 {
     let value = body_bytes(alloc, Kind::Str, body, plain)?;
-    // SAFETY: the bytes are those of characters in UTF-8, which is proved.
+    // SAFETY: it is proved that the bytes are UTF-8.
     Ok(unsafe { String::from_utf8_unchecked(value) })
 }
 
-/// The bytes that a byte string or a C string literal with this body stands for, with no zero added at the end.
+/// Returns the decoded bytes of a byte string or C string literal from `body`, the text between its quotes. `plain`
+/// tells whether the decoded value equals the body. No zero is added at the end.
 ///
 /// # Errors
 ///
-/// `Memory` where an allocation fails, reported at `Span::call_site`.
+/// Returns `Memory` at `Span::call_site` if an allocation fails.
 pub fn bytes_of_body<A: Allocator>(
     alloc: A,
     kind: Kind,
@@ -120,7 +125,7 @@ pub fn bytes_of_body<A: Allocator>(
 ) -> Result<Vec<u8, A>, Error<A>>
     requires kind { kind ≡ Kind.ByteStr ⊎ kind ≡ Kind.CStr }
     requires body { IsStringBody kind body.now plain }
-    ensures value { IfOk result (λ bytes. StandsFor kind body.now plain (Bytes bytes.items)) }
+    ensures value { IfOk result (λ bytes. Represents kind body.now plain (Bytes bytes.items)) }
     ensures memory { IfErr result (λ e. e ≡ memory_at nowhere) }
 {
     Ok(body_bytes(alloc, kind, body, plain)?)

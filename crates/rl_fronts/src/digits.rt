@@ -1,36 +1,35 @@
-//! The digits of numbers, in memory that is taken.
+//! Functions that return the digits of an integer or float literal as a new string.
 
 ghost use Rattle.std.specs.Prelude.{◌≡◌, ◌++◌, IfErr, IfOk, OnOk, string_bytes};
 ghost use Rattle.std.specs.Fmt.{decimal};
 ghost use Rattle.std.specs.Str.{chars};
 ghost use Rattle.rl_tokens.specs.Errors.{memory_at};
-ghost use Rattle.rl_text.specs.Spans.{nowhere};
-ghost use Rattle.rl_forms.specs.Numbers.{float_digits, sign_text};
-ghost use Rattle.rl_reading.specs.Mirrors.NumberAt.{sign_at};
-ghost use Rattle.rl_reading.specs.Founds.{IsFoundNumber};
-ghost use Rattle.rl_reading.specs.NumberShapes.{AreDigits, IsNumber};
+ghost use Rattle.rl_syntax.specs.Spans.{nowhere};
+ghost use Rattle.rl_syntax.specs.Numbers.{float_digits, sign_text};
+ghost use Rattle.rl_lenient.specs.Mirrors.NumberAt.{sign_at};
+ghost use Rattle.rl_lenient.specs.Founds.{IsFoundNumber};
+ghost use Rattle.rl_lenient.specs.NumberShapes.{AreDigits, IsNumber};
 
-use rl_reading::digit_runs::is_negative;
-use rl_reading::found::found_in;
-use rl_reading::{Found, find_float, numeral_into};
+use rl_lenient::digit_runs::is_negative;
+use rl_lenient::found::found_in;
+use rl_lenient::{Found, find_float, float_digits_into};
 use rl_tokens::{Error, Kind};
 use std::alloc::{AllocError, Allocator};
 
-/// A minus, and the digits of the greatest magnitude.
+/// The number of characters of a minus and the 39 decimal digits of the greatest 128-bit magnitude.
 const INTEGER_DIGITS: usize = 40;
 
-/// The digits of a number in base ten.
+/// Returns the digits of the integer or float literal `text` in base ten, as a new string.
 ///
-/// An integer's digits are its magnitude in base ten, after a minus where the text begins with one.
-/// A float's are all that stands before its suffix, without underscores and pluses and with `E` as
-/// `e`.
+/// An integer's digits are its magnitude in base ten, after a minus if the text begins with one. A float's digits are
+/// everything before its suffix, without underscores and pluses and with `E` as `e`.
 ///
-/// The text has to be a number of the kind: an integer within 128 bits, or a float, whether or not
-/// an integer stands there too.
+/// `text` must be a number of the kind `kind`. For `Kind::Int` it is an integer within 128 bits. For `Kind::Float` it
+/// is a float, even if the text is an integer too.
 ///
 /// # Errors
 ///
-/// `Memory` where an allocation fails, reported at `Span::call_site`.
+/// Returns `Memory` at `Span::call_site` if an allocation fails.
 pub fn digits_of<A: Allocator>(alloc: A, kind: Kind, text: &str) -> Result<String<A>, Error<A>>
     requires reads { IsNumber kind (chars text.now) }
     ensures value { IfOk result (λ s. AreDigits kind (chars text.now) (chars (string_bytes s))) }
@@ -39,7 +38,7 @@ pub fn digits_of<A: Allocator>(alloc: A, kind: Kind, text: &str) -> Result<Strin
     digits_of_found(alloc, text, found_number(kind, text))
 }
 
-/// The reading of a text that is a number of the kind.
+/// Returns the parse result of `text`, which must be a number of the kind `kind`.
 fn found_number(kind: Kind, text: &str) -> Found
     requires { IsNumber kind (chars text.now) }
     ensures found { IsFoundNumber text.now result }
@@ -54,12 +53,13 @@ fn found_number(kind: Kind, text: &str) -> Found
     }
 }
 
-/// The digits of a number that was found in the text, in base ten, as [`digits_of`] returns them. Nothing is read again:
-/// a plain body is copied, and an integer's magnitude is written.
+/// Returns the digits of the integer or float literal `text` in base ten, from the literal's parse result `found`. The
+/// digits are those that [`digits_of`] returns. The text isn't parsed again. Digits that are already in their final
+/// form are copied, and otherwise an integer's magnitude is written.
 ///
 /// # Errors
 ///
-/// `Memory` where an allocation fails, reported at `Span::call_site`.
+/// Returns `Memory` at `Span::call_site` if an allocation fails.
 pub fn digits_of_found<A: Allocator>(
     alloc: A,
     text: &str,
@@ -73,7 +73,7 @@ pub fn digits_of_found<A: Allocator>(
     Ok(found_digits(alloc, text, found)?)
 }
 
-/// The digits of a number that was found in the text.
+/// Returns the digits of the integer or float literal `text` in base ten, from the literal's parse result `found`.
 fn found_digits<A: Allocator>(alloc: A, text: &str, found: Found) -> Result<String<A>, AllocError>
     requires { IsFoundNumber text.now found }
     ensures { IfOk result (λ s. AreDigits found.kind (chars text.now) (chars (string_bytes s))) }
@@ -88,7 +88,7 @@ fn found_digits<A: Allocator>(alloc: A, text: &str, found: Found) -> Result<Stri
     }
 }
 
-/// A magnitude in base ten, after a minus where the text begins with one.
+/// Returns `magnitude` in base ten, after a minus if `text` begins with one.
 fn signed_decimal<A: Allocator>(
     alloc: A,
     text: &str,
@@ -103,7 +103,7 @@ fn signed_decimal<A: Allocator>(
     Ok(digits)
 }
 
-/// Writes a minus where the text begins with one.
+/// Appends a minus to `digits` if `text` begins with one.
 fn push_sign<A: Allocator>(digits: &mut String<A>, text: &str) -> Result<(), AllocError>
     ensures { OnOk result
         (string_bytes digits.new ≡ string_bytes digits.old
@@ -116,7 +116,7 @@ fn push_sign<A: Allocator>(digits: &mut String<A>, text: &str) -> Result<(), All
     }
 }
 
-/// Writes a number in base ten. One that 64 bits hold is divided in them.
+/// Appends `number` in base ten to `digits`. A number that fits 64 bits is divided with 64-bit arithmetic.
 fn push_decimal<A: Allocator>(digits: &mut String<A>, number: u128) -> Result<(), AllocError>
     ensures { OnOk result (string_bytes digits.new ≡ string_bytes digits.old ++ decimal number) }
 {
@@ -130,13 +130,13 @@ fn push_decimal<A: Allocator>(digits: &mut String<A>, number: u128) -> Result<()
     }
 }
 
-/// A numeral without its underscores and pluses, and with a small `e`.
+/// Returns the float `numeral` without its underscores and pluses, and with `E` as `e`.
 fn plain_numeral<A: Allocator>(alloc: A, numeral: &str) -> Result<String<A>, AllocError>
     ensures { IfOk result (λ s. chars (string_bytes s) ≡ float_digits (chars numeral.now)) }
 {
     let mut digits = vec![in alloc; 0; numeral.len()]?;
-    let len = numeral_into(numeral, digits.as_mut_slice());
+    let len = float_digits_into(numeral, digits.as_mut_slice());
     digits.truncate(len);
-    // SAFETY: the digits are characters in UTF-8, which is proved.
+    // SAFETY: it is proved that the digits are UTF-8.
     Ok(unsafe { String::from_utf8_unchecked(digits) })
 }

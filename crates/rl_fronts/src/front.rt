@@ -1,23 +1,23 @@
-//! The literal that begins a buffer's trees.
+//! The literal at the start of a parse buffer: a literal token, `true` or `false`, or a minus and a number.
 
 ghost use Rattle.std.specs.Prelude.{◌≡◌, [], ◌∷◌, IsTrue, ◌↔◌, IfOk, IfErr, IfSome, IfNone};
 ghost use Rattle.std.specs.Result.{result_map_both};
 ghost use Rattle.std.specs.Str.{chars};
-ghost use Rattle.rl_forms.specs.declared.kind.Kind.TheVariants.{Bool as BoolKind};
+ghost use Rattle.rl_syntax.specs.declared.kind.Kind.TheVariants.{Bool as BoolKind};
 ghost use Rattle.rl_tokens.specs.Errors.{memory_at};
 ghost use Rattle.rl_tokens.specs.Trees.{IdentTree};
-ghost use Rattle.rl_forms.specs.Reading.{Reads, ReadsAs, Truth, truth_text, HasNoReading};
+ghost use Rattle.rl_syntax.specs.Reading.{Reads, ReadsAs, Truth, truth_text, HasNoReading};
 ghost use Rattle.rl_tokens.specs.Buffers.{trees_in, scope_of, IsRest};
 ghost use Rattle.rl_fronts.specs.Fronts.{IsFront, HasNoFront, HasFrontOf, RunsAs, joined, joined_span};
-ghost use Rattle.rl_reading.specs.Founds.{IsFound};
+ghost use Rattle.rl_lenient.specs.Founds.{IsFound};
 ghost use Rattle.rl_fronts.specs.FrontTokens.{HasNoWord, HasNoMinus};
 
-use rl_reading::{Found, find, find_negative, truth_of};
+use rl_lenient::{Found, bool_of, find, find_negative};
 use rl_tokens::{Error, Ident, Kind, Literal, ParseBuffer, Punct, Span};
 use std::alloc::Allocator;
 use std::marker::Model;
 
-/// A minus and a literal token that read together, and what reading them found.
+/// A minus token and the number token after it, which together are one literal, and the literal's parse result.
 #[derive(Drop)]
 pub struct Negative<'a, A: Allocator> {
     minus: &'a Punct,
@@ -25,12 +25,13 @@ pub struct Negative<'a, A: Allocator> {
     found: Found,
 }
 
-/// The minus, and the literal token. The places count in the text of both, the minus included.
+/// The value of a [`Negative`] in contracts is the minus and the number token. The byte offsets of its parse result
+/// count from the minus.
 impl<'a, A: Allocator> Model for Negative<'a, A> {
     ghost use Rattle.std.specs.Prelude.{◌∷◌};
     ghost use Rattle.rl_tokens.specs.Puncts.{Mark};
-    ghost use Rattle.rl_text.specs.Texts.{SpannedText, code};
-    ghost use Rattle.rl_reading.specs.Founds.{IsFound};
+    ghost use Rattle.rl_syntax.specs.Texts.{SpannedText, code};
+    ghost use Rattle.rl_lenient.specs.Founds.{IsFound};
 
     ghost Value = { Mark × SpannedText };
 
@@ -39,18 +40,19 @@ impl<'a, A: Allocator> Model for Negative<'a, A> {
     ghost invariant = { λ n. IsFound (code "-" ∷ n.number.now.text) n.found };
 }
 
-/// A literal at the front of trees, as the tokens that it is made of.
+/// The literal at the start of a sequence of token trees, as the one or two tokens that it consists of.
 #[derive(Drop)]
 pub enum Front<'a, A: Allocator> {
-    /// A literal token, with any text.
+    /// A literal token. Its text isn't checked.
     Literal(&'a Literal<A>),
-    /// The word `true` or `false`.
+    /// The identifier `true` or `false`.
     Word(&'a Ident<A>),
-    /// A minus and a literal token that read together.
+    /// A minus and a number token, which together are one literal.
     Negative(Negative<'a, A>),
 }
 
-/// Takes the word `true` or `false`; else the buffer stays.
+/// Consumes the next token tree of `input` if it is the identifier `true` or `false`, and returns the identifier.
+/// Otherwise the result is `None` and the buffer is unchanged.
 fn take_word<'a, A: Allocator>(input: &mut ParseBuffer<'a, A>) -> Option<&'a Ident<A>>
     ensures taken { IfSome result
         (λ i. (trees_in input.old ≡ IdentTree i.now ∷ trees_in input.new)
@@ -61,12 +63,13 @@ fn take_word<'a, A: Allocator>(input: &mut ParseBuffer<'a, A>) -> Option<&'a Ide
 {
     let mut ahead = input.fork();
     let word = ahead.ident()?;
-    truth_of(word.text())?;
+    bool_of(word.text())?;
     *input = ahead;
     Some(word)
 }
 
-/// Takes a minus and a literal token that read together; else the buffer stays.
+/// Consumes the next two token trees of `input` if they are a minus and a number token, which together are one literal.
+/// Otherwise the result is `None` and the buffer is unchanged.
 fn take_negative<'a, A: Allocator>(input: &mut ParseBuffer<'a, A>) -> Option<Negative<'a, A>>
     ensures taken { IfSome result
         (λ n. IsFront (trees_in input.old) (joined n.0 n.1) (trees_in input.new)) }
@@ -89,7 +92,8 @@ fn take_negative<'a, A: Allocator>(input: &mut ParseBuffer<'a, A>) -> Option<Neg
     })
 }
 
-/// From a minus to its number, where both stand in one file, else the minus alone.
+/// Returns the span of a negative number, from the span of its minus to the span of the number token. If the two spans
+/// aren't in one file, the result is the span of the minus.
 fn joined_span(minus: Span, number: Span) -> Span
     ensures { result ≡ joined_span minus number }
 {
@@ -102,8 +106,9 @@ fn joined_span(minus: Span, number: Span) -> Span
 impl<'a, A: Allocator> Front<'a, A> {
     ghost use Rattle.rl_fronts.specs.FrontTokens.{front_token};
 
-    /// Takes the literal that stands next: a literal token with any text, the word `true` or `false`, or a minus and a
-    /// literal token that read together. Where none does, the buffer stays.
+    /// Consumes the literal at the start of `input`: a literal token with any text, the identifier `true` or `false`,
+    /// or a minus and a number token that together are one literal. If `input` doesn't begin with a literal, the result
+    /// is `None` and the buffer is unchanged.
     #[inline(always)]
     pub fn take(input: &mut ParseBuffer<'a, A>) -> Option<Front<'a, A>>
         ensures taken { IfSome result
@@ -123,8 +128,9 @@ impl<'a, A: Allocator> Front<'a, A> {
         Some(Front::Negative(negative))
     }
 
-    /// The reading of the literal; the places count in its token's text, a minus included. None where it has no
-    /// reading.
+    /// Returns the literal's parse result, or `None` if the text of the literal token isn't a valid literal or is an
+    /// integer above 128 bits. The byte offsets in the result count from the start of the literal's text, which
+    /// includes a minus.
     pub fn find(&self) -> Option<Found>
         ensures none { IfNone result (HasNoReading (chars (front_token self.now).text)) }
         ensures found { IfSome result (IsFound (front_token self.now).text) }
@@ -136,7 +142,8 @@ impl<'a, A: Allocator> Front<'a, A> {
         }
     }
 
-    /// The kind that the literal reads as; `None` where it has no reading.
+    /// Returns the literal's kind, or `None` if the text of the literal token isn't a valid literal or is an integer
+    /// above 128 bits.
     pub fn kind(&self) -> Option<Kind>
         ensures some { IfSome result (λ k. ReadsAs k (chars (front_token self.now).text)) }
         ensures none { IfNone result (HasNoReading (chars (front_token self.now).text)) }
@@ -145,8 +152,8 @@ impl<'a, A: Allocator> Front<'a, A> {
         Some(found.kind)
     }
 
-    /// The reading of the literal, where it is of this kind.
-    fn find_as(&self, kind: Kind) -> Option<Found>
+    /// Returns the literal's parse result if the literal is valid and of the kind `kind`, and otherwise `None`.
+    fn find_of_kind(&self, kind: Kind) -> Option<Found>
         ensures found { IfSome result (IsFound (front_token self.now).text) }
         ensures kind { IfSome result (λ f. f.kind ≡ kind) }
         ensures none { IfNone result (ReadsAs kind (chars (front_token self.now).text) → ⊥) }
@@ -159,14 +166,14 @@ impl<'a, A: Allocator> Front<'a, A> {
         }
     }
 
-    /// Whether the literal reads as this kind. No memory is taken.
-    fn is_of(&self, kind: Kind) -> bool
+    /// Whether the literal is valid and of the kind `kind`. Nothing is allocated.
+    fn is_of_kind(&self, kind: Kind) -> bool
         ensures { IsTrue result ↔ ReadsAs kind (chars (front_token self.now).text) }
     {
-        self.find_as(kind).is_some()
+        self.find_of_kind(kind).is_some()
     }
 
-    /// The truth value that the literal is; `None` where it is another one.
+    /// Returns the value of a literal `true` or `false`, or `None` for any other literal.
     pub fn truth(&self) -> Option<bool>
         ensures some { IfSome result
             (λ b. Reads (chars (front_token self.now).text) BoolKind (Truth b) []) }
@@ -174,13 +181,14 @@ impl<'a, A: Allocator> Front<'a, A> {
         ensures none { IfNone result (ReadsAs BoolKind (chars (front_token self.now).text) → ⊥) }
     {
         match self {
-            Front::Literal(token) => truth_of(token.text()),
-            Front::Word(word) => truth_of(word.text()),
+            Front::Literal(token) => bool_of(token.text()),
+            Front::Word(word) => bool_of(word.text()),
             Front::Negative(_) => None,
         }
     }
 
-    /// Where the literal stands: from a minus to its number, where both stand in one file, else the minus alone.
+    /// Returns the literal's span. The span of a negative number is from its minus to its number token if both are in
+    /// one file, and otherwise the span of the minus.
     pub fn span(&self) -> Span
         ensures { result ≡ (front_token self.now).span }
     {
@@ -191,11 +199,12 @@ impl<'a, A: Allocator> Front<'a, A> {
         }
     }
 
-    /// The literal as one token: of a minus and its number, `-` and the number's text.
+    /// Returns the literal as one new token. The text of a negative number's token is `-` followed by the number's
+    /// text.
     ///
     /// # Errors
     ///
-    /// `Memory` at the literal's span.
+    /// Returns `Memory` at the literal's span if an allocation fails.
     pub fn token<B: Allocator>(&self, alloc: B) -> Result<Literal<B>, Error<B>>
         ensures ok { IfOk result (λ l. l ≡ front_token self.now) }
         ensures memory { IfErr result (λ e. e ≡ memory_at (front_token self.now).span) }
@@ -208,24 +217,28 @@ impl<'a, A: Allocator> Front<'a, A> {
     }
 }
 
-/// Whether a literal of this kind stands next. The buffer stays, and no memory is taken.
-pub fn next_is<A: Allocator>(input: &ParseBuffer<'_, A>, kind: Kind) -> bool
+/// Returns `true` if `input` begins with a valid literal of the kind `kind`. Nothing is consumed or allocated.
+pub fn begins_with_kind<A: Allocator>(input: &ParseBuffer<'_, A>, kind: Kind) -> bool
     ensures { IsTrue result ↔ HasFrontOf kind (trees_in input.now) }
 {
     let mut ahead = input.fork();
     match Front::take(&mut ahead) {
-        Some(front) => front.is_of(kind),
+        Some(front) => front.is_of_kind(kind),
         None => false,
     }
 }
 
-/// Takes the literal of this kind that stands next, as a token, with what reading it finds.
+/// Consumes the literal at the start of `input`, which must be valid and of the kind `kind`. Returns the literal as one
+/// new token, and its parse result.
 ///
 /// # Errors
 ///
-/// `Expected`, at the end `EndOfInput`, with the word: where a literal of another kind stands, the
-/// buffer moves past it; where none does, it stays. `Memory` at the literal, and the buffer stays.
-pub fn take_kind<A: Allocator>(
+/// Returns `Expected(word)` if `input` doesn't begin with a literal of the kind `kind`, or `EndOfInput(word)` if all
+/// token trees have been consumed. In this case a literal of another kind is consumed, and otherwise the buffer is
+/// unchanged.
+///
+/// Returns `Memory` at the literal if an allocation fails. The buffer is unchanged then.
+pub fn take_literal_of_kind<A: Allocator>(
     alloc: A,
     input: &mut ParseBuffer<'_, A>,
     kind: Kind,
@@ -242,7 +255,7 @@ pub fn take_kind<A: Allocator>(
     let Some(front) = Front::take(&mut ahead) else {
         return Err(input.error(word));
     };
-    let Some(found) = front.find_as(kind) else {
+    let Some(found) = front.find_of_kind(kind) else {
         let error = input.error(word);
         *input = ahead;
         return Err(error);

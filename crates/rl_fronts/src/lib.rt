@@ -1,4 +1,5 @@
-//! What literals stand for, in memory that is taken: contents, digits, spans; and the literal that begins a buffer's trees.
+//! Functions that return the values of literals in allocated memory (decoded values, digits and tables of spans), and
+//! the parser of the literal at the start of a parse buffer.
 #![tactic(auto)]
 
 pub mod contents;
@@ -8,5 +9,5 @@ pub mod span_table;
 
 pub use crate::contents::{bytes_of, bytes_of_body, str_of, str_of_body};
 pub use crate::digits::{digits_of, digits_of_found};
-pub use crate::front::{Front, Negative, next_is, take_kind};
-pub use crate::span_table::spans_of;
+pub use crate::front::{Front, Negative, begins_with_kind, take_literal_of_kind};
+pub use crate::span_table::byte_spans_of;

@@ -1,14 +1,15 @@
-//! Where each byte of a quoted literal's contents comes from, all at once.
+//! A table of the spans from which the bytes of a quoted literal's decoded value come.
 
 ghost use Rattle.std.specs.Prelude.{◌≡◌, ◌<◌, ◌≤◌, ◌+◌, ℕ, length, slice_index_or, OnOk, IfOk};
-ghost use Rattle.rl_text.specs.Spans.{nowhere};
-ghost use Rattle.rl_reading.specs.Segments.{IsSpanTable, segment_end, segment_place, span_from, value_bytes};
+ghost use Rattle.rl_syntax.specs.Spans.{nowhere};
+ghost use Rattle.rl_lenient.specs.Segments.{IsSpanTable, segment_end, segment_place, span_from, value_bytes};
 
-use rl_reading::{Segment, Segments};
+use rl_lenient::{Segment, Segments};
 use rl_tokens::Span;
 use std::alloc::{AllocError, Allocator};
 
-/// Adds the spans of the bytes that a segment stands for. The literal's text stands from the base's first byte on.
+/// Appends a span to `spans` for each byte that `segment`, a part of a quoted literal, decodes to: the range in the
+/// file of the text from which the byte comes. The literal's text begins at the first byte of `base`.
 fn push_spans<A: Allocator>(
     spans: &mut Vec<Span, A>,
     base: Span,
@@ -28,21 +29,25 @@ fn push_spans<A: Allocator>(
     for i in 0..segment.value.len() {
         spans.push(Span {
             file: base.file,
-            lo: base.lo + segment.place_of(i),
+            lo: base.lo + segment.text_offset(i),
             hi: base.lo + segment.end_of(i),
         })?;
     }
     Ok(())
 }
 
-/// For each byte of the contents from the next segment on, where in the file what gives it stands, and for their end the
-/// closing quote's place, as a span of no bytes: all that [`place_of`](Segments::place_of) and
-/// [`end_of`](Segments::end_of) say, in one walk. The literal's text stands from the base's first byte on, up to its last.
+/// Returns a table with a span for each byte of a quoted literal's decoded value, from the next segment of `segments`
+/// on. A byte's span is the range in the file of the character or escape from which the byte comes. The table has one
+/// more span at the end, which is empty and at the closing quote.
+///
+/// `base` is the literal's span: the literal's text begins at its first byte and ends at its last one. The function
+/// walks over the segments once. [`text_offset`](Segments::text_offset) and [`end_of`](Segments::end_of) return the
+/// same offsets for one byte at a time.
 ///
 /// # Errors
 ///
-/// An allocation failure.
-pub fn spans_of<A: Allocator>(
+/// Returns an error if an allocation fails.
+pub fn byte_spans_of<A: Allocator>(
     alloc: A,
     mut segments: Segments<'_>,
     base: Span,

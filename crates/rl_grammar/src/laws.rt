@@ -1,16 +1,14 @@
-//! Laws of the definitions: each function does nothing, and its contract is the law.
+//! Theorems about Rust's two grammars of literals. Each function here does nothing when it is called: its contract is a
+//! theorem about all texts.
 
-pub use rl_file_reasons::laws::{
-    a_text_in_a_file_has_one_flaw, a_text_in_a_file_has_one_signed_flaw,
-    a_text_in_a_file_has_one_signed_value_flaw, a_text_in_a_file_has_one_value_flaw,
-};
-pub use rl_reading::laws::{
+pub use rl_lenient::laws::{
     a_found_literal_reads, a_minus_before_bytes_is_one_character, a_taken_literal_is_read,
-    bytes_are_strict, places_keep_the_order, places_stand_in_the_body, segments_make_the_literal,
+    bytes_are_strict, offsets_are_in_the_body, places_keep_the_order, segments_make_the_literal,
     units_are_one_segment,
 };
-pub use rl_reasons::laws::{
+pub use rl_strict::laws::{
     a_bad_quote_has_no_reading, a_text_has_one_flaw, a_text_has_one_signed_flaw,
-    a_text_has_one_value_flaw, a_token_reads_or_is_past,
+    a_text_has_one_value_flaw, a_text_in_a_file_has_one_flaw, a_text_in_a_file_has_one_signed_flaw,
+    a_text_in_a_file_has_one_signed_value_flaw, a_text_in_a_file_has_one_value_flaw,
+    a_token_reads_or_is_past, strict_digits_represent_their_number,
 };
-pub use rl_strict::laws::dec_spells_the_number;

@@ -1,23 +1,39 @@
-//! The grammars of Rust's literals: whether a text is one, of which kind, its parts and what it stands for; or why it is none.
-//! Nearly all of it stands in the crates below, and is passed on from here.
+//! Functions that examine one text: whether it is a literal, its kind, its parts and its value, or the reason why it
+//! isn't a literal. The crate is modelled on the module `value` in `src/lit.rs` of the crate `syn` 3.0.9, and on the
+//! Rust Reference. Most items are defined in the crates `rl_fronts`, `rl_lenient`, `rl_strict` and `rl_syntax`, and are
+//! re-exported here.
+//!
+//! # Example
+//!
+//! ```
+//! use rl_grammar::{Kind, shape, str_of};
+//! use std::alloc::Global;
+//!
+//! pub fn contents(alloc: Global, text: &str) -> Option<String> {
+//!     match shape(text)?.kind {
+//!         Kind::Str => str_of(alloc, text).ok(),
+//!         _ => None,
+//!     }
+//! }
+//! // contents(alloc, "\"a\\x41\"") == Some("aA")
+//! ```
 #![tactic(auto)]
 
 pub mod laws;
 pub mod strict;
 
-pub use rl_file_reasons::{explain_in_file, explain_signed_value_in_file, explain_value_in_file};
-pub use rl_forms::Kind;
 pub use rl_fronts::{
-    Front, Negative, bytes_of, bytes_of_body, digits_of, digits_of_found, next_is, spans_of,
-    str_of, str_of_body, take_kind,
+    Front, Negative, begins_with_kind, byte_spans_of, bytes_of, bytes_of_body, digits_of,
+    digits_of_found, str_of, str_of_body, take_literal_of_kind,
 };
-pub use rl_parts::{FloatParts, IntegerParts, float_parts, integer_parts, range_of};
-pub use rl_reading::{
-    Body, Found, ListStep, NextLiteral, Parts, Rejection, RejectionKind, Segment, SegmentValue,
-    Segments, SourceStep, byte_of, byte_of_body, bytes_into, char_of, char_of_body, find,
-    find_float, find_int, find_negative, float_shape, int_shape, is_plain, list_step, next_literal,
-    numeral_into, place_of, shape, shape_negative, source_step, str_into, truth_of,
+pub use rl_lenient::{
+    Body, FloatParts, Found, IntegerParts, ListStep, NextLiteral, Parts, Rejection, RejectionKind,
+    Segment, SegmentValue, Segments, SourceStep, bool_of, byte_of, byte_of_body, bytes_into,
+    char_of, char_of_body, find, find_float, find_int, find_negative, float_digits_into,
+    float_parts, float_shape, int_shape, integer_parts, is_plain, list_step, next_literal, shape,
+    shape_negative, source_step, str_into, text_offset, text_range,
 };
-pub use rl_reasons::{
-    Flaw, FlawKind, explain, explain_limit, explain_signed, explain_value, is_float_by_suffix,
+pub use rl_strict::{
+    Flaw, FlawKind, LineEnds, explain, explain_value, is_float_by_suffix, limit_flaw,
 };
+pub use rl_syntax::Kind;

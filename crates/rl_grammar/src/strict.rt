@@ -1,16 +1,19 @@
-//! The strict grammar of literal tokens, that of the Rust Reference: what a text reads as, or why it is no token.
+//! The strict grammar of literal tokens, which is that of the Rust Reference: functions that parse a text by it, or
+//! return the reason why the text isn't a literal token.
 
 ghost use Rattle.std.specs.Prelude.{◌↔◌, IsTrue};
 ghost use Rattle.std.specs.Str.{chars};
 ghost use Rattle.rl_strict.specs.StrictShapes.{IsToken};
 
-pub use rl_reasons::{Number, Reading, read, read_signed};
+use rl_strict::LineEnds;
+pub use rl_strict::{Number, Reading, read};
 
-/// Whether the text is a literal token of the strict grammar, of any kind and with any suffix:
-/// `0xFF_u8` is one, `-1`, `1e` and `r"a"b"` are none. No memory is taken.
+/// Returns `true` if `text` is a literal token of the strict grammar, which is that of the Rust Reference. The token
+/// may be of any kind and have any suffix: `0xFF_u8` is a literal token, and `-1`, `1e` and `r"a"b"` aren't. Nothing is
+/// allocated.
 ///
-/// Every strict text is a literal of the lenient grammar too, unless it is an integer past 128
-/// bits: here integers have no limit. The reverse doesn't hold.
+/// Every literal token of the strict grammar is also a literal of the lenient grammar, which is that of `syn`, except
+/// for integers above 128 bits: the strict grammar has no limit for integers. The lenient grammar accepts more texts.
 ///
 /// # Example
 ///
@@ -26,5 +29,5 @@ pub use rl_reasons::{Number, Reading, read, read_signed};
 pub fn is_token(text: &str) -> bool
     ensures { IsTrue result ↔ IsToken (chars text.now) }
 {
-    read(text).is_ok()
+    read(text, LineEnds::Text, false).is_ok()
 }

@@ -1,8 +1,8 @@
--- Bad quotes: what `after_bad_quote` takes off is one, and each is what it takes off.
-use Rattle.rl_text.proofs.Common.{◌≡◌, ◌≢◌, ℕ, inl, inr, lit<, Bool, true, false, not, ◌&&◌, ◌||◌, ◌==◌, cond, List, [], ◌∷◌, ◌++◌, append_assoc, Option, Some, None, drop, refl, sym, ◌∙◌, ap, subst, and_parts, or_parts, ne_eqb, none-some, list_all, is_ascii_digit, option_map, option_and_then, is_xid_continue-ascii}
-use Rattle.rl_text.proofs.Basics.{false_unless}
-use Rattle.rl_text.specs.Texts.{first_passes, is_white, is_start, is_continue, begins_char}
-use Rattle.rl_text.specs.Classes.{after_run}
+-- Invalid quoted literals: `after_bad_quote` consumes exactly these.
+use Rattle.rl_syntax.proofs.Common.{◌≡◌, ◌≢◌, ℕ, inl, inr, lit<, Bool, true, false, not, ◌&&◌, ◌||◌, ◌==◌, cond, List, [], ◌∷◌, ◌++◌, append_assoc, Option, Some, None, drop, refl, sym, ◌∙◌, ap, subst, and_parts, or_parts, ne_eqb, none-some, list_all, is_ascii_digit, option_map, option_and_then, is_xid_continue-ascii}
+use Rattle.rl_syntax.proofs.Basics.{false_unless}
+use Rattle.rl_syntax.specs.Texts.{first_passes, is_white, is_start, is_continue, begins_char}
+use Rattle.rl_syntax.specs.Classes.{after_run}
 use Rattle.rl_lexer.specs.Lexemes.{BodyPart, PlainPart, EscapedPart, body_text, IsRun, IsLexedSuffix, begins_raw_identifier}
 use Rattle.rl_lexer.specs.Mirrors.LexemeAt.{after_suffix, begins_quote}
 use Rattle.rl_lexer.specs.Mirrors.SourceAt.{after_name, after_any_name, opens, stops_quote, after_any, after_part, after_next_quote, after_other, after_closing, past_closing, after_bare, after_bad_quote}
@@ -50,7 +50,7 @@ first_on : (test : ℕ → Bool) (a b : List ℕ) → first_passes test a ≡ fa
 first_on test [] b h k = k
 first_on test (c ∷ a) b h k = h
 
--- ---- the next quote, part by part
+-- ---- the text up to the next apostrophe, part by part
 
 next_now : (t : List ℕ) → after_next_quote (39 ∷ t) ≡ Some t
 next_now [] = refl
@@ -83,7 +83,7 @@ pub next_passes : (s t u : List ℕ) (c : ℕ) → s ≡ c ∷ t → c ≢ 39 �
     ≡ after_next_quote s
 next_passes s t u c e other part = sym (next_part s t c e other ∙ ap (option_and_then after_next_quote) part)
 
--- ---- the next quote, past what stands before it
+-- ---- the text after the next apostrophe
 
 ends_line : (c : ℕ) (parts : List BodyPart) (t : List ℕ) → (c ≡ 10 → parts ≡ [])
     → (c == 10 && not (begins_char 39 (body_text parts ++ 39 ∷ t))) ≡ false
@@ -121,7 +121,7 @@ other_past parts x t first is suffix =
     ∙ ap (option_map after_suffix) (body_past parts (x ++ t) is)
     ∙ ap Some (suffix_past x t suffix)
 
--- ---- what stands before the next quote
+-- ---- the text before the next apostrophe
 
 abbrev QuoteBody : List ℕ → List ℕ → Type 0
 QuoteBody t r = (parts : List BodyPart) × IsQuoteBody parts × (t ≡ body_text parts ++ 39 ∷ r)
@@ -132,7 +132,7 @@ body_ends c t r h same = ([], tt, (let q : c ≡ 39 = is_equal c 39 h in cc))
 body_escaped : (c e : ℕ) (t r : List ℕ) → (c == 92) ≡ true → QuoteBody t r → QuoteBody (c ∷ e ∷ t) r
 body_escaped c e t r h (parts, is, same) = (EscapedPart e ∷ parts, is, (let q : c ≡ 92 = is_equal c 92 h in cc))
 
--- right before a quote nothing else stands
+-- The text before an apostrophe at the start is empty.
 no_parts : (parts : List BodyPart) (e : ℕ) (t r : List ℕ) → IsQuoteBody parts → e ∷ t ≡ body_text parts ++ 39 ∷ r → e
     ≡ 39 → parts ≡ []
 no_parts [] e t r is same quote = refl
@@ -180,7 +180,7 @@ next_found (c ∷ e ∷ t) r h =
       ]
     ]
 
--- a quote up to the next one, and its suffix
+-- The text up to the next apostrophe, and the suffix after it.
 record OtherFound (t r : List ℕ) : Type 0 where
   pub parts : List BodyPart
   pub suffix : List ℕ
@@ -212,7 +212,7 @@ other_found t r h =
           text_is = same ∙ ap (λ z. body_text parts ++ 39 ∷ z) (m_is ∙ ap (λ z. suffix ++ z) ends);
         }
 
--- ---- what is taken off is a bad quote
+-- ---- the consumed text is an invalid quoted literal
 
 abbrev pub FoundQuote : List ℕ → List ℕ → Type 0
 FoundQuote t r = (q : BadQuote) × IsBadQuote q r × (t ≡ bad_quote_text q ++ r)
@@ -331,7 +331,7 @@ bad_quote_found (c ∷ t) r h =
               (found.text_is ∙ sym (append_assoc (body_text found.parts) (39 ∷ found.suffix) r)),
         )
 
--- ---- each bad quote is taken off
+-- ---- each invalid quoted literal is consumed
 
 closed_row : (more t : List ℕ) → list_all is_continue more ≡ true → IsRun is_continue more (39 ∷ t)
 closed_row more t each = record { each = each; ends = continue_39 }
@@ -388,7 +388,7 @@ bare_other (c ∷ t) h =
     (cond (is_start c) (option_and_then after_closing (after_any_name (c ∷ t))) (after_other (c ∷ t)))) q.0
     ∙ ap (λ b. cond b (option_and_then after_closing (after_any_name (c ∷ t))) (after_other (c ∷ t))) q.1
 
--- what begins with none of them, begins with no backslash
+-- A text that begins neither with an identifier or a number nor with an escape doesn't begin with an escape.
 no_escape : (t : List ℕ) → first_passes begins_word_or_escape t ≡ false → first_passes begins_escape t ≡ false
 no_escape [] h = refl
 no_escape (c ∷ t) h = (or_parts (begins_escape c) (is_ascii_digit c || is_start c) h).0

@@ -1,19 +1,19 @@
 -- One step of the search for the end of a comment.
-use Rattle.rl_text.proofs.Common.{◌≡◌, ℕ, suc, zero, ◌+◌, ◌-◌, ◌<◌, ◌≤◌, Bool, true, false, not, ◌&&◌, ◌==◌, cond, List, [], ◌∷◌, ◌++◌, append-nil, length, get_or, take, drop, Option, Some, None, subst, Bor, IfSome, IfNone, refl, sym, ◌∙◌, ap, arith, prefix_len-le-length, and_from, and_parts, ne_eqb, IsUtf8-nil, chars, list_all, prefix_len}
+use Rattle.rl_syntax.proofs.Common.{◌≡◌, ℕ, suc, zero, ◌+◌, ◌-◌, ◌<◌, ◌≤◌, Bool, true, false, not, ◌&&◌, ◌==◌, cond, List, [], ◌∷◌, ◌++◌, append-nil, length, get_or, take, drop, Option, Some, None, subst, Bor, IfSome, IfNone, refl, sym, ◌∙◌, ap, arith, prefix_len-le-length, and_from, and_parts, ne_eqb, IsUtf8-nil, chars, list_all, prefix_len}
 use Rattle.std.proofs.Common.{add-one}
 use Rattle.std.specs.Option.{unwrap_or}
 use Rattle.std.proofs.lemmas.List.{drop_more, get_or-drop, drop-drop, length-drop}
 use Rattle.std.proofs.Math.Seq.{take-length}
-use Rattle.rl_text.specs.Texts.{IsTail}
+use Rattle.rl_syntax.specs.Texts.{IsTail}
 use Rattle.rl_lexer.specs.Mirrors.SkippedAt.{after_block, after_line}
-use Rattle.rl_text.specs.Scanning.{is_other, line_ends, IsNextMark}
-use Rattle.rl_text.specs.declared.scan.Marks.{Marks}
+use Rattle.rl_syntax.specs.Scanning.{is_other, line_ends, IsNextMark}
+use Rattle.rl_syntax.specs.declared.scan.Marks.{Marks}
 use Rattle.rl_lexer.proofs.Comments.{closed, after_block-step, block_goes_on, both, OneLine, after_line-past, after_line-open}
-use Rattle.rl_text.proofs.Basics.{false_unless}
+use Rattle.rl_syntax.proofs.Basics.{false_unless}
 use Rattle.rl_lexer.proofs.LexemeSteps.{only}
-use Rattle.rl_text.proofs.ScanLemmas.{drop_next, not_first, not_second}
+use Rattle.rl_syntax.proofs.ScanLemmas.{drop_next, not_first, not_second}
 
--- The next character is given by its place, 0 at the end.
+-- The result after two characters, by cases: a closing delimiter, an opening delimiter, or other characters.
 abbrev Turns : ℕ → ℕ → ℕ → Option (List ℕ) → Option (List ℕ) → Option (List ℕ) → Option (List ℕ)
 Turns d c e x y z = cond (c == 42 && e == 47) x (cond (c == 47 && e == 42) y z)
 
@@ -76,22 +76,22 @@ block_goes s i d l p q =
     (λ h. let k : (get_or s i 0 ≡ 47) × (get_or s (i + 1) 0 ≡ 42) = both (get_or s i 0) 47 (get_or s (i + 1) 0) 42 h
     in q k.0 k.1))
 
--- A depth above nothing.
+-- After a closing delimiter inside another block comment, the depth is one less.
 pub closed-down : (d : ℕ) (t : List ℕ) → 0 < d → closed d t ≡ after_block (d - 1) t
 closed-down zero t l = absurd (omega arith)
 closed-down (suc d) t l = ap (λ n. after_block n t) (let e : d ≡ suc d - 1 = omega arith in e)
 
--- The place after two bytes is inside the text where the second isn't 0.
+-- If the byte at an index isn't 0, the index is inside the text.
 pub next_inside : (s : List ℕ) (i n : ℕ) → get_or s i 0 ≡ n → 0 < n → i < length s
 next_inside [] i n e l = absurd (omega arith)
 next_inside (x ∷ s) zero n e l = omega arith
 next_inside (x ∷ s) (suc i) n e l = omega (arith, next_inside s i n e l)
 
--- a slice up to the end
+-- A slice up to the end of the text is the rest of the text.
 rest_whole : (s : List ℕ) (i : ℕ) → take (length s - i) (drop i s) ≡ drop i s
 rest_whole s i = ap (λ n. take n (drop i s)) (sym (length-drop i s)) ∙ take-length (drop i s)
 
--- What is no mark is passed over.
+-- A character that isn't a delimiter doesn't change the result.
 goes_over : (m : Marks) (d c : ℕ) (t : List ℕ) → m.first ≡ 42 → m.second ≡ 47 → is_other m c ≡ true
     → after_block d (c ∷ t) ≡ after_block d t
 goes_over m d c [] star slash h = refl
@@ -138,7 +138,7 @@ one_line m (c ∷ s) is h =
     and_from (not (c == 10)) (list_all (λ c. not (c == 10)) s)
     (ap not (ne_eqb c 10 (λ e. not_first m c parts.0 (e ∙ sym is)))) (one_line m s is parts.1)
 
--- the line ends at the mark, or there is none
+-- If an LF is found, the text after it is the text after the line.
 pub line_found : (m : Marks) (s t : List ℕ) (k : ℕ) → m ≡ record { first = 10; second = 10; third = 10; fourth = 10 }
     → IsNextMark m s k t → t ≡ after_line s
 line_found m s t k is next =
@@ -156,7 +156,7 @@ line_open m s is h = chars_nil ∙ sym (after_line-open s (one_line m s (ap (λ 
 pub nothing_tail : (t : List ℕ) → IsTail t []
 nothing_tail t = record { front = t; text_is = sym (append-nil t); is_text = IsUtf8-nil }
 
--- what follows the first LF, and nothing where there is none
+-- The text after the first LF, or an empty text if there is no LF.
 pub line_rest : (s : List ℕ) (found : Option (Bor (List ℕ))) (none rest : Bor (List ℕ))
     → IfSome found (λ r. IsNextMark line_ends (chars s) 10 (chars r.now))
     → IfNone found (list_all (is_other line_ends) (chars s) ≡ true) → IfSome found (λ r. IsTail s r.now)

@@ -1,10 +1,10 @@
--- Where block and line comments end: what the functions on lists give is what the definitions say.
-use Rattle.rl_text.proofs.Common.{◌≡◌, ℕ, suc, zero, ◌⊎◌, inl, inr, Bool, true, false, not, ◌&&◌, ◌==◌, cond, List, [], ◌∷◌, ◌++◌, Option, Some, refl, sym, ◌∙◌, ap, arith, append_assoc, nat_tests, list_all, IsTrue}
-use Rattle.rl_forms.specs.Trivia.{is_comment_line, is_comment_block, Inside, End, Other, Nested, inside_text, IsInside, BeginsNoMark}
+-- The ends of block and line comments: the models of the code agree with the definitions.
+use Rattle.rl_syntax.proofs.Common.{◌≡◌, ℕ, suc, zero, ◌⊎◌, inl, inr, Bool, true, false, not, ◌&&◌, ◌==◌, cond, List, [], ◌∷◌, ◌++◌, Option, Some, refl, sym, ◌∙◌, ap, arith, append_assoc, nat_tests, list_all, IsTrue}
+use Rattle.rl_syntax.specs.Trivia.{is_comment_line, is_comment_block, Inside, End, Other, Nested, inside_text, IsInside, BeginsNoMark}
 use Rattle.rl_lexer.specs.Mirrors.SkippedAt.{after_block, after_line}
-use Rattle.rl_text.proofs.Basics.{false_unless}
+use Rattle.rl_syntax.proofs.Basics.{false_unless}
 
--- What follows a closer, where depth more blocks are open.
+-- The text after a comment's closing delimiter, inside `depth` more block comments.
 abbrev pub closed : ℕ → List ℕ → Option (List ℕ)
 closed zero t = Some t
 closed (suc d) t = after_block d t
@@ -30,7 +30,7 @@ both c k e l h = (grind (arith, nat_tests), grind (arith, nat_tests))
 pub not_both : (c k e l : ℕ) → (c == k && e == l) ≡ false → c ≡ k → e ≡ l → ⊥
 not_both c k e l h p q = grind (arith, nat_tests)
 
--- The text goes on with n insides, and then r.
+-- The text consists of the insides of n block comments, and then the text r.
 abbrev pub Closes : ℕ → List ℕ → List ℕ → Type 0
 Closes zero t r = t ≡ r
 Closes (suc n) t r = (i : Inside) × (m : List ℕ) × IsInside i × (t ≡ inside_text i ++ m) × Closes n m r
@@ -88,7 +88,7 @@ after_block-sound d (c ∷ e ∷ t) r h =
       | inr (inr (a, b, y)) ↦ closes_other d c e t r a b (after_block-sound d (e ∷ t) r y)
     ]
 
--- An inside begins with some character.
+-- The inside of a block comment isn't empty.
 inside_cons : (i : Inside) → (e : ℕ) × (u : List ℕ) × (inside_text i ≡ e ∷ u)
 inside_cons End = (42, 47 ∷ [], refl)
 inside_cons (Other c i) = (c, inside_text i, refl)
@@ -121,7 +121,7 @@ after_block-past (Nested i j) d t (is, js) =
     ∙ after_block-past i (suc d) (inside_text j ++ t) is
     ∙ after_block-past j d t js
 
--- Lines.
+-- The text contains no LF.
 abbrev pub OneLine : List ℕ → Type 0
 OneLine t = IsTrue (list_all (λ c. not (c == 10)) t)
 

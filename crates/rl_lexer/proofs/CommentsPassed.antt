@@ -1,8 +1,8 @@
--- No literal stands in comments, doc comments among them.
-use Rattle.rl_text.proofs.Common.{◌≡◌, ℕ, Bool, true, false, ◌==◌, cond, List, [], ◌∷◌, Some, None, refl, sym, subst}
-use Rattle.rl_forms.specs.Trivia.{is_comment_block, is_comment_line}
-use Rattle.rl_text.specs.Classes.{after_run}
-use Rattle.rl_text.specs.Texts.{is_white}
+-- Comments, including doc comments, don't contain literals.
+use Rattle.rl_syntax.proofs.Common.{◌≡◌, ℕ, Bool, true, false, ◌==◌, cond, List, [], ◌∷◌, Some, None, refl, sym, subst}
+use Rattle.rl_syntax.specs.Trivia.{is_comment_block, is_comment_line}
+use Rattle.rl_syntax.specs.Classes.{after_run}
+use Rattle.rl_syntax.specs.Texts.{is_white}
 use Rattle.rl_lexer.specs.Sources.{DocCommentKind, is_in_line}
 use Rattle.rl_lexer.specs.Mirrors.LiteralsAt.{Reaches}
 use Rattle.rl_lexer.specs.Mirrors.SkippedAt.{after_any_comment, after_block, after_comment, after_line}
@@ -14,7 +14,7 @@ use Rattle.rl_lexer.proofs.SourceFronts.{doc_block_found, doc_line_found}
 none-some : {A : Type 0} (x : A) → None ≡ Some x → ⊥
 none-some x e = cc
 
--- from the LF that a doc line stops before
+-- From the LF after a doc comment that is a line, tokens are found as from the next line.
 reach_line_end : (t r : List ℕ) → Reaches (after_line t) r → Reaches (after_run is_in_line t) r
 reach_line_end [] r h = h
 reach_line_end (c ∷ t) r h = go (c == 10) refl h (reach_line_end t r)
@@ -52,7 +52,7 @@ reach_comment (c ∷ t) u r is h = go (c == 47) (c == 42) refl refl is
     go false true e f is = subst (λ (k : ℕ). Reaches (47 ∷ k ∷ t) r) (sym (is_equal c 42 f)) (reach_block t u r is h)
     go false false e f is = absurd (none-some u is)
 
--- where no comment follows a slash, no plain one does
+-- If neither a doc comment nor a plain comment begins at a slash, no plain one does.
 pub no_comment : (t : List ℕ) → after_any_comment t ≡ None → after_comment t ≡ None
 no_comment [] none = refl
 no_comment (c ∷ t) none = go (c == 47) (c == 42) (is_comment_block t) refl refl refl none

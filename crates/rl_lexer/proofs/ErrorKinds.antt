@@ -1,28 +1,28 @@
--- Why no lexeme begins what is left of a text, and that this is the text's first error.
-use Rattle.rl_text.proofs.Common.{◌≡◌, ◌≢◌, ℕ, ◌+◌, ◌-◌, ◌<◌, Bool, true, false, ◌||◌, ◌==◌, List, [], length, Option, Some, None, refl, sym, ◌∙◌, ap, subst, arith, or_from, encodes-chars, nat_tests, IfNone, codes, if◌then◌else◌, chars, IsUtf8, encode_utf8_all}
+-- The error at a rest that begins with no lexeme is the text's first error.
+use Rattle.rl_syntax.proofs.Common.{◌≡◌, ◌≢◌, ℕ, ◌+◌, ◌-◌, ◌<◌, Bool, true, false, ◌||◌, ◌==◌, List, [], length, Option, Some, None, refl, sym, ◌∙◌, ap, subst, arith, or_from, encodes-chars, nat_tests, IfNone, codes, if◌then◌else◌, chars, IsUtf8, encode_utf8_all}
 use Rattle.std.specs.Option.{is_some}
 use Rattle.rl_lexer.specs.declared.lex_error.LexKind.{LexKind}
 use Rattle.rl_lexer.specs.declared.lex_error.LexKind.TheVariants.{DocComment, UnclosedComment, UnclosedQuote, Lifetime, RawIdentifier, StrayCharacter, UnmatchedClose, UnclosedGroup, TooDeep, Memory}
 use Rattle.rl_lexer.specs.declared.lex_error.LexError.{LexError}
-use Rattle.rl_text.specs.Texts.{begins, byte_len}
+use Rattle.rl_syntax.specs.Texts.{begins, byte_len}
 use Rattle.rl_lexer.specs.Cursors.{CursorState, IsCursorState, IsFirstError}
 use Rattle.rl_lexer.specs.Cuts.{LexedToken, LexesUpTo, open_groups, OpenGroup, error_place, begins_doc_comment, begins_lifetime, BeginsNoLexeme, ErrorAt, HasFirstError, Rejects}
 use Rattle.rl_lexer.specs.Mirrors.ErrorAt.{error_kind}
 use Rattle.rl_lexer.proofs.LexemeOpeners.{quote_begins, no_quote_begins}
-use Rattle.rl_text.proofs.Rests.{tail_length}
+use Rattle.rl_syntax.proofs.Rests.{tail_length}
 use Rattle.rl_lexer.specs.Mirrors.LexemeAt.{begins_quote}
 use Rattle.rl_lexer.specs.Lexemes.{begins_raw_identifier}
 
--- a text's characters take its bytes
+-- The characters of a text, encoded, have the length of its bytes.
 pub char_len : (t : List ℕ) → IsUtf8 t → byte_len (chars t) ≡ length t
 char_len t is = ap length (encodes-chars t is)
 
--- the place of the rest
+-- The byte offset of the rest, by bytes and by characters.
 pub rest_place : (text rest : List ℕ) (at : ℕ) → IsUtf8 text → IsUtf8 rest → at + length rest ≡ length text
     → at + byte_len (chars rest) ≡ byte_len (chars text)
 rest_place text rest at is is_rest place = omega (arith, char_len text is, char_len rest is_rest, place)
 
--- no lexeme begins the rest
+-- The kind of the error at a rest that begins with no lexeme.
 kind_here : (groups : List OpenGroup) (r : List ℕ) → r ≢ [] → BeginsNoLexeme r → ErrorAt (error_kind r) groups r
 kind_here groups r some none =
     go (begins_doc_comment r) (begins (codes "/*") r) (begins_quote r) (begins_lifetime r) (begins_raw_identifier r)
@@ -57,7 +57,7 @@ error_rejects t UnclosedGroup at h = h
 error_rejects t TooDeep at h = h
 error_rejects t Memory at h = absurd h.error
 
--- the error at a rest that isn't empty is reported where the rest begins
+-- The error at a rest that isn't empty is at the start of the rest.
 here_place : (r : List ℕ) (groups : List OpenGroup) (at : ℕ) → at ≡ error_place (error_kind r) groups at
 here_place r groups at = go (begins_doc_comment r) (begins (codes "/*") r) (begins_quote r) (begins_lifetime r)
     (begins_raw_identifier r)
@@ -78,7 +78,7 @@ chars_some rest is some nil =
     let n : 0 < length rest = grind (arith, nat_tests) in
     absurd (omega (arith, ap length e))
 
--- What the cursor tells where no lexeme begins what is left.
+-- The error that the cursor returns if no lexeme begins the rest.
 pub record Stops (t : CursorState) (e : LexError) : Type 0 where
   pub error : (groups : List OpenGroup) → ErrorAt e.kind groups (chars t.rest)
   pub first : IsFirstError t e.kind e.at

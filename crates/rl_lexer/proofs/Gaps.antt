@@ -1,10 +1,11 @@
--- What is proved of single tokens: at most one begins a text, and one that isn't a mark stays one before a gap.
-use Rattle.rl_text.proofs.Common.{IsTrue, ⊤}
+-- Theorems on single lexemes: at most one begins a text, and one other than a punctuation character is one before any
+-- separator too.
+use Rattle.rl_syntax.proofs.Common.{IsTrue, ⊤}
 use Rattle.std.specs.Prelude.{◌≡◌, ◌||◌, ◌==◌, ℕ, List, [], ◌∷◌, ◌++◌}
-use Rattle.rl_text.specs.Texts.{is_white}
+use Rattle.rl_syntax.specs.Texts.{is_white}
 use Rattle.rl_lexer.specs.Lexemes.{Lexeme, MarkLexeme, IsLexeme, LexemeWith}
 
--- At most one front of a text is a lexeme with the rest.
+-- A text begins with at most one lexeme.
 abbrev pub OneLexeme : Type 0
 OneLexeme = (t v w x y : List ℕ) → t ≡ v ++ x → t ≡ w ++ y → LexemeWith v x → LexemeWith w y → (v ≡ w) × (x ≡ y)
 
@@ -13,11 +14,11 @@ abbrev pub BeginsGap : List ℕ → Type 0
 BeginsGap [] = ⊤
 BeginsGap (c ∷ t) = IsTrue (is_white c || c == 47)
 
--- What is determined by its own characters: all but the marks.
+-- Lexemes that their own characters determine: all except punctuation characters.
 abbrev pub KeepsItsEnd : Lexeme → Type 0
 KeepsItsEnd (MarkLexeme c) = ⊥
 KeepsItsEnd _ = ⊤
 
--- A lexeme but a mark stays one before a gap and at the end.
+-- A lexeme other than a punctuation character is also a lexeme before a separator and at the end of a text.
 abbrev pub StaysBeforeGap : Type 0
 StaysBeforeGap = (l : Lexeme) (after gap : List ℕ) → KeepsItsEnd l → IsLexeme l after → BeginsGap gap → IsLexeme l gap

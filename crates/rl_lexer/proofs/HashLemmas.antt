@@ -1,10 +1,10 @@
--- Rows of hashes, as raw literals have them.
-use Rattle.rl_text.proofs.Common.{◌≡◌, ◌≢◌, ℕ, suc, zero, Bool, true, false, ◌&&◌, ◌==◌, cond, List, [], ◌∷◌, ◌++◌, length, drop, replicate, refl, sym, ◌∙◌, ap, and_parts, append_cancel_right, list_all}
+-- Sequences of hashes, as in raw literals.
+use Rattle.rl_syntax.proofs.Common.{◌≡◌, ◌≢◌, ℕ, suc, zero, Bool, true, false, ◌&&◌, ◌==◌, cond, List, [], ◌∷◌, ◌++◌, length, drop, replicate, refl, sym, ◌∙◌, ap, and_parts, append_cancel_right, list_all}
 use Rattle.std.proofs.lemmas.List.{length-replicate}
-use Rattle.rl_text.specs.Classes.{is_hash, after_run}
+use Rattle.rl_syntax.specs.Classes.{is_hash, after_run}
 use Rattle.rl_lexer.specs.Lexemes.{begins_hashes}
 use Rattle.rl_lexer.specs.Mirrors.LexemeAt.{hashes}
-use Rattle.rl_text.proofs.Basics.{false_unless, hashes_all}
+use Rattle.rl_syntax.proofs.Basics.{false_unless, hashes_all}
 use Rattle.rl_lexer.proofs.Pieces.{is_equal}
 
 pub hashes_here : (n : ℕ) (t : List ℕ) → begins_hashes n (replicate n 35 ++ t) ≡ true
@@ -35,7 +35,7 @@ pub hashes_past : (n : ℕ) (t : List ℕ) → after_run is_hash (replicate n 35
 hashes_past zero t = refl
 hashes_past (suc n) t = hashes_past n t
 
--- ---- the hashes at the front of a text
+-- ---- the hashes at the start of a text
 
 hashes_step : (c : ℕ) (t : List ℕ) (b : Bool) → (c == 35) ≡ b → t ≡ replicate (hashes t) 35 ++ after_run is_hash t
     → c ∷ t ≡ replicate (cond b (suc (hashes t)) zero) 35 ++ cond b (after_run is_hash t) (c ∷ t)
@@ -46,7 +46,7 @@ pub hashes_first : (t : List ℕ) → t ≡ replicate (hashes t) 35 ++ after_run
 hashes_first [] = refl
 hashes_first (c ∷ t) = hashes_step c t (c == 35) refl (hashes_first t)
 
--- what stands before the rest that has none
+-- The hashes before a rest that doesn't begin with a hash.
 pub hashes_before : (h t r : List ℕ) → r ≡ after_run is_hash t → t ≡ h ++ r → h ≡ replicate (hashes t) 35
 hashes_before h t r past e = append_cancel_right h (replicate (hashes t) 35) (after_run is_hash t)
     (ap (λ z. h ++ z) (sym past) ∙ sym e ∙ hashes_first t)
@@ -57,7 +57,7 @@ hashes_alone h t r past e = ap (list_all is_hash) (hashes_before h t r past e) �
 pub hashes_counted : (h t r : List ℕ) → r ≡ after_run is_hash t → t ≡ h ++ r → length h ≡ hashes t
 hashes_counted h t r past e = ap length (hashes_before h t r past e) ∙ length-replicate (hashes t) 35
 
--- ---- a text after as many hashes
+-- ---- a text after the number of hashes
 
 hashes_are : (h : List ℕ) → list_all is_hash h ≡ true → h ≡ replicate (length h) 35
 hashes_are [] is = refl

@@ -1,5 +1,5 @@
--- What `lexeme_at` says, in the words of the definitions.
-use Rattle.rl_text.proofs.Common.{◌≡◌, ℕ, ◌++◌, List, Option, Some, None, sym, ◌∙◌, ap, Bor, IfSome, IfNone, option_map, chars, none-some}
+-- The results of `lexeme_at`, by the definitions.
+use Rattle.rl_syntax.proofs.Common.{◌≡◌, ℕ, ◌++◌, List, Option, Some, None, sym, ◌∙◌, ap, Bor, IfSome, IfNone, option_map, chars, none-some}
 use Rattle.rl_lexer.specs.declared.lexeme.Form.{Form as FoundForm}
 use Rattle.rl_lexer.specs.Lexemes.{LexemeForm, form_of, LexemeBefore}
 use Rattle.rl_lexer.specs.Cursors.{form_view}
@@ -10,7 +10,7 @@ use Rattle.rl_lexer.proofs.LexemeFound.{lexeme_at-found}
 abbrev Answer : Type 0
 Answer = Option (FoundForm × Bor (List ℕ))
 
--- the form and the rest of an answer, by characters
+-- The form of a token, and the characters of the text after it.
 abbrev seen : FoundForm × Bor (List ℕ) → LexemeForm × List ℕ
 seen p = (form_view p.0, chars p.1.now)
 

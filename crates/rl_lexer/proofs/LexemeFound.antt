@@ -1,17 +1,17 @@
--- What `lexeme_at` takes off is a lexeme.
-use Rattle.rl_text.proofs.Common.{◌≡◌, ℕ, suc, zero, inl, inr, Bool, true, false, not, ◌&&◌, ◌||◌, ◌==◌, cond, List, [], ◌∷◌, ◌++◌, Option, Some, None, drop, replicate, refl, sym, ◌∙◌, ap, subst, append_assoc, and_parts, or_from, list_all, if◌then◌else◌, option_map, is_ascii_digit, none-some}
-use Rattle.rl_text.specs.Texts.{is_underscore, is_among, first_passes, is_run_part, is_start, is_continue, begins_char}
+-- The text that `lexeme_at` consumes is a lexeme.
+use Rattle.rl_syntax.proofs.Common.{◌≡◌, ℕ, suc, zero, inl, inr, Bool, true, false, not, ◌&&◌, ◌||◌, ◌==◌, cond, List, [], ◌∷◌, ◌++◌, Option, Some, None, drop, replicate, refl, sym, ◌∙◌, ap, subst, append_assoc, and_parts, or_from, list_all, if◌then◌else◌, option_map, is_ascii_digit, none-some}
+use Rattle.rl_syntax.specs.Texts.{is_underscore, is_among, first_passes, is_run_part, is_start, is_continue, begins_char}
 use Rattle.rl_lexer.specs.Lexemes.{is_base_letter, delimiters, marks, begins_hashes, begins_dot, BodyPart, PlainPart, EscapedPart, body_text, IsBody, CharacterBody, OneCharacter, EscapedCharacter, character_body_text, IsCharacterBody, LexedFraction, NoLexedFraction, LexedDot, lexed_fraction_text, lexed_sign_text, LexedExponent, NoLexedExponent, LexedPower, lexed_exponent_text, IsRun, IsLexedSuffix, IsRawBody, IsLexedFraction, IsLexedExponent, LiteralPrefix, NoPrefix, BytePrefix, CPrefix, prefix_text, Lexeme, QuotedLexeme, RawLexeme, CharacterLexeme, BasedLexeme, DecimalLexeme, IdentifierLexeme, DelimiterLexeme, MarkLexeme, lexeme_text, IsLexeme, LexemeForm, LiteralForm, IdentifierForm, DelimiterForm, MarkForm, form_of, is_punct}
 use Rattle.rl_lexer.proofs.Comments.{chosen, chosen3, same_Some}
 use Rattle.rl_lexer.proofs.Pieces.{is_equal}
 use Rattle.rl_lexer.specs.Mirrors.LexemeAt.{after_suffix, after_quote, hashes, after_raw, after_apostrophe, after_single, after_lexed_fraction, after_lexed_exponent, after_decimal, HeadClass, LetterBHead, LetterCHead, LetterRHead, OtherLetterHead, QuoteHead, ApostropheHead, DigitHead, SlashHead, StrayHead, start_class, other_class, head_class, quoted_at, raw_at, single_at, word_at, by_class, lexeme_at, literal_at, DelimiterHead, MarkHead, after_digit, begins_hashed_quote, begins_exponent, after_sign, begins_otherwise}
-use Rattle.rl_text.specs.Classes.{is_hash, after_run}
+use Rattle.rl_syntax.specs.Classes.{is_hash, after_run}
 use Rattle.rl_lexer.proofs.HashLemmas.{hashes_split, hashes_inside}
 use Rattle.rl_lexer.proofs.LexemeRows.{power_text}
 use Rattle.rl_lexer.proofs.LexemeOpeners.{prefixed, opens_found, sign_found, underscores_found, passes_split, no_exponent_begins, none_otherwise}
 use Rattle.rl_lexer.proofs.LexemeFronts.{decimal_text, raw_text}
 
--- Rows and suffixes.
+-- The text begins with a sequence of characters that pass the test, and `r` is the text after it.
 abbrev Row : (ℕ → Bool) → List ℕ → List ℕ → Type 0
 Row test t r = (run : List ℕ) × IsRun test run r × (t ≡ run ++ r)
 
@@ -41,7 +41,7 @@ mapped : {A B : Type 0} (f : A → B) (o : Option A) (r : B) → option_map f o 
 mapped f None r h = absurd (cc)
 mapped f (Some m) r h = (m, refl, cc)
 
--- Quoted bodies.
+-- The text begins with the body of a string literal and its closing quote, and `r` is the text after them.
 abbrev Body : List ℕ → List ℕ → Type 0
 Body t r = (parts : List BodyPart) × IsBody parts × (t ≡ body_text parts ++ 34 ∷ r)
 
@@ -73,7 +73,7 @@ quote_found (c ∷ e ∷ t) r h =
       | inr (inr (a, b, x)) ↦ body_plain c (e ∷ t) r a b (quote_found (e ∷ t) r x)
     ]
 
--- Raw bodies.
+-- The text begins with the body of a raw literal and its closing delimiter, and `r` is the text after them.
 abbrev RawBody : ℕ → List ℕ → List ℕ → Type 0
 RawBody n t r = (body : List ℕ) × IsRawBody n body × (t ≡ body ++ 34 ∷ (replicate n 35 ++ r))
 
@@ -103,7 +103,7 @@ raw_found n (c ∷ t) r h =
       | inr (a, x) ↦ raw_more n c t r a (raw_found n t r x)
     ]
 
--- Characters.
+-- The text begins with the rest of an escaped character and the closing quote, and `r` is the text after them.
 abbrev More : List ℕ → List ℕ → Type 0
 More t r = (more : List ℕ) × (list_all (λ d. not (d == 39 || d == 10)) more ≡ true) × (t ≡ more ++ 39 ∷ r)
 
@@ -147,7 +147,7 @@ single_found (c ∷ e ∷ t) r h =
       | inr (inr (a, b, x)) ↦ absurd (none-some r x)
     ]
 
--- Parts of a decimal.
+-- The text begins with the fraction of a decimal number, perhaps an empty one, and `r` is the text after it.
 abbrev Fractioned : List ℕ → List ℕ → Type 0
 Fractioned t r = (f : LexedFraction) × IsLexedFraction f r × (t ≡ lexed_fraction_text f ++ r)
 
@@ -208,11 +208,11 @@ exponent_step (c ∷ t) true h =
 pub exponent_found : (t : List ℕ) → Powered t (after_lexed_exponent t)
 exponent_found t = exponent_step t (begins_exponent t) refl
 
--- A lexeme of this form at the front, and the rest.
+-- A lexeme of this form begins the text, and the rest follows it.
 abbrev pub Found : List ℕ → LexemeForm × List ℕ → Type 0
 Found t p = (l : Lexeme) × IsLexeme l p.1 × (t ≡ lexeme_text l ++ p.1) × (form_of l ≡ p.0)
 
--- A literal at the front.
+-- A literal begins the text, and `r` is the text after it.
 abbrev FoundLiteral : List ℕ → List ℕ → Type 0
 FoundLiteral t r = Found t (LiteralForm, r)
 
@@ -250,7 +250,7 @@ decimal_found d t is other =
       refl,
     )
 
--- What the class of a head says of it.
+-- The facts about a character that its class gives.
 abbrev Fact : HeadClass → ℕ → Type 0
 Fact LetterBHead c = (is_start c ≡ true) × (c ≡ 98)
 Fact LetterCHead c = (is_start c ≡ true) × (c ≡ 99)
@@ -296,7 +296,7 @@ head_fact c true h = start_fact c h (c == 98) (c == 99) (c == 114) refl refl ref
 head_fact c false h = other_fact c (is_among delimiters c) (c == 47) (is_punct c) (is_ascii_digit c) (c == 34) (c == 39)
     refl refl refl refl refl refl
 
--- Each form.
+-- A lexeme that begins with a given character.
 at_head : (c k : ℕ) (t : List ℕ) (p : LexemeForm × List ℕ) → c ≡ k → Found (k ∷ t) p → Found (c ∷ t) p
 at_head c k t p h (l, is, same, form) = (l, is, ap (λ x. x ∷ t) h ∙ same, form)
 
@@ -379,7 +379,7 @@ word_found c t p is other h =
 none3 : (p q r : Bool) → p ≡ false → q ≡ false → r ≡ false → (p || (q || r)) ≡ false
 none3 p q r a b d = ap (λ x. x || (q || r)) a ∙ ap (λ x. x || r) b ∙ d
 
--- a literal whose prefix is one character, after which the text goes on with k
+-- A literal with a prefix of one character, which the character k follows.
 after_prefix : (c k : ℕ) (t : List ℕ) (p : LexemeForm × List ℕ) → begins_char k t ≡ true
     → Found (c ∷ k ∷ drop 1 t) p → Found (c ∷ t) p
 after_prefix c k t p e found = subst (λ (s : List ℕ). Found (c ∷ s) p) (sym (prefixed k t e)) found

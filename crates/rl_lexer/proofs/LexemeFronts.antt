@@ -1,32 +1,32 @@
--- A lexeme is what `lexeme_at` takes off, so at most one front of a text is a lexeme with the rest.
-use Rattle.rl_text.proofs.Common.{◌≡◌, ℕ, ◌<◌, inl, inr, Bool, true, false, not, ◌&&◌, ◌||◌, ◌==◌, cond, List, [], ◌∷◌, ◌++◌, Option, Some, None, drop, replicate, refl, sym, ◌∙◌, ap, subst, arith, append_assoc, lit<, and_parts, or_parts, nat_tests, list_all, IsTrue, nat_lt, is_ascii_alphabetic, is_ascii_digit, option_map, is_xid_start-ascii, append_cancel_right}
-use Rattle.rl_text.specs.Texts.{is_white, is_among, first_passes, is_run_part, is_start, is_continue, begins_char}
+-- A lexeme is exactly the text that `lexeme_at` consumes, so a text begins with at most one lexeme.
+use Rattle.rl_syntax.proofs.Common.{◌≡◌, ℕ, ◌<◌, inl, inr, Bool, true, false, not, ◌&&◌, ◌||◌, ◌==◌, cond, List, [], ◌∷◌, ◌++◌, Option, Some, None, drop, replicate, refl, sym, ◌∙◌, ap, subst, arith, append_assoc, lit<, and_parts, or_parts, nat_tests, list_all, IsTrue, nat_lt, is_ascii_alphabetic, is_ascii_digit, option_map, is_xid_start-ascii, append_cancel_right}
+use Rattle.rl_syntax.specs.Texts.{is_white, is_among, first_passes, is_run_part, is_start, is_continue, begins_char}
 use Rattle.rl_lexer.specs.Lexemes.{BeginsOtherwise, is_base_letter, delimiters, marks, BodyPart, body_text, IsBody, CharacterBody, character_body_text, IsCharacterBody, LexedFraction, lexed_fraction_text, LexedExponent, lexed_exponent_text, IsRun, IsLexedSuffix, IsRawBody, LiteralPrefix, NoPrefix, BytePrefix, CPrefix, Lexeme, QuotedLexeme, RawLexeme, CharacterLexeme, BasedLexeme, DecimalLexeme, IdentifierLexeme, DelimiterLexeme, MarkLexeme, lexeme_text, IsLexeme, LexemeForm, LiteralForm, IdentifierForm, DelimiterForm, MarkForm, form_of, is_punct}
 use Rattle.rl_lexer.proofs.Gaps.{OneLexeme}
-use Rattle.rl_text.proofs.Basics.{false_unless}
+use Rattle.rl_syntax.proofs.Basics.{false_unless}
 use Rattle.rl_lexer.proofs.Comments.{same_Some}
 use Rattle.rl_lexer.proofs.Pieces.{is_equal}
 use Rattle.rl_lexer.specs.Mirrors.LexemeAt.{after_suffix, after_raw, after_lexed_fraction, after_lexed_exponent, after_decimal, HeadClass, LetterBHead, LetterCHead, LetterRHead, OtherLetterHead, QuoteHead, ApostropheHead, DigitHead, SlashHead, StrayHead, start_class, other_class, head_class, quoted_at, raw_at, single_at, word_at, by_class, lexeme_at, literal_at, DelimiterHead, MarkHead, begins_hashed_quote, begins_otherwise}
-use Rattle.rl_text.specs.Classes.{is_hash, after_run}
+use Rattle.rl_syntax.specs.Classes.{is_hash, after_run}
 use Rattle.rl_lexer.proofs.LexemeRows.{not_true, run_past, suffix_past, quote_past, raw_past, single_past, fraction_past, not_among}
 use Rattle.rl_lexer.proofs.HashLemmas.{hashes_count, hashes_past}
 use Rattle.rl_lexer.proofs.LexemeOpeners.{raw_opens_here, exponent_past, no_otherwise}
 
--- Heads: the first character alone.
+-- The class of a character that doesn't begin an identifier.
 pub class_other : (c : ℕ) → is_start c ≡ false → head_class c ≡ other_class c
 class_other c h = ap (λ b. cond b (start_class c) (other_class c)) h
 
 pub class_start : (c : ℕ) → is_start c ≡ true → head_class c ≡ start_class c
 class_start c h = ap (λ b. cond b (start_class c) (other_class c)) h
 
--- The ASCII part of `is_start`.
+-- The test `is_start` for ASCII characters.
 abbrev ascii_start : ℕ → Bool
 ascii_start c = (c == 95 || is_ascii_alphabetic c) && not (is_white c)
 
 pub start_ascii : (c : ℕ) → c < 128 → is_start c ≡ ascii_start c
 start_ascii c l = ap (λ b. (c == 95 || b) && not (is_white c)) (is_xid_start-ascii c l)
 
--- What each of the codes passes, the one of them passes.
+-- If each of the codes passes the test, a character among them passes it.
 pub among : (codes : List ℕ) (test : ℕ → Bool) (c : ℕ) → list_all test codes ≡ true → is_among codes c ≡ true → test c
     ≡ true
 among [] test c all is = absurd (cc)
@@ -51,7 +51,7 @@ not_start_among codes c low all is = start_ascii c (low_among codes c low is)
 pub at_class : (c : ℕ) (t : List ℕ) (k : HeadClass) → head_class c ≡ k → lexeme_at (c ∷ t) ≡ by_class k c t
 at_class c t k h = ap (λ x. by_class x c t) h
 
--- the classes of what is no delimiter, and of what is no punctuation either
+-- The class of a character that is neither a delimiter nor a punctuation character.
 abbrev pub tail_punct : ℕ → HeadClass
 tail_punct c = cond (is_ascii_digit c) DigitHead (cond (c == 34) QuoteHead (cond (c == 39) ApostropheHead StrayHead))
 
@@ -61,7 +61,7 @@ tail_slash c = cond (is_punct c) MarkHead (tail_punct c)
 abbrev pub after_delimiter : ℕ → HeadClass
 after_delimiter c = cond (c == 47) SlashHead (tail_slash c)
 
--- what is none of these
+-- A character in no other class is a stray.
 pub stray_class : (c : ℕ) → is_start c ≡ false → is_among delimiters c ≡ false → (c == 47) ≡ false → is_among marks c
     ≡ false → is_ascii_digit c ≡ false → (c == 34) ≡ false → (c == 39) ≡ false → head_class c ≡ StrayHead
 stray_class c start delimiter slash mark digit quote apostrophe =
@@ -91,7 +91,7 @@ class99 = class_start 99 (start_ascii 99 (lit< tt))
 pub class114 : head_class 114 ≡ LetterRHead
 class114 = class_start 114 (start_ascii 114 (lit< tt))
 
--- Quoted.
+-- The text after a string literal with escapes.
 quoted_past : (parts : List BodyPart) (x t : List ℕ) → IsBody parts → IsLexedSuffix x t
     → quoted_at (body_text parts ++ 34 ∷ x ++ t) ≡ Some t
 quoted_past parts x t is suffix =
@@ -107,7 +107,7 @@ front_quoted BytePrefix parts x t is suffix = at_class 98 (34 ∷ (body_text par
 front_quoted CPrefix parts x t is suffix = at_class 99 (34 ∷ (body_text parts ++ 34 ∷ x ++ t)) LetterCHead class99
     ∙ ap literal_at (quoted_past parts x t is suffix)
 
--- Characters.
+-- After a character or byte literal's body, closing quote and suffix, `single_at` returns the text after them.
 single_front : (inside : CharacterBody) (x t : List ℕ) → IsCharacterBody inside → IsLexedSuffix x t
     → single_at (character_body_text inside ++ 39 ∷ x ++ t) ≡ Some t
 single_front inside x t is suffix =
@@ -121,7 +121,7 @@ front_character false inside x t is suffix = at_class 39 (character_body_text in
 front_character true inside x t is suffix = at_class 98 (39 ∷ (character_body_text inside ++ 39 ∷ x ++ t)) LetterBHead
     class98 ∙ ap literal_at (single_front inside x t is suffix)
 
--- Delimiters and marks.
+-- Delimiters and punctuation characters.
 not_delimiter : (codes : List ℕ) (c : ℕ) → list_all (λ k. not (is_among delimiters k)) codes ≡ true → is_among codes c
     ≡ true → is_among delimiters c ≡ false
 not_delimiter codes c all is = not_true (is_among delimiters c)
@@ -145,7 +145,7 @@ front_mark c t (inl is) =
     ∙ ap (λ b. cond (b || c == 47) MarkHead (tail_punct c)) is)
 front_mark c t (inr (e, h)) = ap (λ x. lexeme_at (x ∷ t)) e ∙ front_slash t h ∙ ap (λ x. Some (MarkForm x, t)) (sym e)
 
--- Raw.
+-- The text of a raw literal and the text after it.
 pub raw_text : (n : ℕ) (body x t : List ℕ) → (((replicate n 35 ++ (34 ∷ body)) ++ (34 ∷ replicate n 35)) ++ x) ++ t
     ≡ replicate n 35 ++ (34 ∷ (body ++ (34 ∷ (replicate n 35 ++ (x ++ t)))))
 raw_text n body x t = simp append_assoc
@@ -182,7 +182,7 @@ front_raw CPrefix n body x t is suffix =
     ∙ raw_chosen u (word_at (114 ∷ u)) t (raw_opens_here n (body ++ 34 ∷ (replicate n 35 ++ (x ++ t))))
     (raw_front n body x t is suffix)
 
--- Numbers.
+-- The text after a number with a prefix.
 front_based : (letter : ℕ) (digits t : List ℕ) → IsTrue (is_base_letter letter) → IsRun is_continue digits t
     → lexeme_at (48 ∷ letter ∷ digits ++ t) ≡ Some (LiteralForm, t)
 front_based letter digits t is run =
@@ -236,7 +236,7 @@ front_decimal d more f e x t (is, not_based, run, fraction, exponent, suffix) =
     ∙ ap (λ s. Some (LiteralForm, after_suffix s)) (exponent_past e (x ++ t) exponent)
     ∙ ap (λ s. Some (LiteralForm, s)) (suffix_past x t suffix)
 
--- Identifiers.
+-- A choice by three conditions that are all false returns its last value.
 pub none_of3 : {A : Type 0} (p q r : Bool) (x y z w : A) → (p || (q || r)) ≡ false → cond p x (cond q y (cond r z w))
     ≡ w
 none_of3 true q r x y z w h = absurd (cc)
@@ -272,7 +272,7 @@ front_identifier c more t is run other =
     at_class c (more ++ t) (start_class c) (class_start c is) ∙ word_class c (more ++ t)
     (no_otherwise (c ∷ more ++ t) other) ∙ ap (λ s. Some (IdentifierForm, s)) (run_past is_continue more t run)
 
--- All eight.
+-- For a lexeme of each of the eight forms, `lexeme_at` returns its form and the text after it.
 pub lexeme_at-past : (l : Lexeme) (t : List ℕ) → IsLexeme l t → lexeme_at (lexeme_text l ++ t) ≡ Some (form_of l, t)
 lexeme_at-past (QuotedLexeme p parts x) t (is, suffix) = front_quoted p parts x t is suffix
 lexeme_at-past (RawLexeme p n body x) t (is, suffix) = front_raw p n body x t is suffix

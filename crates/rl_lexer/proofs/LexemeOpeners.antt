@@ -1,11 +1,11 @@
--- What the tests say of how a text begins, in the words of the lexemes.
-use Rattle.rl_text.proofs.Common.{◌≡◌, ℕ, suc, zero, ◌⊎◌, inl, inr, Bool, true, false, not, ◌&&◌, ◌||◌, ◌==◌, cond, List, [], ◌∷◌, ◌++◌, drop, replicate, refl, sym, ◌∙◌, ap, and_parts, codes, is_ascii_digit, and_from, or_left, or_right}
-use Rattle.rl_text.specs.Texts.{is_underscore, first_passes, begins, is_run_part, is_start, begins_char}
+-- The tests of a text's start, by the lexemes.
+use Rattle.rl_syntax.proofs.Common.{◌≡◌, ℕ, suc, zero, ◌⊎◌, inl, inr, Bool, true, false, not, ◌&&◌, ◌||◌, ◌==◌, cond, List, [], ◌∷◌, ◌++◌, drop, replicate, refl, sym, ◌∙◌, ap, and_parts, codes, is_ascii_digit, and_from, or_left, or_right}
+use Rattle.rl_syntax.specs.Texts.{is_underscore, first_passes, begins, is_run_part, is_start, begins_char}
 use Rattle.rl_lexer.specs.Lexemes.{BeginsHashedQuote, LiteralPrefix, NoPrefix, BytePrefix, CPrefix, prefix_text, BeginsRaw, begins_prefixed_quote, begins_raw_identifier, BeginsOtherwise, LexedSign, NoLexedSign, LexedPlus, LexedMinus, lexed_sign_text, LexedExponent, NoLexedExponent, LexedPower, lexed_exponent_text, IsLexedExponent, BeginsLexedExponent}
 use Rattle.rl_lexer.specs.Cuts.{begins_lifetime, BeginsQuote}
 use Rattle.rl_lexer.specs.Mirrors.LexemeAt.{hashes, begins_hashed_quote, begins_raw_after, begins_raw, begins_quote, begins_otherwise, after_sign, begins_exponent, after_lexed_exponent}
-use Rattle.rl_text.specs.Classes.{is_hash, after_run}
-use Rattle.rl_text.proofs.Basics.{false_unless}
+use Rattle.rl_syntax.specs.Classes.{is_hash, after_run}
+use Rattle.rl_syntax.proofs.Basics.{false_unless}
 use Rattle.rl_lexer.proofs.Pieces.{is_equal}
 use Rattle.rl_lexer.proofs.HashLemmas.{hashes_first, hashes_past}
 use Rattle.rl_lexer.proofs.LexemeRows.{not_true, underscores_past, digits_past, sign_past, power_text}
@@ -14,12 +14,12 @@ or_cases : (a b : Bool) → (a || b) ≡ true → (a ≡ true) ⊎ (b ≡ true)
 or_cases true b h = inl refl
 or_cases false b h = inr h
 
--- a text that goes on with this character
+-- A text that begins with this character is the character and the rest.
 pub prefixed : (k : ℕ) (t : List ℕ) → begins_char k t ≡ true → t ≡ k ∷ drop 1 t
 prefixed k [] h = absurd (cc)
 prefixed k (c ∷ t) h = ap (λ x. x ∷ t) (is_equal c k h)
 
--- a text that begins with these two characters
+-- A text that begins with these two characters is the two characters and the rest.
 two : (k l : ℕ) (t : List ℕ) → begins (k ∷ l ∷ []) t ≡ true → (u : List ℕ) × (t ≡ k ∷ l ∷ u)
 two k l [] h = absurd (cc)
 two k l (c ∷ []) h = let q : false ≡ true = (and_parts (c == k) false h).1 in absurd (cc)
@@ -169,7 +169,7 @@ exponent_past (LexedPower letter s n d more) t (is_letter, is, run) =
     (letter ∷ (lexed_sign_text s ++ (replicate n 95 ++ d ∷ (more ++ t))))) is
     ∙ digits_past n d more t is run
 
--- ---- what is no identifier
+-- ---- text that isn't an identifier
 
 pub raw_split : (r : List ℕ) → begins_raw_identifier r ≡ true → (d : ℕ) × (u : List ℕ) × (r ≡ 114 ∷ 35 ∷ d ∷ u)
     × (is_start d ≡ true)
@@ -209,7 +209,7 @@ otherwise_here t (inr (inl h)) = ap begins_otherwise h.text_is
     ∙ raw_otherwise h.prefix h.rest (hashed_here h.rest h.opens)
 otherwise_here t (inr (inr h)) = let (d, u, same, is) = raw_split t h in ap begins_otherwise same ∙ or_right _ _ is
 
--- what stands after each prefix
+-- The text after `b` continues a literal's prefix.
 abbrev tail_b : List ℕ → Bool
 tail_b t = begins_char 34 t || (begins_char 39 t ||
     (begins_char 114 t && begins_hashed_quote (drop 1 t)))

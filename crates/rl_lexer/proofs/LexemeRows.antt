@@ -1,12 +1,12 @@
--- Each stage of a lexeme, past what it is made of.
-use Rattle.rl_text.proofs.Common.{◌≡◌, ℕ, suc, zero, Bool, true, false, not, ◌&&◌, ◌||◌, ◌==◌, cond, List, [], ◌∷◌, ◌++◌, Some, None, drop, replicate, refl, sym, ◌∙◌, ap, subst, append_assoc, and_parts, list_all, is_ascii_digit}
-use Rattle.rl_text.specs.Texts.{is_underscore, first_passes, is_run_part, is_continue}
+-- The text after each part of a lexeme, by the parts before it.
+use Rattle.rl_syntax.proofs.Common.{◌≡◌, ℕ, suc, zero, Bool, true, false, not, ◌&&◌, ◌||◌, ◌==◌, cond, List, [], ◌∷◌, ◌++◌, Some, None, drop, replicate, refl, sym, ◌∙◌, ap, subst, append_assoc, and_parts, list_all, is_ascii_digit}
+use Rattle.rl_syntax.specs.Texts.{is_underscore, first_passes, is_run_part, is_continue}
 use Rattle.rl_lexer.specs.Lexemes.{BodyPart, PlainPart, EscapedPart, body_text, IsBody, CharacterBody, OneCharacter, EscapedCharacter, character_body_text, IsCharacterBody, LexedFraction, NoLexedFraction, LexedDot, lexed_fraction_text, LexedSign, NoLexedSign, LexedPlus, LexedMinus, lexed_sign_text, LexedPower, lexed_exponent_text, IsRun, IsLexedSuffix, IsRawBody, IsLexedFraction}
-use Rattle.rl_text.proofs.Basics.{false_unless}
+use Rattle.rl_syntax.proofs.Basics.{false_unless}
 use Rattle.rl_lexer.proofs.HashLemmas.{hashes_here, drop_hashes, hashes_inside}
 use Rattle.rl_lexer.proofs.Pieces.{is_equal}
 use Rattle.rl_lexer.specs.Mirrors.LexemeAt.{after_suffix, after_quote, after_raw, after_apostrophe, after_single, after_lexed_fraction, after_sign}
-use Rattle.rl_text.specs.Classes.{after_run}
+use Rattle.rl_syntax.specs.Classes.{after_run}
 
 pub not_true : (a : Bool) → not a ≡ true → a ≡ false
 not_true true h = absurd (cc)
@@ -16,7 +16,7 @@ pub neither_true : (a b : Bool) → not (a || b) ≡ true → (a ≡ false) × (
 neither_true true b h = absurd (cc)
 neither_true false b h = (refl, not_true b h)
 
--- Rows.
+-- A text that doesn't begin with a character that passes the test is unchanged.
 run_stops : (test : ℕ → Bool) (t : List ℕ) → first_passes test t ≡ false → after_run test t ≡ t
 run_stops test [] h = refl
 run_stops test (c ∷ t) h = ap (λ b. cond b (after_run test t) (c ∷ t)) h
@@ -34,7 +34,7 @@ suffix_past [] (c ∷ t) is = ap (λ b. cond b (after_run is_continue t) (c ∷ 
 suffix_past (c ∷ x) t (is, run) = ap (λ b. cond b (after_run is_continue (x ++ t)) (c ∷ x ++ t)) is
     ∙ run_past is_continue x t run
 
--- Quoted bodies.
+-- A string literal's closing quote at the start of a text ends the literal.
 pub quote_now : (t : List ℕ) → after_quote (34 ∷ t) ≡ Some t
 quote_now [] = refl
 quote_now (e ∷ t) = refl
@@ -59,7 +59,7 @@ quote_past (PlainPart c ∷ parts) t (plain, is) =
     plain_past c (body_text parts ++ 34 ∷ t) t (body_cons parts t) k.0 k.1 ∙ quote_past parts t is
 quote_past (EscapedPart c ∷ parts) t is = quote_past parts t is
 
--- Raw bodies.
+-- After the body and the closing delimiter of a raw literal, `after_raw` returns the text after them.
 pub raw_past : (n : ℕ) (body t : List ℕ) → IsRawBody n body → after_raw n (body ++ 34 ∷ (replicate n 35 ++ t)) ≡ Some t
 raw_past n [] t is =
     ap (λ b. cond b (Some (drop n (replicate n 35 ++ t))) (after_raw n (replicate n 35 ++ t))) (hashes_here n t)
@@ -70,7 +70,7 @@ raw_past n (c ∷ body) t (here, is) =
     (hashes_inside n body (replicate n 35 ++ t)) ∙ here)
     ∙ raw_past n body t is
 
--- Characters.
+-- After the rest of an escaped character and the closing quote, `after_apostrophe` returns the text after them.
 apostrophe_past : (more t : List ℕ) → list_all (λ d. not (d == 39 || d == 10)) more ≡ true
     → after_apostrophe (more ++ 39 ∷ t) ≡ Some t
 apostrophe_past [] t is = refl
@@ -87,7 +87,7 @@ pub single_past : (inside : CharacterBody) (t : List ℕ) → IsCharacterBody in
 single_past (OneCharacter c) t is = ap (λ b. cond b (after_apostrophe t) (Some t)) (not_true (c == 92) is)
 single_past (EscapedCharacter c more) t is = apostrophe_past more t is
 
--- Parts of a decimal.
+-- After the fraction of a decimal number, `after_lexed_fraction` returns the text after it.
 pub fraction_past : (f : LexedFraction) (t : List ℕ) → IsLexedFraction f t
     → after_lexed_fraction (lexed_fraction_text f ++ t) ≡ t
 fraction_past NoLexedFraction t is = ap (λ b. cond b (after_run (is_run_part is_ascii_digit) (drop 1 t)) t) is

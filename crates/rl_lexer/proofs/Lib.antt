@@ -18,12 +18,13 @@ pub mod BadQuotes
 pub mod SourceFronts
 pub mod SourceCuts
 pub mod SourceLaws
-pub mod LineLemmas
 pub mod ErrorKinds
 pub mod WordsAndMarks
 pub mod LiteralSteps
 pub mod CommentsPassed
 pub mod UnlikelyFronts
 pub mod TruthWords
+pub mod QuotedLexemes
+pub mod Continues
 pub mod MinusLaw
 pub mod Theorems

@@ -1,29 +1,29 @@
--- What stands between one literal of a source and the next.
-use Rattle.rl_text.proofs.Common.{◌≡◌, ◌⊎◌, inl, inr, ℕ, None, Some, true, false, ◌==◌, ◌+◌, ◌-◌, ◌≤◌, List, [], ◌∷◌, ◌++◌, refl, sym, ap, subst, ◌∙◌, append_assoc, append-nil, arith, AllByRecursion, chars}
-use Rattle.rl_text.specs.Texts.{byte_len, is_white, IsTail}
-use Rattle.rl_forms.specs.Trivia.{White}
+-- The tokens between one literal of a source and the next.
+use Rattle.rl_syntax.proofs.Common.{◌≡◌, ◌⊎◌, inl, inr, ℕ, None, Some, true, false, ◌==◌, ◌+◌, ◌-◌, ◌≤◌, List, [], ◌∷◌, ◌++◌, refl, sym, ap, subst, ◌∙◌, append_assoc, append-nil, arith, AllByRecursion, chars}
+use Rattle.rl_syntax.specs.Texts.{byte_len, is_white, IsTail}
+use Rattle.rl_syntax.specs.Trivia.{White}
 use Rattle.rl_lexer.specs.Skipping.{Skipped}
 use Rattle.rl_lexer.specs.Cursors.{CursorState, IsCursorState}
-use Rattle.rl_lexer.specs.Sources.{CutSource, SourceKind, source_kind, source_text, source_view, SourceBefore, SourcesUpTo, source_end, IsCutUpTo, TakesSource, IsLiteralText, IsNoLiteral, PassesTo}
-use Rattle.rl_lexer.specs.Mirrors.LiteralsAt.{HoldsNoLiteral, Reaches}
+use Rattle.rl_lexer.specs.Sources.{CutSource, SourceKind, source_kind, source_text, source_view, SourceBefore, SourcesUpTo, source_end, IsCutUpTo, TakesSource, IsLiteralText, IsOtherToken, PassesTo}
+use Rattle.rl_lexer.specs.Mirrors.LiteralsAt.{HasOnlyOtherTokens, Reaches}
 use Rattle.rl_lexer.specs.Mirrors.SkippedAt.{after_piece}
-use Rattle.rl_text.specs.Classes.{after_run}
+use Rattle.rl_syntax.specs.Classes.{after_run}
 use Rattle.rl_lexer.specs.declared.sources.SourceToken.{SourceToken}
-use Rattle.rl_text.proofs.TailLemmas.{tail_step}
+use Rattle.rl_syntax.proofs.TailLemmas.{tail_step}
 use Rattle.rl_lexer.proofs.CutLemmas.{byte_len-append}
 use Rattle.rl_lexer.proofs.ErrorKinds.{char_len}
 use Rattle.rl_lexer.proofs.Pieces.{after_piece-past, one_rest, skipped_after, skipped_again, skipped_here, skipped_run}
-use Rattle.rl_text.proofs.Rests.{tail_length}
+use Rattle.rl_syntax.proofs.Rests.{tail_length}
 use Rattle.rl_lexer.proofs.SourceCuts.{cut_more}
 
-all_join : (vs ws : List CutSource) → AllByRecursion IsNoLiteral vs → AllByRecursion IsNoLiteral ws
-    → AllByRecursion IsNoLiteral (vs ++ ws)
+all_join : (vs ws : List CutSource) → AllByRecursion IsOtherToken vs → AllByRecursion IsOtherToken ws
+    → AllByRecursion IsOtherToken (vs ++ ws)
 all_join [] ws each more = more
 all_join (v ∷ vs) ws each more = (each.0, all_join vs ws each.1 more)
 
--- ---- by the characters of what is left
+-- ---- by the characters of the rest
 
-pub holds_start : (t : List ℕ) → HoldsNoLiteral t t
+pub holds_start : (t : List ℕ) → HasOnlyOtherTokens t t
 holds_start t = record {
   cuts = λ _. [];
   others = λ _. tt;
@@ -31,7 +31,7 @@ holds_start t = record {
   goes_on = λ whole done _ cut. subst (λ z. IsCutUpTo whole z t) (sym (append-nil done)) cut;
 }
 
-pub holds_join : (t u r : List ℕ) → HoldsNoLiteral t u → HoldsNoLiteral u r → HoldsNoLiteral t r
+pub holds_join : (t u r : List ℕ) → HasOnlyOtherTokens t u → HasOnlyOtherTokens u r → HasOnlyOtherTokens t r
 holds_join t u r p q = record {
   cuts = λ whole. p.cuts whole ++ q.cuts whole;
   others = λ whole. all_join (p.cuts whole) (q.cuts whole) (p.others whole) (q.others whole);
@@ -41,10 +41,10 @@ holds_join t u r p q = record {
       (q.goes_on whole (done ++ p.cuts whole) (omega (arith, p.within, long)) (p.goes_on whole done long cut));
 }
 
--- one token that is no literal
+-- One token that isn't a literal leads from a text to the text after it.
 pub holds_one : (t after r : List ℕ) (kind : SourceKind) (token : SourceBefore t kind after)
     → (IsLiteralText kind (source_text token.token) → ⊥) → Skipped after r → byte_len r ≤ byte_len after
-    → HoldsNoLiteral t r
+    → HasOnlyOtherTokens t r
 holds_one t after r kind token other skipped short =
     let w = token.token in
     let long : byte_len t ≡ byte_len (source_text w) + byte_len after = ap byte_len token.text_is
@@ -57,7 +57,7 @@ holds_one t after r kind token other skipped short =
           after r cut token.text_is token.is_source (omega (arith, room)) skipped;
     }
 
--- where what is left is skipped to its first token
+-- The text after white space and comments isn't longer than the text.
 skipped_len : (t r : List ℕ) → Skipped t r → byte_len r ≤ byte_len t
 skipped_len t r (inl s) = omega (arith, ap byte_len s.text, byte_len-append s.front r)
 skipped_len t r (inr s) = let e : byte_len r ≡ 0 = ap byte_len s.nothing in omega (arith, e)
@@ -66,7 +66,7 @@ cut_skipped : (at : ℕ) (t : List ℕ) (done : List CutSource) (r : List ℕ) �
 cut_skipped at t [] r cut = skipped_again t r cut
 cut_skipped at t (w ∷ ws) r cut = cut_skipped (source_end w) cut.0 ws r cut.4
 
-pub holds_skipped : (t start r : List ℕ) → Skipped t start → HoldsNoLiteral start r → HoldsNoLiteral t r
+pub holds_skipped : (t start r : List ℕ) → Skipped t start → HasOnlyOtherTokens start r → HasOnlyOtherTokens t r
 holds_skipped t start r skipped h = record {
   cuts = h.cuts;
   others = h.others;
@@ -82,14 +82,14 @@ reach_end t r skipped = record { start = r; skipped = skipped; holds = holds_sta
 pub reach_white : (c : ℕ) (t r : List ℕ) → is_white c ≡ true → Reaches t r → Reaches (c ∷ t) r
 reach_white c t r white h = record { start = h.start; skipped = skipped_after (c ∷ t) t h.start (after_piece-past (White c) t white) h.skipped; holds = h.holds }
 
--- white space and a plain comment
+-- White space or a plain comment leads from a text to the text after it.
 pub reach_piece : (t u r : List ℕ) → after_piece t ≡ Some u → Reaches u r → Reaches t r
 reach_piece t u r piece h = record { start = h.start; skipped = skipped_after t u h.start piece h.skipped; holds = h.holds }
 
 pub reach_run : (t u r : List ℕ) → u ≡ after_run is_white t → Reaches u r → Reaches t r
 reach_run t u r run h = record { start = h.start; skipped = skipped_run t u h.start run h.skipped; holds = h.holds }
 
--- a token where no trivia begins
+-- A token that isn't a literal, at a text that begins with neither white space nor a comment.
 pub reach_first : (t after r : List ℕ) (kind : SourceKind) → after_piece t ≡ None
     → (token : SourceBefore t kind after) → (IsLiteralText kind (source_text token.token) → ⊥) → Reaches after r
     → Reaches t r
@@ -109,7 +109,7 @@ reach_token c t after r kind slash white token other h = reach_first (c ∷ t) a
 -- ---- by the cursor
 
 pub passes_held : (text left rest : List ℕ) → IsCursorState text left → IsTail left rest
-    → HoldsNoLiteral (chars left) (chars rest) → PassesTo (record { text = text; rest = left })
+    → HasOnlyOtherTokens (chars left) (chars rest) → PassesTo (record { text = text; rest = left })
     (record { text = text; rest = rest })
 passes_held text left rest is tail holds = record {
   cuts = holds.cuts (chars text);
@@ -134,7 +134,7 @@ passes_join a b d p q = record {
   following = tail_step a.rest b.rest d.rest p.following q.following;
 }
 
--- nothing was passed yet, or these tokens
+-- The cursor hasn't moved, or has passed tokens that aren't literals.
 abbrev pub Passed : CursorState → CursorState → Type 0
 Passed a b = (b ≡ a) ⊎ PassesTo a b
 
@@ -142,9 +142,9 @@ pub passed_join : (a b d : CursorState) → Passed a b → PassesTo b d → Pass
 passed_join a b d (inl same) q = subst (λ z. PassesTo z d) same q
 passed_join a b d (inr p) q = passes_join a b d p q
 
--- the token is none of the literals
+-- A token that isn't a literal was consumed.
 is_no_literal : (old new : CursorState) (l : SourceToken) → (t : TakesSource old l new)
-    → (IsLiteralText (source_view l.form) (chars l.text.now) → ⊥) → IsNoLiteral t.cut
+    → (IsLiteralText (source_view l.form) (chars l.text.now) → ⊥) → IsOtherToken t.cut
 is_no_literal old new l t other = λ is. other (subst (λ z. IsLiteralText z (chars l.text.now)) t.is_cut.kind_is
     (subst (IsLiteralText (source_kind t.cut.token)) t.is_cut.chars_are is))
 

@@ -1,9 +1,9 @@
--- Literal tokens and the minus.
+-- Literal tokens don't begin with a minus.
 use Rattle.std.proofs.Common.{◌≡◌, ℕ, true, false, List, ap, sym, ◌∙◌, refl, rules, tests, nat_eq, IsTrue}
 use Rattle.std.specs.Str.{chars}
 use Prim.Native.Char.{code}
 use Rattle.std.specs.Char.{is_ascii_digit}
-use Rattle.rl_text.specs.Texts.{begins_char}
+use Rattle.rl_syntax.specs.Texts.{begins_char}
 use Rattle.rl_lexer.specs.declared.cursor.Lexeme.{Lexeme as Lent}
 use Rattle.rl_lexer.specs.Lexemes.{Lexeme, QuotedLexeme, RawLexeme, CharacterLexeme, BasedLexeme, DecimalLexeme, IdentifierLexeme, DelimiterLexeme, MarkLexeme, NoPrefix, BytePrefix, CPrefix, IsLexeme, lexeme_text, form_of, LiteralForm}
 use Rattle.rl_lexer.specs.Cursors.{CursorState, TakesNext, form_view}

@@ -1,10 +1,10 @@
--- A number by its first digit, and where it ends at once.
-use Rattle.rl_text.proofs.Common.{◌≡◌, ℕ, ◌⊎◌, inl, inr, Bool, true, false, not, ◌&&◌, ◌||◌, ◌==◌, cond, List, [], ◌∷◌, Some, refl, sym, ◌∙◌, ap, lit<, arith, drop, nat_tests, is_ascii, is_ascii_digit}
-use Rattle.rl_text.proofs.Basics.{false_unless}
-use Rattle.rl_text.specs.Texts.{is_underscore, first_passes, is_run_part, is_start, is_continue}
+-- A number by its first digit, and numbers that end right after their digits.
+use Rattle.rl_syntax.proofs.Common.{◌≡◌, ℕ, ◌⊎◌, inl, inr, Bool, true, false, not, ◌&&◌, ◌||◌, ◌==◌, cond, List, [], ◌∷◌, Some, refl, sym, ◌∙◌, ap, lit<, arith, drop, nat_tests, is_ascii, is_ascii_digit}
+use Rattle.rl_syntax.proofs.Basics.{false_unless}
+use Rattle.rl_syntax.specs.Texts.{is_underscore, first_passes, is_run_part, is_start, is_continue}
 use Rattle.rl_lexer.specs.Lexemes.{LiteralForm, is_base_letter}
 use Rattle.rl_lexer.specs.Mirrors.LexemeAt.{DigitHead, QuoteHead, ApostropheHead, SlashHead, by_class, literal_at, quoted_at, single_at, after_digit, after_suffix, after_lexed_exponent, after_lexed_fraction, after_decimal, lexeme_at, after_sign}
-use Rattle.rl_text.specs.Classes.{after_run}
+use Rattle.rl_syntax.specs.Classes.{after_run}
 use Rattle.rl_lexer.proofs.LexemeRows.{neither_true, not_among}
 use Rattle.rl_lexer.proofs.LexemeFronts.{at_class, class34, class39, class47, class_digit, start_ascii}
 
@@ -21,7 +21,7 @@ apostrophe_first s t b e is = ap lexeme_at e ∙ ap (λ x. lexeme_at (x ∷ t)) 
 pub slash_first : (s t : List ℕ) (b : ℕ) → s ≡ b ∷ t → b ≡ 47 → lexeme_at s ≡ by_class SlashHead 47 t
 slash_first s t b e is = ap lexeme_at e ∙ ap (λ x. lexeme_at (x ∷ t)) is ∙ at_class 47 t SlashHead class47
 
--- neither a dot nor an identifier's start
+-- The character is neither a dot nor the start of an identifier.
 abbrev pub goes_on_none : ℕ → Bool
 goes_on_none c = not (c == 46 || is_start c)
 
@@ -45,7 +45,7 @@ number_ends (c ∷ u) h =
     ap (λ x. after_suffix (after_lexed_exponent x)) fraction ∙ ap after_suffix exponent
     ∙ ap (λ b. cond b (after_run is_continue u) (c ∷ u)) parts.1
 
--- a run of digits, and what ends it
+-- A text that begins with a non-ASCII character has no leading digits.
 pub no_digit : (t : List ℕ) → first_passes is_ascii t ≡ false → after_run is_ascii_digit t ≡ t
 no_digit [] h = refl
 no_digit (c ∷ u) h = ap (λ b. cond b (after_run is_ascii_digit u) (c ∷ u))
@@ -57,7 +57,7 @@ no_start c = not (is_start c)
 starts : (k : ℕ) → is_start k ≡ true → no_start k ≡ false
 starts k h = ap not h
 
--- what ends at once has no underscore after its digits
+-- A number that ends right after its digits has no underscore after them.
 same_row : (t : List ℕ) → first_passes goes_on_none (after_run is_ascii_digit t) ≡ true
     → after_run (is_run_part is_ascii_digit) t ≡ after_run is_ascii_digit t
 same_row [] h = refl
@@ -75,7 +75,7 @@ same_row (d ∷ u) h = go (is_ascii_digit d) refl h (same_row u)
         (not_among d 95 no_start (ap not (neither_true (d == 46) (is_start d) h).1)
         (starts 95 (start_ascii 95 (lit< tt))))
 
--- a run of digits is part of the run that holds underscores too
+-- Leading digits are part of the leading digits and underscores.
 row_on : (t : List ℕ) → after_run (is_run_part is_ascii_digit) (after_run is_ascii_digit t)
     ≡ after_run (is_run_part is_ascii_digit) t
 row_on [] = refl
@@ -88,7 +88,7 @@ row_on (d ∷ u) = go (is_ascii_digit d) refl (row_on u)
     go true is more = more ∙ sym (ap (λ a. cond (a || d == 95) (after_run (is_run_part is_ascii_digit) u) (d ∷ u)) is)
     go false is more = refl
 
--- The letter of a base stands where a suffix would begin, so each number is read as a decimal.
+-- A base's letter is lexed as the start of a suffix, so each number is lexed as a decimal one.
 base_is_suffix : (t : List ℕ) → first_passes is_base_letter t ≡ true → after_run is_continue (drop 1 t)
     ≡ after_decimal t
 base_is_suffix [] h = absurd (cc)

@@ -1,14 +1,15 @@
--- `after_piece` takes off exactly a piece or an open line, and so a text has at most one rest.
-use Rattle.rl_text.proofs.Common.{◌≡◌, ℕ, suc, zero, ◌+◌, ◌⊎◌, inl, inr, Bool, true, false, ◌==◌, cond, List, [], ◌∷◌, ◌++◌, length, Option, Some, None, refl, sym, ◌∙◌, ap, subst, arith, append_assoc, nat_tests, AllByRecursion}
-use Rattle.rl_text.specs.Texts.{is_white, first_passes}
-use Rattle.rl_forms.specs.Trivia.{is_comment_line, is_comment_block, inside_text, TriviaPiece, White, Line, Block, trivia_piece_text, IsTriviaPiece, trivia_text, IsTrivia}
+-- `after_piece` consumes exactly one piece: white space, a plain comment, or a line comment at the end of the text. So
+-- the text after all pieces is unique.
+use Rattle.rl_syntax.proofs.Common.{◌≡◌, ℕ, suc, zero, ◌+◌, ◌⊎◌, inl, inr, Bool, true, false, ◌==◌, cond, List, [], ◌∷◌, ◌++◌, length, Option, Some, None, refl, sym, ◌∙◌, ap, subst, arith, append_assoc, nat_tests, AllByRecursion}
+use Rattle.rl_syntax.specs.Texts.{is_white, first_passes}
+use Rattle.rl_syntax.specs.Trivia.{is_comment_line, is_comment_block, inside_text, TriviaPiece, White, Line, Block, trivia_piece_text, IsTriviaPiece, trivia_text, IsTrivia}
 use Rattle.rl_lexer.specs.Skipping.{IsOpenLine, BeginsTrivia, Skipped, OneRest}
 use Rattle.rl_lexer.specs.Mirrors.SkippedAt.{after_block, after_line, after_comment, after_piece}
 use Rattle.rl_lexer.proofs.Comments.{chosen, same_Some, Closes, after_block-sound, after_block-past, OneLine, after_line-past, after_line-open, plain_line-same, plain_block-same}
-use Rattle.rl_text.proofs.Basics.{false_unless}
-use Rattle.rl_text.specs.Classes.{after_run}
+use Rattle.rl_syntax.proofs.Basics.{false_unless}
+use Rattle.rl_syntax.specs.Classes.{after_run}
 
--- What after_line gives: the text after the first LF, or nothing.
+-- The meaning of `after_line`: the text after the first LF, or an empty text.
 abbrev LineEnds : List ℕ → List ℕ → Type 0
 LineEnds t r = ((body : List ℕ) × OneLine body × (t ≡ body ++ 10 ∷ r)) ⊎ (OneLine t × (r ≡ []))
 
@@ -25,7 +26,7 @@ after_line-sound : (t : List ℕ) → LineEnds t (after_line t)
 after_line-sound [] = inr (refl, refl)
 after_line-sound (c ∷ t) = line_ends_step c t (c == 10) refl (after_line-sound t)
 
--- What after_piece gives.
+-- The meaning of `after_piece`: the text after one piece, or an empty text after a line comment at the end of the text.
 abbrev pub TakesOff : List ℕ → List ℕ → Type 0
 TakesOff t r = ((p : TriviaPiece) × IsTriviaPiece p × (t ≡ trivia_piece_text p ++ r)) ⊎ (IsOpenLine t × (r ≡ []))
 
@@ -79,7 +80,7 @@ after_piece-sound (c ∷ t) r h =
       ]
     ]
 
--- The other way.
+-- A white space character isn't a slash.
 white_not_slash : (c : ℕ) → is_white c ≡ true → (c == 47) ≡ false
 white_not_slash c w = false_unless (c == 47) (λ h. let q : is_white 47
     ≡ true = subst (λ (x : ℕ). is_white x ≡ true) (is_equal c 47 h) w in absurd (cc))
@@ -103,7 +104,7 @@ after_piece-open t l =
     ∙ ap (λ x. cond x (Some (after_line l.body)) None) l.is_body.plain
     ∙ ap Some (after_line-open l.body l.is_body.one_line)
 
--- Nothing begins the text exactly where after_piece gives none.
+-- No piece begins the text exactly if `after_piece` returns `None`.
 pub stops-from_none : (t : List ℕ) → after_piece t ≡ None → BeginsTrivia t → ⊥
 stops-from_none t h (inl (p, rest, is, same)) = none-some rest
     (sym h ∙ ap after_piece same ∙ after_piece-past p rest is)
@@ -117,7 +118,7 @@ none_unless : (t : List ℕ) (o : Option (List ℕ)) → after_piece t ≡ o →
 none_unless t None h stops = refl
 none_unless t (Some r) h stops = absurd (stops (begins-from_some t r (after_piece-sound t r h)))
 
--- Pieces taken off, at most so many.
+-- One step of a function that consumes pieces, with a limit on their number.
 abbrev goes_on : (List ℕ → List ℕ) → List ℕ → Option (List ℕ) → List ℕ
 goes_on f t None = t
 goes_on f t (Some r) = f r
@@ -147,7 +148,7 @@ skip_in-stops : (n : ℕ) (t : List ℕ) → after_piece t ≡ None → skip_in 
 skip_in-stops zero t h = refl
 skip_in-stops (suc n) t h = ap (λ x. goes_on (skip_in n) t x) h
 
--- Whatever fuel is left, the function reaches the rest.
+-- If its limit is large enough, the function reaches the text after all pieces.
 abbrev Reaches : List ℕ → List ℕ → Type 0
 Reaches t r = (ps : List TriviaPiece) × ((n : ℕ) → skip_in (adds ps (suc n)) t ≡ r)
 
@@ -183,7 +184,7 @@ one_rest t r s a b =
     ) in
     sym (f m) ∙ ap (λ k. skip_in k t) e ∙ g n
 
--- A piece more in front.
+-- If an empty text is joined from two texts, the second is empty.
 nil-append : (a r : List ℕ) → [] ≡ a ++ r → r ≡ []
 nil-append [] r h = sym h
 nil-append (x ∷ a) r h = absurd (cc)
@@ -217,12 +218,12 @@ skipped_after t m r h s = skipped_by t m r (after_piece-sound t m h) s
 pub skipped_here : (t : List ℕ) → after_piece t ≡ None → Skipped t t
 skipped_here t h = inl (record { front = []; is_trivia = no_trivia; text = refl; stops = stops-from_none t h })
 
--- Skipping a rest gives the rest.
+-- Skipping white space and comments again doesn't change the result.
 pub skipped_again : (t r : List ℕ) → Skipped t r → Skipped r r
 skipped_again t r (inl s) = inl (record { front = []; is_trivia = no_trivia; text = refl; stops = s.stops })
 skipped_again t r (inr s) = skipped_here r (ap after_piece s.nothing)
 
--- ---- runs of white space
+-- ---- sequences of white space
 
 pub skipped_run : (t u r : List ℕ) → u ≡ after_run is_white t → Skipped u r → Skipped t r
 skipped_run t u r e s = go t (subst (λ (x : List ℕ). Skipped x r) e s)
@@ -248,7 +249,7 @@ run_ends test t u e = ap (first_passes test) e ∙ go t
     go [] = refl
     go (c ∷ t) = step c t (test c) refl (go t)
 
--- a text that begins with no white space: nothing is skipped but a comment
+-- A text that begins with neither white space nor a slash isn't changed by skipping.
 pub skipped_none : (t : List ℕ) → first_passes is_white t ≡ false → first_passes (λ c. c == 47) t ≡ false → Skipped t t
 skipped_none [] white slash = skipped_here [] refl
 skipped_none (c ∷ t) white slash = skipped_here (c ∷ t) (ap (λ b. cond b (after_comment t)

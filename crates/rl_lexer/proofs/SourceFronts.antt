@@ -1,21 +1,20 @@
--- What a source has beside lexemes, at the front of a text: what `other_at` takes off is such a
--- token, and each such token is what it takes off.
-use Rattle.rl_text.proofs.Common.{◌≡◌, ℕ, inl, inr, Bool, true, false, not, ◌||◌, ◌==◌, cond, List, [], ◌∷◌, ◌++◌, append-nil, Option, Some, None, drop, refl, sym, ◌∙◌, ap, subst, Bor, arith, or_parts, ltb-false, none-some, is_ascii, ⊤, codes, list_all, IfSome, IfNone, option_map, option_and_then, chars}
-use Rattle.rl_text.proofs.ScanLemmas.{not_false}
-use Rattle.rl_text.specs.Texts.{first_passes, begins, begins_char}
-use Rattle.rl_forms.specs.Trivia.{Inside, inside_text, IsInside, is_comment_line, is_comment_block}
+-- Doc comments, lifetimes and raw identifiers at the start of a text: `other_at` consumes exactly these.
+use Rattle.rl_syntax.proofs.Common.{◌≡◌, ℕ, inl, inr, Bool, true, false, not, ◌||◌, ◌==◌, cond, List, [], ◌∷◌, ◌++◌, append-nil, Option, Some, None, drop, refl, sym, ◌∙◌, ap, subst, Bor, arith, or_parts, ltb-false, none-some, is_ascii, ⊤, codes, list_all, IfSome, IfNone, option_map, option_and_then, chars}
+use Rattle.rl_syntax.proofs.ScanLemmas.{not_false}
+use Rattle.rl_syntax.specs.Texts.{first_passes, begins, begins_char}
+use Rattle.rl_syntax.specs.Trivia.{Inside, inside_text, IsInside, is_comment_line, is_comment_block}
 use Rattle.rl_lexer.specs.Skipping.{Skipped}
-use Rattle.rl_text.specs.Scanning.{is_one_of, is_other, IsNextMark}
+use Rattle.rl_syntax.specs.Scanning.{is_one_of, is_other, IsNextMark}
 use Rattle.rl_lexer.specs.Lexemes.{lexeme_text, IsRun, LexemeBefore, LexemeForm, LiteralForm, begins_raw_identifier}
 use Rattle.rl_lexer.specs.BadQuotes.{bad_quote_text}
 use Rattle.rl_lexer.specs.Mirrors.LexemeAt.{begins_quote, FormBefore}
-use Rattle.rl_text.specs.Classes.{after_run}
+use Rattle.rl_syntax.specs.Classes.{after_run}
 use Rattle.rl_lexer.specs.Mirrors.SkippedAt.{after_block}
 use Rattle.rl_lexer.specs.Mirrors.SourceAt.{after_doc, after_name, after_marked, after_any_name, unless_quoted, after_lifetime, of_kind, other_at, opens, after_bad_quote, stray_at, or_stray, any_at}
 use Rattle.rl_lexer.specs.Sources.{is_in_line, IsAfterLine, is_apostrophe, SourceLexeme, PlainToken, RawIdentifierToken, LifetimeToken, RawLifetimeToken, DocLineToken, DocBlockToken, BadQuoteToken, StrayToken, source_text, IsName, IsProper, BeginsProper, Opens, IsSource, SourceKind, PlainKind, RawIdentifierKind, LifetimeKind, DocCommentKind, StrayKind, source_kind, source_view, SourceBefore, BeginsNoSource, IsScriptLine}
-use Rattle.rl_text.specs.declared.scan.Marks.{Marks}
+use Rattle.rl_syntax.specs.declared.scan.Marks.{Marks}
 use Rattle.rl_lexer.specs.declared.source.SourceForm.{SourceForm}
-use Rattle.rl_text.proofs.LowBytes.{not_equal}
+use Rattle.rl_syntax.proofs.LowBytes.{not_equal}
 use Rattle.rl_lexer.proofs.Comments.{chosen, same_Some, Closes, after_block-sound, after_block-past, plain_line-same, plain_block-same}
 use Rattle.rl_lexer.proofs.CommentSteps.{one_line}
 use Rattle.rl_lexer.proofs.LexemeFound.{run_found}
@@ -52,13 +51,13 @@ pub no_line : (m : Marks) (s : List ℕ) → m ≡ record { first = 10; second =
     → list_all (is_other m) s ≡ true → list_all is_in_line s ≡ true
 no_line m s is others = one_line m s (ap (λ z. z.first) is) others
 
--- what ends a line doesn't change whether it is plain
+-- The text after a line doesn't decide whether a line comment is plain.
 line_plain : (body t : List ℕ) → first_passes is_in_line t ≡ false → is_comment_line (body ++ t) ≡ is_comment_line body
 line_plain body [] h = ap is_comment_line (append-nil body)
 line_plain body (c ∷ t) h = ap (λ x. is_comment_line (body ++ x ∷ t)) (is_equal c 10 (not_false (c == 10) h))
     ∙ plain_line-same body t
 
--- ---- the front of a whole source
+-- ---- the start of a whole source
 
 pub script_line : (t second following s r : List ℕ) → t ≡ 35 ∷ second → second ≡ 33 ∷ following → Skipped following s
     → begins_char 91 s ≡ false → r ≡ after_run is_in_line following → IsScriptLine t r
@@ -73,7 +72,7 @@ script_line t second following s r a b skipped other rest =
           skipped in ap (first_passes (λ c. c == 91)) q ∙ other;
     }
 
--- ---- each token is taken off
+-- ---- each token is consumed
 
 quoted_past : (t : List ℕ) → first_passes is_apostrophe t ≡ false → unless_quoted t ≡ Some t
 quoted_past t h = ap (λ b. cond b None (Some t)) h
@@ -105,7 +104,7 @@ doc_block_past : (i : Inside) (t : List ℕ) → IsInside i → is_comment_block
 doc_block_past i t is doc =
     ap (λ b. cond b None (after_block 0 (inside_text i ++ t))) (plain_block-same i t ∙ doc) ∙ after_block-past i 0 t is
 
--- a token that is no lexeme
+-- The token is a doc comment, a lifetime or a raw identifier.
 abbrev pub IsOther : SourceLexeme → Type 0
 IsOther (PlainToken l) = ⊥
 IsOther (BadQuoteToken q) = ⊥
@@ -125,7 +124,7 @@ other_at-past (DocBlockToken i) t other (is, doc) = ap (of_kind DocCommentKind) 
 other_at-past (BadQuoteToken q) t other is = absurd other
 other_at-past (StrayToken c) t other is = absurd other
 
--- ---- what is taken off is a token
+-- ---- the consumed text is a token
 
 marked_found : (t r : List ℕ) → after_marked t ≡ Some r → SourceBefore (114 ∷ t) RawIdentifierKind r
 marked_found [] r h = absurd (none-some r h)
@@ -231,9 +230,9 @@ other_at-found (c ∷ t) p h =
           ]
     ]
 
--- ---- bad quotes and strays
+-- ---- invalid quoted literals and stray characters
 
--- every proper token is a token, and neither a bad quote nor a stray
+-- Every token that is neither an invalid quoted literal nor a stray character is a token of a source.
 pub proper_source : (w : SourceLexeme) (t : List ℕ) → IsProper w t → IsSource w t
 proper_source (PlainToken l) t is = is
 proper_source (RawIdentifierToken c more) t is = is
@@ -248,7 +247,7 @@ true_false : (b : Bool) → b ≡ true → b ≡ false → ⊥
 true_false true h k = absurd (cc)
 true_false false h k = absurd (cc)
 
--- what opens nothing
+-- A text that begins neither like a quoted literal nor like a block comment, by both definitions.
 pub closed_here : (r : List ℕ) → opens r ≡ false → Opens r → ⊥
 closed_here r h o =
     let e = or_parts (begins (codes "/*") r) (begins_quote r || begins_char 39 r) h in
@@ -271,7 +270,7 @@ opens_here r none = go (begins (codes "/*") r) (begins_quote r) (begins_char 39 
     go false false true p q s = absurd (none (inr (inl s)))
     go false false false p q s = refl
 
--- ---- in the words of the definitions
+-- ---- by the definitions
 
 pub plain_before : (t r : List ℕ) (form : LexemeForm) → FormBefore t form r → SourceBefore t (PlainKind form) r
 plain_before t r form is = record { token = PlainToken is.lexeme; is_source = is.is_lexeme; text_is = is.text_is; kind_is = ap PlainKind is.form_is }
@@ -317,7 +316,7 @@ stray_found (c ∷ t) p none h =
     here : opens (c ∷ t) ≡ false → Found (c ∷ t) (StrayKind, t)
     here a = record { token = StrayToken c; is_source = (none, closed_here (c ∷ t) a); text_is = refl; kind_is = refl }
 
--- a token that begins where no other does
+-- The token is an invalid quoted literal or a stray character, which begin only where no other token does.
 abbrev pub IsLate : SourceLexeme → Type 0
 IsLate (BadQuoteToken q) = ⊤
 IsLate (StrayToken c) = ⊤
@@ -403,12 +402,13 @@ pub other_found : (t : List ℕ) (r : Answer) (p : SourceForm × Bor (List ℕ))
     ≡ other_at t → SourceBefore t (source_view p.0) (chars p.1.now)
 other_found t r p is rest = other_at-found t (seen p) (sym rest ∙ ap (option_map seen) is)
 
--- where it is neither a lexeme nor what `other_at` takes off, it is a stray
+-- If a text begins neither with a lexeme nor with a token that `other_at` consumes, it begins with a stray character or
+-- an invalid quoted literal.
 pub no_other : (t : List ℕ) (o r : Answer) → o ≡ None → option_map seen o ≡ other_at t → option_map seen r ≡ stray_at t
     → option_map seen r ≡ any_at t
 no_other t o r none other stray = stray ∙ ap (λ x. or_stray x t) (sym (ap (option_map seen) none) ∙ other)
 
--- what is past ASCII begins no other token
+-- A text that begins with a non-ASCII character begins with no doc comment, lifetime or raw identifier.
 pub wide_other : (t : List ℕ) → first_passes is_ascii t ≡ false → None ≡ other_at t
 wide_other [] h = refl
 wide_other (c ∷ t) h =

@@ -1,13 +1,13 @@
--- A source is cut in one way, and what the lexer cuts of a text is cut of it as a source too.
-use Rattle.rl_text.proofs.Common.{◌≡◌, ℕ, inl, inr, true, false, ◌==◌, cond, List, [], ◌∷◌, ◌++◌, map, Option, Some, None, drop, refl, sym, ◌∙◌, ap, subst, arith, lit<, and_parts, append_cancel_right, none-some, list_all, option_map}
-use Rattle.rl_text.specs.Texts.{first_passes, byte_len, is_start, is_continue, begins_char}
-use Rattle.rl_forms.specs.Trivia.{inside_text}
+-- A source is lexed in one way, and a text's tokens are its tokens as a source too.
+use Rattle.rl_syntax.proofs.Common.{◌≡◌, ℕ, inl, inr, true, false, ◌==◌, cond, List, [], ◌∷◌, ◌++◌, map, Option, Some, None, drop, refl, sym, ◌∙◌, ap, subst, arith, lit<, and_parts, append_cancel_right, none-some, list_all, option_map}
+use Rattle.rl_syntax.specs.Texts.{first_passes, byte_len, is_start, is_continue, begins_char}
+use Rattle.rl_syntax.specs.Trivia.{inside_text}
 use Rattle.rl_lexer.specs.Lexemes.{Lexeme, lexeme_text, IsLexeme, IsRun, LexemeForm, form_of}
 use Rattle.rl_lexer.specs.Cuts.{LexedToken, end_of, LexesUpTo}
 use Rattle.rl_lexer.specs.Mirrors.LexemeAt.{after_apostrophe, after_suffix, after_single, literal_at, raw_at, word_at, LetterRHead, ApostropheHead, SlashHead, lexeme_at}
-use Rattle.rl_text.specs.Classes.{after_run, is_hash}
+use Rattle.rl_syntax.specs.Classes.{after_run, is_hash}
 use Rattle.rl_lexer.specs.Mirrors.SourceAt.{other_at, stray_at}
-use Rattle.rl_lexer.specs.Sources.{is_in_line, is_apostrophe, SourceLexeme, PlainToken, RawIdentifierToken, LifetimeToken, RawLifetimeToken, DocLineToken, DocBlockToken, BadQuoteToken, StrayToken, source_text, IsProper, IsSource, SourceKind, PlainKind, source_kind, BeginsNoSource, without_mark, IsScriptLine, IsWithoutLine, CutSource, source_end, SourcesUpTo, told, OneCutting, plain_cut, HoldsLexemes}
+use Rattle.rl_lexer.specs.Sources.{is_in_line, is_apostrophe, SourceLexeme, PlainToken, RawIdentifierToken, LifetimeToken, RawLifetimeToken, DocLineToken, DocBlockToken, BadQuoteToken, StrayToken, source_text, IsProper, IsSource, SourceKind, PlainKind, source_kind, BeginsNoSource, without_byte_order_mark, IsScriptLine, IsWithoutLine, CutSource, source_end, SourcesUpTo, told, OneLexing, plain_cut, HoldsLexemes}
 use Rattle.rl_lexer.proofs.Comments.{same_Some}
 use Rattle.rl_lexer.proofs.LexemeFronts.{at_class, class39, class47, class114, lexeme_at-past, same_pair, start_ascii}
 use Rattle.rl_lexer.proofs.LexemeRows.{not_among, run_past}
@@ -64,7 +64,7 @@ pub record SameToken (v w : SourceLexeme) (x y : List ℕ) : Type 0 where
   pub kind : source_kind v ≡ source_kind w
   pub rest : x ≡ y
 
--- a lexeme, another token, a bad quote or a stray
+-- The sort of a token: a lexeme, an invalid quoted literal, a stray character, or another token.
 data Sort (w : SourceLexeme) : Type 0 where
   IsPlainSort : (l : Lexeme) (is : w ≡ PlainToken l) → Sort w
   IsOtherSort : (is : IsOther w) → Sort w
@@ -155,7 +155,7 @@ one_token v w x y is js e = go (sort_of v) (sort_of w)
     go (IsLateSort a) (IsOtherSort b) = absurd (not_late v w x y (other_proper w y b js) a is e)
     go (IsLateSort a) (IsLateSort b) = both_late v w x y a b is js e
 
--- ---- cuts
+-- ---- lexed tokens
 
 begins_source : (w : SourceLexeme) (r after : List ℕ) → BeginsNoSource r → r ≡ source_text w ++ after → IsSource w after
     → ⊥
@@ -189,7 +189,7 @@ one_cut at t (v ∷ vs) (w ∷ ws) r s (x, a, is, m, more) none (y, b, js, n, mo
     let rec = one_cut (source_end v) x vs ws r s more none more1 none' in
     (ap (λ z. z ∷ map told vs) (told_same v w same.kind text place) ∙ ap (λ z. told w ∷ z) rec.0, rec.1)
 
--- ---- what stands before the first token
+-- ---- the text before the first token
 
 line_rest : (t r : List ℕ) → IsScriptLine t r → r ≡ after_run is_in_line (drop 2 t)
 line_rest t r is = sym (run_past is_in_line is.line r is.is_line)
@@ -201,15 +201,15 @@ one_line_front t r s (inl a) (inr (e, none)) = absurd (none r a)
 one_line_front t r s (inr (e, none)) (inl b) = absurd (none s b)
 one_line_front t r s (inr (e, none)) (inr (d, none')) = e ∙ sym d
 
-pub one_cutting : OneCutting
-one_cutting t vs ws r s a none b none' =
-    let body : a.body ≡ b.body = one_line_front (without_mark t) a.body b.body a.front b.front in
+pub one_lexing : OneLexing
+one_lexing t vs ws r s a none b none' =
+    let body : a.body ≡ b.body = one_line_front (without_byte_order_mark t) a.body b.body a.front b.front in
     let at : a.at ≡ b.at = omega (arith, a.place, b.place, ap byte_len body) in
     let cuts : SourcesUpTo a.at a.body ws s = subst (λ (k : ℕ). SourcesUpTo k a.body ws s) (sym at)
     (subst (λ (z : List ℕ). SourcesUpTo b.at z ws s) (sym body) b.are_cuts) in
     one_cut a.at a.body vs ws r s a.are_cuts none cuts none'
 
--- ---- what the lexer cuts
+-- ---- the lexer's tokens
 
 lexed : (at : ℕ) (t : List ℕ) (cuts : List LexedToken) (r : List ℕ) → LexesUpTo at t cuts r
     → SourcesUpTo at t (map plain_cut cuts) r

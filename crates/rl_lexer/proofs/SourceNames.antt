@@ -1,8 +1,8 @@
--- Identifiers at the front of a text.
-use Rattle.rl_text.proofs.Common.{◌≡◌, ℕ, inl, inr, true, cond, List, [], ◌∷◌, ◌++◌, Some, None, drop, sym, ◌∙◌, ap, subst, none-some}
-use Rattle.rl_text.specs.Texts.{is_start, is_continue}
+-- Identifiers at the start of a text.
+use Rattle.rl_syntax.proofs.Common.{◌≡◌, ℕ, inl, inr, true, cond, List, [], ◌∷◌, ◌++◌, Some, None, drop, sym, ◌∙◌, ap, subst, none-some}
+use Rattle.rl_syntax.specs.Texts.{is_start, is_continue}
 use Rattle.rl_lexer.specs.Lexemes.{IsRun, begins_raw_identifier}
-use Rattle.rl_text.specs.Classes.{after_run}
+use Rattle.rl_syntax.specs.Classes.{after_run}
 use Rattle.rl_lexer.specs.Mirrors.SourceAt.{after_name}
 use Rattle.rl_lexer.specs.Sources.{IsName}
 use Rattle.rl_lexer.proofs.Comments.{chosen, same_Some}

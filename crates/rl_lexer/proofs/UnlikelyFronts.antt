@@ -1,19 +1,19 @@
--- In front of the first byte at which a literal or a comment may begin stands none.
-use Rattle.rl_text.proofs.Common.{◌≡◌, ℕ, zero, suc, ◌+◌, ◌<◌, ◌≤◌, Bool, true, false, not, ◌&&◌, ◌||◌, ◌==◌, nat_le, cond, List, [], ◌∷◌, ◌++◌, Some, None, length, take, drop, get_or, lit<, nat_lt, refl, sym, ap, subst, ◌∙◌, arith, agree_below_at, and_from, and_parts, nat_tests, take-append-drop, IsCharBoundary-start, IsCharBoundary-after_ascii, IsUtf8-take, chars-append, chars-IsAscii, is_ascii_alphabetic, is_ascii_digit, chars, IsAscii, IsCharBoundary, IsUtf8}
-use Rattle.rl_text.proofs.BeginsLemmas.{begins_bytes}
-use Rattle.rl_text.proofs.UnlikelyPlaces.{is_past}
+-- Before the first byte at which a literal or a comment may begin, neither begins.
+use Rattle.rl_syntax.proofs.Common.{◌≡◌, ℕ, zero, suc, ◌+◌, ◌<◌, ◌≤◌, Bool, true, false, not, ◌&&◌, ◌||◌, ◌==◌, nat_le, cond, List, [], ◌∷◌, ◌++◌, Some, None, length, take, drop, get_or, lit<, nat_lt, refl, sym, ap, subst, ◌∙◌, arith, agree_below_at, and_from, and_parts, nat_tests, take-append-drop, IsCharBoundary-start, IsCharBoundary-after_ascii, IsUtf8-take, chars-append, chars-IsAscii, is_ascii_alphabetic, is_ascii_digit, chars, IsAscii, IsCharBoundary, IsUtf8}
+use Rattle.rl_syntax.proofs.BeginsLemmas.{begins_bytes}
+use Rattle.rl_syntax.proofs.UnlikelyPlaces.{is_past}
 use Rattle.rl_lexer.proofs.LexemeRows.{not_true}
-use Rattle.rl_text.specs.Texts.{begins, begins_char, is_among, is_white, is_continue}
+use Rattle.rl_syntax.specs.Texts.{begins, begins_char, is_among, is_white, is_continue}
 use Rattle.rl_lexer.specs.Lexemes.{IdentifierForm, LiteralForm, DelimiterForm, MarkForm, delimiters, marks}
-use Rattle.rl_forms.specs.Reading.{truth_text}
-use Rattle.rl_text.specs.Classes.{after_run}
+use Rattle.rl_syntax.specs.Reading.{truth_text}
+use Rattle.rl_syntax.specs.Classes.{after_run}
 use Rattle.rl_lexer.specs.Sources.{PlainKind, StrayKind, SourceBefore, IsLiteralText, source_text}
-use Rattle.rl_lexer.specs.Mirrors.LexemeAt.{StrayHead, LetterBHead, LetterCHead, LetterRHead, OtherLetterHead, word_at, begins_word, is_prefix_letter, is_mark_alone, mark_form, head_class, lexeme_at, begins_raw_after}
+use Rattle.rl_lexer.specs.Mirrors.LexemeAt.{StrayHead, LetterBHead, LetterCHead, LetterRHead, OtherLetterHead, word_at, begins_word, is_prefix_letter, is_always_token, mark_form, head_class, lexeme_at, begins_raw_after}
 use Rattle.rl_lexer.specs.Mirrors.SourceAt.{after_bad_quote, any_at, of_kind, opens, or_stray, other_at}
-use Rattle.rl_text.specs.Mirrors.RunsAt.{is_word_byte}
-use Rattle.rl_lexer.specs.Mirrors.LiteralsAt.{HoldsNoLiteral, Reaches, past_word}
-use Rattle.rl_text.specs.Mirrors.UnlikelyAt.{is_likely_mark, is_likely_head, goes_on_likely, may_begin, begins_none, first_or, unlikely_after, unlikely_len, last_of, byte_before}
-use Rattle.rl_text.proofs.AsciiRuns.{held_agrees}
+use Rattle.rl_syntax.specs.Mirrors.RunsAt.{is_word_byte}
+use Rattle.rl_lexer.specs.Mirrors.LiteralsAt.{HasOnlyOtherTokens, Reaches, past_word}
+use Rattle.rl_syntax.specs.Mirrors.UnlikelyAt.{is_likely_mark, is_likely_head, goes_on_likely, may_begin, begins_none, first_or, unlikely_after, unlikely_len, last_of, byte_before}
+use Rattle.rl_syntax.proofs.AsciiRuns.{held_agrees}
 use Rattle.rl_lexer.proofs.LexemeAnswers.{form_before, no_lexeme}
 use Rattle.rl_lexer.proofs.LexemeFronts.{at_class, class_start, class98, class99, class114, stray_class, start_ascii}
 use Rattle.rl_lexer.proofs.LiteralSteps.{holds_skipped, reach_token, reach_white}
@@ -21,13 +21,13 @@ use Rattle.rl_lexer.proofs.Pieces.{is_equal}
 use Rattle.rl_lexer.proofs.SourceFronts.{any_found, plain_before}
 use Rattle.rl_lexer.proofs.WordsAndMarks.{mark_found, word_found}
 
--- ---- what ASCII tells
+-- ---- facts about ASCII
 
 implied : (a b : Bool) → (not a || b) ≡ true → a ≡ true → b ≡ true
 implied true b h is = h
 implied false b h is = absurd (cc)
 
--- a character that begins a word, and none of a literal's
+-- The ASCII character begins an identifier, and not a literal.
 abbrev word_here : ℕ → Bool
 word_here c = is_word_byte c && not (is_likely_head c)
 
@@ -39,9 +39,9 @@ word_table : (c : ℕ) → c < 128 → word_here c ≡ true → word_facts c ≡
 word_table c low is = implied (word_here c) (word_facts c) (agree_below_at (λ k. not (word_here k) || word_facts k)
     (λ _. true) 128 c refl low) is
 
--- a character that is neither a word's nor white space nor a mark
+-- The ASCII character begins neither an identifier, white space, a delimiter nor a punctuation character.
 abbrev stray_here : ℕ → Bool
-stray_here c = not (is_word_byte c) && (not (is_likely_mark c) && (not (is_white c) && not (is_mark_alone c)))
+stray_here c = not (is_word_byte c) && (not (is_likely_mark c) && (not (is_white c) && not (is_always_token c)))
 
 abbrev none_of : ℕ → Bool
 none_of c = not (c == 47) && (not (c == 39) && (not (c == 34) && (not (c == 98) && (not (c == 99) && not (c == 114)))))
@@ -54,9 +54,9 @@ stray_table : (c : ℕ) → c < 128 → stray_here c ≡ true → stray_facts c 
 stray_table c low is = implied (stray_here c) (stray_facts c)
     (agree_below_at (λ k. not (stray_here k) || stray_facts k) (λ _. true) 128 c refl low) is
 
--- ---- the tokens in front
+-- ---- the tokens before
 
--- neither of the two words, by its first two letters
+-- An identifier whose first two letters are neither those of `true` nor those of `false` is neither.
 word_no_truth : (c : ℕ) (u after : List ℕ) (token : SourceBefore (c ∷ u) (PlainKind IdentifierForm) after)
     → ((c == 116) && begins_char 114 u) ≡ false → ((c == 102) && begins_char 97 u) ≡ false
     → IsLiteralText (PlainKind IdentifierForm) (source_text token.token) → ⊥
@@ -90,9 +90,9 @@ reach_word c u r low here more =
     (ap (λ b. b && begins_char 114 u) (not_true (c == 116) truth.0)) (ap (λ b. b && begins_char 97 u)
     (not_true (c == 102) truth.1))) more
 
--- ---- letters with which no literal goes on
+-- ---- letters that don't continue a literal
 
--- the next character, as far as it is of ASCII
+-- The byte `next` is the next character of the text, if that is ASCII.
 abbrev Agrees : ℕ → List ℕ → Type 0
 Agrees next u = (k : ℕ) → 0 < k → k < 128 → begins_char k u ≡ (next == k)
 
@@ -116,13 +116,13 @@ reach_letter c u r slash white word no_t no_f more =
     reach_token c u (after_run is_continue u) r (PlainKind IdentifierForm) slash white token
     (word_no_truth c u (after_run is_continue u) token no_t no_f) more
 
--- of a mark's form
+-- A delimiter or punctuation character isn't a literal.
 mark_no_literal : (d : Bool) (c : ℕ) (text : List ℕ) → IsLiteralText (PlainKind (cond d (DelimiterForm c) (MarkForm c)))
     text → ⊥
 mark_no_literal true c text is = is
 mark_no_literal false c text is = is
 
-reach_mark : (c : ℕ) (u r : List ℕ) → (c == 47) ≡ false → is_white c ≡ false → is_mark_alone c ≡ true → Reaches u r
+reach_mark : (c : ℕ) (u r : List ℕ) → (c == 47) ≡ false → is_white c ≡ false → is_always_token c ≡ true → Reaches u r
     → Reaches (c ∷ u) r
 reach_mark c u r slash white mark more =
     let token = plain_before (c ∷ u) u (mark_form c) (mark_found (c ∷ u) u c (mark_form c) refl mark refl) in
@@ -173,7 +173,7 @@ reach_stray c u r low here white more =
     reach_token c u u r StrayKind (not_true (c == 47) a.0) white
     (any_found (c ∷ u) (StrayKind, u) (no_lexeme (c ∷ u) none) any) (λ is. is) more
 
--- ---- fronts of ASCII
+-- ---- starts in ASCII
 
 low_of : (p c : ℕ) → is_past (p, c) ≡ true → c < 128
 low_of p c h = go (nat_le 128 c) refl h
@@ -201,26 +201,27 @@ slash_of false true s b h = absurd (cc)
 slash_of false false true b h = absurd (cc)
 slash_of false false false b h = refl
 
--- what is not_true word
+-- A character that isn't part of an identifier leads from a text to the text after it.
 reach_other : (c : ℕ) (u r : List ℕ) → c < 128 → is_word_byte c ≡ false → not (is_likely_mark c) ≡ true → Reaches u r
     → Reaches (c ∷ u) r
-reach_other c u r low plain unlikely more = go (is_white c) (is_mark_alone c) refl refl
+reach_other c u r low plain unlikely more = go (is_white c) (is_always_token c) refl refl
   where
     slash : (c == 47) ≡ false
     slash = slash_of (c == 34) (c == 39) (c == 47) (nat_le 128 c) unlikely
 
-    go : (w m : Bool) → is_white c ≡ w → is_mark_alone c ≡ m → Reaches (c ∷ u) r
+    go : (w m : Bool) → is_white c ≡ w → is_always_token c ≡ m → Reaches (c ∷ u) r
     go true m e f = reach_white c u r e more
     go false true e f = reach_mark c u r slash e f more
     go false false e f = reach_stray c u r low (rw (plain, unlikely, e, f) refl) e more
 
--- what a place tells at which none begins
+-- The facts about a byte at which neither a literal nor a comment begins: it is ASCII, and the token there isn't a
+-- literal.
 abbrev Passes : ℕ → ℕ → List ℕ → List ℕ → Type 0
 Passes p c u r =
     (c < 128) × (not (is_likely_mark c) ≡ true)
     × (is_word_byte p ≡ false → is_word_byte c ≡ true → Reaches (after_run is_continue u) r → Reaches (c ∷ u) r)
 
--- by the byte before it
+-- The facts about a byte at which neither a literal nor a comment begins, where the byte before it shows this.
 passes_before : (p c : ℕ) (u r : List ℕ) → is_past (p, c) ≡ true → Passes p c u r
 passes_before p c u r past =
     let parts = parts_of (is_likely_mark c) (is_word_byte p) (is_likely_head c) past in (
@@ -245,7 +246,7 @@ three false true d h = absurd (cc)
 three false false true h = absurd (cc)
 three false false false h = (refl, refl, refl)
 
--- by the next
+-- The facts about a byte at which neither a literal nor a comment begins, where the next byte shows this.
 passes_letter : (p c next : ℕ) (u r : List ℕ) → Agrees next u → goes_on_likely c next ≡ false → Passes p c u r
 passes_letter p c next u r agrees stops = go (c == 98) (c == 99) (c == 114) (c == 116) (c == 102) refl refl refl refl refl
     stops
@@ -304,7 +305,7 @@ both : (m : Bool) → not (m && true) ≡ true → not m ≡ true
 both true h = absurd (cc)
 both false h = refl
 
--- a place at which none begins
+-- If neither a literal nor a comment begins at a byte, it is passed.
 passes : (p c next : ℕ) (u r : List ℕ) → Agrees next u → begins_none p c next ≡ true → Passes p c u r
 passes p c next u r agrees none = go (goes_on_likely c next) refl none
   where
@@ -312,9 +313,9 @@ passes p c next u r agrees none = go (goes_on_likely c next) refl none
     go true e none = passes_before p c u r (both (may_begin (p, c)) none)
     go false e none = passes_letter p c next u r agrees e
 
--- ---- fronts
+-- ---- starts
 
--- at each of the bytes none begins, where this is the next after them
+-- Neither a literal nor a comment begins at any of the bytes, where `next` is the byte after them.
 abbrev none_in : ℕ → List ℕ → ℕ → Bool
 none_in p [] next = true
 none_in p (c ∷ cs) next = begins_none p c (first_or next cs) && none_in c cs next
@@ -358,9 +359,9 @@ reach_front p next (c ∷ cs) t r agrees all h = go (reach_front c next cs t r a
         (sym (ap (λ b. cond b (after_run is_continue (c ∷ (cs ++ t))) (c ∷ (cs ++ t))) e))
         (reach_other c (cs ++ t) r facts.0 f facts.1 (here more false f))
 
--- ---- the bytes in front
+-- ---- the bytes before
 
--- the next after some of the bytes is the next in all
+-- The byte after the first n bytes of a list is the next one in the list.
 first_same : (n : ℕ) (bs : List ℕ) → first_or (first_or 0 (drop n bs)) (take n bs) ≡ first_or 0 bs
 first_same zero bs = refl
 first_same (suc n) [] = refl
@@ -380,7 +381,7 @@ front_up_to (suc n) p (b ∷ bs) h = go (begins_none p b (first_or 0 bs)) refl h
         (more (omega arith))
     go false e h more = absurd (omega arith)
 
--- what stands before one at which none begins, and what that is, is of ASCII
+-- A byte at which neither a literal nor a comment begins is ASCII.
 none_low : (p c next : ℕ) → begins_none p c next ≡ true → c < 128
 none_low p c next none = (passes p c next (next ∷ []) [] (λ k some low. refl) none).0
 
@@ -391,7 +392,7 @@ front_ascii p next (c ∷ cs) h zero = none_low p c (first_or next cs) (and_part
 front_ascii p next (c ∷ cs) h (suc i) = front_ascii c next cs (and_parts (begins_none p c (first_or next cs))
     (none_in c cs next) h).1 i
 
--- what follows by bytes is what follows by characters
+-- The next byte is the next character, if that is ASCII.
 agrees_bytes : (rest : List ℕ) → IsUtf8 rest → Agrees (first_or 0 rest) (chars rest)
 agrees_bytes rest u = λ k some low. first_char k (chars rest)
     ∙ sym (begins_bytes (k ∷ []) rest u (and_from (nat_lt k 128) true (below k low) refl)) ∙ first_byte k rest some
@@ -438,7 +439,8 @@ unlikely-boundary bs (suc m) u e =
     let next : m + 1 ≡ suc m = omega arith in
     subst (IsCharBoundary bs) next (IsCharBoundary-after_ascii bs m u (omega arith) (omega (arith, low, same)))
 
--- From the text up to what is left at that place, after the word that goes on there, and on from it, no literal stands.
+-- Between the text's start and the text after the skipped bytes, and after the identifier that continues there, there
+-- are only tokens that aren't literals.
 pub unlikely-reaches : (bs rest : List ℕ) (n : ℕ) (r : List ℕ) → IsUtf8 bs → IsUtf8 rest → n ≤ unlikely_len bs
     → rest ≡ drop n bs → Reaches (past_word (byte_before bs n) (chars rest)) r → Reaches (chars bs) r
 unlikely-reaches bs rest n r u v e cut reaches =
@@ -454,10 +456,10 @@ unlikely-reaches bs rest n r u v e cut reaches =
     (agrees_bytes rest v) in
     subst (λ (z : List ℕ). Reaches z r) (sym whole) (reach_front 0 next front (chars rest) r agrees all reaches)
 
--- The same for what is left, in the words of the contract: after the byte before the place.
+-- The fact in the form of the contract: with the byte before the text after the skipped bytes.
 pub unlikely-holds : (bs rest past next : List ℕ) (n before : ℕ) → IsUtf8 bs → IsUtf8 rest → n ≤ unlikely_len bs
     → rest ≡ drop n bs → before ≡ byte_before bs n → past ≡ past_word before (chars rest) → Reaches past next
-    → HoldsNoLiteral (chars bs) next
+    → HasOnlyOtherTokens (chars bs) next
 unlikely-holds bs rest past next n before u v e cut is word more =
     let reaches = unlikely-reaches bs rest n next u v e cut (subst (λ z. Reaches z next)
     (word ∙ ap (λ b. past_word b (chars rest)) is) more) in

@@ -1,38 +1,38 @@
--- Words and marks that their first byte tells, or that and the next.
-use Rattle.rl_text.proofs.Common.{◌≡◌, ℕ, inl, lit<, Bool, true, false, not, ◌&&◌, ◌||◌, ◌==◌, cond, List, [], ◌∷◌, Some, None, nat_le, ◌<◌, ◌≤◌, ◌+◌, ◌-◌, refl, sym, subst, ◌∙◌, ap, arith, or_parts, and_parts, agree_below, agree_below_at, nat_tests, is_ascii, is_ascii_alphabetic, is_ascii_digit}
+-- Identifiers and punctuation characters that the first one or two bytes decide.
+use Rattle.rl_syntax.proofs.Common.{◌≡◌, ℕ, inl, lit<, Bool, true, false, not, ◌&&◌, ◌||◌, ◌==◌, cond, List, [], ◌∷◌, Some, None, nat_le, ◌<◌, ◌≤◌, ◌+◌, ◌-◌, refl, sym, subst, ◌∙◌, ap, arith, or_parts, and_parts, agree_below, agree_below_at, nat_tests, is_ascii, is_ascii_alphabetic, is_ascii_digit}
 use Rattle.rl_lexer.proofs.LexemeRows.{not_true}
-use Rattle.rl_text.specs.Texts.{first_passes, is_among, is_white, is_start, is_continue}
+use Rattle.rl_syntax.specs.Texts.{first_passes, is_among, is_white, is_start, is_continue}
 use Rattle.rl_lexer.specs.Lexemes.{delimiters, marks, LexemeForm, IdentifierForm, DelimiterForm, MarkForm}
-use Rattle.rl_text.specs.Classes.{after_run}
-use Rattle.rl_lexer.specs.Mirrors.LexemeAt.{FormBefore, LetterBHead, LetterCHead, LetterRHead, OtherLetterHead, StrayHead, is_prefix_letter, begins_word, goes_on_as_word, is_mark_alone, makes_comment, mark_form, start_class, lexeme_at, word_at}
-use Rattle.rl_text.specs.Mirrors.RunsAt.{has_bit}
+use Rattle.rl_syntax.specs.Classes.{after_run}
+use Rattle.rl_lexer.specs.Mirrors.LexemeAt.{FormBefore, LetterBHead, LetterCHead, LetterRHead, OtherLetterHead, StrayHead, is_prefix_letter, begins_word, continues_word, is_always_token, makes_comment, mark_form, start_class, lexeme_at, word_at}
+use Rattle.rl_syntax.specs.Mirrors.RunsAt.{has_bit}
 use Rattle.rl_lexer.proofs.LexemeFronts.{at_class, class_start, low_among, stray_class, front_delimiter, front_mark, front_slash, start_ascii, class98, class99, class114}
 use Rattle.rl_lexer.proofs.LexemeAnswers.{form_before}
-use Rattle.rl_text.proofs.Basics.{false_unless}
+use Rattle.rl_syntax.proofs.Basics.{false_unless}
 use Rattle.rl_lexer.proofs.Pieces.{is_equal}
 
 -- ---- sets of 64 characters, a bit for each
 
-pub low_marks : (c : ℕ) → c < 64 → has_bit 18158653859520577536 c ≡ is_mark_alone c
-low_marks c low = agree_below_at (has_bit 18158653859520577536) is_mark_alone 64 c refl low
+pub low_marks : (c : ℕ) → c < 64 → has_bit 18158653859520577536 c ≡ is_always_token c
+low_marks c low = agree_below_at (has_bit 18158653859520577536) is_always_token 64 c refl low
 
--- a set of those from 64 on holds what passes the test
+-- A mask of the characters from 64 on agrees with the test.
 high_set : (bits : ℕ) (test : ℕ → Bool) → agree_below (has_bit bits) (λ k. test (64 + k)) 64 ≡ true → (c : ℕ) → 64 ≤ c
     → c < 128 → has_bit bits (c - 64) ≡ test c
 high_set bits test all c h low =
     let e : 64 + (c - 64) ≡ c = omega arith in
     agree_below_at (has_bit bits) (λ k. test (64 + k)) 64 (c - 64) all (omega arith) ∙ ap test e
 
-pub high_marks : (c : ℕ) → 64 ≤ c → c < 128 → has_bit 8646911286296182785 (c - 64) ≡ is_mark_alone c
-high_marks c h low = high_set 8646911286296182785 is_mark_alone refl c h low
+pub high_marks : (c : ℕ) → 64 ≤ c → c < 128 → has_bit 8646911286296182785 (c - 64) ≡ is_always_token c
+high_marks c h low = high_set 8646911286296182785 is_always_token refl c h low
 
--- all of them are of ASCII
+-- All delimiters and punctuation characters are ASCII.
 mark_low : (c : ℕ) (d : Bool) → is_among delimiters c ≡ d → (d || is_among marks c) ≡ true → c < 128
 mark_low c true is h = low_among delimiters c refl is
 mark_low c false is h = low_among marks c refl h
 
-pub wide_marks : (c : ℕ) → 128 ≤ c → is_mark_alone c ≡ false
-wide_marks c high = false_unless (is_mark_alone c) (λ h. let low = mark_low c (is_among delimiters c) refl h in omega
+pub wide_marks : (c : ℕ) → 128 ≤ c → is_always_token c ≡ false
+wide_marks c high = false_unless (is_always_token c) (λ h. let low = mark_low c (is_among delimiters c) refl h in omega
     (arith, high, low))
 
 pub high_words : (c : ℕ) → 64 ≤ c → c < 128 → has_bit 575334794548740094 (c - 64) ≡ true → begins_word c ≡ true
@@ -42,7 +42,7 @@ high_words c h low is =
     && ((k == 95 || is_ascii_alphabetic k) && not (is_white k))) refl c h low)
     ∙ is
 
--- ---- words
+-- ---- identifiers
 
 other_letter : (b d r : Bool) → not (b || d || r) ≡ true → cond b LetterBHead
     (cond d LetterCHead (cond r LetterRHead OtherLetterHead)) ≡ OtherLetterHead
@@ -65,12 +65,12 @@ word_found s t r c e is run =
 
 -- ---- a letter that may begin a literal, where none follows
 
--- what goes on with a word is none of the quotes, and no hash
+-- A character from `@` on is neither a quote nor a hash.
 other_than : (d k : ℕ) → k < 64 → nat_le 64 d ≡ true → (d == k) ≡ false
 other_than d k small h = grind (arith, nat_tests)
 
 by_letter : (b d r : Bool) (c : ℕ) (t : List ℕ) → (c == 98) ≡ b → (c == 99) ≡ d → (c == 114) ≡ r → (b || d || r) ≡ true
-    → first_passes goes_on_as_word t ≡ true → lexeme_at (c ∷ t) ≡ word_at t
+    → first_passes continues_word t ≡ true → lexeme_at (c ∷ t) ≡ word_at t
 by_letter b d r c [] eb ed er is h = absurd (cc)
 by_letter true d r c (x ∷ u) eb ed er is h =
     let parts = and_parts (nat_le 64 x) (not (x == 114)) h in
@@ -95,21 +95,21 @@ by_letter false false true c (x ∷ u) eb ed er is h =
 by_letter false false false c (x ∷ u) eb ed er is h = absurd (cc)
 
 pub prefix_word_found : (s t r : List ℕ) (c : ℕ) → s ≡ c ∷ t → is_prefix_letter c ≡ true
-    → first_passes goes_on_as_word t ≡ true → r ≡ after_run is_continue t → FormBefore s IdentifierForm r
+    → first_passes continues_word t ≡ true → r ≡ after_run is_continue t → FormBefore s IdentifierForm r
 prefix_word_found s t r c e is h run = word_here s t r c e (by_letter (c == 98) (c == 99) (c == 114) c t refl refl refl
     is h) run
 
--- ---- marks
+-- ---- punctuation characters
 
 mark_cases : (c : ℕ) (t : List ℕ) (d : Bool) → is_among delimiters c ≡ d → (d || is_among marks c) ≡ true
     → lexeme_at (c ∷ t) ≡ Some (cond d (DelimiterForm c) (MarkForm c), t)
 mark_cases c t true is h = front_delimiter c t is
 mark_cases c t false is h = front_mark c t (inl h)
 
-pub mark_first : (s t : List ℕ) (c : ℕ) → s ≡ c ∷ t → is_mark_alone c ≡ true → lexeme_at s ≡ Some (mark_form c, t)
+pub mark_first : (s t : List ℕ) (c : ℕ) → s ≡ c ∷ t → is_always_token c ≡ true → lexeme_at s ≡ Some (mark_form c, t)
 mark_first s t c e is = ap lexeme_at e ∙ mark_cases c t (is_among delimiters c) refl is
 
-pub mark_found : (s t : List ℕ) (c : ℕ) (form : LexemeForm) → s ≡ c ∷ t → is_mark_alone c ≡ true → form ≡ mark_form c
+pub mark_found : (s t : List ℕ) (c : ℕ) (form : LexemeForm) → s ≡ c ∷ t → is_always_token c ≡ true → form ≡ mark_form c
     → FormBefore s form t
 mark_found s t c form e is same = subst (λ (f : LexemeForm). FormBefore s f t) (sym same)
     (form_before s (mark_form c, t) (mark_first s t c e is))
@@ -118,15 +118,15 @@ pub slash_found : (s t : List ℕ) (c : ℕ) → s ≡ c ∷ t → c ≡ 47 → 
     → FormBefore s (MarkForm 47) t
 slash_found s t c e is h = form_before s (MarkForm 47, t) (ap lexeme_at (e ∙ ap (λ x. x ∷ t) is) ∙ front_slash t h)
 
--- ---- what begins no lexeme
+-- ---- text that begins no lexeme
 
-pub stray_first : (s t : List ℕ) (c : ℕ) → s ≡ c ∷ t → is_start c ≡ false → is_mark_alone c ≡ false → (c == 47) ≡ false
+pub stray_first : (s t : List ℕ) (c : ℕ) → s ≡ c ∷ t → is_start c ≡ false → is_always_token c ≡ false → (c == 47) ≡ false
     → is_ascii_digit c ≡ false → (c == 34) ≡ false → (c == 39) ≡ false → lexeme_at s ≡ None
 stray_first s t c e start mark slash digit quote apostrophe =
     let parts = or_parts (is_among delimiters c) (is_among marks c) mark in
     ap lexeme_at e ∙ at_class c t StrayHead (stray_class c start parts.0 slash parts.1 digit quote apostrophe)
 
--- ---- past ASCII
+-- ---- non-ASCII characters
 
 not_low : (c k : ℕ) → k < 128 → is_ascii c ≡ false → (c == k) ≡ false
 not_low c k low is = grind (arith, nat_tests)

@@ -1,22 +1,22 @@
--- Quotes that begin neither a lexeme nor a lifetime, and end all the same: a source has them as
--- literals, as rustc does, and goes on after them.
+-- Invalid quoted literals of a source, as `''` and `'ab'`. Each begins neither as a valid literal nor as a lifetime,
+-- but ends before the text does. As for rustc, it is a literal token, and lexing continues after it.
 use Rattle.std.specs.Prelude.{◌≡◌, ℕ, Bool, false, not, ◌||◌, ◌==◌, List, [], codes, ◌∷◌, ◌++◌, IsTrue, ⊤}
 use Rattle.std.specs.Char.{is_ascii_digit}
 use Rattle.std.specs.List.{list_all}
 use Prim.Native.Char.{code}
-use Rattle.rl_text.specs.Texts.{first_passes, begins_char, is_start, is_continue}
+use Rattle.rl_syntax.specs.Texts.{first_passes, begins_char, is_start, is_continue}
 use Rattle.rl_lexer.specs.Lexemes.{BodyPart, PlainPart, EscapedPart, body_text, IsRun, IsLexedSuffix}
 
 pub data BadQuote : Type 0 where
-  -- an identifier in quotes, or what begins with a digit: `'ab'`, `'12'`
+  -- An identifier, or text that begins with a digit, between apostrophes: `'ab'`, `'12'`.
   WordQuote : (first : ℕ) (more : List ℕ) → BadQuote
-  -- a raw identifier in quotes: `'r#ab'`
+  -- A raw identifier between apostrophes: `'r#ab'`.
   RawWordQuote : (first : ℕ) (more : List ℕ) → BadQuote
-  -- a digit and what goes on with it, which no quote closes: `'1a`
+  -- An apostrophe, a digit and the identifier characters after it, without a closing apostrophe: `'1a`.
   DigitQuote : (digit : ℕ) (more : List ℕ) → BadQuote
-  -- all else up to the next quote, and a suffix: `''`, `'+-'u8`
+  -- Any other text from an apostrophe up to the next one, and a suffix: `''`, `'+-'u8`.
   OtherQuote : (parts : List BodyPart) (suffix : List ℕ) → BadQuote
-  -- the same after `b'`: `b'hello'`
+  -- Everything from `b'` up to the next apostrophe, and a suffix: `b'hello'`.
   ByteQuote : (parts : List BodyPart) (suffix : List ℕ) → BadQuote
 
 abbrev pub bad_quote_text : BadQuote → List ℕ
@@ -26,8 +26,8 @@ bad_quote_text (DigitQuote c more) = code "'" ∷ c ∷ more
 bad_quote_text (OtherQuote parts suffix) = code "'" ∷ body_text parts ++ code "'" ∷ suffix
 bad_quote_text (ByteQuote parts suffix) = code "b" ∷ code "'" ∷ body_text parts ++ code "'" ∷ suffix
 
--- Between the quotes stands no other quote and no slash, but after a backslash. An LF is the last
--- part, else the line ends before the quote is closed.
+-- The text between the apostrophes of an invalid quoted literal contains neither another apostrophe nor a slash, except
+-- after a backslash. An LF can only be its last character. At another LF the literal has no end.
 abbrev pub IsQuoteBody : List BodyPart → Type 0
 IsQuoteBody [] = ⊤
 IsQuoteBody (PlainPart c ∷ parts) =
@@ -37,11 +37,12 @@ IsQuoteBody (EscapedPart c ∷ parts) = IsQuoteBody parts
 abbrev pub begins_escape : ℕ → Bool
 begins_escape c = c == code "\\"
 
--- what begins a word, a number or an escape
+-- The character begins an identifier, a number or an escape.
 abbrev pub begins_word_or_escape : ℕ → Bool
 begins_word_or_escape c = begins_escape c || (is_ascii_digit c || is_start c)
 
--- The quote is well made, and as long as what follows it allows. None begins with a backslash.
+-- The invalid quoted literal is well formed, and as long as the text `after` it allows. Its text doesn't begin with a
+-- backslash.
 abbrev pub IsBadQuote : BadQuote → List ℕ → Type 0
 IsBadQuote (WordQuote c more) after =
     IsTrue (is_ascii_digit c || is_start c) × IsTrue (list_all is_continue more)

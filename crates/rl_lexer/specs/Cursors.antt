@@ -1,7 +1,7 @@
--- What contracts see of a text that is cut token by token.
+-- The state of a cursor over a text's tokens, and the meaning of its results, for contracts.
 use Rattle.std.specs.Prelude.{◌≡◌, ℕ, ◌+◌, List, [], ◌∷◌, ◌++◌, length, encode_utf8_all, Option, Some, MatchOption}
 use Rattle.std.specs.Str.{chars, IsUtf8}
-use Rattle.rl_text.specs.Texts.{IsTail}
+use Rattle.rl_syntax.specs.Texts.{IsTail}
 use Rattle.rl_lexer.specs.Lexemes.{lexeme_text, IsLexeme, form_of, LexemeForm, LiteralForm, IdentifierForm, DelimiterForm, MarkForm}
 use Rattle.rl_lexer.specs.Cuts.{LexedToken, end_of, LexesUpTo, OpenGroup, open_groups, HasFirstError, BeginsNoLexeme}
 use Rattle.rl_lexer.specs.declared.cursor.Lexeme.{Lexeme}
@@ -9,7 +9,7 @@ use Rattle.rl_lexer.specs.declared.lex_error.LexKind.{LexKind}
 use Rattle.rl_lexer.specs.declared.lexeme.Form.{Form as FoundForm}
 use Rattle.rl_lexer.specs.declared.lexeme.Form.TheVariants as found
 
--- The text, and what is left of it. Both are bytes.
+-- The state of a cursor: the whole text, and the rest of it, which isn't lexed yet. Both are lists of bytes.
 pub record CursorState : Type 0 where
   pub text : List ℕ
   pub rest : List ℕ
@@ -18,14 +18,14 @@ pub record IsCursorState (text rest : List ℕ) : Type 0 where
   pub is_text : IsUtf8 text
   pub following : IsTail text rest
 
--- the form that the code tells
+-- The form of a token in the definitions, for its form in the code.
 abbrev pub form_view : FoundForm → LexemeForm
 form_view found.Literal = LiteralForm
 form_view found.Identifier = IdentifierForm
 form_view (found.Delimiter c) = DelimiterForm c
 form_view (found.Mark c) = MarkForm c
 
--- The form, the text and the place that are borrowed are those of the cut.
+-- The token that the cursor returns has the form, the text and the range of the token of the definitions.
 pub record IsBorrowedToken (l : Lexeme) (w : LexedToken) : Type 0 where
   pub form_is : form_of w.lexeme ≡ form_view l.form
   pub bytes_are : encode_utf8_all (lexeme_text w.lexeme) ≡ l.text.now
@@ -33,7 +33,8 @@ pub record IsBorrowedToken (l : Lexeme) (w : LexedToken) : Type 0 where
   pub lo_is : w.at ≡ l.lo
   pub hi_is : end_of w ≡ l.hi
 
--- The token begins what is left, and whatever was cut of the text before, it is cut next.
+-- The cursor consumes the token and returns it. The token begins the cursor's old rest, and is lexed next, however the
+-- text before it was lexed.
 pub record TakesNext (old : CursorState) (l : Lexeme) (new : CursorState) : Type 0 where
   pub cut : LexedToken
   pub is_cut : IsBorrowedToken l cut
@@ -46,16 +47,16 @@ pub record TakesNext (old : CursorState) (l : Lexeme) (new : CursorState) : Type
   pub same : new.text ≡ old.text
   pub following : IsTail old.rest new.rest
 
--- Where the text was cut into tokens whose groups open and close as they must, and this is left of
--- it, its first error is of this kind and stands at this byte.
+-- The first error of the cursor's text has this kind and this byte offset, if the text before the rest can be lexed
+-- into tokens whose groups match.
 abbrev pub IsFirstError : CursorState → LexKind → ℕ → Type 0
 IsFirstError t kind at =
     (cuts : List LexedToken) (groups : List OpenGroup)
     → LexesUpTo 0 (chars t.text) cuts (chars t.rest) → open_groups [] cuts ≡ Some groups
     → HasFirstError (chars t.text) kind at
 
--- What the cursor gives: the next token, or nothing where none begins what is left, and then it
--- stays.
+-- The meaning of the result of a cursor's `next`: the next token. If no token begins the rest, it is `None`, and the
+-- cursor doesn't move.
 abbrev pub GivesNext : CursorState → Option Lexeme → CursorState → Type 0
 GivesNext old token new =
     MatchOption token (BeginsNoLexeme (chars old.rest) × (new ≡ old)) (λ l. TakesNext old l new)

@@ -1,13 +1,13 @@
--- How a whole text is cut into tokens, and the first error of a text that can't be.
+-- The tokens of a whole text, its groups, and the first error of a text that can't be lexed.
 use Rattle.std.specs.Prelude.{◌≡◌, ◌≢◌, ◌⊎◌, ℕ, ◌+◌, Bool, false, not, ◌&&◌, ◌||◌, ◌==◌, nat_lt, List, [], ◌∷◌, ◌++◌, length, IsTrue, IsFalse, codes, Option, Some, None, option_and_then, if◌then◌else◌}
 use Prim.Native.Char.{code}
-use Rattle.rl_text.specs.Texts.{is_among, first_passes, begins, byte_len, is_start}
+use Rattle.rl_syntax.specs.Texts.{is_among, first_passes, begins, byte_len, is_start}
 use Rattle.rl_lexer.specs.Skipping.{Skipped}
 use Rattle.rl_lexer.specs.declared.lex_error.LexKind.{LexKind}
 use Rattle.rl_lexer.specs.declared.lex_error.LexKind.TheVariants.{DocComment, UnclosedComment, UnclosedQuote, Lifetime, RawIdentifier, StrayCharacter, UnmatchedClose, UnclosedGroup, TooDeep, Memory}
 use Rattle.rl_lexer.specs.Lexemes.{Lexeme, lexeme_text, IsLexeme, LexemeBefore, LexemeForm, DelimiterForm, form_of, BeginsRaw, begins_prefixed_quote, begins_raw_identifier}
 
--- A token that was cut, and the byte where it begins.
+-- A lexed token, and the byte offset where it begins.
 pub record LexedToken : Type 0 where
   pub lexeme : Lexeme
   pub at : ℕ
@@ -15,8 +15,8 @@ pub record LexedToken : Type 0 where
 abbrev pub end_of : LexedToken → ℕ
 end_of w = w.at + byte_len (lexeme_text w.lexeme)
 
--- The text t, which begins at a byte, is these tokens with white space and comments before each,
--- and after the last one's it goes on with r.
+-- The text `t` is lexed into these tokens, with white space and comments before each of them. After the last token, and
+-- the white space and comments after it, the text `r` is left. The text `t` begins at the byte offset `at`.
 abbrev pub LexesUpTo : ℕ → List ℕ → List LexedToken → List ℕ → Type 0
 LexesUpTo at t [] r = Skipped t r
 LexesUpTo at t (w ∷ ws) r =
@@ -24,7 +24,7 @@ LexesUpTo at t (w ∷ ws) r =
     × (w.at + byte_len (lexeme_text w.lexeme ++ after) ≡ at + byte_len t)
     × LexesUpTo (end_of w) after ws r
 
--- the opener and the closer of a group
+-- The two characters are the opening and the closing delimiter of a group.
 abbrev pub is_pair : ℕ → ℕ → Bool
 is_pair opener closer =
     (opener == code "(" && closer == code ")") || (opener == code "[" && closer == code "]")
@@ -36,7 +36,7 @@ is_opener c = is_among (codes "([{") c
 abbrev pub is_closer : ℕ → Bool
 is_closer c = is_among (codes ")]}") c
 
--- an open group: its opener, and the byte where that stands
+-- An open group: its opening delimiter, and the byte offset of that delimiter.
 pub record OpenGroup : Type 0 where
   pub opener : ℕ
   pub at : ℕ
@@ -49,8 +49,8 @@ abbrev pub popped : List OpenGroup → List OpenGroup
 popped [] = []
 popped (o ∷ os) = os
 
--- the groups that are open after a delimiter, the innermost first; none where it closes wrongly or
--- opens too deep
+-- The groups that are open after a delimiter, the innermost first. `None` if it is a closing delimiter that doesn't
+-- match the innermost group, or an opening one inside 128 groups.
 abbrev pub after_delimiter : List OpenGroup → ℕ → ℕ → Option (List OpenGroup)
 after_delimiter groups c at =
     if is_opener c
@@ -65,13 +65,14 @@ after_form groups _ at = Some groups
 abbrev pub after_lexeme : List OpenGroup → Lexeme → ℕ → Option (List OpenGroup)
 after_lexeme groups l at = after_form groups (form_of l) at
 
--- the groups that are open after all these tokens
+-- The groups that are open after these tokens, where `groups` are open before them. `None` if a delimiter is an error.
 abbrev pub open_groups : List OpenGroup → List LexedToken → Option (List OpenGroup)
 open_groups groups [] = Some groups
 open_groups groups (w ∷ ws) =
     option_and_then (λ g. open_groups g ws) (after_lexeme groups w.lexeme w.at)
 
--- `///` but not `////`, `//!`, `/**` but neither `/**/` nor `/***`, `/*!`
+-- The text begins like a doc comment: with `///` but not `////`, with `//!`, with `/**` but neither `/**/` nor `/***`,
+-- or with `/*!`.
 abbrev pub begins_doc_comment : List ℕ → Bool
 begins_doc_comment r =
     (begins (codes "///") r && not (begins (codes "////") r)) || begins (codes "//!") r
@@ -82,22 +83,22 @@ abbrev pub begins_lifetime : List ℕ → Bool
 begins_lifetime [] = false
 begins_lifetime (c ∷ cs) = c == code "'" && first_passes is_start cs
 
--- a quote that begins a literal: alone, after a prefix, after a raw literal's opener, or a
--- character's, which begins no lifetime
+-- The text begins like a quoted literal: with a quote, with a prefix and a quote, with a raw literal's opening
+-- delimiter, or with an apostrophe that doesn't begin a lifetime.
 abbrev pub BeginsQuote : List ℕ → Type 0
 BeginsQuote r =
     IsTrue (begins (codes "\"") r) ⊎ (IsTrue (begins_prefixed_quote r)
     ⊎ (BeginsRaw r ⊎ (IsTrue (begins (codes "'") r) × IsFalse (begins_lifetime r))))
 
--- a token begins the text; none does
+-- The text begins with a token. `BeginsNoLexeme` says that it doesn't.
 abbrev pub BeginsLexeme : List ℕ → Type 0
 BeginsLexeme r = (after : List ℕ) × LexemeBefore r after
 
 abbrev pub BeginsNoLexeme : List ℕ → Type 0
 BeginsNoLexeme r = (after : List ℕ) → LexemeBefore r after → ⊥
 
--- The error of this kind stands at the rest r, with these groups open. An allocation failure is
--- none of the text.
+-- The lexer's error of this kind is at the start of the rest `r`, where `groups` are open. A failed allocation isn't an
+-- error of the text.
 abbrev pub ErrorAt : LexKind → List OpenGroup → List ℕ → Type 0
 ErrorAt DocComment groups r = IsTrue (begins_doc_comment r)
 ErrorAt UnclosedComment groups r = IsTrue (begins (codes "/*") r) × IsFalse (begins_doc_comment r)
@@ -118,12 +119,13 @@ abbrev pub innermost : List OpenGroup → ℕ → ℕ
 innermost [] at = at
 innermost (o ∷ os) at = o.at
 
--- at the innermost opener for a group that isn't closed, else where the rest begins
+-- The byte offset of an error. For a group that isn't closed it is that of the innermost opening delimiter, and
+-- otherwise the start of the rest.
 abbrev pub error_place : LexKind → List OpenGroup → ℕ → ℕ
 error_place UnclosedGroup groups at = innermost groups at
 error_place _ groups at = at
 
--- The first error of the text: it is cut as far as it goes, and the error stands there.
+-- The text's first error: the text is lexed as far as possible, and the error is at the start of the rest.
 pub record HasFirstError (t : List ℕ) (kind : LexKind) (at : ℕ) : Type 0 where
   pub cuts : List LexedToken
   pub rest : List ℕ
@@ -135,8 +137,7 @@ pub record HasFirstError (t : List ℕ) (kind : LexKind) (at : ℕ) : Type 0 whe
   pub rest_place : rest_at + byte_len rest ≡ byte_len t
   pub at_is : at ≡ error_place kind groups rest_at
 
--- The text is cut into tokens up to the rest that begins at this byte, and a token begins that
--- rest.
+-- The text is lexed into tokens up to the byte offset `at`, and a token begins there.
 pub record LeavesRestAt (t : List ℕ) (at : ℕ) : Type 0 where
   pub cuts : List LexedToken
   pub rest : List ℕ
@@ -144,8 +145,8 @@ pub record LeavesRestAt (t : List ℕ) (at : ℕ) : Type 0 where
   pub begins : BeginsLexeme rest
   pub rest_place : at + byte_len rest ≡ byte_len t
 
--- What an error says of the text: its first error, or the token for which an allocation failed, a
--- group's closer too.
+-- The meaning of an error that the lexer returns: it is the text's first error. If an allocation failed, a token begins
+-- at its byte offset, perhaps a group's closing delimiter.
 abbrev pub Rejects : List ℕ → LexKind → ℕ → Type 0
 Rejects t Memory at = LeavesRestAt t at
 Rejects t kind at = HasFirstError t kind at

@@ -1,4 +1,4 @@
--- What the lexer's errors say.
+-- The messages of the lexer's errors, by their kinds.
 use Rattle.std.specs.Prelude.{ℕ, List, codes}
 use Rattle.rl_lexer.specs.declared.lex_error.LexKind.{LexKind}
 use Rattle.rl_lexer.specs.declared.lex_error.LexKind.TheVariants.{DocComment, UnclosedComment, UnclosedQuote, Lifetime, RawIdentifier, StrayCharacter, UnmatchedClose, UnclosedGroup, TooDeep, Memory}

@@ -1,39 +1,40 @@
--- The lexemes of a text, each a tree with its spelling, and as long as what follows it allows. A
--- character is its code. They are the tokens of the Rust Reference, chapters Tokens (sections
--- Literals, Punctuation, Delimiters) and Identifiers. What stands in a literal isn't judged, and
--- doc comments, lifetimes and raw identifiers are none of them.
-pub use Rattle.rl_text.specs.Texts.{is_start, is_continue}
+-- The lexemes of a text, which are its literals, identifiers, delimiters and punctuation characters. Each is a tree
+-- with a text, and is as long as the text after it allows. A character is represented by its code.
+--
+-- Lexemes are the tokens of the Rust Reference, chapters Tokens (sections Literals, Punctuation, Delimiters) and
+-- Identifiers. The text in a literal isn't checked, and doc comments, lifetimes and raw identifiers aren't lexemes.
+pub use Rattle.rl_syntax.specs.Texts.{is_start, is_continue}
 use Rattle.std.specs.Prelude.{◌≡◌, ℕ, ◌⊎◌, Bool, true, false, not, ◌&&◌, ◌||◌, ◌==◌, List, [], codes, ◌∷◌, ◌++◌, IsTrue, ⊤, replicate, if◌then◌else◌}
 use Rattle.std.proofs.Common.{suc, zero}
 use Rattle.std.specs.Char.{is_ascii_digit}
 use Rattle.std.specs.List.{list_all}
 use Prim.Native.Char.{code}
-use Rattle.rl_text.specs.Texts.{is_among, first_passes, begins, is_run_part}
-use Rattle.rl_forms.specs.Numbers.{is_exponent_letter}
+use Rattle.rl_syntax.specs.Texts.{is_among, first_passes, begins, is_run_part}
+use Rattle.rl_syntax.specs.Numbers.{is_exponent_letter}
 
--- after a zero: x, o or b
+-- The character names a base after a zero: x, o or b.
 abbrev pub is_base_letter : ℕ → Bool
 is_base_letter c = c == code "x" || c == code "o" || c == code "b"
 
 abbrev pub delimiters : List ℕ
 delimiters = codes "()[]{}"
 
--- punctuation, without the slash
+-- The punctuation characters except the slash.
 abbrev pub marks : List ℕ
 marks = codes "~!@#$%^&*-=+|;:,<.>?"
 
--- n hashes begin the text.
+-- The text begins with a given number of hashes.
 abbrev pub begins_hashes : ℕ → List ℕ → Bool
 begins_hashes zero t = true
 begins_hashes (suc n) [] = false
 begins_hashes (suc n) (c ∷ t) = c == code "#" && begins_hashes n t
 
--- A dot part begins the text: a dot, and after it neither a dot nor an identifier.
+-- The text begins with the dot of a number, which is followed by neither another dot nor an identifier.
 abbrev pub begins_dot : List ℕ → Bool
 begins_dot [] = false
 begins_dot (c ∷ t) = c == code "." && not (first_passes (λ d. d == code "." || is_start d) t)
 
--- What stands before the quote, or before the `r`: nothing, `b` or `c`.
+-- The prefix of a string literal, before its quote or before its `r`: nothing, `b` or `c`.
 pub data LiteralPrefix : Type 0 where
   NoPrefix : LiteralPrefix
   BytePrefix : LiteralPrefix
@@ -44,25 +45,25 @@ prefix_text NoPrefix = []
 prefix_text BytePrefix = codes "b"
 prefix_text CPrefix = codes "c"
 
--- Hashes, perhaps none, and a quote begin the text.
+-- The text begins with any number of hashes, and a quote.
 pub record BeginsHashedQuote (t : List ℕ) : Type 0 where
   pub hashes : ℕ
   pub rest : List ℕ
   pub text_is : t ≡ replicate hashes (code "#") ++ (code "\"" ∷ rest)
 
--- A raw literal's opener begins the text: perhaps a prefix, `r`, hashes and a quote.
+-- The text begins like a raw literal: with a prefix or without one, then `r`, any number of hashes, and a quote.
 pub record BeginsRaw (t : List ℕ) : Type 0 where
   pub prefix : LiteralPrefix
   pub rest : List ℕ
   pub opens : BeginsHashedQuote rest
   pub text_is : t ≡ prefix_text prefix ++ (code "r" ∷ rest)
 
--- A prefix and a quote begin the text.
+-- The text begins with a literal's prefix and its quote: `b"`, `c"` or `b'`.
 abbrev pub begins_prefixed_quote : List ℕ → Bool
 begins_prefixed_quote t =
     begins (codes "b\"") t || (begins (codes "c\"") t || begins (codes "b'") t)
 
--- `r#` and the start of an identifier begin the text.
+-- The text begins with `r#` and a character that may begin an identifier.
 abbrev pub begins_raw_identifier : List ℕ → Bool
 begins_raw_identifier [] = false
 begins_raw_identifier (c ∷ []) = false
@@ -73,7 +74,7 @@ abbrev pub BeginsOtherwise : List ℕ → Type 0
 BeginsOtherwise t =
     IsTrue (begins_prefixed_quote t) ⊎ (BeginsRaw t ⊎ IsTrue (begins_raw_identifier t))
 
--- A part of a quoted body: a character on its own, or a backslash and any character.
+-- A part of the text between a string literal's quotes: a character by itself, or a backslash and any character.
 pub data BodyPart : Type 0 where
   PlainPart : (c : ℕ) → BodyPart
   EscapedPart : (c : ℕ) → BodyPart
@@ -88,7 +89,8 @@ IsBody [] = ⊤
 IsBody (PlainPart c ∷ parts) = IsTrue (not (c == code "\"" || c == code "\\")) × IsBody parts
 IsBody (EscapedPart c ∷ parts) = IsBody parts
 
--- Between the quotes of a character: one character, or a backslash, any character, and more.
+-- The text between the quotes of a character or byte literal: one character, or a backslash, any character, and more
+-- text.
 pub data CharacterBody : Type 0 where
   OneCharacter : (c : ℕ) → CharacterBody
   EscapedCharacter : (c : ℕ) (more : List ℕ) → CharacterBody
@@ -102,7 +104,7 @@ IsCharacterBody (OneCharacter c) = IsTrue (not (c == code "\\"))
 IsCharacterBody (EscapedCharacter c more) =
     IsTrue (list_all (λ d. not (d == code "'" || d == code "\n")) more)
 
--- The dot part of a decimal, where there is one.
+-- The fraction of a decimal number, a dot and the digits after it, if it has one.
 pub data LexedFraction : Type 0 where
   NoLexedFraction : LexedFraction
   LexedDot : (digits : List ℕ) → LexedFraction
@@ -121,8 +123,8 @@ lexed_sign_text NoLexedSign = []
 lexed_sign_text LexedPlus = codes "+"
 lexed_sign_text LexedMinus = codes "-"
 
--- The exponent of a decimal, where there is one: a letter, perhaps a sign, underscores, a digit and
--- what follows it.
+-- The exponent of a decimal number, if it has one: a letter, a sign or no sign, underscores, a digit, and the
+-- characters after that digit.
 pub data LexedExponent : Type 0 where
   NoLexedExponent : LexedExponent
   LexedPower : (letter : ℕ) (sign : LexedSign) (underscores digit : ℕ) (more : List ℕ)
@@ -133,7 +135,7 @@ lexed_exponent_text NoLexedExponent = []
 lexed_exponent_text (LexedPower letter sign n d more) =
     letter ∷ lexed_sign_text sign ++ (replicate n (code "_") ++ d ∷ more)
 
--- An exponent begins the text: `e` or `E`, perhaps a sign, underscores and a digit.
+-- The text begins with an exponent: `e` or `E`, a sign or no sign, any number of underscores, and a digit.
 pub record BeginsLexedExponent (t : List ℕ) : Type 0 where
   pub letter : ℕ
   pub sign : LexedSign
@@ -146,12 +148,12 @@ pub record BeginsLexedExponent (t : List ℕ) : Type 0 where
       t ≡ letter ∷ (lexed_sign_text sign ++ (replicate underscores (code "_") ++ (digit ∷ rest)))
 
 pub data Lexeme : Type 0 where
-  -- a string with escapes
+  -- A string literal that isn't raw, with its prefix.
   QuotedLexeme : (p : LiteralPrefix) (parts : List BodyPart) (suffix : List ℕ) → Lexeme
   RawLexeme : (p : LiteralPrefix) (hashes : ℕ) (body suffix : List ℕ) → Lexeme
-  -- a character or a byte
+  -- A character or byte literal.
   CharacterLexeme : (is_byte : Bool) (inside : CharacterBody) (suffix : List ℕ) → Lexeme
-  -- `0x`, `0o` or `0b`, and what goes on with it, a suffix too
+  -- A number with the prefix `0x`, `0o` or `0b`, and the identifier characters after it, which include the suffix.
   BasedLexeme : (letter : ℕ) (digits : List ℕ) → Lexeme
   DecimalLexeme : (digit : ℕ) (more : List ℕ) (fraction : LexedFraction)
       (exponent : LexedExponent) (suffix : List ℕ) → Lexeme
@@ -175,17 +177,17 @@ lexeme_text (IdentifierLexeme c more) = c ∷ more
 lexeme_text (DelimiterLexeme c) = c ∷ []
 lexeme_text (MarkLexeme c) = c ∷ []
 
--- A run of such characters, as long as what follows allows.
+-- The text `run` consists of characters that pass the test, and the text `after` it doesn't begin with another one.
 pub record IsRun (test : ℕ → Bool) (run after : List ℕ) : Type 0 where
   pub each : IsTrue (list_all test run)
   pub ends : first_passes test after ≡ false
 
--- An identifier run, or nothing where none follows.
+-- The suffix of a lexeme: an identifier, or nothing if no identifier follows.
 abbrev pub IsLexedSuffix : List ℕ → List ℕ → Type 0
 IsLexedSuffix [] after = first_passes is_start after ≡ false
 IsLexedSuffix (c ∷ more) after = IsTrue (is_start c) × IsRun is_continue more after
 
--- No quote in the body has n hashes after it.
+-- The body of a raw literal with n hashes: no quote in it is followed by n hashes.
 abbrev pub IsRawBody : ℕ → List ℕ → Type 0
 IsRawBody n [] = ⊤
 IsRawBody n (c ∷ body) = ((c == code "\"" && begins_hashes n body) ≡ false) × IsRawBody n body
@@ -202,7 +204,7 @@ IsLexedExponent (LexedPower letter sign n d more) after =
     IsTrue (is_exponent_letter letter) × IsTrue (is_ascii_digit d)
     × IsRun (is_run_part is_ascii_digit) more after
 
--- The lexeme is well made, and as long as the text after it allows.
+-- The lexeme is well formed, and as long as the text `after` it allows.
 abbrev pub IsLexeme : Lexeme → List ℕ → Type 0
 IsLexeme (QuotedLexeme p parts suffix) after = IsBody parts × IsLexedSuffix suffix after
 IsLexeme (RawLexeme p n body suffix) after = IsRawBody n body × IsLexedSuffix suffix after
@@ -226,12 +228,11 @@ IsLexeme (MarkLexeme c) after =
     IsTrue (is_among marks c)
     ⊎ ((c ≡ code "/") × (first_passes (λ d. d == code "/" || d == code "*") after ≡ false))
 
--- w is a lexeme with after after it.
+-- The text `w` is a lexeme, where the text `after` follows it.
 abbrev pub LexemeWith : List ℕ → List ℕ → Type 0
 LexemeWith w after = (l : Lexeme) × IsLexeme l after × (w ≡ lexeme_text l)
 
--- What a lexeme is to a parser: a literal, an identifier, one of the six delimiters, or another
--- mark.
+-- The form of a lexeme: a literal, an identifier, one of the six delimiters, or another punctuation character.
 pub data LexemeForm : Type 0 where
   LiteralForm : LexemeForm
   IdentifierForm : LexemeForm
@@ -244,10 +245,10 @@ form_of (DelimiterLexeme c) = DelimiterForm c
 form_of (MarkLexeme c) = MarkForm c
 form_of _ = LiteralForm
 
--- A lexeme stands at the front of the text, and the rest after it.
+-- The text begins with a lexeme, and the text `after` follows the lexeme.
 abbrev pub LexemeBefore : List ℕ → List ℕ → Type 0
 LexemeBefore t after = (w : List ℕ) × LexemeWith w after × (t ≡ w ++ after)
 
--- which characters are punctuation: the marks, and the slash
+-- The character is a punctuation character: one of `marks`, or the slash.
 abbrev pub is_punct : ℕ → Bool
 is_punct c = is_among marks c || c == code "/"

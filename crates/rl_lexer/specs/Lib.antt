@@ -5,6 +5,5 @@ pub mod Cursors
 pub mod Skipping
 pub mod BadQuotes
 pub mod Sources
-pub mod Lines
 pub mod Mirrors
 pub mod Laws

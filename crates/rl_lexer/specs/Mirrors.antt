@@ -1,5 +1,5 @@
--- Mirrors of the code: programs on lists of characters that code is proved equal to. No public
--- clause cites one.
+-- Executable models of private code: functions on lists of characters. The code is proved to return equal results. No
+-- postcondition of a public function cites them.
 
 pub mod ErrorAt
 pub mod LexemeAt

@@ -1,21 +1,22 @@
--- The rest of a text after white space and plain comments.
+-- The text after the white space and plain comments at its start.
 use Rattle.std.specs.Prelude.{◌≡◌, ℕ, ◌⊎◌, List, [], ◌∷◌, ◌++◌}
 use Prim.Native.Char.{code}
-use Rattle.rl_forms.specs.Trivia.{IsLineBody, IsTrivia, IsTriviaPiece, TriviaPiece, trivia_piece_text}
+use Rattle.rl_syntax.specs.Trivia.{IsLineBody, IsTrivia, IsTriviaPiece, TriviaPiece, trivia_piece_text}
 
--- A plain line comment with no LF, up to the end of the text.
+-- The text is a plain line comment without an LF, at the end of the whole text.
 pub record IsOpenLine (t : List ℕ) : Type 0 where
   pub body : List ℕ
   pub is_body : IsLineBody body
   pub text : t ≡ code "/" ∷ code "/" ∷ body
 
--- A piece or an open line begins the text.
+-- The text begins with white space, a plain comment, or a plain line comment without an LF.
 abbrev pub BeginsTrivia : List ℕ → Type 0
 BeginsTrivia t =
     ((p : TriviaPiece) × (rest : List ℕ) × IsTriviaPiece p × (t ≡ trivia_piece_text p ++ rest))
     ⊎ IsOpenLine t
 
--- r is what stands after all trivia at the front of t: with an open line there, nothing.
+-- The text `r` follows all white space and plain comments at the start of `t`. `StopsInOpenLine` is for a text `t` that
+-- ends in a line comment, where `r` is empty.
 pub record StopsAfterTrivia (t r : List ℕ) : Type 0 where
   pub front : List ℕ
   pub is_trivia : IsTrivia front
@@ -33,6 +34,6 @@ pub record StopsInOpenLine (t r : List ℕ) : Type 0 where
 abbrev pub Skipped : List ℕ → List ℕ → Type 0
 Skipped t r = StopsAfterTrivia t r ⊎ StopsInOpenLine t r
 
--- A text has at most one rest after its trivia.
+-- The text after leading white space and comments is unique.
 abbrev pub OneRest : Type 0
 OneRest = (t r s : List ℕ) → Skipped t r → Skipped t s → r ≡ s

@@ -1,18 +1,17 @@
--- The tokens of a whole source, and how it is cut into them: the lexemes, and beside them raw
--- identifiers, lifetimes, doc comments and bad quotes. A byte order mark and an interpreter's line may stand
--- before them.
+-- The tokens of a whole Rust source: lexemes, raw identifiers, lifetimes, doc comments, invalid quoted literals and
+-- stray characters. A byte order mark and an interpreter's line may precede them.
 use Rattle.std.specs.Prelude.{◌≡◌, ◌⊎◌, ℕ, ◌+◌, Bool, false, not, ◌==◌, List, [], ◌∷◌, ◌++◌, length, map, IsTrue, IsFalse, codes, encode_utf8_all, Option, MatchOption, ⊤, if◌then◌else◌}
 use Prim.Native.Char.{code}
 use Rattle.std.specs.List.{AllByRecursion, list_all}
 use Rattle.std.specs.Str.{chars}
-use Rattle.rl_text.specs.Texts.{first_passes, begins_char, begins, byte_len, IsTail, is_start, is_continue}
-use Rattle.rl_forms.specs.Trivia.{Inside, inside_text, IsInside, is_comment_line, is_comment_block}
+use Rattle.rl_syntax.specs.Texts.{first_passes, begins_char, begins, byte_len, IsTail, is_start, is_continue}
+use Rattle.rl_syntax.specs.Trivia.{Inside, inside_text, IsInside, is_comment_line, is_comment_block}
 use Rattle.rl_lexer.specs.Skipping.{Skipped}
 use Rattle.rl_lexer.specs.Lexemes.{Lexeme, lexeme_text, IsLexeme, IsRun, LexemeForm, LiteralForm, IdentifierForm, form_of, begins_raw_identifier}
 use Rattle.rl_lexer.specs.BadQuotes.{BadQuote, bad_quote_text, IsBadQuote}
 use Rattle.rl_lexer.specs.Cuts.{BeginsQuote, LexedToken, LexesUpTo}
 use Rattle.rl_lexer.specs.Cursors.{CursorState, form_view}
-use Rattle.rl_forms.specs.Reading.{truth_text}
+use Rattle.rl_syntax.specs.Reading.{truth_text}
 use Rattle.rl_lexer.specs.declared.lex_error.LexKind.{LexKind}
 use Rattle.rl_lexer.specs.declared.lex_error.LexKind.TheVariants.{UnclosedComment, UnclosedQuote}
 use Rattle.rl_lexer.specs.declared.source.SourceForm.{SourceForm}
@@ -26,19 +25,20 @@ abbrev pub is_apostrophe : ℕ → Bool
 is_apostrophe c = c == code "'"
 
 pub data SourceLexeme : Type 0 where
-  -- what the lexer takes too
+  -- A literal, an identifier, a delimiter or a punctuation character.
   PlainToken : (l : Lexeme) → SourceLexeme
-  -- `r#` and an identifier
+  -- A raw identifier: `r#` and an identifier.
   RawIdentifierToken : (first : ℕ) (more : List ℕ) → SourceLexeme
-  -- `'` and an identifier; `'r#` and an identifier
+  -- A lifetime: `'` and an identifier. `RawLifetimeToken` is for `'r#` and an identifier.
   LifetimeToken : (first : ℕ) (more : List ℕ) → SourceLexeme
   RawLifetimeToken : (first : ℕ) (more : List ℕ) → SourceLexeme
-  -- `//` and the line's rest without its LF; `/*` and what stands inside
+  -- A doc comment that is a line: `//` and the rest of the line without its LF. `DocBlockToken` is for a block: `/*`
+  -- and the text inside.
   DocLineToken : (body : List ℕ) → SourceLexeme
   DocBlockToken : (inside : Inside) → SourceLexeme
-  -- a quote that begins nothing else, up to where it ends
+  -- An invalid quoted literal, as `'ab'`.
   BadQuoteToken : (q : BadQuote) → SourceLexeme
-  -- a character at which nothing else begins
+  -- A stray character: one that begins no other token.
   StrayToken : (c : ℕ) → SourceLexeme
 
 abbrev pub source_text : SourceLexeme → List ℕ
@@ -51,12 +51,13 @@ source_text (DocBlockToken inside) = code "/" ∷ code "*" ∷ inside_text insid
 source_text (BadQuoteToken q) = bad_quote_text q
 source_text (StrayToken c) = c ∷ []
 
--- An identifier, as long as what follows allows.
+-- The text is an identifier, where the text `after` doesn't continue it.
 abbrev pub IsName : ℕ → List ℕ → List ℕ → Type 0
 IsName c more after = IsTrue (is_start c) × IsRun is_continue more after
 
--- The token is well made, and as long as the text after it allows. No apostrophe follows a
--- lifetime, and what begins `'r#` is none where an identifier follows. Bad quotes and strays aside.
+-- The token is well formed, and as long as the text `after` it allows. It is neither an invalid quoted literal nor a
+-- stray character. No apostrophe follows a lifetime. A text that begins with `'r#` and an identifier is a raw lifetime,
+-- not another one.
 abbrev pub IsProper : SourceLexeme → List ℕ → Type 0
 IsProper (PlainToken l) after = IsLexeme l after
 IsProper (RawIdentifierToken c more) after = IsName c more after
@@ -71,18 +72,18 @@ IsProper (DocBlockToken inside) after =
 IsProper (BadQuoteToken q) after = ⊥
 IsProper (StrayToken c) after = ⊥
 
--- A token begins the text, bad quotes and strays aside.
+-- The text begins with a token that is neither an invalid quoted literal nor a stray character.
 abbrev pub BeginsProper : List ℕ → Type 0
 BeginsProper t =
     (w : SourceLexeme) × (after : List ℕ) × IsProper w after × (t ≡ source_text w ++ after)
 
--- The text begins as a quoted literal, or as a block comment.
+-- The text begins like a quoted literal or a block comment.
 abbrev pub Opens : List ℕ → Type 0
 Opens t =
     BeginsQuote t ⊎ (IsTrue (first_passes is_apostrophe t) ⊎ IsTrue (begins (codes "/*") t))
 
--- The same with bad quotes and strays: no other token begins there. At a stray begins neither a
--- quoted literal nor a comment that isn't closed.
+-- The text is a token of a source. Invalid quoted literals and stray characters are tokens only where no other token
+-- begins. A stray character isn't the start of a quoted literal or a comment that isn't closed.
 abbrev pub IsSource : SourceLexeme → List ℕ → Type 0
 IsSource (BadQuoteToken q) after =
     (BeginsProper (bad_quote_text q ++ after) → ⊥) × IsBadQuote q after
@@ -94,7 +95,7 @@ IsSource (RawLifetimeToken c more) after = IsProper (RawLifetimeToken c more) af
 IsSource (DocLineToken body) after = IsProper (DocLineToken body) after
 IsSource (DocBlockToken inside) after = IsProper (DocBlockToken inside) after
 
--- What a token of a source is to a reader.
+-- The kind of a token of a source.
 pub data SourceKind : Type 0 where
   PlainKind : (form : LexemeForm) → SourceKind
   RawIdentifierKind : SourceKind
@@ -112,7 +113,7 @@ source_kind (DocBlockToken inside) = DocCommentKind
 source_kind (BadQuoteToken q) = PlainKind LiteralForm
 source_kind (StrayToken c) = StrayKind
 
--- the form that the code tells
+-- The kind of a source's token in the definitions, for its form in the code.
 abbrev pub source_view : SourceForm → SourceKind
 source_view (found.Token form) = PlainKind (form_view form)
 source_view found.RawIdentifier = RawIdentifierKind
@@ -120,26 +121,27 @@ source_view found.Lifetime = LifetimeKind
 source_view found.DocComment = DocCommentKind
 source_view found.Stray = StrayKind
 
--- A token of this kind begins the text, with the rest after it.
+-- A token of this kind begins the text `t`, and the text `rest` follows it.
 pub record SourceBefore (t : List ℕ) (kind : SourceKind) (rest : List ℕ) : Type 0 where
   pub token : SourceLexeme
   pub is_source : IsSource token rest
   pub text_is : t ≡ source_text token ++ rest
   pub kind_is : source_kind token ≡ kind
 
--- no token begins the text
+-- No token of a source begins the text.
 abbrev pub BeginsNoSource : List ℕ → Type 0
 BeginsNoSource t = (kind : SourceKind) (rest : List ℕ) → SourceBefore t kind rest → ⊥
 
--- ---- what stands before the first token
+-- ---- the text before the first token
 
--- the text without a byte order mark at its front
-abbrev pub without_mark : List ℕ → List ℕ
-without_mark [] = []
-without_mark (c ∷ t) = if c == 0xfeff then t else c ∷ t
+-- The text after a byte order mark at its start, or the text itself.
+abbrev pub without_byte_order_mark : List ℕ → List ℕ
+without_byte_order_mark [] = []
+without_byte_order_mark (c ∷ t) = if c == 0xfeff then t else c ∷ t
 
--- `#!` and the line's rest without its LF, where no `[` stands after them, white space and plain
--- comments: an interpreter's line, and no attribute
+-- The text `t` begins with an interpreter's line, and `rest` follows the line. The line is `#!` and the rest of the
+-- line without its LF. If `[` follows, after white space and plain comments, it is an attribute, and not an
+-- interpreter's line.
 pub record IsScriptLine (t rest : List ℕ) : Type 0 where
   pub line : List ℕ
   pub text_is : t ≡ code "#" ∷ code "!" ∷ line ++ rest
@@ -147,16 +149,16 @@ pub record IsScriptLine (t rest : List ℕ) : Type 0 where
   pub no_attribute : (s : List ℕ) → Skipped (line ++ rest) s
       → begins_char (code "[") s ≡ false
 
--- the text without that line at its front
+-- The text after an interpreter's line at its start, or the text itself if it has none.
 abbrev pub IsWithoutLine : List ℕ → List ℕ → Type 0
 IsWithoutLine t rest = IsScriptLine t rest ⊎ ((rest ≡ t) × ((r : List ℕ) → IsScriptLine t r → ⊥))
 
 abbrev pub IsWithoutPreamble : List ℕ → List ℕ → Type 0
-IsWithoutPreamble t rest = IsWithoutLine (without_mark t) rest
+IsWithoutPreamble t rest = IsWithoutLine (without_byte_order_mark t) rest
 
--- ---- cuts
+-- ---- lexed tokens
 
--- A token that was cut, and the byte where it begins.
+-- A lexed token of a source, and the byte offset where it begins.
 pub record CutSource : Type 0 where
   pub token : SourceLexeme
   pub at : ℕ
@@ -164,8 +166,9 @@ pub record CutSource : Type 0 where
 abbrev pub source_end : CutSource → ℕ
 source_end w = w.at + byte_len (source_text w.token)
 
--- The text t, which begins at a byte, is these tokens with white space and plain comments before
--- each, and after the last one's it goes on with r.
+-- The text `t` is lexed into these tokens of a source, with white space and plain comments before each of them. After
+-- the last token, and the white space and comments after it, the text `r` is left. The text `t` begins at the byte
+-- offset `at`.
 abbrev pub SourcesUpTo : ℕ → List ℕ → List CutSource → List ℕ → Type 0
 SourcesUpTo at t [] r = Skipped t r
 SourcesUpTo at t (w ∷ ws) r =
@@ -173,7 +176,8 @@ SourcesUpTo at t (w ∷ ws) r =
     × (w.at + byte_len (source_text w.token ++ after) ≡ at + byte_len t)
     × SourcesUpTo (source_end w) after ws r
 
--- The source is its front and these tokens, and after the last one's trivia it goes on with r.
+-- The source `t` is lexed into these tokens, after a byte order mark and an interpreter's line if it has them. After
+-- the last token, and the white space and comments after it, the text `r` is left.
 pub record IsCutUpTo (t : List ℕ) (cuts : List CutSource) (r : List ℕ) : Type 0 where
   pub at : ℕ
   pub body : List ℕ
@@ -181,7 +185,7 @@ pub record IsCutUpTo (t : List ℕ) (cuts : List CutSource) (r : List ℕ) : Typ
   pub place : at + byte_len body ≡ byte_len t
   pub are_cuts : SourcesUpTo at body cuts r
 
--- The form, the text and the place that are borrowed are those of the cut.
+-- The token that the cursor returns has the form, the text and the range of the token of the definitions.
 pub record IsBorrowedSource (l : SourceToken) (w : CutSource) : Type 0 where
   pub kind_is : source_kind w.token ≡ source_view l.form
   pub bytes_are : encode_utf8_all (source_text w.token) ≡ l.text.now
@@ -189,7 +193,8 @@ pub record IsBorrowedSource (l : SourceToken) (w : CutSource) : Type 0 where
   pub lo_is : w.at ≡ l.lo
   pub hi_is : source_end w ≡ l.hi
 
--- The token begins what is left, and whatever was cut of the source before, it is cut next.
+-- The cursor consumes the token and returns it. The token begins the cursor's old rest, and is lexed next, however the
+-- source before it was lexed.
 pub record TakesSource (old : CursorState) (l : SourceToken) (new : CursorState) : Type 0 where
   pub cut : CutSource
   pub is_cut : IsBorrowedSource l cut
@@ -202,35 +207,35 @@ pub record TakesSource (old : CursorState) (l : SourceToken) (new : CursorState)
   pub same : new.text ≡ old.text
   pub following : IsTail old.rest new.rest
 
--- What the cursor gives: the next token, or nothing where none begins what is left, and then it
--- stays.
+-- The meaning of the result of a source cursor's `next`: the next token. If no token begins the rest, it is `None`, and
+-- the cursor doesn't move.
 abbrev pub GivesSource : CursorState → Option SourceToken → CursorState → Type 0
 GivesSource old token new =
     MatchOption token (BeginsNoSource (chars old.rest) × (new ≡ old)) (λ l. TakesSource old l new)
 
 -- ---- literals
 
--- a token of the source is a literal by its form, or one of the words `true` and `false`
+-- The token of a source is a literal: by its form, or because it is `true` or `false`.
 abbrev pub IsLiteralText : SourceKind → List ℕ → Type 0
 IsLiteralText (PlainKind LiteralForm) text = ⊤
 IsLiteralText (PlainKind IdentifierForm) text = (b : Bool) × (text ≡ truth_text b)
 IsLiteralText _ text = ⊥
 
--- the token is none
-abbrev pub IsNoLiteral : CutSource → Type 0
-IsNoLiteral w = IsLiteralText (source_kind w.token) (source_text w.token) → ⊥
+-- The token of a source isn't a literal.
+abbrev pub IsOtherToken : CutSource → Type 0
+IsOtherToken w = IsLiteralText (source_kind w.token) (source_text w.token) → ⊥
 
--- From the old cursor to the new one stand tokens that are no literals, and white space and plain
--- comments: whatever was cut of the source before, these are cut next.
+-- Between the position of the old cursor and that of the new one there are only tokens that aren't literals, white
+-- space and plain comments. These tokens are lexed next, however the source before them was lexed.
 pub record PassesTo (old new : CursorState) : Type 0 where
   pub cuts : List CutSource
-  pub others : AllByRecursion IsNoLiteral cuts
+  pub others : AllByRecursion IsOtherToken cuts
   pub goes_on : (done : List CutSource) → IsCutUpTo (chars old.text) done (chars old.rest)
       → IsCutUpTo (chars old.text) (done ++ cuts) (chars new.rest)
   pub same : new.text ≡ old.text
   pub following : IsTail old.rest new.rest
 
--- After tokens that are no literals comes this one, which is one.
+-- The cursor consumes tokens that aren't literals, and then the token `l`, which is a literal.
 pub record TakesLiteralAfter (old : CursorState) (l : SourceToken) (new : CursorState)
     : Type 0 where
   pub between : CursorState
@@ -240,20 +245,20 @@ pub record TakesLiteralAfter (old : CursorState) (l : SourceToken) (new : Cursor
 
 -- ---- lines
 
--- The rest of a line and its LF stand in front of r: r is what stands after the text's first LF.
+-- The text `r` is the text after the first LF of `t`.
 abbrev pub IsAfterLine : List ℕ → List ℕ → Type 0
 IsAfterLine t r = (line : List ℕ) × IsTrue (list_all is_in_line line) × (t ≡ line ++ code "\n" ∷ r)
 
 -- ---- errors
 
--- The error of this kind stands at the rest r.
+-- The lexer's error of this kind is at the start of `r`, the rest of a source.
 abbrev pub SourceErrorAt : LexKind → List ℕ → Type 0
 SourceErrorAt UnclosedComment r = BeginsNoSource r × IsTrue (begins (codes "/*") r)
 SourceErrorAt UnclosedQuote r =
     BeginsNoSource r × (BeginsQuote r ⊎ IsTrue (first_passes is_apostrophe r))
 SourceErrorAt _ r = ⊥
 
--- The first error of the source: it is cut as far as it goes, and the error stands there.
+-- The source's first error: the source is lexed as far as possible, and the error is at the start of the rest.
 pub record SourceError (t : List ℕ) (kind : LexKind) (at : ℕ) : Type 0 where
   pub cuts : List CutSource
   pub rest : List ℕ
@@ -261,8 +266,8 @@ pub record SourceError (t : List ℕ) (kind : LexKind) (at : ℕ) : Type 0 where
   pub error : SourceErrorAt kind rest
   pub rest_place : at + byte_len rest ≡ byte_len t
 
--- Where the source was cut and this is left of it, its first error is of this kind and stands at
--- this byte.
+-- The first error of the cursor's source has this kind and this byte offset, if the source before the rest can be
+-- lexed.
 abbrev pub IsFirstSourceError : CursorState → LexKind → ℕ → Type 0
 IsFirstSourceError t kind at =
     (cuts : List CutSource) → IsCutUpTo (chars t.text) cuts (chars t.rest)
@@ -270,22 +275,22 @@ IsFirstSourceError t kind at =
 
 -- ---- laws
 
--- a token that was cut: what it is, its text, and where it begins
+-- The kind of a lexed token, its text, and the byte offset where it begins.
 abbrev pub told : CutSource → SourceKind × List ℕ × ℕ
 told w = (source_kind w.token, source_text w.token, w.at)
 
--- A source is cut in one way, as far as it goes.
-abbrev pub OneCutting : Type 0
-OneCutting =
+-- A source is lexed in one way, as far as it can be lexed: to equal tokens at equal offsets, and an equal rest.
+abbrev pub OneLexing : Type 0
+OneLexing =
     (t : List ℕ) (vs ws : List CutSource) (r s : List ℕ) → IsCutUpTo t vs r → BeginsNoSource r
     → IsCutUpTo t ws s → BeginsNoSource s → (map told vs ≡ map told ws) × (r ≡ s)
 
--- the token of the lexer, as one of a source
+-- A token of a text, as a token of a source.
 abbrev pub plain_cut : LexedToken → CutSource
 plain_cut w = record { token = PlainToken w.lexeme; at = w.at }
 
--- What the lexer cuts of a text, at whose front stands nothing that a source may have before its
--- first token, is cut of it as a source too.
+-- If a text has neither a byte order mark nor an interpreter's line, its tokens as a text are also its tokens as a
+-- source.
 abbrev pub HoldsLexemes : Type 0
 HoldsLexemes =
     (t : List ℕ) (cuts : List LexedToken) (r : List ℕ) → IsWithoutPreamble t t → LexesUpTo 0 t cuts r

@@ -1,4 +1,4 @@
-//! A text cut into tokens, one at a time.
+//! The cursor that lexes a text's tokens one at a time.
 
 ghost use Rattle.std.specs.Prelude.{◌≡◌, ◌<◌, ◌+◌, ◌⊎◌, List, [], length, IfSome, IfNone};
 ghost use Rattle.std.specs.Str.{chars};
@@ -11,24 +11,25 @@ use crate::no_token::error_kind;
 use crate::whitespace::skip;
 use std::marker::Model;
 
-/// A token of a text, borrowed from it: what it is to a parser, and where it stands.
+/// A token that [`Tokens`] returns: its form, its text and its byte range. The text is borrowed from the lexed text.
 ///
 /// See the example of [`Tokens`].
 #[derive(Clone, Copy)]
 pub struct Lexeme<'t> {
-    /// What it is to a parser.
+    /// The form of the token.
     pub form: Form,
-    /// Its text, a slice of the whole.
+    /// The token's text, a slice of the whole text.
     pub text: &'t str,
-    /// The place of its first byte in the whole.
+    /// The byte offset in the whole text where the token begins.
     pub lo: usize,
-    /// The place after its last byte.
+    /// The byte offset in the whole text after the token's last byte.
     pub hi: usize,
 }
 
-/// A text that is cut into tokens as they are asked for. White space and plain comments between
-/// them are dropped. No memory is taken, and a delimiter is a token like any other: whether groups
-/// are closed is for the caller, or [`lex`].
+/// A cursor that lexes a text's tokens one at a time.
+///
+/// White space and plain comments between the tokens are dropped. A delimiter is a token like any other: the caller, or
+/// [`lex`], checks whether groups are closed. Nothing is allocated.
 ///
 /// # Example
 ///
@@ -47,7 +48,7 @@ pub struct Lexeme<'t> {
 #[derive(Drop)]
 pub struct Tokens<'t> {
     text: &'t str,
-    // what is left, after white space and comments
+    // The text from the next token on: white space and comments before that token are dropped already.
     rest: &'t str,
 }
 
@@ -64,7 +65,7 @@ impl<'t> Model for Tokens<'t> {
 impl<'t> Tokens<'t> {
     ghost use Rattle.rl_lexer.specs.Cursors.{IsCursorState, TakesNext, IsFirstError};
 
-    /// The tokens of a text, from its front. Nothing is cut yet but white space and comments.
+    /// Creates the cursor at the start of a text. White space and comments before the first token are dropped.
     pub fn new(text: &'t str) -> Tokens<'t>
         ensures text { result.text ≡ text.now }
         ensures skipped { Skipped (chars text.now) (chars result.rest) }
@@ -76,11 +77,13 @@ impl<'t> Tokens<'t> {
         }
     }
 
-    /// Cuts off the token that begins what is left. `None` where no token begins it, at its end
-    /// too; it stays then.
+    /// Consumes the next token and returns it.
+    ///
+    /// Returns `None` at the end of the text, and where no token begins, since the text has an error. The cursor
+    /// doesn't move then.
     #[inline(always)]
     pub fn next(&mut self) -> Option<Lexeme<'t>>
-        // The token is the next cut of the text.
+        // The returned token is the next one of the text.
         ensures next { IfSome result (λ l. TakesNext self.old l self.new) }
         ensures shorter { IfSome result (λ l. length self.new.rest < length self.old.rest) }
         ensures none { IfNone result (BeginsNoLexeme (chars self.old.rest)) }
@@ -94,8 +97,7 @@ impl<'t> Tokens<'t> {
         Some(Lexeme { form, text, lo, hi })
     }
 
-    /// A cursor at the same place of the same text, to look ahead by: what is cut off there stays
-    /// here.
+    /// Returns a copy of the cursor, to look ahead with. Consuming tokens from the copy doesn't move this cursor.
     #[inline(always)]
     pub fn fork(&self) -> Tokens<'t>
         ensures { result ≡ self.now }
@@ -106,9 +108,10 @@ impl<'t> Tokens<'t> {
         }
     }
 
-    /// Why no token begins what is left: the lexer's error, and the byte where it stands in the
-    /// whole text. `None` at the end of the text, and where a token begins what is left. Groups
-    /// aren't counted here, so the kind is the first six of [`LexKind`](crate::LexKind)'s alone.
+    /// Returns the lexer's error at the cursor, with its byte offset in the whole text. Returns `None` at the end of
+    /// the text, and before a token.
+    ///
+    /// Groups aren't counted here, so the kind is one of the first six of [`LexKind`](crate::LexKind).
     ///
     /// # Example
     ///
@@ -121,14 +124,14 @@ impl<'t> Tokens<'t> {
     /// // no_token("\"a") == Some(UnclosedQuote)
     /// ```
     pub fn error(&self) -> Option<LexError>
-        // It is an error of what is left, whatever groups are open, and stands where that begins.
+        // The error is at the start of the cursor's rest. It is an error of that rest, whichever groups are open.
         ensures error { IfSome result (λ e. (groups : List OpenGroup)
             → ErrorAt e.kind groups (chars self.now.rest)) }
         ensures place { IfSome result (λ e. e.at + length self.now.rest ≡ length self.now.text) }
-        // It is the first error of the text, however that was cut up to here.
+        // The error is the first error of the text, however the text before the cursor was lexed.
         ensures first { IfSome result (λ e. IsFirstError self.now e.kind e.at) }
         ensures stopped { IfSome result (λ e. BeginsNoLexeme (chars self.now.rest)) }
-        // Else the text ends here, or a token begins what is left.
+        // If the result is `None`, the cursor is at the end of the text, or before a token.
         ensures none { IfNone result ((self.now.rest ≡ []) ⊎ BeginsLexeme (chars self.now.rest)) }
     {
         if self.rest.is_empty() {
@@ -142,8 +145,8 @@ impl<'t> Tokens<'t> {
         Some(LexError::new(kind, at))
     }
 
-    /// What is left of the text, after white space and comments: empty at its end, or where a
-    /// token or an error begins.
+    /// Returns the text after the consumed tokens, without leading white space and comments. It is empty at the end,
+    /// and otherwise begins with a token or an error.
     pub fn rest(&self) -> &'t str
         ensures { result.now ≡ self.now.rest }
     {
@@ -151,7 +154,7 @@ impl<'t> Tokens<'t> {
     }
 }
 
-/// The tokens up to the first place where none begins; [`Tokens::error`] then says why.
+/// Yields the tokens up to the end of the text or its first error. [`Tokens::error`] then returns that error.
 impl<'t> Iterator for Tokens<'t> {
     ghost use Rattle.std.specs.Iterator.{at_most};
     ghost use Rattle.rl_lexer.specs.Cursors.{GivesNext};

@@ -1,21 +1,21 @@
-//! Laws of the definitions: each function does nothing, and its contract is the law.
+//! Laws of the definitions of tokens. Each function does nothing, and its contract is the law.
 
-ghost use Rattle.rl_lexer.specs.Sources.{OneCutting, HoldsLexemes};
-ghost use Rattle.rl_lexer.specs.Laws.{NoLiteralBeginsWithAMinus};
+ghost use Rattle.rl_lexer.specs.Sources.{OneLexing, HoldsLexemes};
+ghost use Rattle.rl_lexer.specs.Laws.{LiteralsDontBeginWithAMinus};
 
-/// A whole source is cut in one way, as far as it can be cut: the same tokens at the same places,
-/// and the same rest.
-pub fn one_cutting()
-    ensures { OneCutting }
+/// A Rust source is lexed in one way: to equal tokens at equal byte offsets. If it can't be lexed to its end, the rest
+/// that isn't lexed is equal too.
+pub fn one_lexing()
+    ensures { OneLexing }
 {}
 
-/// The tokens that the lexer cuts a text into are also its tokens as a source, where neither a byte
-/// order mark nor an interpreter's line begins it.
+/// If a text begins with neither a byte order mark nor an interpreter's line, its tokens as a text are also its tokens
+/// as a whole Rust source.
 pub fn sources_hold_lexemes()
     ensures { HoldsLexemes }
 {}
 
-/// A literal token doesn't begin with a minus: a minus is a token by itself.
-pub fn no_literal_begins_with_a_minus()
-    ensures { NoLiteralBeginsWithAMinus }
+/// A token that is a literal doesn't begin with a minus. A minus is a token by itself.
+pub fn literals_dont_begin_with_a_minus()
+    ensures { LiteralsDontBeginWithAMinus }
 {}

@@ -1,5 +1,6 @@
-//! The lexeme at the front of a text: the literal, identifier or mark that the text begins with.
-#![tactic(auto, using(rl_text::proofs::TailLemmas::tail_step))]
+//! Functions that lex the token at the start of a text: a literal, an identifier, a delimiter or another punctuation
+//! character.
+#![tactic(auto, using(rl_syntax::proofs::TailLemmas::tail_step))]
 
 mod number;
 mod quotes;
@@ -8,38 +9,41 @@ mod suffix;
 ghost use Rattle.std.specs.Prelude.{◌≡◌, ◌<◌, ◌&&◌, ◌==◌, List, ℕ, length, drop, cond, option_map, IfSome, IfNone, IsFalse, IsTrue};
 ghost use Rattle.std.specs.Char.{is_ascii, is_ascii_digit};
 ghost use Rattle.std.specs.Str.{chars};
-ghost use Rattle.rl_text.specs.Texts.{code, is_among, first_passes, IsTail, begins_char};
+ghost use Rattle.rl_syntax.specs.Texts.{code, is_among, first_passes, IsTail, begins_char};
+ghost use Rattle.rl_lexer.specs.Cuts.{is_opener};
 ghost use Rattle.rl_lexer.specs.Lexemes.{delimiters, LexemeBefore, LiteralForm};
-ghost use Rattle.rl_text.specs.Texts.{is_start};
+ghost use Rattle.rl_syntax.specs.Texts.{is_start};
 ghost use Rattle.rl_lexer.specs.Cursors.{form_view};
-ghost use Rattle.rl_lexer.specs.Mirrors.LexemeAt.{start_class, by_class, begins_hashed_quote, quoted_at, raw_at, single_at, literal_at, word_at, after_digit, lexeme_at, FormBefore, SlashHead, begins_word, is_mark_alone, is_prefix_letter, goes_on_as_word, makes_comment, mark_form};
+ghost use Rattle.rl_lexer.specs.Mirrors.LexemeAt.{start_class, by_class, begins_hashed_quote, quoted_at, raw_at, single_at, literal_at, word_at, after_digit, lexeme_at, FormBefore, SlashHead, begins_word, is_always_token, is_prefix_letter, continues_word, makes_comment, mark_form};
 ghost use Rattle.rl_lexer.specs.declared.lexeme.Lead.TheVariants.{Word, Mark, Prefix, Slash};
 
 use number::{after_decimal, after_digits, ends_number};
 pub(crate) use quotes::begins_hashed_quote;
 use quotes::{after_character, after_quoted, after_raw_literal};
-use rl_text::characters::is_start;
-use rl_text::classes::skip_word;
-use rl_text::lanes::has_bit;
-use rl_text::text::{begins_with, split_ascii, split_char, strip_byte, without_first};
+use rl_syntax::characters::is_start;
+use rl_syntax::classes::skip_word;
+use rl_syntax::lanes::has_bit;
+use rl_syntax::text::{begins_with, split_ascii, split_char, strip_byte, without_first};
 pub(crate) use suffix::after_suffix;
 
-/// What a token is to a parser: what [`Tokens`](crate::Tokens) cuts off, by its first
-/// characters. Whether a literal reads isn't judged.
+/// The form of a token that [`Tokens`](crate::Tokens) returns, which its first characters decide. A token with the form
+/// `Literal` isn't checked further, and may be an invalid literal.
 #[derive(Clone, Copy, PartialEq, Eq, Debug)]
 pub enum Form {
-    /// A literal of any kind.
+    /// A literal of any kind, except `true` and `false`.
     Literal,
-    /// An identifier.
+    /// An identifier or a keyword, also `true` and `false`.
     Identifier,
-    /// One of the six delimiters.
+    /// One of the six delimiters: `(`, `)`, `[`, `]`, `{` and `}`.
     Delimiter(char),
-    /// Any other mark.
+    /// A punctuation character that isn't a delimiter, as `+`.
     Mark(char),
 }
 
-/// The form of the lexeme that the text begins with, and the rest after it. `None` where there is no such lexeme. Most tokens
-/// of a list are numbers, words and marks, which are recognized without a call.
+/// Returns the form of the token at the start of a text, and the text after the token. Returns `None` if no token
+/// begins the text.
+///
+/// Most tokens of a list are numbers, identifiers and punctuation characters. They are recognized without a call.
 #[inline(always)]
 pub(crate) fn first_lexeme(text: &str) -> Option<(Form, &str)>
     ensures found { IfSome result
@@ -51,7 +55,7 @@ pub(crate) fn first_lexeme(text: &str) -> Option<(Form, &str)>
     if let Some(following) = after_number(text) {
         return Some((Form::Literal, following));
     }
-    // A quote begins no word and is no mark.
+    // A quote begins neither an identifier nor a punctuation character.
     if strip_byte(text, b'"').is_none() {
         if let Some((form, following)) = word_or_mark(text) {
             return Some((form, following));
@@ -60,7 +64,7 @@ pub(crate) fn first_lexeme(text: &str) -> Option<(Form, &str)>
     rebuilt_lexeme(text)
 }
 
-/// What [`first_lexeme`] returns. It doesn't ask [`word_or_mark`], which its caller has asked.
+/// Returns the result of [`first_lexeme`], without a call of [`word_or_mark`]. The caller has made that call already.
 #[inline(always)]
 pub(crate) fn number_or_other(text: &str) -> Option<(Form, &str)>
     ensures found { IfSome result
@@ -75,7 +79,7 @@ pub(crate) fn number_or_other(text: &str) -> Option<(Form, &str)>
     rebuilt_lexeme(text)
 }
 
-/// What follows the number that the text begins with.
+/// Returns the text after the number at its start, or `None` if it doesn't begin with a decimal digit.
 #[inline(always)]
 fn after_number(text: &str) -> Option<&str>
     ensures found { IfSome result
@@ -90,8 +94,10 @@ fn after_number(text: &str) -> Option<&str>
     }
 }
 
-/// What [`lexeme_but_number`] returns, built anew. Room for what a call returns is cleared first: by a function of its own
-/// that is done only where the call is made.
+/// Returns the result of [`lexeme_but_number`], constructed again.
+///
+/// The memory for a call's result is zeroed at the entry of the function that makes the call. As the call is in a
+/// function of its own, only the texts that reach it cost that zeroing.
 #[inline(always)]
 fn rebuilt_lexeme(text: &str) -> Option<(Form, &str)>
     requires { IsFalse (first_passes is_ascii_digit (chars text.now)) }
@@ -104,9 +110,10 @@ fn rebuilt_lexeme(text: &str) -> Option<(Form, &str)>
     rebuilt(lexeme_but_number(text))
 }
 
-/// The lexeme that the text begins with, by its first character, which is no digit.
+/// Returns the form of the token at the start of a text, and the text after the token. The first character, which must
+/// not be a digit, selects the function that lexes the token.
 #[inline(never)]
-#[tactic(auto, using(crate::proofs::NumberEnds::quote_first, crate::proofs::NumberEnds::apostrophe_first, crate::proofs::NumberEnds::slash_first, crate::proofs::WordsAndMarks::stray_first, rl_text::proofs::TailLemmas::tail_step, rl_text::proofs::TailLemmas::some_tail, rl_text::proofs::TailLemmas::some_nearer))]
+#[tactic(auto, using(crate::proofs::NumberEnds::quote_first, crate::proofs::NumberEnds::apostrophe_first, crate::proofs::NumberEnds::slash_first, crate::proofs::WordsAndMarks::stray_first, rl_syntax::proofs::TailLemmas::tail_step, rl_syntax::proofs::TailLemmas::some_tail, rl_syntax::proofs::TailLemmas::some_nearer))]
 fn lexeme_but_number(text: &str) -> Option<(Form, &str)>
     requires { IsFalse (first_passes is_ascii_digit (chars text.now)) }
     ensures rest { option_map (λ p. (form_view p.0, chars p.1.now)) result
@@ -121,13 +128,14 @@ fn lexeme_but_number(text: &str) -> Option<(Form, &str)>
         b'"' => quoted_literal(following),
         b'\'' => character_literal(following),
         b'/' => rebuilt(after_slash(following)),
-        _ if is_mark_alone(byte) => Some((mark_form(byte as char), following)),
+        _ if is_always_token(byte) => Some((mark_form(byte as char), following)),
         _ if is_start(byte as char) => rebuilt(literal_or_identifier(byte as char, following)),
         _ => None,
     }
 }
 
-/// What a call returned, built anew, so that what else may be returned need not stand in memory with it.
+/// Returns the value `found`, constructed again. The copy keeps a call's result apart from other results, so that they
+/// aren't joined in memory.
 #[inline(always)]
 pub(crate) fn rebuilt<F>(found: Option<(F, &str)>) -> Option<(F, &str)>
     ensures { result ≡ found.entry }
@@ -138,9 +146,10 @@ pub(crate) fn rebuilt<F>(found: Option<(F, &str)>) -> Option<(F, &str)>
     }
 }
 
-/// The identifier that the text begins with, where its first character is past ASCII.
+/// Returns the identifier at the start of a text whose first character is non-ASCII, and the text after the identifier.
+/// Returns `None` if that character can't begin an identifier.
 #[inline(never)]
-#[tactic(auto, using(crate::proofs::WordsAndMarks::wide_word, crate::proofs::WordsAndMarks::wide_stray, rl_text::proofs::TailLemmas::tail_step))]
+#[tactic(auto, using(crate::proofs::WordsAndMarks::wide_word, crate::proofs::WordsAndMarks::wide_stray, rl_syntax::proofs::TailLemmas::tail_step))]
 fn wide_identifier(text: &str) -> Option<(Form, &str)>
     requires { IsFalse (first_passes is_ascii (chars text.now)) }
     ensures rest { option_map (λ p. (form_view p.0, chars p.1.now)) result
@@ -155,7 +164,8 @@ fn wide_identifier(text: &str) -> Option<(Form, &str)>
     Some((Form::Identifier, skip_word(following)))
 }
 
-/// A literal with a prefix, or an identifier, after its first letter. Of a raw identifier there is none.
+/// Returns the form of a token that begins with the letter `letter`, and the text after the token: a literal with a
+/// prefix, or an identifier. `text` follows the letter. For a raw identifier the result is `None`.
 #[inline(never)]
 fn literal_or_identifier(letter: char, text: &str) -> Option<(Form, &str)>
     ensures rest { option_map (λ p. (form_view p.0, chars p.1.now)) result
@@ -172,8 +182,9 @@ fn literal_or_identifier(letter: char, text: &str) -> Option<(Form, &str)>
     }
 }
 
-/// The form of the lexeme that the text begins with, and the rest after it, where the first byte of ASCII decides it, or that
-/// and the next: an identifier that begins as no literal does, a delimiter, or a mark that begins no comment. `None` says nothing.
+/// Returns the form of the token at the start of a text, and the text after the token, if the first one or two ASCII
+/// bytes decide it: an identifier that doesn't begin like a literal, a delimiter, or a punctuation character that
+/// doesn't begin a comment. Otherwise the result is `None`, and the text may still begin with a token.
 #[inline(always)]
 pub(crate) fn word_or_mark(text: &str) -> Option<(Form, &str)>
     ensures found { IfSome result
@@ -185,35 +196,35 @@ pub(crate) fn word_or_mark(text: &str) -> Option<(Form, &str)>
     match lead_of(byte) {
         Lead::Word => Some((Form::Identifier, skip_word(following))),
         Lead::Mark => Some((mark_form(byte as char), following)),
-        Lead::Prefix if goes_on_as_word(following) => {
+        Lead::Prefix if continues_word(following) => {
             Some((Form::Identifier, skip_word(following)))
         }
-        Lead::Slash if goes_on_as_no_comment(following) => Some((Form::Mark('/'), following)),
+        Lead::Slash if begins_other_than_comment(following) => Some((Form::Mark('/'), following)),
         _ => None,
     }
 }
 
-/// What begins with the first byte of a text.
+/// A class of ASCII characters, by the tokens that begin with them.
 #[derive(Clone, Copy)]
 enum Lead {
-    /// An identifier, whatever follows it: `_`, and each letter but `b`, `c` and `r`.
+    /// A character that always begins an identifier: `_`, and each letter except `b`, `c` and `r`.
     Word,
-    /// A delimiter or a mark, whatever follows it: each but `/`.
+    /// A character that always is a token by itself: a delimiter, or a punctuation character except `/`.
     Mark,
-    /// A letter that a literal's prefix may begin with.
+    /// A letter that begins a literal's prefix or an identifier: `b`, `c` or `r`.
     Prefix,
-    /// A slash.
+    /// The slash, which begins a comment or is a punctuation character.
     Slash,
-    /// Nothing of these.
+    /// Every other ASCII character.
     Other,
 }
 
-/// What begins with a character of ASCII. A bit for each of 64 says whether it is one of a class.
+/// Returns the class of an ASCII character. Masks of 64 bits contain the characters of the classes `Word` and `Mark`.
 #[inline(always)]
 fn lead_of(byte: u8) -> Lead
     requires { byte < 128 }
     ensures word { result ≡ Word → IsTrue (begins_word byte) }
-    ensures mark { result ≡ Mark → IsTrue (is_mark_alone byte) }
+    ensures mark { result ≡ Mark → IsTrue (is_always_token byte) }
     ensures prefix { result ≡ Prefix → IsTrue (is_prefix_letter byte) }
     ensures slash { result ≡ Slash → byte ≡ code "/" }
 {
@@ -238,11 +249,14 @@ fn lead_of(byte: u8) -> Lead
     Lead::Other
 }
 
-/// Whether a word goes on after its first letter, and no literal's prefix: a letter but `r` is next, or `_`. Of a word that
-/// goes on otherwise it is false.
+/// Whether the text after a letter `b`, `c` or `r` begins with an ASCII character whose code is at least 64 (`@`),
+/// except `r`. The first letter then begins an identifier, or is one, and isn't a literal's prefix.
+///
+/// Before a digit and before a non-ASCII character the result is `false`, although the letter begins an identifier
+/// there too.
 #[inline(always)]
-fn goes_on_as_word(following: &str) -> bool
-    ensures { IsTrue result → IsTrue (first_passes goes_on_as_word (chars following.now)) }
+fn continues_word(following: &str) -> bool
+    ensures { IsTrue result → IsTrue (first_passes continues_word (chars following.now)) }
 {
     match split_ascii(following) {
         Some((next, _)) => next >= 64 && next != b'r',
@@ -250,9 +264,10 @@ fn goes_on_as_word(following: &str) -> bool
     }
 }
 
-/// Whether a character of ASCII is next after a slash that doesn't make a comment of it.
+/// Whether the text after a slash begins with an ASCII character other than `/` and `*`, so that the slash begins no
+/// comment.
 #[inline(always)]
-fn goes_on_as_no_comment(following: &str) -> bool
+fn begins_other_than_comment(following: &str) -> bool
     ensures { IsTrue result → IsFalse (first_passes makes_comment (chars following.now)) }
 {
     match split_ascii(following) {
@@ -261,17 +276,18 @@ fn goes_on_as_no_comment(following: &str) -> bool
     }
 }
 
-/// A bit for each of the first 64 characters, set where [`is_mark_alone`] is true.
+/// A bit for each of the ASCII characters 0 to 63, set where [`is_always_token`] is true.
 const LOW_MARKS: u64 = 0xfc00_7f7a_0000_0000;
-/// A bit for each of the next 64 characters, set where [`is_mark_alone`] is true.
+/// A bit for each of the ASCII characters 64 to 127, set where [`is_always_token`] is true.
 const HIGH_MARKS: u64 = 0x7800_0000_6800_0001;
 
-/// Whether the character of ASCII is a delimiter or a mark, whatever follows it: each but `/`.
+/// Whether the ASCII character is a token by itself, whatever follows it: a delimiter, or a punctuation character
+/// except `/`.
 #[inline(always)]
 #[tactic(auto, using(crate::proofs::WordsAndMarks::low_marks, crate::proofs::WordsAndMarks::high_marks))]
-fn is_mark_alone(byte: u8) -> bool
+fn is_always_token(byte: u8) -> bool
     requires { byte < 128 }
-    ensures { result ≡ is_mark_alone byte }
+    ensures { result ≡ is_always_token byte }
 {
     if byte < 64 {
         has_bit(LOW_MARKS, byte)
@@ -280,7 +296,7 @@ fn is_mark_alone(byte: u8) -> bool
     }
 }
 
-/// The form of a delimiter or a mark.
+/// Returns the form of the delimiter or the punctuation character `c`.
 #[inline(always)]
 fn mark_form(c: char) -> Form
     ensures { form_view result ≡ mark_form c }
@@ -292,9 +308,11 @@ fn mark_form(c: char) -> Form
     }
 }
 
-// These three are alike, and stay apart: what a call returns has its room cleared where the function that calls begins.
+// The next three functions are alike. They are separate functions, because the memory for a call's result is zeroed at
+// the entry of the calling function.
 
-/// A quoted literal, after its opening quote.
+/// Returns the form `Literal` and the text after a string literal, where `text` follows its opening `"`. Returns `None`
+/// if the literal isn't closed.
 #[inline(always)]
 fn quoted_literal(text: &str) -> Option<(Form, &str)>
     ensures rest { option_map (λ p. (form_view p.0, chars p.1.now)) result
@@ -304,7 +322,8 @@ fn quoted_literal(text: &str) -> Option<(Form, &str)>
     Some((Form::Literal, after_quoted(text)?))
 }
 
-/// A character or a byte, after its opening quote.
+/// Returns the form `Literal` and the text after a character or byte literal, where `text` follows its opening `'`.
+/// Returns `None` if no `'` follows the one character or the escape.
 #[inline(always)]
 fn character_literal(text: &str) -> Option<(Form, &str)>
     ensures rest { option_map (λ p. (form_view p.0, chars p.1.now)) result
@@ -314,7 +333,8 @@ fn character_literal(text: &str) -> Option<(Form, &str)>
     Some((Form::Literal, after_character(text)?))
 }
 
-/// A raw literal, after its `r`.
+/// Returns the form `Literal` and the text after a raw literal, where `text` follows its `r`. Returns `None` if the
+/// literal isn't closed.
 #[inline(always)]
 fn raw_literal(text: &str) -> Option<(Form, &str)>
     ensures rest { option_map (λ p. (form_view p.0, chars p.1.now)) result
@@ -324,7 +344,8 @@ fn raw_literal(text: &str) -> Option<(Form, &str)>
     Some((Form::Literal, after_raw_literal(text)?))
 }
 
-/// After a slash, which is a mark where it begins no comment.
+/// Returns the slash as a punctuation character, and `text`, which follows the slash. Returns `None` if the slash
+/// begins a comment.
 #[inline(never)]
 fn after_slash(text: &str) -> Option<(Form, &str)>
     ensures rest { option_map (λ p. (form_view p.0, chars p.1.now)) result
@@ -337,9 +358,10 @@ fn after_slash(text: &str) -> Option<(Form, &str)>
     }
 }
 
-/// What follows the number after whose first digit the text stands, whichever that is: the letter
-/// of a base, and the run after it, are where a suffix would stand. Most numbers end after a run
-/// of digits.
+/// Returns the text after a number, where `text` follows its first digit.
+///
+/// A prefix as `0x` needs no test: its letter and the digits after it are lexed like a suffix. Most numbers end after a
+/// sequence of digits.
 #[inline(always)]
 fn after_digit(text: &str) -> &str
     ensures rest { (digit : ℕ) → chars result.now ≡ after_digit digit (chars text.now) }
@@ -352,7 +374,7 @@ fn after_digit(text: &str) -> &str
     after_decimal(rest)
 }
 
-/// Whether `r`, hashes, perhaps none, and a `"` begin the text.
+/// Whether the text begins with `r`, any number of hashes, and `"`.
 fn begins_raw_literal(text: &str) -> bool
     ensures { result
         ≡ (begins_char (code "r") (chars text.now) && begins_hashed_quote (drop 1 (chars text.now))) }
@@ -360,7 +382,7 @@ fn begins_raw_literal(text: &str) -> bool
     begins_with(text, 'r') && begins_hashed_quote(without_first(text))
 }
 
-/// Whether a hash and an identifier's start begin the text.
+/// Whether the text begins with `#` and a character that may begin an identifier.
 pub(crate) fn begins_marked_identifier(text: &str) -> bool
     ensures { result
         ≡ (begins_char (code "#") (chars text.now)
@@ -375,6 +397,14 @@ pub(crate) fn begins_marked_identifier(text: &str) -> bool
     }
 }
 
+/// Returns `true` if the delimiter opens a group: `(`, `[` or `{`.
+pub fn is_opener(c: char) -> bool
+    ensures { result ≡ is_opener c }
+{
+    matches!(c, '(' | '[' | '{')
+}
+
+/// Whether the character is one of the six delimiters: `(`, `)`, `[`, `]`, `{` and `}`.
 fn is_delimiter(c: char) -> bool
     ensures { result ≡ is_among delimiters c }
 {

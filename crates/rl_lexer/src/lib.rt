@@ -1,11 +1,11 @@
-//! Texts and whole sources cut into tokens, one at a time, and why one can't be. No memory is taken.
+//! The lexer: it splits a text (`Tokens`) or a whole Rust source (`Sources`) into tokens, one at a time. It returns an
+//! error where no token begins. Nothing is allocated.
 #![tactic(auto)]
 
 mod cursor;
 pub mod laws;
 mod lex_error;
 mod lexeme;
-mod lines;
 mod no_token;
 mod source;
 mod sources;
@@ -13,7 +13,7 @@ pub mod whitespace;
 
 pub use crate::cursor::{Lexeme, Tokens};
 pub use crate::lex_error::{LexError, LexKind};
-pub use crate::lexeme::Form;
-pub use crate::lines::{LineColumn, Lines};
-pub use crate::source::{SourceForm, first_source, without_mark};
+pub use crate::lexeme::{Form, is_opener};
+pub use crate::no_token::source_error_kind;
+pub use crate::source::{SourceForm, first_source_token, without_byte_order_mark};
 pub use crate::sources::{SourceToken, Sources};

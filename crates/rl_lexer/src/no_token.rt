@@ -1,4 +1,4 @@
-//! Why no token begins a text.
+//! Functions that return the kind of the lexer's error at a text that begins with no token.
 
 ghost use Rattle.std.specs.Prelude.{◌≡◌};
 ghost use Rattle.std.specs.Str.{chars};
@@ -10,11 +10,12 @@ ghost use Rattle.rl_lexer.specs.Lexemes.{begins_raw_identifier};
 
 use crate::lex_error::LexKind;
 use crate::lexeme::{begins_hashed_quote, begins_marked_identifier};
-use rl_forms::kind::{BYTE_OPENER, BYTE_STR_OPENER, C_STR_OPENER, CHAR_OPENER, STR_OPENER};
-use rl_text::characters::is_start;
-use rl_text::text::{begins, begins_with, split_char};
+use rl_syntax::characters::is_start;
+use rl_syntax::kind::{BYTE_OPENER, BYTE_STR_OPENER, C_STR_OPENER, CHAR_OPENER, STR_OPENER};
+use rl_syntax::text::{begins, begins_with, split_char};
 
-/// Why no token begins the text, by its first characters.
+/// Returns the kind of the lexer's error at the start of `rest`, where no token begins. The first characters of `rest`
+/// decide.
 pub(crate) fn error_kind(rest: &str) -> LexKind
     ensures { result ≡ error_kind (chars rest.now) }
 {
@@ -33,8 +34,9 @@ pub(crate) fn error_kind(rest: &str) -> LexKind
     }
 }
 
-/// Why no token of a source begins the text, by its first characters.
-pub(crate) fn source_error_kind(rest: &str) -> LexKind
+/// Returns the kind of the lexer's error at the start of `rest`, the text of a source from which no token can be lexed.
+/// A comment or a quoted literal that isn't closed begins it.
+pub fn source_error_kind(rest: &str) -> LexKind
     ensures { result ≡ source_error_kind (chars rest.now) }
 {
     if begins(rest, "/*") {
@@ -44,7 +46,7 @@ pub(crate) fn source_error_kind(rest: &str) -> LexKind
     }
 }
 
-/// Whether the text begins as a quoted literal, or as a block comment.
+/// Whether the text begins like a quoted literal or a block comment.
 pub(crate) fn opens(text: &str) -> bool
     ensures { result ≡ opens (chars text.now) }
 {
@@ -60,8 +62,8 @@ fn begins_doc_comment(text: &str) -> bool
         || begins(text, "/*!")
 }
 
-/// Whether a quoted or raw opener begins the text, a byte's opener, or an apostrophe that begins no
-/// lifetime.
+/// Whether the text begins with the opening quote of a string, raw or byte literal, prefix included, or with an
+/// apostrophe that begins no lifetime.
 fn begins_quote(text: &str) -> bool
     ensures { result ≡ begins_quote (chars text.now) }
 {
@@ -73,7 +75,7 @@ fn begins_quote(text: &str) -> bool
         || (begins(text, CHAR_OPENER) && !begins_lifetime(text))
 }
 
-/// Whether the opener of a raw literal begins the text.
+/// Whether the text begins like a raw literal: with `r`, `br` or `cr`, any number of hashes, and `"`.
 fn begins_raw(text: &str) -> bool
     ensures { result ≡ begins_raw (chars text.now) }
 {
@@ -87,7 +89,7 @@ fn begins_raw(text: &str) -> bool
     }
 }
 
-/// Whether an apostrophe and an identifier's start begin the text.
+/// Whether the text begins like a lifetime: with an apostrophe and a character that may begin an identifier.
 fn begins_lifetime(text: &str) -> bool
     ensures { result ≡ begins_lifetime (chars text.now) }
 {
@@ -100,7 +102,7 @@ fn begins_lifetime(text: &str) -> bool
     }
 }
 
-/// Whether `r#` and an identifier's start begin the text.
+/// Whether the text begins like a raw identifier: with `r#` and a character that may begin an identifier.
 pub(crate) fn begins_raw_identifier(text: &str) -> bool
     ensures { result ≡ begins_raw_identifier (chars text.now) }
 {

@@ -1,18 +1,18 @@
-//! The token at the front of a source.
-#![tactic(auto, using(rl_text::proofs::TailLemmas::tail_step))]
+//! Functions that lex the token at the start of a Rust source.
+#![tactic(auto, using(rl_syntax::proofs::TailLemmas::tail_step))]
 
 mod bad_quote;
 
 ghost use Rattle.std.specs.Prelude.{◌≡◌, ◌↔◌, ◌<◌, ◌≤◌, Bool, length, option_map, IfSome, IfNone, IsFalse, IsTrue};
 ghost use Rattle.std.specs.List.{list_all};
 ghost use Rattle.std.specs.Str.{chars};
-ghost use Rattle.rl_text.specs.Texts.{IsTail};
-ghost use Rattle.rl_text.specs.Texts.{first_passes, is_continue, is_white};
+ghost use Rattle.rl_syntax.specs.Texts.{IsTail};
+ghost use Rattle.rl_syntax.specs.Texts.{first_passes, is_continue, is_white};
 ghost use Rattle.rl_lexer.specs.Cursors.{form_view};
-ghost use Rattle.rl_lexer.specs.Sources.{is_in_line, IsAfterLine, PlainKind, IsLiteralText, source_view, SourceBefore, BeginsNoSource, IsWithoutLine, IsWithoutPreamble, without_mark};
-ghost use Rattle.rl_text.specs.Classes.{after_run};
-ghost use Rattle.rl_forms.specs.Reading.{truth_text};
-ghost use Rattle.rl_lexer.specs.Mirrors.LiteralsAt.{HoldsNoLiteral, Reaches, past_word};
+ghost use Rattle.rl_lexer.specs.Sources.{is_in_line, IsAfterLine, PlainKind, IsLiteralText, source_view, SourceBefore, BeginsNoSource, IsWithoutLine, IsWithoutPreamble, without_byte_order_mark};
+ghost use Rattle.rl_syntax.specs.Classes.{after_run};
+ghost use Rattle.rl_syntax.specs.Reading.{truth_text};
+ghost use Rattle.rl_lexer.specs.Mirrors.LiteralsAt.{HasOnlyOtherTokens, Reaches, past_word};
 ghost use Rattle.rl_lexer.specs.Mirrors.SkippedAt.{after_any_comment};
 ghost use Rattle.rl_lexer.specs.Mirrors.SourceAt.{after_doc, after_name, after_marked, after_any_name, after_lifetime, other_at, stray_at};
 
@@ -20,33 +20,35 @@ use crate::lexeme::{Form, number_or_other, rebuilt, word_or_mark};
 use crate::no_token::{begins_raw_identifier, opens};
 use crate::whitespace::{after_block, after_line, is_comment_block, is_comment_line, skip};
 use bad_quote::after_bad_quote;
-use rl_text::characters::is_start;
-use rl_text::classes::{skip_white, skip_word};
-use rl_text::lanes::{byte_before, is_word_byte, unlikely_len};
-use rl_text::lines::{next_line, split_line};
-use rl_text::text::{begins_with, split_ascii, split_char, strip_byte, without_first};
+use rl_syntax::characters::is_start;
+use rl_syntax::classes::{skip_white, skip_word};
+use rl_syntax::lanes::{byte_before, is_word_byte, unlikely_len};
+use rl_syntax::lines::{next_line, split_line};
+use rl_syntax::text::{begins_with, split_ascii, split_char, strip_byte, without_first};
 
-/// What a token of a source is: what [`Sources`](crate::Sources) cuts off.
+/// The form of a token that [`Sources`](crate::Sources) returns.
 #[derive(Clone, Copy)]
 pub enum SourceForm {
-    /// What [`Tokens`](crate::Tokens) cuts off too. A quote that begins nothing else is a literal as well, up to where
-    /// it ends: `''`, `'ab'`, `b'hello'`, `'1a`. It doesn't read.
+    /// A token of a form that [`Tokens`](crate::Tokens) returns too.
+    ///
+    /// An invalid quoted literal, as `''`, `'ab'`, `b'hello'` or `'1a`, has the form [`Form::Literal`] here.
     Token(Form),
-    /// `r#` and an identifier.
+    /// A raw identifier: `r#` and an identifier.
     RawIdentifier,
-    /// `'` and an identifier, which may be raw.
+    /// A lifetime: `'` and an identifier, which may be raw.
     Lifetime,
     /// A doc comment: a line without its LF, or a block.
     DocComment,
-    /// A character at which nothing else begins.
+    /// A stray character: one that begins no other token.
     Stray,
 }
 
-/// What the token is that a text begins with, as a source is cut, and the rest of the text after it. `None` where no token begins
-/// it: at its end, and where a comment or a quoted literal is opened that isn't closed. White space and plain comments are no
-/// tokens; [`skip`](crate::whitespace::skip) passes them.
+/// Returns the form of the token at the start of a part of a source, and the text after the token.
+///
+/// Returns `None` at the end, and where a comment or a quoted literal isn't closed. White space and plain comments
+/// aren't tokens: for a text that begins with them, call [`skip`](crate::whitespace::skip) first.
 #[inline(always)]
-pub fn first_source(text: &str) -> Option<(SourceForm, &str)>
+pub fn first_source_token(text: &str) -> Option<(SourceForm, &str)>
     ensures found { IfSome result
         (λ p. SourceBefore (chars text.now) (source_view p.0) (chars p.1.now)) }
     ensures none { IfNone result (BeginsNoSource (chars text.now)) }
@@ -59,11 +61,14 @@ pub fn first_source(text: &str) -> Option<(SourceForm, &str)>
     rebuilt_source(text)
 }
 
-/// What is left of a text from the first byte on at which a literal may begin, or from a token's before that, after white space
-/// and all comments there. All in front is passed sixteen bytes at a time; no token is made of it, nor of doc comments.
+/// Skips tokens of a source that aren't literals, and returns the text after them. The result begins at the next token
+/// that is a literal, or at a token or an error before it.
+///
+/// Bytes that can't begin a literal or a comment are skipped sixteen at a time. No tokens are made from these bytes,
+/// and from doc comments.
 #[inline(always)]
 pub(crate) fn skip_unlikely(text: &str) -> &str
-    ensures holds { HoldsNoLiteral (chars text.now) (chars result.now) }
+    ensures holds { HasOnlyOtherTokens (chars text.now) (chars result.now) }
     ensures following { IsTail text.now result.now }
     ensures shorter { length result.now ≤ length text.now }
 {
@@ -73,8 +78,8 @@ pub(crate) fn skip_unlikely(text: &str) -> &str
     skip_all_comments(skip_white(rest))
 }
 
-/// What is left of a text after comments at its front, doc comments among them, and white space after each. White space doesn't
-/// begin the text. A block that isn't closed stays.
+/// Returns the text after the comments at its start, doc comments included, and after the white space that follows
+/// each. The text must not begin with white space. A block comment that isn't closed isn't skipped.
 #[inline(always)]
 fn skip_all_comments(text: &str) -> &str
     requires { IsFalse (first_passes is_white (chars text.now)) }
@@ -92,7 +97,8 @@ fn skip_all_comments(text: &str) -> &str
     rest
 }
 
-/// What follows a comment of any kind, by what stands after its first slash: of a line its LF too.
+/// Returns the text after a comment of any kind, where `text` follows its first slash. The LF after a line comment is
+/// skipped too. Returns `None` if no comment begins there, and if a block comment isn't closed.
 #[inline(always)]
 fn after_any_comment(text: &str) -> Option<&str>
     ensures rest { option_map (λ rest. chars rest.now) result ≡ after_any_comment (chars text.now) }
@@ -105,7 +111,8 @@ fn after_any_comment(text: &str) -> Option<&str>
     }
 }
 
-/// The text after the word that goes on there, where it stands after this byte: past ASCII one may.
+/// Returns the text after the rest of an identifier, if the byte `before`, which precedes `text`, is an ASCII
+/// identifier character. Otherwise the result is `text` itself.
 #[inline(always)]
 fn after_word(before: u8, text: &str) -> &str
     ensures rest { chars result.now ≡ past_word before (chars text.now) }
@@ -119,7 +126,7 @@ fn after_word(before: u8, text: &str) -> &str
     }
 }
 
-/// Whether a token of the form and the text is a literal, or one of the words `true` and `false`.
+/// Whether a token with this form and text is a literal, `true` or `false`.
 #[inline(always)]
 pub(crate) fn is_literal(form: Form, text: &str) -> bool
     ensures { IsTrue result ↔ IsLiteralText (PlainKind (form_view form)) (chars text.now) }
@@ -131,7 +138,7 @@ pub(crate) fn is_literal(form: Form, text: &str) -> bool
     }
 }
 
-/// Whether the text is one of the words `true` and `false`.
+/// Whether the text is `true` or `false`.
 #[inline(always)]
 fn is_truth(text: &str) -> bool
     ensures { IsTrue result ↔ ((b : Bool) × (chars text.now ≡ truth_text b)) }
@@ -139,8 +146,8 @@ fn is_truth(text: &str) -> bool
     matches!(text, "true" | "false")
 }
 
-/// What [`source_by_characters`] returns, built anew: what a call returns stands in memory, and so would whatever a caller
-/// joins with it.
+/// Returns the result of [`source_by_characters`], constructed again. The copy keeps a call's result apart from the
+/// values that a caller joins with it, so that they aren't in memory.
 #[inline(always)]
 fn rebuilt_source(text: &str) -> Option<(SourceForm, &str)>
     ensures found { IfSome result
@@ -152,7 +159,8 @@ fn rebuilt_source(text: &str) -> Option<(SourceForm, &str)>
     rebuilt(source_by_characters(text))
 }
 
-/// The token at the front of a text, by its first characters.
+/// Returns the form of the token at the start of a part of a source, and the text after the token. The first characters
+/// of the part select the function that lexes the token.
 #[inline(never)]
 fn source_by_characters(text: &str) -> Option<(SourceForm, &str)>
     ensures found { IfSome result
@@ -170,8 +178,9 @@ fn source_by_characters(text: &str) -> Option<(SourceForm, &str)>
     stray(text)
 }
 
-/// The stray character or the bad quote at the front of a text, and the rest after it. `None` where a comment or a quoted
-/// literal is opened that isn't closed, and at the end.
+/// Returns the form of the invalid quoted literal or the stray character at the start of a text, and the text after it.
+/// Returns `None` at the end, and where a comment or a quoted literal isn't closed. The text begins with no other
+/// token.
 fn stray(text: &str) -> Option<(SourceForm, &str)>
     ensures rest { option_map (λ p. (source_view p.0, chars p.1.now)) result
         ≡ stray_at (chars text.now) }
@@ -185,10 +194,10 @@ fn stray(text: &str) -> Option<(SourceForm, &str)>
     Some((SourceForm::Stray, following))
 }
 
-/// The token at the front of a text that is neither a lexeme nor a stray character: a doc comment, a lifetime or a raw
-/// identifier.
+/// Returns the form of the doc comment, the lifetime or the raw identifier at the start of a text, and the text after
+/// it. Returns `None` if the text begins with another token.
 #[inline(always)]
-#[tactic(auto, using(crate::proofs::SourceFronts::wide_other, rl_text::proofs::TailLemmas::tail_step))]
+#[tactic(auto, using(crate::proofs::SourceFronts::wide_other, rl_syntax::proofs::TailLemmas::tail_step))]
 fn other_token(text: &str) -> Option<(SourceForm, &str)>
     ensures rest { option_map (λ p. (source_view p.0, chars p.1.now)) result
         ≡ other_at (chars text.now) }
@@ -203,7 +212,7 @@ fn other_token(text: &str) -> Option<(SourceForm, &str)>
     }
 }
 
-/// A token of the form, with what follows it, where its end was found.
+/// Returns the form `form` and the text `following` after a token, or `None` if `following` is `None`.
 #[inline(always)]
 fn ended(form: SourceForm, following: Option<&str>) -> Option<(SourceForm, &str)>
     ensures { result ≡ option_map (λ rest. (form, rest)) following.entry }
@@ -211,9 +220,10 @@ fn ended(form: SourceForm, following: Option<&str>) -> Option<(SourceForm, &str)
     Some((form, following?))
 }
 
-/// What follows a doc comment, by what stands after its first slash: of a line its LF.
+/// Returns the text after a doc comment, where `text` follows its first slash. The LF after a line comment isn't
+/// skipped. Returns `None` if no doc comment begins there, and if a block isn't closed.
 #[inline(always)]
-#[tactic(auto, using(crate::proofs::SourceFronts::wide_doc, rl_text::proofs::TailLemmas::tail_step, rl_text::proofs::TailLemmas::some_tail))]
+#[tactic(auto, using(crate::proofs::SourceFronts::wide_doc, rl_syntax::proofs::TailLemmas::tail_step, rl_syntax::proofs::TailLemmas::some_tail))]
 fn after_doc(text: &str) -> Option<&str>
     ensures rest { option_map (λ rest. chars rest.now) result ≡ after_doc (chars text.now) }
     ensures following { IfSome result (λ rest. IsTail text.now rest.now) }
@@ -236,7 +246,7 @@ fn after_doc(text: &str) -> Option<&str>
     }
 }
 
-/// The text from its first LF on.
+/// Returns the text from its first LF on, or an empty text if it contains no LF.
 fn line_end(text: &str) -> &str
     ensures rest { chars result.now ≡ after_run is_in_line (chars text.now) }
     ensures following { IsTail text.now result.now }
@@ -245,7 +255,7 @@ fn line_end(text: &str) -> &str
     rest
 }
 
-/// What stands after the first LF of a text.
+/// Returns the text after its first LF, or `None` if it contains no LF.
 #[tactic(auto, using(crate::proofs::SourceFronts::first_line, crate::proofs::SourceFronts::no_line))]
 pub(crate) fn after_first_line(text: &str) -> Option<&str>
     ensures lines { IfSome result (λ lines. IsAfterLine (chars text.now) (chars lines.now)) }
@@ -256,7 +266,7 @@ pub(crate) fn after_first_line(text: &str) -> Option<&str>
     next_line(text)
 }
 
-/// What follows an identifier.
+/// Returns the text after the identifier at its start, or `None` if it begins with no identifier.
 fn after_name(text: &str) -> Option<&str>
     ensures rest { option_map (λ rest. chars rest.now) result ≡ after_name (chars text.now) }
     ensures following { IfSome result (λ rest. IsTail text.now rest.now) }
@@ -267,7 +277,7 @@ fn after_name(text: &str) -> Option<&str>
     }
 }
 
-/// What follows a hash and an identifier.
+/// Returns the text after `#` and an identifier at its start, or `None` if it doesn't begin with them.
 fn after_marked(text: &str) -> Option<&str>
     ensures rest { option_map (λ rest. chars rest.now) result ≡ after_marked (chars text.now) }
     ensures following { IfSome result (λ rest. IsTail text.now rest.now) }
@@ -278,7 +288,7 @@ fn after_marked(text: &str) -> Option<&str>
     }
 }
 
-/// What follows an identifier, which may be raw.
+/// Returns the text after the identifier at its start, which may be raw, or `None` if it begins with no identifier.
 #[inline(always)]
 fn after_any_name(text: &str) -> Option<&str>
     ensures rest { option_map (λ rest. chars rest.now) result ≡ after_any_name (chars text.now) }
@@ -290,7 +300,8 @@ fn after_any_name(text: &str) -> Option<&str>
     after_name(text)
 }
 
-/// What follows a lifetime, by what stands after its apostrophe.
+/// Returns the text after a lifetime, where `text` follows its apostrophe. Returns `None` if no lifetime begins there:
+/// an apostrophe after the identifier makes it a character literal.
 fn after_lifetime(text: &str) -> Option<&str>
     ensures rest { option_map (λ rest. chars rest.now) result ≡ after_lifetime (chars text.now) }
     ensures following { IfSome result (λ rest. IsTail text.now rest.now) }
@@ -302,18 +313,17 @@ fn after_lifetime(text: &str) -> Option<&str>
     }
 }
 
-/// The text without what may stand before its first token: a byte order mark, and an interpreter's
-/// line.
+/// Returns the source without a byte order mark and an interpreter's line, which may precede its first token.
 pub(crate) fn without_preamble(text: &str) -> &str
     ensures front { IsWithoutPreamble (chars text.now) (chars result.now) }
     ensures following { IsTail text.now result.now }
 {
-    without_line(without_mark(text))
+    without_line(without_byte_order_mark(text))
 }
 
-/// The text without a byte order mark at its front.
-pub fn without_mark(text: &str) -> &str
-    ensures rest { chars result.now ≡ without_mark (chars text.now) }
+/// Returns the text after a byte order mark at its start, or the text itself.
+pub fn without_byte_order_mark(text: &str) -> &str
+    ensures rest { chars result.now ≡ without_byte_order_mark (chars text.now) }
     ensures following { IsTail text.now result.now }
 {
     match split_char(text) {
@@ -322,8 +332,9 @@ pub fn without_mark(text: &str) -> &str
     }
 }
 
-/// The text without an interpreter's line at its front: `#!`, but not where an attribute's `[`
-/// follows.
+/// Returns the text from the end of the interpreter's line at its start, or the text itself if it begins otherwise. An
+/// interpreter's line begins with `#!`. If `[` follows, after white space and comments, the text begins with an
+/// attribute.
 fn without_line(text: &str) -> &str
     ensures front { IsWithoutLine (chars text.now) (chars result.now) }
     ensures following { IsTail text.now result.now }

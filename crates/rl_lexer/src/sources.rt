@@ -1,33 +1,33 @@
-//! A whole source cut into its tokens, one at a time.
+//! The cursor that lexes a whole Rust source's tokens one at a time.
 
 ghost use Rattle.std.specs.Prelude.{◌≡◌, ◌↔◌, ◌<◌, ◌+◌, ◌⊎◌, ℕ, List, [], length, IfSome, IfNone, IsTrue};
 ghost use Rattle.std.specs.Str.{chars};
-ghost use Rattle.rl_text.specs.Texts.{IsTail};
+ghost use Rattle.rl_syntax.specs.Texts.{IsTail};
 ghost use Rattle.rl_lexer.specs.Sources.{source_view, SourceKind, SourceBefore, BeginsNoSource, SourceErrorAt, IsLiteralText};
 
 use crate::lex_error::LexError;
 use crate::no_token::source_error_kind;
 use crate::source::{
-    SourceForm, after_first_line, first_source, is_literal, skip_unlikely, without_preamble,
+    SourceForm, after_first_line, first_source_token, is_literal, skip_unlikely, without_preamble,
 };
 use crate::whitespace::skip;
 use std::marker::Model;
 
-/// A token of a source, borrowed from it: what it is, and where it stands.
+/// A token that [`Sources`] returns: its form, its text and its byte range. The text is borrowed from the source.
 #[derive(Clone, Copy)]
 pub struct SourceToken<'t> {
-    /// What it is.
+    /// The form of the token.
     pub form: SourceForm,
-    /// Its text, a slice of the whole source.
+    /// The token's text, a slice of the whole source.
     pub text: &'t str,
-    /// The place of its first byte in the source.
+    /// The byte offset in the source where the token begins.
     pub lo: usize,
-    /// The place after its last byte.
+    /// The byte offset in the source after the token's last byte.
     pub hi: usize,
 }
 
 impl SourceToken<'_> {
-    /// Whether it is a literal, or one of the words `true` and `false`.
+    /// Returns `true` if the token is a literal, `true` or `false`.
     #[inline(always)]
     pub fn is_literal(&self) -> bool
         ensures { IsTrue result
@@ -40,10 +40,11 @@ impl SourceToken<'_> {
     }
 }
 
-/// A whole Rust source, cut into tokens as they are asked for: those of [`Tokens`], and lifetimes,
-/// raw identifiers, doc comments and stray characters. White space and plain comments between them
-/// are dropped, and so are a byte order mark and an interpreter's line before them. It takes no
-/// memory. A delimiter is a token like any other; groups aren't counted.
+/// A cursor that lexes a whole Rust source's tokens one at a time: those of [`Tokens`], and lifetimes, raw identifiers,
+/// doc comments and stray characters.
+///
+/// White space and plain comments between the tokens are dropped, and so are a byte order mark and an interpreter's
+/// line before the first token. A delimiter is a token like any other: groups aren't counted. Nothing is allocated.
 ///
 /// # Example
 ///
@@ -64,7 +65,7 @@ impl SourceToken<'_> {
 #[derive(Drop)]
 pub struct Sources<'t> {
     text: &'t str,
-    // what is left, after white space and comments
+    // The source from the next token on: white space and comments before that token are dropped already.
     rest: &'t str,
 }
 
@@ -83,7 +84,8 @@ impl<'t> Sources<'t> {
     ghost use Rattle.std.specs.List.{list_all};
     ghost use Rattle.rl_lexer.specs.Sources.{IsCutUpTo, TakesSource, PassesTo, TakesLiteralAfter, IsFirstSourceError, IsAfterLine, is_in_line};
 
-    /// The tokens of a source, from its front. Only what may stand before the first is dropped.
+    /// Creates the cursor at the start of a source. A byte order mark, an interpreter's line, white space and plain
+    /// comments before the first token are dropped.
     pub fn new(text: &'t str) -> Sources<'t>
         ensures text { result.text ≡ text.now }
         ensures begun { IsCutUpTo (chars text.now) [] (chars result.rest) }
@@ -95,8 +97,8 @@ impl<'t> Sources<'t> {
         }
     }
 
-    /// The tokens from a place on, where a cursor over the same text stood, whose
-    /// [`rest`](Sources::rest) this is. Nothing is dropped before the next.
+    /// Creates a cursor over `text` at the position where `rest` begins. `rest` is the end of `text`, as
+    /// [`Sources::rest`] of another cursor returns it. White space and comments at its start aren't dropped.
     #[inline(always)]
     pub fn resume(text: &'t str, rest: &'t str) -> Sources<'t>
         requires { IsCursorState text.now rest.now }
@@ -105,17 +107,19 @@ impl<'t> Sources<'t> {
         Sources { text, rest }
     }
 
-    /// Cuts off the token that begins what is left. `None` where no token begins it, at its end
-    /// too; it stays then.
+    /// Consumes the next token and returns it.
+    ///
+    /// Returns `None` at the end of the source, and where no token begins, since the source has an error. The cursor
+    /// doesn't move then.
     #[inline(always)]
     pub fn next(&mut self) -> Option<SourceToken<'t>>
-        // The token is the next cut of the source.
+        // The returned token is the next one of the source.
         ensures next { IfSome result (λ l. TakesSource self.old l self.new) }
         ensures shorter { IfSome result (λ l. length self.new.rest < length self.old.rest) }
         ensures none { IfNone result (BeginsNoSource (chars self.old.rest)) }
         ensures stays { IfNone result (self.new ≡ self.old) }
     {
-        let (form, following) = first_source(self.rest)?;
+        let (form, following) = first_source_token(self.rest)?;
         let lo = self.text.len() - self.rest.len();
         let hi = self.text.len() - following.len();
         let text = &self.rest[..self.rest.len() - following.len()];
@@ -123,16 +127,19 @@ impl<'t> Sources<'t> {
         Some(SourceToken { form, text, lo, hi })
     }
 
-    /// Cuts off the tokens up to the next literal and that one, which is returned: a literal token, whether it reads or not,
-    /// or one of the words `true` and `false`. `None` where none comes before the end or the first error, before which the
-    /// cursor then stands; [`Sources::error`] says which.
+    /// Consumes tokens up to and including the next literal, and returns that literal: a literal token, valid or not,
+    /// `true` or `false`.
+    ///
+    /// Returns `None` if the end of the source or an error comes first. The cursor is then at the end or before the
+    /// error, which [`Sources::error`] returns.
     ///
     /// See the example of [`Sources`].
     pub fn next_literal(&mut self) -> Option<SourceToken<'t>>
-        // Tokens that are no literals come first, and then the literal: they are the next cuts of the source.
+        // The consumed tokens are the next ones of the source. The last one is the literal, and the others aren't
+        // literals.
         ensures found { IfSome result (λ l. TakesLiteralAfter self.old l self.new) }
         ensures shorter { IfSome result (λ l. length self.new.rest < length self.old.rest) }
-        // Where none comes, these tokens are passed, and no token begins what is left.
+        // If the result is `None`, tokens that aren't literals are consumed, and no token begins the rest.
         ensures passed { IfNone result (PassesTo self.old self.new) }
         ensures none { IfNone result (BeginsNoSource (chars self.new.rest)) }
     {
@@ -145,20 +152,19 @@ impl<'t> Sources<'t> {
         }
     }
 
-    /// Why no token begins what is left: the error, and the byte of the whole text where it stands.
-    /// `None` at the end of the text, and where a token begins what is left. The kind is
-    /// `UnclosedComment` or `UnclosedQuote`.
+    /// Returns the lexer's error at the cursor, with its byte offset in the source. Returns `None` at the end of the
+    /// source, and before a token. The kind is `UnclosedComment` or `UnclosedQuote`.
     pub fn error(&self) -> Option<LexError>
         ensures error { IfSome result (λ e. SourceErrorAt e.kind (chars self.now.rest)) }
         ensures place { IfSome result (λ e. e.at + length self.now.rest ≡ length self.now.text) }
-        // It is the first error of the source, however that was cut up to here.
+        // The error is the first error of the source, however the source before the cursor was lexed.
         ensures first { IfSome result (λ e. IsFirstSourceError self.now e.kind e.at) }
-        // Else the text ends here, or a token begins what is left.
+        // If the result is `None`, the cursor is at the end of the source, or before a token.
         ensures none { IfNone result ((self.now.rest ≡ [])
             ⊎ ((kind : SourceKind) × (after : List ℕ)
             × SourceBefore (chars self.now.rest) kind after)) }
     {
-        if self.rest.is_empty() || first_source(self.rest).is_some() {
+        if self.rest.is_empty() || first_source_token(self.rest).is_some() {
             return None;
         }
         let kind = source_error_kind(self.rest);
@@ -166,17 +172,19 @@ impl<'t> Sources<'t> {
         Some(LexError::new(kind, at))
     }
 
-    /// What is left of the text, after white space and comments: empty at its end, else a token or
-    /// an error begins it.
+    /// Returns the text after the consumed tokens, without leading white space and comments. It is empty at the end,
+    /// and otherwise begins with a token or an error.
     pub fn rest(&self) -> &'t str
         ensures { result.now ≡ self.now.rest }
     {
         self.rest
     }
 
-    /// The lines after the one in which the cursor stands: what stands after the first LF of [`rest`](Sources::rest). `None`
-    /// where no LF is left. So a source is taken up after an error: [`Sources::new`] cuts these lines anew, with places counted
-    /// from their front, which is as many bytes after the text's as they are shorter.
+    /// Returns the lines after the cursor's line: the text after the first LF of [`rest`](Sources::rest). Returns
+    /// `None` if `rest` contains no LF.
+    ///
+    /// After an error, lexing can resume with these lines: [`Sources::new`] lexes them. Its byte offsets then count
+    /// from the start of the lines. Their offset in the source is the source's length without the length of the lines.
     ///
     /// # Example
     ///
@@ -215,7 +223,7 @@ impl<'t> Sources<'t> {
     }
 }
 
-/// The tokens up to the first place where none begins; [`Sources::error`] then says why.
+/// Yields the tokens up to the end of the source or its first error. [`Sources::error`] then returns that error.
 impl<'t> Iterator for Sources<'t> {
     ghost use Rattle.std.specs.Iterator.{at_most};
     ghost use Rattle.rl_lexer.specs.Sources.{GivesSource};

@@ -1,22 +1,23 @@
-//! White space and plain comments.
+//! Functions that skip white space and plain comments. Plain comments are those that aren't doc comments.
 
 ghost use Rattle.std.specs.Prelude.{◌≡◌, option_map, IfSome, IsFalse};
 ghost use Rattle.std.specs.Str.{chars};
-ghost use Rattle.rl_text.specs.Texts.{is_white, first_passes, IsTail};
-ghost use Rattle.rl_forms.specs.Trivia.{is_comment_line, is_comment_block};
+ghost use Rattle.rl_syntax.specs.Texts.{is_white, first_passes, IsTail};
+ghost use Rattle.rl_syntax.specs.Trivia.{is_comment_line, is_comment_block};
 ghost use Rattle.rl_lexer.specs.Skipping.{Skipped, OneRest};
 ghost use Rattle.rl_lexer.specs.Mirrors.SkippedAt.{after_line, after_block, after_comment};
 
-use rl_text::classes::skip_white;
-use rl_text::lanes::byte_at;
-use rl_text::lines::next_line;
-use rl_text::scan::{Marks, near_len_before};
-use rl_text::text::{begins_with, split_ascii, strip_byte};
+use rl_syntax::classes::skip_white;
+use rl_syntax::lanes::byte_at;
+use rl_syntax::lines::next_line;
+use rl_syntax::scan::{Marks, near_len_before};
+use rl_syntax::text::{begins_with, split_ascii, strip_byte};
 
-/// The rest of the text after its leading white space and plain comments, as a slice of the text.
+/// Returns the text after its leading white space and plain comments, as a slice.
 ///
-/// A doc comment, a block comment that isn't closed, and all else that is no white space stay. A
-/// line comment that the text ends in leaves the empty rest.
+/// The result begins with the first character that is neither white space nor part of a plain comment. Doc comments
+/// aren't skipped, and neither are block comments that aren't closed. If the text ends in a line comment, the result is
+/// empty.
 ///
 /// # Example
 ///
@@ -30,11 +31,11 @@ use rl_text::text::{begins_with, split_ascii, strip_byte};
 /// ```
 #[inline(always)]
 pub fn skip(text: &str) -> &str
-    // The rest after all trivia at the front, by the characters of both.
+    // The result is the text after all white space and plain comments at its start, as characters.
     ensures skipped { Skipped (chars text.now) (chars result.now) }
-    // The rest is a slice at the end of the text.
+    // The result is a slice at the end of the text.
     ensures following { IsTail text.now result.now }
-    // There is no other rest, and to skip it once more changes nothing.
+    // Only one rest of a text meets this definition, and skipping again doesn't change the result.
     ensures only { OneRest }
     ensures again { Skipped (chars result.now) (chars result.now) }
 {
@@ -45,8 +46,8 @@ pub fn skip(text: &str) -> &str
     skip_comments(rest)
 }
 
-/// The rest of a text after its plain comments and white space, where no white space begins it, but perhaps a comment
-/// does.
+/// Returns the text after the plain comments at its start, and after the white space that follows each. The text must
+/// not begin with white space.
 #[inline(never)]
 fn skip_comments(text: &str) -> &str
     requires { IsFalse (first_passes is_white (chars text.now)) }
@@ -63,9 +64,10 @@ fn skip_comments(text: &str) -> &str
     rest
 }
 
-/// What follows a plain comment, by what stands after its first slash.
+/// Returns the text after a plain comment, where `text` follows its first slash. Returns `None` if no plain comment
+/// begins there, and if a block comment isn't closed.
 #[inline(always)]
-#[tactic(auto, using(crate::proofs::CommentBytes::wide_comment, rl_text::proofs::TailLemmas::tail_step, rl_text::proofs::TailLemmas::some_tail))]
+#[tactic(auto, using(crate::proofs::CommentBytes::wide_comment, rl_syntax::proofs::TailLemmas::tail_step, rl_syntax::proofs::TailLemmas::some_tail))]
 fn after_comment(text: &str) -> Option<&str>
     ensures rest { option_map (λ rest. chars rest.now) result ≡ after_comment (chars text.now) }
     ensures following { IfSome result (λ rest. IsTail text.now rest.now) }
@@ -82,7 +84,7 @@ fn after_comment(text: &str) -> Option<&str>
     }
 }
 
-/// Whether a line comment is plain, by what stands after its `//`.
+/// Whether a line comment is plain, and not a doc comment. `body` is the text after its `//`.
 #[inline(always)]
 #[tactic(auto, using(crate::proofs::CommentBytes::wide_line))]
 pub(crate) fn is_comment_line(body: &str) -> bool
@@ -94,7 +96,7 @@ pub(crate) fn is_comment_line(body: &str) -> bool
     }
 }
 
-/// Whether a block is plain, by what stands after its `/*`.
+/// Whether a block comment is plain, and not a doc comment. `inside` is the text after its `/*`.
 #[inline(always)]
 #[tactic(auto, using(crate::proofs::CommentBytes::wide_block))]
 pub(crate) fn is_comment_block(inside: &str) -> bool
@@ -109,7 +111,7 @@ pub(crate) fn is_comment_block(inside: &str) -> bool
     }
 }
 
-/// What follows the LF that ends a line comment; nothing where the text ends in the comment.
+/// Returns the text after the LF that ends a line comment, or an empty text if the comment is at the end of the text.
 pub(crate) fn after_line(text: &str) -> &str
     ensures rest { chars result.now ≡ after_line (chars text.now) }
     ensures following { IsTail text.now result.now }
@@ -117,8 +119,9 @@ pub(crate) fn after_line(text: &str) -> &str
     next_line(text).unwrap_or("")
 }
 
-/// What follows a block comment, by what stands after its `/*`. It is a loop over bytes, from mark
-/// to mark, with the number of blocks that are open inside it.
+/// Returns the text after a block comment, where `text` follows its `/*`. Returns `None` if the comment isn't closed.
+///
+/// The loop is over bytes, from one `*` or `/` to the next. It counts the nested block comments that are open.
 #[inline(always)]
 pub(crate) fn after_block(text: &str) -> Option<&str>
     ensures rest { option_map (λ rest. chars rest.now) result ≡ after_block 0 (chars text.now) }

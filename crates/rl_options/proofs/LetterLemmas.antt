@@ -1,5 +1,5 @@
--- Letters after a dash, one after another.
-use Rattle.rl_text.proofs.Common.{List, [], ap, arith, encode_utf8, inl, inr, length, length-append, length-encode, len_utf8_bounds, encode_ascii, refl, subst, sym, ℕ, ◌++◌, ◌<◌, ◌∙◌, ◌∷◌, ◌≡◌, ◌≢◌, ◌⊎◌, Bool}
+-- Lemmas about a group of short options, letter by letter.
+use Rattle.rl_syntax.proofs.Common.{List, [], ap, arith, encode_utf8, inl, inr, length, length-append, length-encode, len_utf8_bounds, encode_ascii, refl, subst, sym, ℕ, ◌++◌, ◌<◌, ◌∙◌, ◌∷◌, ◌≡◌, ◌≢◌, ◌⊎◌, Bool}
 use Rattle.std.specs.Prelude.{IfErr, OnOk}
 use Rattle.std.specs.declared.result.Result.{Result}
 use Rattle.std.specs.declared.result.Result.TheVariants.{Err, Ok}
@@ -9,12 +9,12 @@ use Rattle.rl_options.specs.declared.flags.Operand.{Operand}
 use Rattle.rl_options.specs.declared.flags.Operand.TheVariants as takes
 use Rattle.rl_options.specs.declared.flags.Next.{Next}
 use Rattle.rl_options.specs.declared.flags.Next.TheVariants as next
-use Rattle.rl_options.specs.declared.words.WordError.{WordError}
+use Rattle.rl_options.specs.declared.arguments.ArgumentError.{ArgumentError}
 use Rattle.rl_options.specs.Flags.{IsLetter, taken_by}
 use Rattle.rl_options.specs.Wishes.{Wishes}
-use Rattle.rl_options.specs.Words.{AreLetters, AreRejectedLetters, IsAdded, IsRejectedFlag, IsRejectedJoined, IsTaken, LastLetter, LaterLetter, Letter, LetterAndText, MayStand, NamesLetter, NoLetters, RejectedLetter, RejectedText, StrangeLetter, next_after}
+use Rattle.rl_options.specs.Words.{AreLetters, AreRejectedLetters, IsAdded, IsRejectedFlag, IsRejectedJoined, IsTaken, LastLetter, LaterLetter, Letter, LetterAndText, GoesWithOptions, NamesLetter, NoLetters, RejectedLetter, RejectedText, StrangeLetter, next_after}
 
--- letters are of ASCII
+-- The letters of short options are ASCII.
 letter_low : (flag : Flag) (c : ℕ) → IsLetter flag c → c < 128
 letter_low Find c is = omega (arith, is)
 letter_low IgnoreCase c is = omega (arith, is)
@@ -54,22 +54,22 @@ letter_low Style c is = absurd is
 letter_low Macros c is = absurd is
 letter_low Paths c is = absurd is
 
--- a letter begins the bytes
+-- The bytes begin with the letter of a short option.
 letter_front : (flag : Flag) (c : ℕ) (rest after : List ℕ) → IsLetter flag c → rest ≡ encode_utf8 c ++ after
     → rest ≡ c ∷ after
 letter_front flag c rest after is split =
     split ∙ ap (λ (z : List ℕ). z ++ after) (encode_ascii c (letter_low flag c is))
 
--- The letters are left that begin `rest`: with them more, so much is asked for as with all.
+-- The letters in `rest` aren't processed yet. The command for them, from the command `now`, is that for all letters.
 pub record AreOpen (A : Type 0) (has_colors : Bool) (word : List ℕ) (old : Wishes) (letters : List ℕ) (now : Wishes)
     (then : Next) (rest : List ℕ) : Type 0 where
   pub any : then ≡ next.Any
   pub goes_on : (last : Next) (new : Wishes) → AreLetters has_colors now rest last new
       → AreLetters has_colors old letters last new
-  pub rejected : (error : WordError A) → AreRejectedLetters has_colors word error now rest
+  pub rejected : (error : ArgumentError A) → AreRejectedLetters has_colors word error now rest
       → AreRejectedLetters has_colors word error old letters
 
--- so, or none is left, and what the last takes may be the next word
+-- The letters in `rest` aren't processed yet, or none is left and the value of the last option may be the next argument.
 abbrev pub AreLeft : (A : Type 0) → Bool → List ℕ → Wishes → List ℕ → Wishes → Next → List ℕ → Type 0
 AreLeft A has_colors word old letters now then rest =
     AreOpen A has_colors word old letters now then rest
@@ -83,7 +83,7 @@ letters_begin A hc word old letters then any = inl (record {
   rejected = λ error are. are;
 })
 
--- a character is left
+-- A text that begins with a character isn't empty.
 some_left : (c : ℕ) (after : List ℕ) → encode_utf8 c ++ after ≡ [] → ⊥
 some_left c after nil = absurd (omega (
   arith,
@@ -100,7 +100,7 @@ still_open A hc word old letters now then rest after c split (inl left) = left
 still_open A hc word old letters now then rest after c split (inr (nil, are)) =
     absurd (some_left c after (sym split ∙ nil))
 
--- an option that takes nothing
+-- The loop's invariant stays true after the letter of an option without a value.
 open_more : (A : Type 0) (has_colors : Bool) (word : List ℕ) (old : Wishes) (letters : List ℕ) (now new : Wishes)
     (then last : Next) (rest after : List ℕ) (c : ℕ) (flag : Flag)
     → AreOpen A has_colors word old letters now then rest → rest ≡ c ∷ after → IsLetter flag c
@@ -116,7 +116,7 @@ open_more A hc word old letters now new then last rest after c flag left split i
           (LaterLetter flag c new is added_any are));
     }
 
--- the last takes what the next word is
+-- The last letter is that of an option whose value is the next argument.
 closed : (A : Type 0) (has_colors : Bool) (word : List ℕ) (old : Wishes) (letters : List ℕ) (now new : Wishes)
     (then last : Next) (rest after : List ℕ) (c : ℕ) (flag : Flag) (operand : Operand)
     → AreOpen A has_colors word old letters now then rest → rest ≡ c ∷ after → IsLetter flag c
@@ -132,7 +132,7 @@ closed A hc word old letters now new then last rest after c flag operand left sp
 abbrev TakesNothing : Flag → List ℕ → Type 0
 TakesNothing flag after = (after ≡ []) ⊎ (next_after flag ≡ next.Any) ⊎ (next_after flag ≡ next.Path)
 
--- a letter was taken
+-- The loop's invariant stays true after the letter of an option whose value doesn't follow in the same argument.
 pub letter_taken : (A : Type 0) (has_colors : Bool) (word : List ℕ) (old : Wishes) (letters : List ℕ)
     (now new : Wishes) (then last : Next) (rest after : List ℕ) (c : ℕ) (flag : Flag) → rest ≡ encode_utf8 c ++ after
     → IsLetter flag c → TakesNothing flag after → AreLeft A has_colors word old letters now then rest
@@ -209,11 +209,11 @@ letter_taken A hc word old letters now new then last rest after c flag split is 
     go Macros is none added front = absurd is
     go Paths is none added front = absurd is
 
--- a letter and what it takes
+-- The group ends with a letter and the value of its option.
 pub letter_and_text : (A : Type 0) (has_colors : Bool) (word : List ℕ) (old : Wishes) (letters : List ℕ)
     (now new : Wishes) (then last : Next) (rest after : List ℕ) (c : ℕ) (flag : Flag) (operand : Operand)
     → rest ≡ encode_utf8 c ++ after → IsLetter flag c → flag ≡ taken_by operand → after ≢ []
-    → AreLeft A has_colors word old letters now then rest → MayStand (taken_by operand) now
+    → AreLeft A has_colors word old letters now then rest → GoesWithOptions (taken_by operand) now
     → IsTaken has_colors operand now after new → last ≡ next.Any → AreLetters has_colors old letters last new
 letter_and_text A hc word old letters now new then last rest after c flag operand split is flag_is some left may taken
     any =
@@ -224,9 +224,9 @@ letter_and_text A hc word old letters now new then last rest after c flag operan
     (subst (λ (z : List ℕ). AreLetters hc now z next.Any new) (sym front)
     (LetterAndText operand c is_taken may some taken)))
 
--- what a letter takes was rejected, or the letter
+-- The group is invalid, since the value of an option or the option is rejected.
 pub text_rejected : (A : Type 0) (has_colors : Bool) (word : List ℕ) (old : Wishes) (letters : List ℕ) (now : Wishes)
-    (then : Next) (rest after : List ℕ) (c : ℕ) (flag : Flag) (operand : Operand) (error : WordError A)
+    (then : Next) (rest after : List ℕ) (c : ℕ) (flag : Flag) (operand : Operand) (error : ArgumentError A)
     → rest ≡ encode_utf8 c ++ after → IsLetter flag c → flag ≡ taken_by operand
     → AreLeft A has_colors word old letters now then rest → IsRejectedJoined operand now after error
     → AreRejectedLetters has_colors word error old letters
@@ -238,7 +238,7 @@ text_rejected A hc word old letters now then rest after c flag operand error spl
     (RejectedText operand c is_taken rejected))
 
 pub letter_rejected : (A : Type 0) (has_colors : Bool) (word : List ℕ) (old : Wishes) (letters : List ℕ)
-    (now : Wishes) (then : Next) (rest after : List ℕ) (c : ℕ) (flag : Flag) (error : WordError A)
+    (now : Wishes) (then : Next) (rest after : List ℕ) (c : ℕ) (flag : Flag) (error : ArgumentError A)
     → rest ≡ encode_utf8 c ++ after → IsLetter flag c → AreLeft A has_colors word old letters now then rest
     → IsRejectedFlag flag now error → AreRejectedLetters has_colors word error old letters
 letter_rejected A hc word old letters now then rest after c flag error split is left rejected =
@@ -248,7 +248,7 @@ letter_rejected A hc word old letters now then rest after c flag error split is 
     (RejectedLetter flag c is rejected))
 
 pub letter_unknown : (A : Type 0) (has_colors : Bool) (word : List ℕ) (old : Wishes) (letters : List ℕ)
-    (now : Wishes) (then : Next) (rest after : List ℕ) (c : ℕ) (error : WordError A)
+    (now : Wishes) (then : Next) (rest after : List ℕ) (c : ℕ) (error : ArgumentError A)
     → rest ≡ encode_utf8 c ++ after → ((flag : Flag) → IsLetter flag c → ⊥)
     → AreLeft A has_colors word old letters now then rest → NamesLetter c word error
     → AreRejectedLetters has_colors word error old letters
@@ -256,7 +256,7 @@ letter_unknown A hc word old letters now then rest after c error split none left
     let begun = still_open A hc word old letters now then rest after c split left in
     begun.rejected error (StrangeLetter c after split none names)
 
--- none is left
+-- After the last letter of a group of short options, the command is that for all letters.
 pub letters_end : (A : Type 0) (has_colors : Bool) (word : List ℕ) (old : Wishes) (letters : List ℕ) (now : Wishes)
     (then : Next) (rest : List ℕ) → rest ≡ [] → AreLeft A has_colors word old letters now then rest
     → AreLetters has_colors old letters then now
@@ -265,7 +265,7 @@ letters_end A hc word old letters now then rest nil (inl begun) =
     subst (λ (n : Next). AreLetters hc old letters n now) (sym begun.any) (begun.goes_on next.Any now
     (subst (λ (z : List ℕ). AreLetters hc now z next.Any now) (sym nil) NoLetters))
 
--- ---- what an option takes
+-- ---- the value of an option
 
 pub taken_flag : (flag : Flag) (operand : Operand) → next_after flag ≡ next.Operand operand → flag ≡ taken_by operand
 taken_flag Bad operand e = absurd (cc)

@@ -4,3 +4,4 @@ pub mod WordLemmas
 pub mod LetterLemmas
 pub mod ListedLemmas
 pub mod RulesLemmas
+pub mod ClashLemmas

@@ -1,5 +1,5 @@
--- Files that name paths, and one that is no text.
-use Rattle.rl_text.proofs.Common.{List, None, Option, Some, ℕ, inr, refl, ◌≡◌}
+-- Lemmas about files that list paths, and about the first one that can't be read.
+use Rattle.rl_syntax.proofs.Common.{List, None, Option, Some, ℕ, inr, refl, ◌≡◌}
 use Rattle.std.specs.Prelude.{IfSome, Ok}
 use Rattle.std.specs.Str.{IsUtf8, IsValidUpTo}
 use Rattle.rl_files.specs.Trees.{World}
@@ -13,7 +13,8 @@ pub not_read : (holds : Option World) (file bytes : List ℕ) (at : ℕ) → IfS
 not_read None file bytes at found none up = tt
 not_read (Some w) file bytes at found none up = inr (inr (bytes, found, (at, refl, none, up)))
 
--- These files are left, and so many paths are there: with the names in them there are as many as with the names in all.
+-- The invariant of the loop over lists: `rest` are the lists that aren't read yet, and `some` the paths so far. With the paths of
+-- the other lists, they are all paths.
 pub record IsLeftToList (w : World) (files paths rest some : List (List ℕ)) : Type 0 where
   pub goes_on : (all : List (List ℕ)) → AreWithAllListed w rest some all → AreWithAllListed w files paths all
   pub stops : (file : List ℕ) (why : PathError) → IsFirstUnread w rest some file why

@@ -1,4 +1,4 @@
--- The option, or the rule of a style, that a word was likely meant to be.
+-- Lemmas about suggestions for misspelled words.
 use Rattle.std.proofs.Common.{Bool, Bor, List, Option, Some, None, ℕ, false, refl, true, ◌++◌, ◌∷◌, ◌≡◌}
 use Rattle.std.specs.Prelude.{MatchOption}
 use Rattle.std.specs.List.{All}
@@ -9,7 +9,7 @@ is_true : (b : Bool) → (b ≡ false → ⊥) → b ≡ true
 is_true true h = refl
 is_true false h = absurd (h refl)
 
--- the first that isn't far is near
+-- The suggestion for a word is the first name in the list that the word is similar to.
 pub first_near : (list word : List ℕ) (r : Option (Bor (List ℕ)))
     → MatchOption r (All (λ other. is_near word other ≡ false) (words_of list))
     (λ x. (before after : List (List ℕ)) × (words_of list ≡ before ++ x.now ∷ after)

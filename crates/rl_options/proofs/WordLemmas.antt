@@ -1,17 +1,17 @@
--- Words of the command line, one after another.
-use Rattle.rl_text.proofs.Common.{Bool, Bor, List, None, Option, Some, [], ap, arith, codes, common_steps, drop, get_or, inr, length, map, map-append, refl, string_bytes, subst, sym, take, take_all, ℕ, ◌++◌, ◌+◌, ◌-◌, ◌<◌, ◌∙◌, ◌∷◌, ◌≡◌, ◌≢◌, ◌≤◌}
+-- Lemmas about the arguments of a command line, one by one.
+use Rattle.rl_syntax.proofs.Common.{Bool, Bor, List, None, Option, Some, [], ap, arith, codes, common_steps, drop, get_or, inr, length, map, map-append, refl, string_bytes, subst, sym, take, take_all, ℕ, ◌++◌, ◌+◌, ◌-◌, ◌<◌, ◌∙◌, ◌∷◌, ◌≡◌, ◌≢◌, ◌≤◌}
 use Rattle.std.specs.Prelude.{IfNone, IfSome, MatchOption, String, Err, ◌^◌}
 use Rattle.std.specs.Str.Parse.{ParsesUnsigned}
 use Rattle.std.specs.Str.Pattern.{FindsTextPrefix}
 use Rattle.rl_options.specs.declared.flags.Next.{Next}
 use Rattle.rl_options.specs.declared.flags.Operand.{Operand}
 use Rattle.rl_options.specs.declared.flags.Operand.TheVariants.{Kinds, Text, Color, Extension, Pattern, List as Names, Edition, Format, Around, Before, After, Style, Macros}
-use Rattle.rl_options.specs.declared.words.WordError.{WordError}
+use Rattle.rl_options.specs.declared.arguments.ArgumentError.{ArgumentError}
 use Rattle.rl_options.specs.Flags.{IsCountWord, joined_word}
 use Rattle.rl_options.specs.Wishes.{Wishes}
 use Rattle.rl_options.specs.Words.{IsStep, AreSteps, AskForWishes, AskSoFar, Asks, CannotAsk, IsRejectedWord, AreRejected}
 
--- ---- what stands after a front of a word: each takes the clause of `strip_prefix`
+-- ---- the text after the start of a word: each lemma takes the postcondition of `strip_prefix`
 
 abbrev StripPrefix : List ℕ → List ℕ → Option (Bor (List ℕ)) → Type 0
 StripPrefix n bs r = MatchOption r (FindsTextPrefix n bs None)
@@ -26,7 +26,7 @@ pub front_none : (n bs : List ℕ) (r : Option (Bor (List ℕ))) → StripPrefix
 front_none n bs None m = m
 front_none n bs (Some x) m = tt
 
--- a word begins as none of an option that takes something
+-- The argument isn't an option with its value after `=`.
 pub no_joined : (word : List ℕ) → ((rest : List ℕ) → word ≢ codes "--only=" ++ rest)
     → ((rest : List ℕ) → word ≢ codes "--find=" ++ rest) → ((rest : List ℕ) → word ≢ codes "--color=" ++ rest)
     → ((rest : List ℕ) → word ≢ codes "--extension=" ++ rest) → ((rest : List ℕ) → word ≢ codes "--exclude=" ++ rest)
@@ -50,7 +50,7 @@ no_joined word kinds text color extension pattern list edition format around bef
 no_joined word kinds text color extension pattern list edition format around before after style macros Style x = style x
 no_joined word kinds text color extension pattern list edition format around before after style macros Macros x = macros x
 
--- ---- what is no number: it takes the clause of `parse`
+-- ---- a word that isn't a number: the lemma takes the postcondition of `parse`
 
 pub count_unknown : {E : Type 0} (word : List ℕ) (error : E) → ParsesUnsigned 64 10 word (Err error) → (count : ℕ)
     → IsCountWord word count → ⊥
@@ -58,7 +58,7 @@ count_unknown word error none count is = none (is.numeral, subst (λ (n : ℕ). 
 
 -- ---- one word after another
 
--- one step more
+-- The steps for some arguments, and the step for one more.
 steps_more : (has_colors : Bool) (first between then : Next) (old middle new : Wishes) (words : List (List ℕ))
     (word : List ℕ) → AreSteps has_colors first old words between middle
     → IsStep has_colors between middle word then new → AreSteps has_colors first old (words ++ word ∷ []) then new
@@ -72,7 +72,7 @@ steps_more hc first between then old middle new [] word (same, is) step = (
 steps_more hc first between then old middle new (w ∷ ws) word (b, m, one, more) step =
     (b, m, one, steps_more hc b between then m middle new ws word more step)
 
--- the words up to one and that one, and those after it
+-- The arguments up to the index `i`, inclusive, are those before it and the one at `i`.
 upto : {S : Type 0} (bytes : S → List ℕ) (words : List S) (i : ℕ) (item : S) (word : List ℕ) → i < length words → item
     ≡ get_or words i item → word ≡ bytes item → map bytes (take (i + 1) words) ≡ map bytes (take i words) ++ word ∷ []
 upto bytes words i item word within is word_is =
@@ -88,7 +88,7 @@ around bytes words i item word within is word_is =
     ap (map bytes) cut ∙ map-append bytes (take i words) (item ∷ drop (i + 1) words)
     ∙ ap (λ z. map bytes (take i words) ++ z ∷ map bytes (drop (i + 1) words)) (sym word_is)
 
--- a word was taken
+-- The command after one more argument.
 pub word_taken : {S : Type 0} (has_colors : Bool) (bytes : S → List ℕ) (words : List S) (i : ℕ) (item : S)
     (word : List ℕ) (between then : Next) (middle new : Wishes) → i < length words → item ≡ get_or words i item
     → word ≡ bytes item → AskSoFar has_colors (map bytes (take i words)) between middle
@@ -99,9 +99,9 @@ word_taken hc bytes words i item word between then middle new within is word_is 
     (sym (upto bytes words i item word within is word_is))
     (steps_more hc _ between then _ middle new (map bytes (take i words)) word steps step)
 
--- a word was rejected
+-- The arguments have an error, since the argument at `i` is rejected.
 pub word_rejected : {S A : Type 0} (has_colors : Bool) (bytes : S → List ℕ) (words : List S) (i : ℕ) (item : S)
-    (word : List ℕ) (between : Next) (middle : Wishes) (error : WordError A) → i < length words
+    (word : List ℕ) (between : Next) (middle : Wishes) (error : ArgumentError A) → i < length words
     → item ≡ get_or words i item → word ≡ bytes item
     → AskSoFar has_colors (map bytes (take i words)) between middle
     → IsRejectedWord has_colors between middle word error
@@ -117,14 +117,14 @@ word_rejected hc bytes words i item word between middle error within is word_is 
   rejected,
 ))
 
--- all words were taken
+-- After all arguments, the command is that of the whole command line.
 pub all_taken : {S : Type 0} (has_colors : Bool) (bytes : S → List ℕ) (words : List S) (i : ℕ) (then : Next)
     (new : Wishes) → length words ≤ i → AskSoFar has_colors (map bytes (take i words)) then new
     → AskSoFar has_colors (map bytes words) then new
 all_taken hc bytes words i then new end steps = subst (λ ws. AskSoFar hc (map bytes ws) then new)
     (take_all i words end) steps
 
--- the words after the program's name
+-- The arguments after the program's name.
 words_after : {A : Type 0} (program : String A) (words : List (String A)) → take (length (program ∷ words) - 1) words
     ≡ words
 words_after program words = take_all (length (program ∷ words) - 1) words (omega arith)
@@ -136,7 +136,7 @@ ask_for hc [] wishes some asks = absurd (omega (arith, some))
 ask_for hc (program ∷ words) wishes some asks = subst (λ ws. Asks hc (map string_bytes ws) wishes)
     (words_after program words) asks
 
-pub cannot_ask : {A B : Type 0} (has_colors : Bool) (args : List (String A)) (error : WordError B) → 1 ≤ length args
+pub cannot_ask : {A B : Type 0} (has_colors : Bool) (args : List (String A)) (error : ArgumentError B) → 1 ≤ length args
     → AreRejected has_colors (map string_bytes (take (length args - 1) (drop 1 args))) error
     → CannotAsk has_colors args error
 cannot_ask hc [] error some rejected = absurd (omega (arith, some))

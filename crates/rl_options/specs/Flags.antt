@@ -1,11 +1,11 @@
--- The options of a command line, and the words that they take. Words are lists of bytes.
+-- The options of `rl_scan`, and their values. Arguments are lists of bytes.
 use Rattle.std.specs.Prelude.{◌≡◌, ℕ, ◌==◌, Bool, cond, not, ◌||◌, List, ◌∷◌, ◌++◌, codes, ⊤, ◌<◌, ◌^◌}
 use Prim.Native.Char.{code}
 use Rattle.std.specs.List.{All, ends_with, list_any, starts_with}
 use Rattle.std.specs.Str.{bytes_eq}
 use Rattle.std.specs.Str.Parse.{IsNumeral, digits_value, without_leading_plus}
-use Rattle.rl_restyled.specs.declared.edit.Macros.{Macros as AnyMacros}
-use Rattle.rl_restyled.specs.declared.edit.Macros.TheVariants as macros
+use Rattle.rl_restyle.specs.declared.edit.Macros.{Macros as AnyMacros}
+use Rattle.rl_restyle.specs.declared.edit.Macros.TheVariants as macros
 use Rattle.rl_output.specs.declared.form.Form.{Form}
 use Rattle.rl_output.specs.declared.form.Form.TheVariants as written
 use Rattle.rl_options.specs.declared.flags.Flag.{Flag}
@@ -20,10 +20,10 @@ use Rattle.rl_options.specs.declared.flags.When.{When}
 use Rattle.rl_options.specs.declared.flags.When.TheVariants.{Auto, Always, Never}
 use Rattle.rl_output.specs.Choices.{Names, words_of}
 
--- the word of an option
+-- The name of an option, as `--bad`.
 abbrev pub IsOptionWord : Flag → List ℕ → Type 0
 IsOptionWord Bad word = word ≡ codes "--bad"
-IsOptionWord Hidden word = word ≡ codes "--hidden"
+IsOptionWord Hidden word = word ≡ codes "--invisible"
 IsOptionWord Only word = word ≡ codes "--only"
 IsOptionWord Find word = word ≡ codes "--find"
 IsOptionWord IgnoreCase word = word ≡ codes "--ignore-case"
@@ -60,7 +60,7 @@ IsOptionWord Help word = word ≡ codes "--help"
 IsOptionWord Version word = word ≡ codes "--version"
 IsOptionWord Paths word = word ≡ codes "--"
 
--- the letter of an option, which stands after a dash
+-- The letter of a short option.
 abbrev pub IsLetter : Flag → ℕ → Type 0
 IsLetter Find c = c ≡ code "e"
 IsLetter IgnoreCase c = c ≡ code "i"
@@ -76,7 +76,7 @@ IsLetter Help c = c ≡ code "h"
 IsLetter Version c = c ≡ code "V"
 IsLetter _ c = ⊥
 
--- an option and, after `=`, what it takes, in one word
+-- The argument of an option with its value after `=`.
 abbrev pub joined_word : Operand → List ℕ → List ℕ
 joined_word takes.Kinds text = codes "--only=" ++ text
 joined_word takes.Text text = codes "--find=" ++ text
@@ -92,7 +92,7 @@ joined_word takes.After text = codes "--after-context=" ++ text
 joined_word takes.Style text = codes "--style=" ++ text
 joined_word takes.Macros text = codes "--macros=" ++ text
 
--- the option that takes it
+-- The option whose value is of the given kind.
 abbrev pub taken_by : Operand → Flag
 taken_by takes.Kinds = Only
 taken_by takes.Text = Find
@@ -108,39 +108,39 @@ taken_by takes.After = After
 taken_by takes.Style = Style
 taken_by takes.Macros = Macros
 
--- the word that says when lines have colours
+-- The value of `--color`: a word that determines whether lines have colours.
 abbrev pub color_word : When → List ℕ
 color_word Auto = codes "auto"
 color_word Always = codes "always"
 color_word Never = codes "never"
 
--- how lines are written that have colours then: where nothing is said of them, as output takes them
+-- The format of lines, with or without colours. By default lines have colours if the output accepts them.
 abbrev pub colored_form : Bool → When → Form
 colored_form has_colors Auto = cond has_colors written.Colored written.Plain
 colored_form has_colors Always = written.Colored
 colored_form has_colors Never = written.Plain
 
--- how lines are written by a later word; objects of JSON and annotations stay so
+-- The format of lines with the colours of `later`. JSON objects and GitHub annotations are unchanged.
 abbrev pub recolored : Form → Form → Form
 recolored written.Json later = written.Json
 recolored written.Github later = written.Github
 recolored written.Plain later = later
 recolored written.Colored later = later
 
--- the word of an edition
+-- The name of an edition.
 abbrev pub edition_word : AnyEdition → List ℕ
 edition_word E2015 = codes "2015"
 edition_word E2018 = codes "2018"
 edition_word E2021 = codes "2021"
 edition_word E2024 = codes "2024"
 
--- the word that says how lines are written
+-- The name of a format of lines.
 abbrev pub format_word : AnyFormat → List ℕ
 format_word format.Text = codes "text"
 format_word format.Json = codes "json"
 format_word format.Github = codes "github"
 
--- how lines are written in it: as text, those that are written so stay as they are
+-- The format of lines after `--format`. The value `text` keeps the colours of a text format.
 abbrev pub formatted : Bool → Form → AnyFormat → Form
 formatted has_colors form format.Json = written.Json
 formatted has_colors form format.Github = written.Github
@@ -149,60 +149,60 @@ formatted has_colors written.Github format.Text = colored_form has_colors Auto
 formatted has_colors written.Plain format.Text = written.Plain
 formatted has_colors written.Colored format.Text = written.Colored
 
--- the word that says which literals in calls of macros are written anew
+-- The value of `--macros`: a word that determines whether literals in macro calls are rewritten.
 abbrev pub macros_word : AnyMacros → List ℕ
 macros_word macros.Skip = codes "skip"
 macros_word macros.All = codes "all"
 
--- the word is a number in base ten that fits into 64 bits; a plus may stand before it
+-- The word is a number in base ten that fits 64 bits, perhaps after a plus.
 pub record IsCountWord (word : List ℕ) (count : ℕ) : Type 0 where
   pub numeral : IsNumeral 10 (without_leading_plus word)
   pub fits : count < 2 ^ 64
   pub count_is : count ≡ digits_value 10 (without_leading_plus word)
 
--- a pattern of paths has a mark that has another meaning in gitignore: `[` or `\`, or `!` at its front
+-- The pattern of paths contains a character that gitignore files interpret in another way: `[` or `\`, or `!` at its start.
 abbrev pub has_other_mark : List ℕ → Bool
 has_other_mark pattern =
     starts_with ◌==◌ pattern (codes "!") || list_any (λ b. b == code "[") pattern
     || list_any (λ b. b == code "\\") pattern
 
--- it matches no path below a directory: `./` or `../` stands at its front, or it is a slash alone; or a space stands at
--- its end, which gitignore drops
+-- The pattern matches no path below a directory. It begins with `./` or `../`, or is only a slash, or ends with a space, which
+-- gitignore drops.
 abbrev pub matches_nothing : List ℕ → Bool
 matches_nothing pattern =
     starts_with ◌==◌ pattern (codes "./") || starts_with ◌==◌ pattern (codes "../") || bytes_eq pattern (codes "/")
     || ends_with ◌==◌ pattern (codes " ")
 
--- a word is more than an extension: a list, a pattern or a path
+-- The word can't be a file extension: it contains a comma, `*` or `/`.
 abbrev pub is_more_than_extension : List ℕ → Bool
 is_more_than_extension word =
     list_any (λ b. b == code ",") word || list_any (λ b. b == code "*") word || list_any (λ b. b == code "/") word
 
--- what an option takes is a number of lines
+-- The value of the option is a number of lines of context.
 abbrev pub IsSide : Operand → Type 0
 IsSide takes.Around = ⊤
 IsSide takes.Before = ⊤
 IsSide takes.After = ⊤
 IsSide _ = ⊥
 
--- the kinds of literals, and `Verbatim` for those without a reading
+-- The names of the kinds of literals. `Verbatim` is the kind of a literal that can't be parsed.
 abbrev pub kind_list : List ℕ
 kind_list = codes "Str,ByteStr,CStr,Byte,Char,Int,Float,Bool,Verbatim"
 
--- one of them, in any case of its letters
+-- The word is the name of a kind of literals. Case doesn't count.
 abbrev pub IsKindWord : List ℕ → Type 0
 IsKindWord word = Names kind_list word
 
--- each word of a list is one; commas separate the words
+-- Each word of the list is the name of a kind of literals. Commas separate the words.
 abbrev pub AreKindWords : List ℕ → Type 0
 AreKindWords list = All IsKindWord (words_of list)
 
--- the first word of a list that is none of them
+-- The first word of the list that isn't the name of a kind of literals.
 abbrev pub IsUnknownKind : List ℕ → List ℕ → Type 0
 IsUnknownKind list word =
     (before after : List (List ℕ)) × (words_of list ≡ before ++ word ∷ after) × All IsKindWord before
     × (IsKindWord word → ⊥)
 
--- `-`, and what doesn't begin with a dash
+-- The argument is a path: it is `-`, or doesn't begin with a dash.
 abbrev pub is_path_word : List ℕ → Bool
 is_path_word word = bytes_eq word (codes "-") || not (starts_with ◌==◌ word (codes "-"))

@@ -1,17 +1,17 @@
--- What a command line asks for. Words are lists of bytes.
+-- The command that the command-line arguments of `rl_scan` describe. Arguments are lists of bytes.
 use Rattle.std.specs.Prelude.{ℕ, ◌==◌, Bool, true, false, not, ◌||◌, List, [], length, Option, Some, None}
 use denote.Ref.{Bor}
 use Rattle.rl_files.specs.Globs.{borrowed_texts}
 use Rattle.rl_files.specs.Trees.{string_texts}
-use Rattle.rl_options.specs.declared.command.Wish.{Wish}
-use Rattle.rl_options.specs.declared.command.Wish.TheVariants as wish
+use Rattle.rl_options.specs.declared.command.Action.{Action}
+use Rattle.rl_options.specs.declared.command.Action.TheVariants as action
 use Rattle.rl_options.specs.declared.command.PlaceForm.{PlaceForm}
 use Rattle.rl_options.specs.declared.command.PlaceForm.TheVariants as form
 use Rattle.rl_options.specs.declared.command.Output.{Output}
 use Rattle.rl_options.specs.declared.command.Output.TheVariants as output
 use Rattle.rl_options.specs.declared.command.Command.{Command}
 use Rattle.rl_options.specs.declared.command.Restyling.{Restyling}
-use Rattle.rl_restyled.specs.declared.edit.Macros.{Macros as AnyMacros}
+use Rattle.rl_restyle.specs.declared.edit.Macros.{Macros as AnyMacros}
 use Rattle.rl_output.specs.declared.form.Form.{Form}
 use Rattle.rl_output.specs.declared.choice.Shown.{Shown}
 use Rattle.rl_output.specs.declared.choice.Spelling.{Spelling}
@@ -19,11 +19,11 @@ use Rattle.rl_output.specs.declared.choice.Spelling.TheVariants.{Value}
 use Rattle.rl_output.specs.declared.choice.Shown.TheVariants as shown
 use Rattle.rl_types.specs.declared.before.Edition.{Edition as AnyEdition}
 use Rattle.rl_options.specs.declared.flags.When.TheVariants.{Auto}
-use Rattle.rl_options.specs.declared.words.Asked.{Asked}
+use Rattle.rl_options.specs.declared.arguments.ParsedArguments.{ParsedArguments}
 use Rattle.rl_options.specs.Flags.{colored_form}
 
--- which literals are wanted: all, those of a list's kinds, those that are bad, those that hold what hides
--- text
+-- The literals that are printed: all of them, those of the listed kinds, or the invalid ones. `HiddenWanted` prints invisible
+-- characters instead.
 pub data Wanted : Type 0 where
   AllWanted : Wanted
   OnlyWanted : (list : List ℕ) → Wanted
@@ -36,9 +36,9 @@ wanted_of (shown.Only list) = OnlyWanted list.now
 wanted_of shown.Bad = BadWanted
 wanted_of shown.Hidden = HiddenWanted
 
--- what a command line asks for
+-- The command that the command-line arguments of `rl_scan` describe: its options and the paths to read.
 pub record Wishes : Type 0 where
-  pub wish : Wish
+  pub action : Action
   pub wanted : Wanted
   pub searches : Bool
   pub finds : List (List ℕ)
@@ -66,10 +66,10 @@ pub record Wishes : Type 0 where
   pub files_from : List (List ℕ)
   pub paths : List (List ℕ)
 
--- what is asked for where nothing is said
+-- The command without any arguments.
 abbrev pub first_wishes : Bool → Wishes
 first_wishes has_colors = record {
-  wish = wish.Scan;
+  action = action.Scan;
   wanted = AllWanted;
   searches = false;
   finds = [];
@@ -98,20 +98,20 @@ first_wishes has_colors = record {
   paths = [];
 }
 
--- without a path `.` is read and not standard input: input is a terminal, or it is said what is read of directories
-abbrev pub reads_here : Bool → Wishes → Bool
-reads_here is_terminal w =
+-- If no path is passed, `.` is read in place of standard input: input is a terminal, or an option selects the files of directories.
+abbrev pub reads_current_directory : Bool → Wishes → Bool
+reads_current_directory is_terminal w =
     is_terminal || w.all_directories || not (length w.extensions == 0) || not (length w.excludes == 0)
 
--- the file with the rules of a style
+-- The file with the rules of a style, if one is passed.
 abbrev pub style_of : Option (Bor (List ℕ)) → Option (List ℕ)
 style_of None = None
 style_of (Some file) = Some file.now
 
--- what the code holds
+-- The command, from the values in the program.
 abbrev pub wishes_of : Command → List (List ℕ) → List (List ℕ) → List (List ℕ) → List (List ℕ) → List (List ℕ) → Wishes
 wishes_of command finds extensions excludes lists paths = record {
-  wish = command.wish;
+  action = command.action;
   wanted = wanted_of command.shown;
   searches = command.searches;
   finds = finds;
@@ -140,6 +140,6 @@ wishes_of command finds extensions excludes lists paths = record {
   paths = paths;
 }
 
-abbrev pub wishes_in : {A : Type 0} → Asked A → Wishes
+abbrev pub wishes_in : {A : Type 0} → ParsedArguments A → Wishes
 wishes_in asked = wishes_of asked.command (borrowed_texts asked.finds.items) (borrowed_texts asked.extensions.items)
     (borrowed_texts asked.excludes.items) (borrowed_texts asked.lists.items) (string_texts asked.paths.items)

@@ -1,13 +1,13 @@
--- What the words of a command line ask for, or what is wrong with them. Words are lists of bytes.
+-- The command that command-line arguments describe, or the error in them. Arguments are lists of bytes.
 use Rattle.std.specs.Prelude.{◌≡◌, ◌≢◌, ◌⊎◌, ℕ, Bool, true, false, List, [], ◌∷◌, ◌++◌, codes, encode_utf8, String, string_bytes, ⊤, Some, None}
 use Rattle.std.specs.Str.{chars}
 use Rattle.rl_files.specs.Trees.{string_texts}
 use Rattle.rl_files.specs.Visible.{visible}
-use Rattle.rl_options.specs.declared.command.Wish.TheVariants as wish
+use Rattle.rl_options.specs.declared.command.Action.TheVariants as action
 use Rattle.rl_options.specs.declared.command.PlaceForm.TheVariants as form
 use Rattle.rl_options.specs.declared.command.Output.TheVariants as output
 use Rattle.rl_options.specs.declared.command.Restyling.TheVariants as restyling
-use Rattle.rl_restyled.specs.declared.edit.Macros.{Macros as AnyMacros}
+use Rattle.rl_restyle.specs.declared.edit.Macros.{Macros as AnyMacros}
 use Rattle.rl_output.specs.declared.form.Form.TheVariants as written
 use Rattle.rl_output.specs.declared.choice.Spelling.TheVariants.{Source}
 use Rattle.rl_options.specs.declared.flags.Flag.{Flag}
@@ -19,37 +19,37 @@ use Rattle.rl_options.specs.declared.flags.Operand.TheVariants as takes
 use Rattle.rl_options.specs.declared.flags.Next.{Next}
 use Rattle.rl_options.specs.declared.flags.Next.TheVariants as next
 use Rattle.rl_options.specs.declared.flags.When.{When}
-use Rattle.rl_options.specs.declared.words.WordError.{WordError}
-use Rattle.rl_options.specs.declared.words.WordError.TheVariants.{Memory, UnknownOption, UnknownLetter, NoValue, UnknownKind, NoKinds, TwoChoices, NoText, EmptyText, BadAndFind, TextlessKinds, ObjectsOfPaths, StatsOfPaths, TwoRestylings, RestylesAlone, SumsOfCheck, StyleAlone, MacrosAlone, SuffixAlone, EditionAlone, NoStyle, NoMacros, UnknownMacros, NoColor, UnknownColor, NoExtension, NoPattern, EmptyPattern, OtherPattern, UselessPattern, UnknownExtension, NoList, NoEdition, UnknownEdition, NoFormat, UnknownFormat, NoCount, UnknownCount}
+use Rattle.rl_options.specs.declared.arguments.ArgumentError.{ArgumentError}
+use Rattle.rl_options.specs.declared.arguments.ArgumentError.TheVariants.{Memory, UnknownOption, UnknownLetter, NoValue, UnknownKind, NoKinds, TwoChoices, NoText, EmptyText, BadAndFind, TextlessKinds, ObjectsOfPaths, StatsOfPaths, TwoRestylings, RestylesAlone, SumsOfCheck, StyleAlone, MacrosAlone, SuffixAlone, EditionAlone, NoStyle, NoMacros, UnknownMacros, NoColor, UnknownColor, NoExtension, NoPattern, EmptyPattern, OtherPattern, UselessPattern, UnknownExtension, NoList, NoEdition, UnknownEdition, NoFormat, UnknownFormat, NoCount, UnknownCount}
 use Rattle.rl_options.specs.Meant.{IsMeant, option_part}
 use Rattle.rl_options.specs.Flags.{AreKindWords, IsCountWord, IsLetter, IsOptionWord, IsSide, IsUnknownKind, color_word, colored_form, edition_word, format_word, formatted, has_other_mark, is_more_than_extension, matches_nothing, is_path_word, joined_word, macros_word, recolored, taken_by}
 use Rattle.rl_options.specs.Wishes.{AllWanted, BadWanted, HiddenWanted, OnlyWanted, Wishes, first_wishes}
-use Rattle.rl_options.specs.Clashes.{GoTogether, IsClash}
+use Rattle.rl_options.specs.Clashes.{GoTogether, IsFirstClash, clashes}
 
--- only one option may say which literals are wanted
+-- The option may be added: `--bad`, `--invisible` and `--only` only if the command has none of them.
 abbrev pub IsAllowed : Flag → Wishes → Type 0
 IsAllowed Bad w = w.wanted ≡ AllWanted
 IsAllowed Hidden w = w.wanted ≡ AllWanted
 IsAllowed Only w = w.wanted ≡ AllWanted
 IsAllowed _ w = ⊤
 
--- no text is looked for where what is bad or hidden is wanted
+-- The option may be added: `--bad` and `--invisible` can't be combined with `--find`.
 abbrev pub GoesWithFind : Flag → Wishes → Type 0
 GoesWithFind Bad w = w.searches ≡ false
 GoesWithFind Hidden w = w.searches ≡ false
 GoesWithFind Find w = (w.wanted ≢ BadWanted) × (w.wanted ≢ HiddenWanted)
 GoesWithFind _ w = ⊤
 
--- only one option asks for literals written anew, once
+-- The option may be added: `--fix`, `--check` and `--diff` only if the command has none of them.
 abbrev pub RestylesOnce : Flag → Wishes → Type 0
 RestylesOnce Fix w = w.restyle ≡ None
 RestylesOnce Check w = w.restyle ≡ None
 RestylesOnce Diff w = w.restyle ≡ None
 RestylesOnce _ w = ⊤
 
--- the option goes with what is asked for
-abbrev pub MayStand : Flag → Wishes → Type 0
-MayStand flag w = IsAllowed flag w × GoesWithFind flag w × RestylesOnce flag w
+-- The option doesn't contradict the earlier options of the command.
+abbrev pub GoesWithOptions : Flag → Wishes → Type 0
+GoesWithOptions flag w = IsAllowed flag w × GoesWithFind flag w × RestylesOnce flag w
 
 abbrev pub with_flag : Flag → Wishes → Wishes
 with_flag Bad w = record w { wanted = BadWanted }
@@ -79,22 +79,18 @@ with_flag Count w = record w { output = output.Count }
 with_flag FilesWithMatches w = record w { output = output.Path }
 with_flag Nul w = record w { nul_after_paths = true }
 with_flag Quiet w = record w { output = output.Nothing }
-with_flag Files w = record w { wish = wish.Files }
+with_flag Files w = record w { action = action.Files }
 with_flag Stats w = record w { prints_stats = true }
 with_flag Fix w = record w { restyle = Some restyling.Fix }
 with_flag Check w = record w { restyle = Some restyling.Check }
 with_flag Diff w = record w { restyle = Some restyling.Diff }
 with_flag Style w = w
 with_flag Macros w = w
-with_flag Help w = record w { wish = wish.Help }
-with_flag Version w = record w { wish = wish.Version }
+with_flag Help w = record w { action = action.Help }
+with_flag Version w = record w { action = action.Version }
 with_flag Paths w = w
 
--- after `--only` stands a list of kinds, after `--find` a text, after `--color` when there are colours, after
--- `--extension` what names end with, after `--exclude` a pattern, after `--files-from` a file, after
--- `--edition` one, after `--format` how lines are written, after `--context`, `--before-context` and `--after-context`
--- how
--- many lines, after `--` stand paths
+-- The kinds of argument that may follow an option. Options with a value need the value next. After `--` only paths follow.
 abbrev pub next_after : Flag → Next
 next_after Only = next.Operand takes.Kinds
 next_after Find = next.Operand takes.Text
@@ -130,17 +126,17 @@ with_pattern pattern w = record w { excludes = w.excludes ++ pattern ∷ [] }
 abbrev pub with_list : List ℕ → Wishes → Wishes
 with_list file w = record w { files_from = w.files_from ++ file ∷ [] }
 
--- a dot before an extension says nothing
+-- The file extension without the dot at its start, if there is one.
 abbrev pub IsWithoutDot : List ℕ → List ℕ → Type 0
 IsWithoutDot text extension =
     (text ≡ codes "." ++ extension)
     ⊎ (((rest : List ℕ) → text ≢ codes "." ++ rest) × (extension ≡ text))
 
--- With this option more, so much is asked for, and such a word may stand next.
+-- `new` is the command `old` with one more option, and `then` is what the next argument may be.
 abbrev pub IsAdded : Flag → Wishes → Next → Wishes → Type 0
-IsAdded flag old then new = MayStand flag old × (then ≡ next_after flag) × (new ≡ with_flag flag old)
+IsAdded flag old then new = GoesWithOptions flag old × (then ≡ next_after flag) × (new ≡ with_flag flag old)
 
--- With this, which an option takes, so much is asked for.
+-- `new` is the command `old` with the value of an option added.
 abbrev pub IsTaken : Bool → Operand → Wishes → List ℕ → Wishes → Type 0
 IsTaken has_colors takes.Kinds old list new = AreKindWords list × (new ≡ with_kinds list old)
 IsTaken has_colors takes.Text old text new = (text ≢ []) × (new ≡ with_text text old)
@@ -168,8 +164,8 @@ IsTaken has_colors takes.Style old file new = new ≡ record old { style = Some 
 IsTaken has_colors takes.Macros old word new =
     (macros : AnyMacros) × (word ≡ macros_word macros) × (new ≡ record old { macros = Some macros })
 
--- With these letters, one after another, so much is asked for, and such a word may stand next: what an option
--- takes stands after its letter, or is the next word.
+-- `new` is the command `old` with a group of short options added, and `then` is what the next argument may be. The value of an
+-- option follows its letter, or is the next argument.
 pub data AreLetters (has_colors : Bool) : Wishes → List ℕ → Next → Wishes → Type 0 where
   NoLetters : {old : Wishes} → AreLetters has_colors old [] next.Any old
   Letter : {old new : Wishes} {then : Next} {more : List ℕ} (flag : Flag) (c : ℕ) (middle : Wishes)
@@ -179,11 +175,11 @@ pub data AreLetters (has_colors : Bool) : Wishes → List ℕ → Next → Wishe
       → IsLetter flag c → IsAdded flag old (next.Operand operand) new
       → AreLetters has_colors old (c ∷ []) (next.Operand operand) new
   LetterAndText : {old new : Wishes} {text : List ℕ} (operand : Operand) (c : ℕ)
-      → IsLetter (taken_by operand) c → MayStand (taken_by operand) old → text ≢ []
+      → IsLetter (taken_by operand) c → GoesWithOptions (taken_by operand) old → text ≢ []
       → IsTaken has_colors operand old text new → AreLetters has_colors old (c ∷ text) next.Any new
 
--- With this word more, where such a word may stand, so much is asked for, and such a word may stand
--- next.
+-- `new` is the command `old` with one more argument, and `then` is what the argument after it may be. The first `Next` is what the
+-- added argument may be.
 abbrev pub IsStep : Bool → Next → Wishes → List ℕ → Next → Wishes → Type 0
 IsStep has_colors (next.Operand operand) old word then new =
     (then ≡ next.Any) × IsTaken has_colors operand old word new
@@ -192,7 +188,7 @@ IsStep has_colors next.Any old word then new =
     ((is_path_word word ≡ true) × (then ≡ next.Any) × (new ≡ with_path word old))
     ⊎ ((flag : Flag) × (is_path_word word ≡ false) × IsOptionWord flag word × IsAdded flag old then new)
     ⊎ ((operand : Operand) × (text : List ℕ) × (word ≡ joined_word operand text)
-    × MayStand (taken_by operand) old × (then ≡ next.Any) × IsTaken has_colors operand old text new)
+    × GoesWithOptions (taken_by operand) old × (then ≡ next.Any) × IsTaken has_colors operand old text new)
     ⊎ ((letters : List ℕ) × (word ≡ codes "-" ++ letters) × AreLetters has_colors old letters then new)
 
 abbrev pub AreSteps : Bool → Next → Wishes → List (List ℕ) → Next → Wishes → Type 0
@@ -201,88 +197,88 @@ AreSteps has_colors first old (word ∷ words) then new =
     (between : Next) × (middle : Wishes) × IsStep has_colors first old word between middle
     × AreSteps has_colors between middle words then new
 
--- the words ask for this so far, and such a word may stand next
+-- The arguments up to some point describe the command `new`, and `then` is what the next argument may be.
 abbrev pub AskSoFar : Bool → List (List ℕ) → Next → Wishes → Type 0
 AskSoFar has_colors words then new = AreSteps has_colors next.Any (first_wishes has_colors) words then new
 
--- all words ask for this
+-- All arguments together describe the command.
 abbrev pub Asks : Bool → List (List ℕ) → Wishes → Type 0
 Asks has_colors words wishes =
     (then : Next) × AskSoFar has_colors words then wishes
     × ((operand : Operand) → then ≢ next.Operand operand) × GoTogether wishes
 
--- what is wrong
-abbrev pub word_message : {A : Type 0} → WordError A → List ℕ
+-- The message of an error in the command-line arguments.
+abbrev pub word_message : {A : Type 0} → ArgumentError A → List ℕ
 word_message Memory = codes "out of memory"
 word_message (UnknownOption word None) =
-    codes "unknown option '" ++ (string_bytes word ++ codes "': rl_scan --help lists them")
+    codes "unknown option '" ++ (string_bytes word ++ codes "': rl_scan --help lists all options")
 word_message (UnknownOption word (Some meant)) =
     codes "unknown option '" ++ (string_bytes word ++ (codes "': did you mean '" ++ (meant.now ++ codes "'?")))
 word_message (UnknownLetter letter word None) =
     codes "unknown option '" ++ (string_bytes letter ++ (codes "' in '" ++ (string_bytes word
-    ++ codes "': rl_scan --help lists them")))
+    ++ codes "': rl_scan --help lists all options")))
 word_message (UnknownLetter letter word (Some meant)) =
     codes "unknown option '" ++ (string_bytes letter ++ (codes "' in '" ++ (string_bytes word
     ++ (codes "': did you mean '" ++ (meant.now ++ codes "'?")))))
 word_message (NoValue option) = string_bytes option ++ codes " takes no value"
 word_message (UnknownKind word) =
     codes "unknown kind '" ++ (string_bytes word
-    ++ codes "': one of Str, ByteStr, CStr, Byte, Char, Int, Float, Bool, Verbatim")
-word_message NoKinds = codes "--only: which kinds? as in --only Str,ByteStr"
-word_message TwoChoices = codes "--bad, --hidden and --only: one of them, once"
-word_message NoText = codes "-e, --find: which text? as in --find TODO"
-word_message EmptyText = codes "-e, --find: an empty text stands everywhere"
-word_message BadAndFind = codes "--bad, --hidden and -e, --find: one of them"
+    ++ codes "': expected Str, ByteStr, CStr, Byte, Char, Int, Float, Bool or Verbatim")
+word_message NoKinds = codes "--only needs a value, such as --only Str,ByteStr"
+word_message TwoChoices = codes "--bad, --invisible and --only can't be combined or repeated"
+word_message NoText = codes "-e, --find needs a value, such as --find TODO"
+word_message EmptyText = codes "the text of -e, --find is empty"
+word_message BadAndFind = codes "--bad and --invisible can't be used with -e, --find"
 word_message TextlessKinds =
-    codes "-e, --find looks in Str, ByteStr, CStr, Byte and Char, and --only names none of them"
+    codes "-e, --find searches only Str, ByteStr, CStr, Byte and Char, and --only has none of these kinds"
 word_message ObjectsOfPaths =
     codes "--json and --format json, github can't be used with -c, --count, -l, --files-with-matches, --files"
 word_message StatsOfPaths = codes "--stats can't be used with --files, which reads none"
-word_message TwoRestylings = codes "--fix, --check and --diff: one of them, once"
+word_message TwoRestylings = codes "--fix, --check and --diff can't be combined or repeated"
 word_message RestylesAlone =
-    codes "--fix, --check and --diff can't be used with what says what is printed: --bad, --hidden, --only, -e, --files, --text, --json, --format, -C, -B, -A, --stats"
+    codes "--fix, --check and --diff can't be used with --bad, --invisible, --only, -e, --find, --files, --text, --json, --format, -C, -B, -A, --stats"
 word_message SumsOfCheck =
-    codes "-c, --count, -l, --files-with-matches go with --check, and not with --fix or --diff"
-word_message StyleAlone = codes "--style goes with --fix, --check or --diff"
-word_message MacrosAlone = codes "--macros goes with --fix, --check or --diff"
-word_message SuffixAlone = codes "--any-suffix goes with --bad"
-word_message EditionAlone = codes "--edition goes with --bad, --fix, --check or --diff"
-word_message NoStyle = codes "--style: which file? as in --style style.txt"
-word_message NoMacros = codes "--macros: which? one of skip, all"
-word_message (UnknownMacros word) = codes "unknown macros '" ++ (string_bytes word ++ codes "': one of skip, all")
-word_message NoColor = codes "--color: when? one of auto, always, never"
+    codes "-c, --count, -l, --files-with-matches can't be used with --fix or --diff"
+word_message StyleAlone = codes "--style needs --fix, --check or --diff"
+word_message MacrosAlone = codes "--macros needs --fix, --check or --diff"
+word_message SuffixAlone = codes "--any-suffix needs --bad"
+word_message EditionAlone = codes "--edition needs --bad, --fix, --check or --diff"
+word_message NoStyle = codes "--style needs a value, such as --style style.txt"
+word_message NoMacros = codes "--macros needs a value: skip or all"
+word_message (UnknownMacros word) = codes "unknown value '" ++ (string_bytes word ++ codes "' of --macros: expected skip or all")
+word_message NoColor = codes "--color needs a value: auto, always or never"
 word_message (UnknownColor word) =
-    codes "unknown colour '" ++ (string_bytes word ++ codes "': one of auto, always, never")
-word_message NoExtension = codes "--extension: which? as in --extension rs.in"
-word_message NoPattern = codes "--exclude: which pattern? as in --exclude tests/ui"
-word_message EmptyPattern = codes "--exclude: an empty pattern matches nothing"
+    codes "unknown value '" ++ (string_bytes word ++ codes "' of --color: expected auto, always or never")
+word_message NoExtension = codes "--extension needs a value, such as --extension rs.in"
+word_message NoPattern = codes "--exclude needs a value, such as --exclude tests/ui"
+word_message EmptyPattern = codes "the pattern of --exclude is empty"
 word_message (OtherPattern word) =
-    codes "unknown pattern '" ++ (string_bytes word
-    ++ codes "': --exclude takes *, ?, ** and /, but no [, no \\ and no ! at its front")
+    codes "invalid pattern '" ++ (string_bytes word
+    ++ codes "': --exclude supports *, ?, ** and /, but not [, \\ or ! at the start")
 word_message (UselessPattern word) =
-    codes "--exclude: '" ++ (string_bytes word ++ codes "' matches nothing: it takes what stands below a PATH, as src or /src")
+    codes "the pattern '" ++ (string_bytes word ++ codes "' of --exclude matches nothing: it is relative to a PATH, such as src or /src")
 word_message (UnknownExtension word) =
-    codes "'" ++ (string_bytes word ++ codes "' is no extension: as in --extension rs --extension rs.in")
-word_message NoList = codes "--files-from: which file? as in --files-from list"
-word_message NoEdition = codes "--edition: which? one of 2015, 2018, 2021, 2024"
+    codes "invalid extension '" ++ (string_bytes word ++ codes "': expected one extension, such as rs.in")
+word_message NoList = codes "--files-from needs a value, such as --files-from list"
+word_message NoEdition = codes "--edition needs a value: 2015, 2018, 2021 or 2024"
 word_message (UnknownEdition word) =
-    codes "unknown edition '" ++ (string_bytes word ++ codes "': one of 2015, 2018, 2021, 2024")
-word_message NoFormat = codes "--format: which? one of text, json, github"
+    codes "unknown edition '" ++ (string_bytes word ++ codes "': expected 2015, 2018, 2021 or 2024")
+word_message NoFormat = codes "--format needs a value: text, json or github"
 word_message (UnknownFormat word) =
-    codes "unknown format '" ++ (string_bytes word ++ codes "': one of text, json, github")
-word_message NoCount = codes "-C, -B, -A: how many lines? as in --context 2"
+    codes "unknown format '" ++ (string_bytes word ++ codes "': expected text, json or github")
+word_message NoCount = codes "-C, -B and -A need a number of lines, such as --context 2"
 word_message (UnknownCount word) =
-    codes "'" ++ (string_bytes word ++ codes "' is no number of lines: as in --context 2")
+    codes "invalid number of lines '" ++ (string_bytes word ++ codes "': expected a number, such as 2")
 
--- why this option doesn't go with what is asked for
-abbrev pub IsRejectedFlag : {A : Type 0} → Flag → Wishes → WordError A → Type 0
+-- The error of an option that contradicts the earlier options of a command.
+abbrev pub IsRejectedFlag : {A : Type 0} → Flag → Wishes → ArgumentError A → Type 0
 IsRejectedFlag flag old TwoChoices = IsAllowed flag old → ⊥
 IsRejectedFlag flag old BadAndFind = GoesWithFind flag old → ⊥
 IsRejectedFlag flag old TwoRestylings = RestylesOnce flag old → ⊥
 IsRejectedFlag flag old _ = ⊥
 
--- why this isn't what an option takes
-abbrev pub IsRejectedText : {A : Type 0} → Operand → List ℕ → WordError A → Type 0
+-- The error of an invalid value of an option, or a failed allocation.
+abbrev pub IsRejectedText : {A : Type 0} → Operand → List ℕ → ArgumentError A → Type 0
 IsRejectedText operand text Memory = ⊤
 IsRejectedText operand text (UnknownKind said) =
     (operand ≡ takes.Kinds)
@@ -313,42 +309,40 @@ IsRejectedText operand text (UnknownMacros said) =
     × (chars (string_bytes said) ≡ visible (chars text))
 IsRejectedText operand text _ = ⊥
 
--- why an option can't be asked for that takes this
-abbrev pub IsRejectedJoined : {A : Type 0} → Operand → Wishes → List ℕ → WordError A → Type 0
+-- The error of an option with its value: the option contradicts earlier options, or the value is invalid.
+abbrev pub IsRejectedJoined : {A : Type 0} → Operand → Wishes → List ℕ → ArgumentError A → Type 0
 IsRejectedJoined operand old text error =
     IsRejectedFlag (taken_by operand) old error
-    ⊎ (MayStand (taken_by operand) old × IsRejectedText operand text error)
+    ⊎ (GoesWithOptions (taken_by operand) old × IsRejectedText operand text error)
 
--- an option stands before the first `=`, or in the whole word
+-- The whole argument, or its part before the first `=`, is an option.
 abbrev pub HasOptionPart : List ℕ → Type 0
 HasOptionPart word = (flag : Flag) × IsOptionWord flag (option_part word)
 
--- The error names the word as one of no option, and the option that it was likely meant to be; or the option that takes
--- no
--- value, where it has one.
-abbrev pub NamesUnknown : {A : Type 0} → List ℕ → WordError A → Type 0
+-- The error for an argument that isn't an option. It has the argument and the option that was likely meant. If the part before `=`
+-- is an option, the error is that the option has no value.
+abbrev pub NamesUnknown : {A : Type 0} → List ℕ → ArgumentError A → Type 0
 NamesUnknown word (UnknownOption said meant) =
     (HasOptionPart word → ⊥) × (chars (string_bytes said) ≡ visible (chars word)) × IsMeant word meant
 NamesUnknown word (NoValue said) =
     HasOptionPart word × (chars (string_bytes said) ≡ visible (chars (option_part word)))
 NamesUnknown word _ = ⊥
 
--- the error names the letter of no option, and the word where it isn't all of that
-abbrev pub NamesLetter : {A : Type 0} → ℕ → List ℕ → WordError A → Type 0
+-- The error for an unknown letter in a group of short options. It has the letter, and the argument if that contains more.
+abbrev pub NamesLetter : {A : Type 0} → ℕ → List ℕ → ArgumentError A → Type 0
 NamesLetter c word (UnknownLetter letter said meant) =
     (word ≢ codes "-" ++ encode_utf8 c) × (chars (string_bytes letter) ≡ visible (chars (codes "-" ++ encode_utf8 c)))
     × (chars (string_bytes said) ≡ visible (chars word)) × IsMeant word meant
 NamesLetter c word error = (word ≡ codes "-" ++ encode_utf8 c) × NamesUnknown word error
 
--- there is no option of this word
-abbrev pub IsUnknownOption : {A : Type 0} → List ℕ → WordError A → Type 0
+-- The error for an argument that isn't an option, although it begins with a dash.
+abbrev pub IsUnknownOption : {A : Type 0} → List ℕ → ArgumentError A → Type 0
 IsUnknownOption word error =
     (is_path_word word ≡ false) × ((flag : Flag) → IsOptionWord flag word → ⊥)
     × ((operand : Operand) → (text : List ℕ) → word ≢ joined_word operand text) × NamesUnknown word error
 
--- Why these letters of a word can't be asked for: one is no option's; or an option doesn't go with what is
--- asked for, or takes no such text.
-pub data AreRejectedLetters {A : Type 0} (has_colors : Bool) (word : List ℕ) (error : WordError A)
+-- The error in a group of short options: an unknown letter, an option that contradicts earlier ones, or an invalid value.
+pub data AreRejectedLetters {A : Type 0} (has_colors : Bool) (word : List ℕ) (error : ArgumentError A)
     : Wishes → List ℕ → Type 0 where
   StrangeLetter : {old : Wishes} {letters : List ℕ} (c : ℕ) (more : List ℕ) → letters ≡ encode_utf8 c ++ more
       → ((flag : Flag) → IsLetter flag c → ⊥) → NamesLetter c word error
@@ -361,9 +355,9 @@ pub data AreRejectedLetters {A : Type 0} (has_colors : Bool) (word : List ℕ) (
       → IsAdded flag old next.Any middle → AreRejectedLetters has_colors word error middle more
       → AreRejectedLetters has_colors word error old (c ∷ more)
 
--- why this word can't be asked for, where any may stand: an allocation failed; there is no such option; it
--- doesn't go with what is asked for; or what it takes can't be asked for
-abbrev pub IsRejectedOption : {A : Type 0} → Bool → Wishes → List ℕ → WordError A → Type 0
+-- The error of an argument that may be an option or a path: a failed allocation, an unknown option, an option that contradicts
+-- earlier ones, or an invalid value.
+abbrev pub IsRejectedOption : {A : Type 0} → Bool → Wishes → List ℕ → ArgumentError A → Type 0
 IsRejectedOption has_colors old word error =
     (error ≡ Memory)
     ⊎ IsUnknownOption word error
@@ -373,14 +367,14 @@ IsRejectedOption has_colors old word error =
     ⊎ ((letters : List ℕ) × (word ≡ codes "-" ++ letters)
     × AreRejectedLetters has_colors word error old letters)
 
--- why this word can't be asked for, where such a word may stand
-abbrev pub IsRejectedWord : {A : Type 0} → Bool → Next → Wishes → List ℕ → WordError A → Type 0
+-- The error of the next argument. The `Next` is what the argument may be.
+abbrev pub IsRejectedWord : {A : Type 0} → Bool → Next → Wishes → List ℕ → ArgumentError A → Type 0
 IsRejectedWord has_colors (next.Operand operand) old word error = IsRejectedText operand word error
 IsRejectedWord has_colors next.Any old word error = IsRejectedOption has_colors old word error
 IsRejectedWord has_colors next.Path old word error = error ≡ Memory
 
--- this is wrong where the words end before what an option takes
-abbrev pub IsMissing : {A : Type 0} → Operand → WordError A → Type 0
+-- The error of an option that is the last argument, and whose value is missing.
+abbrev pub IsMissing : {A : Type 0} → Operand → ArgumentError A → Type 0
 IsMissing takes.Kinds error = error ≡ NoKinds
 IsMissing takes.Text error = error ≡ NoText
 IsMissing takes.Color error = error ≡ NoColor
@@ -395,23 +389,23 @@ IsMissing takes.After error = error ≡ NoCount
 IsMissing takes.Style error = error ≡ NoStyle
 IsMissing takes.Macros error = error ≡ NoMacros
 
--- Why the words can't be asked for: where they end, what an option takes is missing, or what they ask for doesn't go
--- together; or they ask for something up to one that can't be asked for.
-abbrev pub AreRejected : {A : Type 0} → Bool → List (List ℕ) → WordError A → Type 0
+-- The error in the command-line arguments: an option's value is missing at the end, or options contradict each other, or an
+-- argument is invalid.
+abbrev pub AreRejected : {A : Type 0} → Bool → List (List ℕ) → ArgumentError A → Type 0
 AreRejected has_colors words error =
     ((operand : Operand) × (old : Wishes) × IsMissing operand error
     × AskSoFar has_colors words (next.Operand operand) old)
-    ⊎ ((then : Next) × (wishes : Wishes) × AskSoFar has_colors words then wishes × IsClash wishes error)
+    ⊎ ((then : Next) × (wishes : Wishes) × AskSoFar has_colors words then wishes × IsFirstClash wishes clashes error)
     ⊎ ((before after : List (List ℕ)) × (word : List ℕ) × (first : Next) × (old : Wishes)
     × (words ≡ before ++ word ∷ after) × AskSoFar has_colors before first old
     × IsRejectedWord has_colors first old word error)
 
--- the arguments are the program's own name and words that ask for this
+-- The first argument is the program's name, and the others describe the command.
 abbrev pub AskForWishes : {A : Type 0} → Bool → List (String A) → Wishes → Type 0
 AskForWishes has_colors [] wishes = ⊥
 AskForWishes has_colors (program ∷ words) wishes = Asks has_colors (string_texts words) wishes
 
--- they are its name and words that can't be asked for
-abbrev pub CannotAsk : {A B : Type 0} → Bool → List (String A) → WordError B → Type 0
+-- The first argument is the program's name, and the others have the error.
+abbrev pub CannotAsk : {A B : Type 0} → Bool → List (String A) → ArgumentError B → Type 0
 CannotAsk has_colors [] error = ⊥
 CannotAsk has_colors (program ∷ words) error = AreRejected has_colors (string_texts words) error

@@ -1,117 +1,117 @@
-//! What a call of the program asks for.
+//! The command that the command-line arguments of `rl_scan` describe.
 
 use rl_files::Selection;
 use rl_output::{Form, Matching, Shown, Spelling};
-pub use rl_restyled::Macros;
+pub use rl_restyle::Macros;
 use rl_style::Style;
 use rl_types::Edition;
 
-/// What a call asks for.
+/// The action of a call of `rl_scan`.
 #[derive(Clone, Copy)]
-pub enum Wish {
-    /// The literals of sources, or what is wrong with them.
+pub enum Action {
+    /// Print the literals of sources, or the errors in them.
     Scan,
-    /// How the program is used.
+    /// Print the help.
     Help,
-    /// Which version it is.
+    /// Print the version.
     Version,
-    /// Which files would be read.
+    /// Print the files that would be read.
     Files,
 }
 
-/// How places are printed.
+/// The format in which positions are printed.
 #[derive(Clone, Copy)]
 pub enum PlaceForm {
-    /// In a file by lines and columns, of standard input by bytes.
+    /// Positions are lines and columns for a file, and byte offsets for standard input.
     Usual,
-    /// By bytes.
+    /// Positions are byte offsets.
     Bytes,
-    /// By lines and columns.
+    /// Positions are lines and columns.
     Lines,
 }
 
-/// What is printed of the lines of a file.
+/// The part of a file's output that is printed.
 #[derive(Clone, Copy)]
 pub enum Output {
-    /// The lines.
+    /// The lines of the file's output.
     Lines,
-    /// How many there are, where there are some.
+    /// The number of the lines of the file's output, if there are any.
     Count,
-    /// The file's path, where there are some.
+    /// The file's path, if there are any lines of output for it.
     Path,
-    /// Nothing.
+    /// Nothing is printed. The exit status still depends on the lines.
     Nothing,
 }
 
-/// What is done with literals that a style writes otherwise.
+/// The use of a style, by which literals are rewritten.
 #[derive(Clone, Copy)]
 pub enum Restyling {
-    /// Files are written anew.
+    /// Files are rewritten in place.
     Fix,
-    /// It is printed what would change.
+    /// The changes of literals are printed.
     Check,
-    /// The same, as a unified diff.
+    /// The changes are printed as a unified diff.
     Diff,
 }
 
-/// What a call asks for, but for the paths.
+/// The command of a call of `rl_scan`: its options, without the paths to read.
 #[derive(Clone, Copy)]
 pub struct Command<'a> {
-    /// What is asked for.
-    pub wish: Wish,
-    /// Which literals are shown.
+    /// The action of the call.
+    pub action: Action,
+    /// The literals that are printed.
     pub shown: Shown<'a>,
-    /// Whether texts are looked for.
+    /// Whether literals are searched for texts.
     pub searches: bool,
-    /// The texts of which their contents have to hold one, where some are looked for.
+    /// The texts of `--find`: a literal is printed only if its value contains one of them.
     pub finds: &'a [&'a str],
-    /// How they are looked for.
+    /// Whether a search ignores case, and whether only whole words match.
     pub matching: Matching,
-    /// How they are printed.
+    /// Whether a literal is printed by its value or as written.
     pub spelling: Spelling,
-    /// How each line is written.
+    /// The format of each line: text, text with colours, JSON, or GitHub annotations.
     pub form: Form,
-    /// How their places are printed.
+    /// The format in which positions are printed.
     pub places: PlaceForm,
-    /// What is printed of their lines.
+    /// The part of a file's output that is printed: its lines, their number, its path, or nothing.
     pub output: Output,
-    /// Whether NUL stands after a path that is printed without a place, in place of a colon or the line's end.
+    /// Whether a NUL follows a path that is printed without a position. Without this option a colon or a line end follows it.
     pub nul_after_paths: bool,
-    /// Whether a stray character is an error, as it is in Rust.
+    /// Whether a stray character, which no Rust token contains, is an error.
     pub rejects_strays: bool,
-    /// Whether a literal may have any suffix and any value, as where a macro takes it.
+    /// Whether a literal may have any suffix and any value, as in a macro's argument.
     pub any_suffix: bool,
-    /// The edition, by which a word or hashes right before a quote are reserved, where one is said.
+    /// The edition that determines which words or hashes right before a quote are a reserved prefix, or `None` for the default.
     pub edition: Option<Edition>,
-    /// How many lines of the source are shown before and after that of a place, where that is said.
+    /// The number of lines of context on both sides of a line, if `--context` is passed.
     pub around: Option<usize>,
-    /// How many are shown before it, where that is said.
+    /// The number of lines of context before a line, if `--before-context` is passed.
     pub before: Option<usize>,
-    /// How many are shown after it, where that is said.
+    /// The number of lines of context after a line, if `--after-context` is passed.
     pub after: Option<usize>,
-    /// Which files are read of directories.
+    /// The selection of the files that are read in directories.
     pub selection: Selection<'a>,
-    /// The files that name more paths, in order.
+    /// The files that list more paths to read, in order.
     pub files_from: &'a [&'a str],
-    /// Whether it is printed of each file that it can't be read to its end, or is left alone.
+    /// Whether an error is printed for each file that can't be read completely, or that can't be rewritten.
     pub prints_errors: bool,
-    /// Whether it is printed after all how much was read and found.
+    /// Whether statistics are printed at the end.
     pub prints_stats: bool,
-    /// What is done with literals that a style writes otherwise, where that is asked for in place of what is printed.
+    /// The use of a style, by which literals are rewritten, or `None` if literals are only printed.
     pub restyle: Option<Restyling>,
-    /// The file with the rules of the style, where one is named.
+    /// The file with the rules of the style, if `--style` is passed.
     pub style: Option<&'a str>,
-    /// The rules of the style.
+    /// The rules of the style, by which literals are rewritten.
     pub rules: Style,
-    /// Which literals in calls of macros are written anew, where that is said.
+    /// Whether literals in macro calls are rewritten, if `--macros` is passed.
     pub macros: Option<Macros>,
 }
 
-/// What a call knows of where it runs.
+/// The properties of standard input and output that a call of `rl_scan` depends on.
 #[derive(Clone, Copy)]
 pub struct Console {
-    /// Whether input is a terminal: where no path is named, `.` is read then.
+    /// Whether standard input is a terminal. If it is, and no path is passed, `.` is read.
     pub input_is_terminal: bool,
-    /// Whether output takes colours: where nothing is said of them, lines have them then.
+    /// Whether standard output accepts colours. If it does, lines have colours by default.
     pub has_colors: bool,
 }

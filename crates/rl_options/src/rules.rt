@@ -1,29 +1,29 @@
-//! The rules of a style, in a file.
+//! Reads the rules of a style from a file. Literals are rewritten by a style.
 
 ghost use Rattle.std.specs.Prelude.{◌≡◌, IfErr, IfOk, IfSome};
-ghost use Rattle.rl_styles.specs.Styles.{RejectsStyle, SaysStyle};
+ghost use Rattle.rl_restyle.specs.Styles.{RejectsStyle, SaysStyle};
 ghost use Rattle.rl_options.specs.Rules.{HasNoRules, HasRules, IsNearName, IsNoStyle, IsRuleMeant, IsShownName, IsLineError, line_of};
 
-use crate::meant::near_rule;
+use crate::suggestion::near_rule;
 use crate::visible::visible_text;
 use rl_files::{PathError, Tree};
-use rl_lexer::without_mark;
-use rl_output::count_ends;
+use rl_lexer::without_byte_order_mark;
+use rl_output::count_line_feeds;
+use rl_restyle::{StyleError, StyleErrorKind, style_of};
 use rl_style::Style;
-use rl_styles::{StyleError, StyleErrorKind, style_of};
 use std::alloc::{AllocError, Allocator, Global};
 use std::fmt;
 
-/// What is wrong in a line of a file that says no style.
+/// An error in a line of a file with the rules of a style.
 #[derive(Drop)]
 pub struct LineError<A: Allocator = Global> {
-    /// The line, from 1.
+    /// The number of the line, from 1.
     pub line: usize,
-    /// The name of the entry, as it is printed, where one stands there.
+    /// The name of the entry with the error, with escapes for invisible characters. It is `None` if the error has no entry.
     pub name: Option<String<A>>,
-    /// What is wrong.
+    /// The kind of error in the rules of a style.
     pub kind: StyleErrorKind,
-    /// The rule that was likely meant, where none has the name.
+    /// The rule that was likely meant, if the entry's name is unknown.
     pub meant: Option<&'static str>,
 }
 
@@ -46,25 +46,25 @@ impl<A: Allocator> fmt::Display for LineError<A> {
     }
 }
 
-/// Why the rules of a style can't be had.
+/// The reason why the rules of a style can't be read.
 #[derive(Drop)]
 pub enum RulesError<A: Allocator = Global> {
     /// The file can't be read.
     Unread(PathError),
-    /// What it holds is no style.
+    /// The text of the file has an error.
     Style(LineError<A>),
 }
 
-/// The line, from 1, in which a byte of a text stands.
+/// Returns the number, from 1, of the line of `text` that contains the byte offset `at`.
 #[tactic(auto, using(crate::proofs::RulesLemmas::line_is, crate::proofs::RulesLemmas::lines_within))]
 fn line_at(text: &str, at: usize) -> usize
     ensures { result ≡ line_of text.now at }
 {
     let before = &text.as_bytes()[..at.min(text.len())];
-    count_ends(before) + 1
+    count_line_feeds(before) + 1
 }
 
-/// The first rule that a name may stand for, where one stands there.
+/// Returns the first rule of a style that `name` is similar to, if there is a name.
 fn near_name(name: Option<&str>) -> Option<&'static str>
     ensures { IsNearName name.entry result }
 {
@@ -74,7 +74,7 @@ fn near_name(name: Option<&str>) -> Option<&'static str>
     }
 }
 
-/// The rule that was likely meant by the name of an entry, where none has it.
+/// Returns the rule that was likely meant, if the error is an unknown name of a rule.
 fn rule_meant(error: StyleError<'_>) -> Option<&'static str>
     ensures { IsRuleMeant error.entry.kind error.entry.name result }
 {
@@ -84,7 +84,7 @@ fn rule_meant(error: StyleError<'_>) -> Option<&'static str>
     }
 }
 
-/// A name as it is printed, where one stands there.
+/// Returns a copy of a name with escapes for invisible characters, if there is a name.
 fn shown_name<A: Allocator>(alloc: A, name: Option<&str>) -> Result<Option<String<A>>, AllocError>
     ensures { IfOk result (IsShownName name.entry) }
 {
@@ -94,7 +94,7 @@ fn shown_name<A: Allocator>(alloc: A, name: Option<&str>) -> Result<Option<Strin
     }
 }
 
-/// The error of a text that says no style, as it is reported.
+/// Returns the reported form of an error in the rules of a style: with its line, its name and a suggestion.
 fn line_error<A: Allocator>(
     alloc: A,
     text: &str,
@@ -111,7 +111,7 @@ fn line_error<A: Allocator>(
     })
 }
 
-/// The rules that a text says.
+/// Parses the text of a file with the rules of a style.
 fn rules_of<A: Allocator>(alloc: A, text: &str) -> Result<Style, RulesError<A>>
     ensures rules { IfOk result (SaysStyle text.now) }
     ensures error { IfErr result (IsNoStyle text.now) }
@@ -125,7 +125,7 @@ fn rules_of<A: Allocator>(alloc: A, text: &str) -> Result<Style, RulesError<A>>
     }
 }
 
-/// The rules that a file says, after a byte order mark or none.
+/// Reads and parses a file with the rules of a style. A byte order mark at its start is skipped.
 pub fn rules_in<A: Allocator + Copy, T: Tree>(
     alloc: A,
     tree: &T,
@@ -139,7 +139,7 @@ pub fn rules_in<A: Allocator + Copy, T: Tree>(
         Err(why) => return Err(RulesError::Unread(why)),
     };
     match std::str::from_utf8(bytes.as_slice()) {
-        Ok(text) => rules_of(alloc, without_mark(text)),
+        Ok(text) => rules_of(alloc, without_byte_order_mark(text)),
         Err(error) => Err(RulesError::Unread(PathError::NotUtf8(error.valid_up_to()))),
     }
 }

@@ -1,4 +1,4 @@
-//! Texts as they are printed.
+//! Copies texts with escapes for invisible characters.
 
 ghost use Rattle.std.specs.Prelude.{◌≡◌, IfOk, string_bytes};
 ghost use Rattle.std.specs.Str.{chars};
@@ -7,7 +7,7 @@ ghost use Rattle.rl_files.specs.Visible.{visible};
 use rl_files::push_visible;
 use std::alloc::{AllocError, Allocator};
 
-/// A text as it is printed.
+/// Returns a copy of a text with escapes for invisible and bidirectional characters.
 pub fn visible_text<A: Allocator>(alloc: A, text: &str) -> Result<String<A>, AllocError>
     ensures { IfOk result (λ shown. chars (string_bytes shown) ≡ visible (chars text.now)) }
 {

@@ -1,5 +1,5 @@
--- Words of a list.
-use Rattle.rl_text.proofs.Common.{Bool, Bor, IsTrue, List, None, Option, Some, [], arith, common_steps, drop, false, get_or, length, refl, subst, sym, take, true, zero, suc, ℕ, ◌++◌, ◌+◌, ◌<◌, ◌∷◌, ◌≡◌}
+-- Lemmas about a search for a word in a list of words.
+use Rattle.rl_syntax.proofs.Common.{Bool, Bor, IsTrue, List, None, Option, Some, [], arith, common_steps, drop, false, get_or, length, refl, subst, sym, take, true, zero, suc, ℕ, ◌++◌, ◌+◌, ◌<◌, ◌∷◌, ◌≡◌}
 use Rattle.std.proofs.Common.{MatchBool}
 use Rattle.std.specs.Prelude.{◌↔◌, MatchOption}
 use Rattle.std.specs.List.{All, AllWithin, HoldsAt, Any}
@@ -12,7 +12,7 @@ same k [] = refl
 same zero (w ∷ ws) = refl
 same (suc k) (w ∷ ws) = same k ws
 
--- a search for a word among words
+-- The search is successful if a word in the list has the property.
 pub found_word : (P : List ℕ → Type 0) (r : Bool) (words : List (List ℕ))
     → MatchBool r ((k : ℕ) × (k < length words) × HoldsAt P words k)
     (AllWithin (λ x. P x → ⊥) words 0 (length words)) → IsTrue r ↔ Any P words
@@ -22,7 +22,7 @@ found_word P false words none = (
   λ (k, x, within, is, here). absurd (none k x (omega arith) within (subst P (sym is) here)),
 )
 
--- the first word that doesn't pass
+-- The first word that fails a test, with the words before it.
 pub first_failing : (P : List ℕ → Type 0) (r : Option (Bor (List ℕ))) (words : List (List ℕ))
     → MatchOption r (AllWithin P words 0 (length words)) (λ x. (P x.now → ⊥) × (i : ℕ) × (i < length words)
     × HoldsAt (λ y. y ≡ x.now) words i × AllWithin P words 0 i)

@@ -1,8 +1,8 @@
--- What is painted.
-use Rattle.rl_text.proofs.Common.{Bool, Bor, IsAscii, IsUtf8, List, None, Option, Some, ap, append_assoc, chars, chars-IsAscii, chars-append, codes, cond, false, refl, sym, true, ℕ, ◌++◌, ◌∙◌, ◌≡◌}
+-- Lemmas about texts with and without colours.
+use Rattle.rl_syntax.proofs.Common.{Bool, Bor, IsAscii, IsUtf8, List, None, Option, Some, ap, append_assoc, chars, chars-IsAscii, chars-append, codes, cond, false, refl, sym, true, ℕ, ◌++◌, ◌∙◌, ◌≡◌}
 use Rattle.std.proofs.lemmas.Bool.{false≢true}
 use Rattle.std.proofs.lemmas.Str.{IsAscii-append, IsUtf8-from_ascii}
-use Rattle.rl_lines.proofs.LineLemmas.{pushed}
+use Rattle.rl_program.proofs.LineLemmas.{pushed}
 use Rattle.rl_output.specs.declared.color.Paint.{Paint}
 use Rattle.rl_output.specs.declared.color.Paint.TheVariants as paint
 use Rattle.rl_output.specs.declared.form.Form.{Form}
@@ -13,7 +13,7 @@ use Rattle.rl_output.specs.Fronts.{worded_front, place_text}
 use Rattle.rl_output.proofs.Pieces.{low_text}
 use Rattle.rl_output.proofs.PlaceLemmas.{place_ascii}
 
--- a text in a colour, and one without
+-- A text is appended with its colour. `painted_off` is the lemma for a text without a colour.
 pub painted_on : (form : Form) (color : Paint) (start text old new : List ℕ) → has_colors form ≡ true
     → start ≡ paint_start color → new ≡ old ++ (start ++ (text ++ paint_end)) → new ≡ old ++ painted form color text
 painted_on form color start text old new on is e =
@@ -25,7 +25,7 @@ pub painted_off : (form : Form) (color : Paint) (text old new : List ℕ) → ha
 painted_off form color text old new off e =
     e ∙ ap (λ (b : Bool). old ++ cond b (paint_start color ++ (text ++ paint_end)) text) (sym off)
 
--- the word of an error
+-- The word `error` with its colour is ASCII.
 word_ascii : (form : Form) → IsAscii (painted form paint.Error (codes "error"))
 word_ascii Plain = low_text (codes "error") refl
 word_ascii Colored = low_text (painted Colored paint.Error (codes "error")) refl
@@ -38,7 +38,7 @@ error_word form old new utf8 written =
     let word : List ℕ = painted form paint.Error (codes "error") in
     pushed old new word utf8 written ∙ ap (λ (z : List ℕ). chars old ++ z) (chars-IsAscii word (word_ascii form))
 
--- without colours
+-- The start of an output line without colours.
 pub plain_front : (form : Form) (path : Option (Bor (List ℕ))) (place : Place) → has_colors form ≡ false
     → worded_front Plain path place ≡ worded_front form path place
 plain_front Plain path place off = refl
@@ -48,7 +48,7 @@ plain_front Json (Some shown) place off = refl
 plain_front Github None place off = refl
 plain_front Github (Some shown) place off = refl
 
--- a place, in its colour
+-- The text after a path: the start of the position's colour, the position, and the end of the colour.
 place_after : Place → List ℕ → List ℕ
 place_after place after = paint_start paint.Place ++ (place_text place ++ (paint_end ++ after))
 

@@ -1,23 +1,23 @@
--- A line, and carets below it.
-use Rattle.rl_text.proofs.Common.{Bool, IsUtf8, List, [], ap, append-nil, append_assoc, append_cancel_right, arith, chars, chars-nil, chars_from_encodes, codes, cond, drop, encodes-append, encodes-chars, eqb-true, false, inl, inr, length-append, ne_eqb, subst, take, take-append_seam, IsUtf8-take, ◌+◌, ◌-◌, ◌⊎◌, ◌||◌, ◌≤◌, if◌then◌else◌, length, ltb-true, nat_tests, refl, rules, suc, zero, ◌<◌, sym, true, ℕ, ◌++◌, ◌==◌, ◌∙◌, ◌∷◌, ◌≡◌}
+-- Lemmas about a source's line with carets below a range, and about lines of context.
+use Rattle.rl_syntax.proofs.Common.{Bool, IsUtf8, List, [], ap, append-nil, append_assoc, append_cancel_right, arith, chars, chars-nil, chars_from_encodes, codes, cond, drop, encodes-append, encodes-chars, eqb-true, false, inl, inr, length-append, ne_eqb, subst, take, take-append_seam, IsUtf8-take, ◌+◌, ◌-◌, ◌⊎◌, ◌||◌, ◌≤◌, if◌then◌else◌, length, ltb-true, nat_tests, refl, rules, suc, zero, ◌<◌, sym, true, ℕ, ◌++◌, ◌==◌, ◌∙◌, ◌∷◌, ◌≡◌}
 use Rattle.std.specs.Prelude.{encode_utf8_all, nat_lt}
 use Rattle.std.proofs.Common.{add-one}
 use Rattle.std.proofs.lemmas.Bool.{false≢true}
 use Rattle.rl_files.specs.Visible.{visible, visible_char}
-use Rattle.rl_lexer.specs.Sources.{without_mark}
+use Rattle.rl_lexer.specs.Sources.{without_byte_order_mark}
 use Rattle.rl_lexer.proofs.CutLemmas.{byte_len-append}
-use Rattle.rl_text.specs.Texts.{byte_len}
+use Rattle.rl_syntax.specs.Texts.{byte_len}
 use Rattle.std.proofs.Math.Seq.{drop-append_seam}
 use Rattle.std.proofs.lemmas.Str.{IsCharBoundary-at_seam}
 use Rattle.std.specs.Str.{IsCharBoundary}
 use Rattle.std.specs.Prelude.{encode_utf8}
-use Rattle.rl_output.specs.Spots.{IsSpotAt, first_spot, next_spot, spot_after}
-use Rattle.rl_output.specs.declared.spot.Spot.{Spot}
+use Rattle.rl_output.specs.Spots.{IsPositionAt, first_position, next_position, position_after}
+use Rattle.rl_output.specs.declared.line_column.Position.{Position}
 use Rattle.rl_lexer.proofs.ErrorKinds.{char_len}
 use Rattle.rl_output.specs.Contexts.{IsBeforeInLine, has_end, carets, context_lines, ends_line, first_line, is_long, left_out, line_char, line_text, marked_line, marks_below, after_first_line, shown_line, shown_lines}
 use Rattle.rl_output.proofs.Pieces.{back_utf8, four_parts, five_parts}
 
--- Of a text's first line these characters were passed.
+-- The first line of the text has been read up to `rest`.
 pub record InLine (text rest : List ℕ) : Type 0 where
   pub done : List ℕ
   pub text_is : text ≡ done ++ rest
@@ -53,7 +53,7 @@ line_is_all text rest is none =
     is.text_is ∙ ap (λ (z : List ℕ). is.done ++ z) none
     ∙ sym (is.line_is ∙ ap (λ (z : List ℕ). is.done ++ first_line z) none)
 
--- ---- a line as it is printed
+-- ---- a source's line in the output
 
 one_front : (c : ℕ) (rest front after : List ℕ) → rest ≡ c ∷ after → rest ≡ front ++ after → front ≡ c ∷ []
 one_front c rest front after split cut = append_cancel_right front (c ∷ []) after (sym cut ∙ split)
@@ -96,7 +96,7 @@ some_carets text old new some utf8 e = go (chars text) refl
     go (c ∷ cs) is = e ∙ ap (λ (z : List ℕ). old ++ marks_below 94 94 z) is
         ∙ ap (λ (z : List ℕ). old ++ carets z) (sym is)
 
--- all of it
+-- The line where a range begins, with its carets, is appended in eight parts.
 pub eight_parts : (o a b d e f g h new p q r s t u v w : List ℕ) → a ≡ o ++ p → b ≡ a ++ q → d ≡ b ++ r → e ≡ d ++ s
     → f ≡ e ++ t → g ≡ f ++ u → h ≡ g ++ v → new ≡ h ++ w
     → new ≡ o ++ (p ++ (q ++ (r ++ (s ++ (t ++ (u ++ (v ++ w)))))))
@@ -123,7 +123,7 @@ over_left a b within = go (nat_lt (1024 - a) b) refl
         let both : nat_lt 1024 (a + b) ≡ false = grind (arith, nat_tests) in
         e ∙ sym both
 
--- how long a line is of which this stands before a place, and this after it
+-- The length of a line is the sum of the lengths before and after a position.
 long_whole : (before after : List ℕ) → IsUtf8 before → IsUtf8 after
     → is_long (chars before ++ chars after) ≡ nat_lt 1024 (length before + length after)
 long_whole before after u v = ap (nat_lt 1024) (byte_len-append (chars before) (chars after)
@@ -139,7 +139,7 @@ pub long_with : (before after : List ℕ) → IsUtf8 before → IsUtf8 after →
 long_with before after u v within =
     over_left (length before) (length after) within ∙ sym (long_whole before after u v)
 
--- a line is too long where what stands before a place is
+-- A line is too long if its part before a position is.
 pub long_about : (before after : List ℕ) (r : Bool) → r ≡ is_long (chars before ++ chars []) → r ≡ true
     → r ≡ is_long (chars before ++ after)
 long_about before after r is more =
@@ -150,7 +150,7 @@ long_about before after r is more =
     more ∙ sym front ∙ over_more (byte_len (chars before)) (byte_len after) over
     ∙ sym (ap (nat_lt 1024) (byte_len-append (chars before) after))
 
--- in place of such a line stands that it is one
+-- A message replaces a line that is too long.
 pub long_shown : (text old new : List ℕ) → is_long (first_line text) ≡ true → new ≡ old ++ left_out
     → new ≡ old ++ shown_line text
 long_shown text old new long e = e ∙ ap (λ (b : Bool). old
@@ -184,7 +184,7 @@ whole_context above below lines before rest bytes old new short e = e ∙ ap (λ
 not_zero : (n : ℕ) → (suc n == 0) ≡ false
 not_zero n = search rules
 
--- none is left
+-- Without another line of context to show, the output is complete.
 pub no_lines_more : (left : ℕ) (rest old all : List ℕ) → (length rest == 0) ≡ true
     → old ++ shown_lines left (chars rest) ≡ all → old ≡ all
 no_lines_more left (b ∷ bs) old all none is = absurd (false≢true (sym (not_zero (length bs)) ∙ none))
@@ -194,7 +194,7 @@ no_lines_more left [] old all none is = go left (sym (ap (λ (z : List ℕ). old
     go zero e = sym (append-nil old) ∙ e
     go (suc n) e = sym (append-nil old) ∙ e
 
--- one is shown
+-- One more line of context is shown.
 pub one_line_more : (left : ℕ) (rest after old new all : List ℕ) → 0 < left → (length rest == 0) ≡ false → IsUtf8 rest
     → new ≡ old ++ shown_line (chars rest) → after ≡ after_first_line (chars rest)
     → old ++ shown_lines left (chars rest) ≡ all → new ++ shown_lines (left - 1) after ≡ all
@@ -216,10 +216,10 @@ one_line_more (suc n) rest after old new all some any utf8 shown after_is is = g
         ∙ ap (λ (z : List ℕ). z ++ more) (shown ∙ ap (λ (z : List ℕ). old ++ shown_line z) text)
         ∙ append_assoc old line more ∙ sym (ap (λ (z : List ℕ). old ++ shown_lines (suc n) z) text) ∙ is
 
--- ---- the line of a place
+-- ---- the line at a position
 
--- Of a text so much is the last line, in which a place stands after it.
-record LastLine (text : List ℕ) (spot : Spot) : Type 0 where
+-- The text before a position consists of lines and the part of the position's line before it.
+record LastLine (text : List ℕ) (spot : Position) : Type 0 where
   lines : List ℕ
   inside : List ℕ
   text_is : text ≡ lines ++ inside
@@ -240,9 +240,9 @@ no_end_more (x ∷ xs) c h k =
     let parts = not_either (x == 10) (has_end xs) h in
     neither (x == 10) (has_end (xs ++ c ∷ [])) parts.0 (no_end_more xs c parts.1 k)
 
-last_line : (p : Spot) (lines inside xs : List ℕ) → byte_len inside + 1 ≡ p.byte_column → has_end inside ≡ false
+last_line : (p : Position) (lines inside xs : List ℕ) → byte_len inside + 1 ≡ p.byte_column → has_end inside ≡ false
     → (lines ≡ []) ⊎ ((others : List ℕ) × (lines ≡ others ++ 10 ∷ []))
-    → LastLine (lines ++ (inside ++ xs)) (spot_after p xs)
+    → LastLine (lines ++ (inside ++ xs)) (position_after p xs)
 last_line p lines inside [] long none begins = record {
   lines = lines;
   inside = inside;
@@ -254,47 +254,47 @@ last_line p lines inside [] long none begins = record {
 last_line p lines inside (c ∷ cs) long none begins =
     go (λ q ls is l n b. last_line q ls is cs l n b) (c == 10) refl
   where
-    after_end : Spot
+    after_end : Position
     after_end = record { line = p.line + 1; column = 1; byte_column = 1 }
 
-    more : Spot
+    more : Position
     more = record { line = p.line; column = p.column + 1; byte_column = p.byte_column + length (encode_utf8 c) }
 
-    next_is : (b : Bool) → (c == 10) ≡ b → next_spot p c ≡ (if b then after_end else more)
-    next_is b e = ap (λ (t : Bool). if t then after_end else more) e
+    begins_with_kind : (b : Bool) → (c == 10) ≡ b → next_position p c ≡ (if b then after_end else more)
+    begins_with_kind b e = ap (λ (t : Bool). if t then after_end else more) e
 
     Again : Type 0
-    Again = (q : Spot) (ls is : List ℕ) → byte_len is + 1 ≡ q.byte_column → has_end is ≡ false
-        → (ls ≡ []) ⊎ ((others : List ℕ) × (ls ≡ others ++ 10 ∷ [])) → LastLine (ls ++ (is ++ cs)) (spot_after q cs)
+    Again = (q : Position) (ls is : List ℕ) → byte_len is + 1 ≡ q.byte_column → has_end is ≡ false
+        → (ls ≡ []) ⊎ ((others : List ℕ) × (ls ≡ others ++ 10 ∷ [])) → LastLine (ls ++ (is ++ cs)) (position_after q cs)
 
-    go : Again → (b : Bool) → (c == 10) ≡ b → LastLine (lines ++ (inside ++ (c ∷ cs))) (spot_after (next_spot p c) cs)
+    go : Again → (b : Bool) → (c == 10) ≡ b → LastLine (lines ++ (inside ++ (c ∷ cs))) (position_after (next_position p c) cs)
     go again true e =
         let whole : List ℕ = lines ++ (inside ++ (10 ∷ [])) in
-        let found : LastLine (whole ++ cs) (spot_after after_end cs) = again after_end whole [] refl refl
+        let found : LastLine (whole ++ cs) (position_after after_end cs) = again after_end whole [] refl refl
         (inr (lines ++ inside, sym (append_assoc lines inside (10 ∷ [])))) in
         let same : whole ++ cs ≡ lines ++ (inside ++ (c ∷ cs)) = append_assoc lines (inside ++ (10 ∷ [])) cs
         ∙ ap (λ (z : List ℕ). lines ++ z) (append_assoc inside (10 ∷ []) cs
         ∙ ap (λ (n : ℕ). inside ++ (n ∷ cs)) (sym (eqb-true c 10 e))) in
-        subst (λ (t : List ℕ). LastLine t (spot_after (next_spot p c) cs)) same
-        (subst (λ (q : Spot). LastLine (whole ++ cs) (spot_after q cs)) (sym (next_is true e)) found)
+        subst (λ (t : List ℕ). LastLine t (position_after (next_position p c) cs)) same
+        (subst (λ (q : Position). LastLine (whole ++ cs) (position_after q cs)) (sym (begins_with_kind true e)) found)
     go again false e =
         let longer : List ℕ = inside ++ (c ∷ []) in
         let one : byte_len (c ∷ []) ≡ length (encode_utf8 c) = ap length (append-nil (encode_utf8 c)) in
         let long_is : byte_len longer + 1 ≡ more.byte_column = omega (arith, long, one, byte_len-append inside (c ∷ []))
         in
-        let found : LastLine (lines ++ (longer ++ cs)) (spot_after more cs) = again more lines longer long_is
+        let found : LastLine (lines ++ (longer ++ cs)) (position_after more cs) = again more lines longer long_is
         (no_end_more inside c none e) begins in
         let same : lines ++ (longer ++ cs) ≡ lines ++ (inside ++ (c ∷ cs)) = ap (λ (z : List ℕ). lines ++ z)
         (append_assoc inside (c ∷ []) cs) in
-        subst (λ (t : List ℕ). LastLine t (spot_after (next_spot p c) cs)) same
-        (subst (λ (q : Spot). LastLine (lines ++ (longer ++ cs)) (spot_after q cs)) (sym (next_is false e)) found)
+        subst (λ (t : List ℕ). LastLine t (position_after (next_position p c) cs)) same
+        (subst (λ (q : Position). LastLine (lines ++ (longer ++ cs)) (position_after q cs)) (sym (begins_with_kind false e)) found)
 
--- a byte order mark, where a text begins with one
+-- The byte order mark at the start of the text, if there is one.
 abbrev mark_of : List ℕ → List ℕ
 mark_of [] = []
 mark_of (c ∷ cs) = if c == 0xfeff then c ∷ [] else []
 
-mark_is : (text : List ℕ) → text ≡ mark_of text ++ without_mark text
+mark_is : (text : List ℕ) → text ≡ mark_of text ++ without_byte_order_mark text
 mark_is [] = refl
 mark_is (c ∷ cs) = go (c == 0xfeff)
   where
@@ -303,40 +303,40 @@ mark_is (c ∷ cs) = go (c == 0xfeff)
     go false = refl
 
 not_marked : (c : ℕ) (cs lines inside : List ℕ) → c ∷ cs ≡ lines ++ inside → (c == 0xfeff) ≡ false
-    → without_mark lines ≡ lines
+    → without_byte_order_mark lines ≡ lines
 not_marked c cs [] inside e none = refl
 not_marked c cs (x ∷ xs) inside e none =
     let same : c ≡ x = (cc) in
     ap (λ (b : Bool). if b then xs else x ∷ xs) (subst (λ (z : ℕ). (z == 0xfeff) ≡ false) same none)
 
--- the lines of a text after its mark
-unmarked : (text lines inside : List ℕ) → without_mark text ≡ lines ++ inside → without_mark (mark_of text ++ lines)
+-- The lines of a text after its byte order mark, if there is one.
+unmarked : (text lines inside : List ℕ) → without_byte_order_mark text ≡ lines ++ inside → without_byte_order_mark (mark_of text ++ lines)
     ≡ lines
 unmarked [] [] inside e = refl
 unmarked [] (x ∷ xs) inside e = absurd (cc)
 unmarked (c ∷ cs) lines inside e = go (c == 0xfeff) refl e
   where
     go : (b : Bool) → (c == 0xfeff) ≡ b → (if b then cs else c ∷ cs) ≡ lines ++ inside
-        → without_mark ((if b then c ∷ [] else []) ++ lines) ≡ lines
+        → without_byte_order_mark ((if b then c ∷ [] else []) ++ lines) ≡ lines
     go true is f = ap (λ (b : Bool). if b then lines else c ∷ lines) is
     go false is f = not_marked c cs lines inside f is
 
--- Where the line of a place begins in what stands before the place.
+-- In the text before a position, the position's line begins at the byte offset `at`.
 pub record LineCut (text rest front : List ℕ) (at : ℕ) : Type 0 where
   pub boundary : IsCharBoundary front at
   pub line : (lines before shown : List ℕ) → lines ≡ take at front → before ≡ drop at front
-      → shown ≡ without_mark (chars lines) → IsBeforeInLine (chars text) (chars rest) shown (chars before)
+      → shown ≡ without_byte_order_mark (chars lines) → IsBeforeInLine (chars text) (chars rest) shown (chars before)
   pub within : at ≤ length front
 
-pub line_cut : (text rest front : List ℕ) (spot : Spot) → IsUtf8 front → IsSpotAt (chars text) (chars rest) spot
+pub line_cut : (text rest front : List ℕ) (spot : Position) → IsUtf8 front → IsPositionAt (chars text) (chars rest) spot
     → chars text ≡ chars front ++ chars rest → LineCut text rest front (length front + 1 - spot.byte_column)
 line_cut text rest front spot utf8 stands cut =
     let same : stands.front ≡ chars front = append_cancel_right stands.front (chars front) (chars rest)
     (sym stands.text_is ∙ cut) in
-    let place : spot ≡ spot_after first_spot (without_mark (chars front)) = stands.spot_is
-    ∙ ap (λ (z : List ℕ). spot_after first_spot (without_mark z)) same in
-    let found : LastLine (without_mark (chars front)) (spot_after first_spot (without_mark (chars front))) =
-    last_line first_spot [] [] (without_mark (chars front)) refl refl (inl refl) in
+    let place : spot ≡ position_after first_position (without_byte_order_mark (chars front)) = stands.spot_is
+    ∙ ap (λ (z : List ℕ). position_after first_position (without_byte_order_mark z)) same in
+    let found : LastLine (without_byte_order_mark (chars front)) (position_after first_position (without_byte_order_mark (chars front))) =
+    last_line first_position [] [] (without_byte_order_mark (chars front)) refl refl (inl refl) in
     let mark : List ℕ = mark_of (chars front) in
     let pre : List ℕ = mark ++ found.lines in
     let inside : List ℕ = found.inside in
@@ -346,7 +346,7 @@ line_cut text rest front spot utf8 stands cut =
     ∙ ap encode_utf8_all whole ∙ encodes-append pre inside in
     let is_text : IsUtf8 (encode_utf8_all inside) = back_utf8 pre inside
     (subst IsUtf8 (sym (encodes-chars front utf8) ∙ ap encode_utf8_all whole) utf8) in
-    let long : byte_len inside + 1 ≡ spot.byte_column = found.long ∙ ap (λ (q : Spot). q.byte_column) (sym place) in
+    let long : byte_len inside + 1 ≡ spot.byte_column = found.long ∙ ap (λ (q : Position). q.byte_column) (sym place) in
     let all : length front ≡ byte_len pre + byte_len inside = ap length bytes
     ∙ length-append (encode_utf8_all pre) (encode_utf8_all inside) in
     let at : byte_len pre ≡ length front + 1 - spot.byte_column = omega (arith, long, all) in
@@ -362,8 +362,8 @@ line_cut text rest front spot utf8 stands cut =
     (IsUtf8-take front (length front + 1 - spot.byte_column) utf8 boundary) in
     let pre_is : pre ≡ chars (encode_utf8_all pre) = chars_from_encodes pre (encode_utf8_all pre) pre_utf8 refl in
     let lines_are : (lines : List ℕ) → lines ≡ take (length front + 1 - spot.byte_column) front
-    → without_mark (chars lines) ≡ found.lines = λ lines is. ap (λ (z : List ℕ). without_mark (chars z)) (is ∙ taken)
-    ∙ ap without_mark (sym pre_is) ∙ unmarked (chars front) found.lines inside found.text_is in
+    → without_byte_order_mark (chars lines) ≡ found.lines = λ lines is. ap (λ (z : List ℕ). without_byte_order_mark (chars z)) (is ∙ taken)
+    ∙ ap without_byte_order_mark (sym pre_is) ∙ unmarked (chars front) found.lines inside found.text_is in
     record {
       boundary = boundary;
       line = λ lines before shown lines_is is shown_is. subst

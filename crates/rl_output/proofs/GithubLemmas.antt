@@ -1,5 +1,5 @@
--- Annotations, piece by piece.
-use Rattle.rl_text.proofs.Common.{ap, IsUtf8, List, [], append_assoc, chars, chars-IsAscii, chars-nil, codes, encodes-chars, false, length, rules, suc, true, ◌==◌, ◌∷◌, ◌++◌, ◌∙◌, ◌≡◌, ℕ, refl, sym, flat_map}
+-- Lemmas about GitHub annotations that are written part by part.
+use Rattle.rl_syntax.proofs.Common.{ap, IsUtf8, List, [], append_assoc, chars, chars-IsAscii, chars-nil, codes, encodes-chars, false, length, rules, suc, true, ◌==◌, ◌∷◌, ◌++◌, ◌∙◌, ◌≡◌, ℕ, refl, sym, flat_map}
 use Rattle.std.specs.Prelude.{encode_utf8_all}
 use Rattle.std.proofs.lemmas.Bool.{false≢true}
 use Rattle.std.proofs.lemmas.Grind.{flat_map-append}
@@ -7,7 +7,7 @@ use Rattle.rl_files.specs.Visible.{visible, visible_char}
 use Rattle.rl_output.specs.Github.{data_char, github_data, message_text}
 use Rattle.rl_output.proofs.Pieces.{low_text}
 
--- a character as it is printed, in a message
+-- A character of an annotation's message, or its escape if it is invisible or bidirectional.
 abbrev pub shown_char : ℕ → List ℕ
 shown_char c = github_data (visible_char c)
 
@@ -19,9 +19,9 @@ shown_is [] = refl
 shown_is (c ∷ cs) = ap (λ (z : List ℕ). shown_char c ++ z) (shown_is cs)
     ∙ sym (flat_map-append data_char (visible_char c) (visible cs))
 
--- ---- a message
+-- ---- a message of an annotation
 
--- words alone
+-- The message of a GitHub annotation is unchanged without a piece of the source.
 pub message_alone : (words piece old new : List ℕ) → (length piece == 0) ≡ true
     → chars new ≡ chars old ++ github_data (chars words)
     → chars new ≡ chars old ++ github_data (message_text (chars words) (chars piece))
@@ -32,7 +32,7 @@ message_alone words (b ∷ bs) old new none e = absurd (false≢true (sym (not_e
     not_empty : (n : ℕ) → (suc n == 0) ≡ false
     not_empty n = search rules
 
--- words and a piece
+-- The message of a GitHub annotation ends with the piece of the source, if there is one.
 pub message_of_piece : (words piece old a b new : List ℕ) → (length piece == 0) ≡ false → IsUtf8 piece
     → chars a ≡ chars old ++ github_data (chars words) → chars b ≡ chars a ++ github_data (chars (codes ": "))
     → chars new ≡ chars b ++ github_data (visible (chars piece))

@@ -1,20 +1,20 @@
--- Strings of JSON: what is appended, and what they stand for.
-use Rattle.rl_text.proofs.Common.{◌≡◌, ◌⊎◌, ℕ, ◌+◌, ◌-◌, ◌*◌, ◌/◌, ◌%◌, ◌<◌, ◌≤◌, ◌==◌, ◌≢◌, lit<, IsAscii, Bool, true, false, ◌||◌, cond, eqb-true, List, [], ◌∷◌, ◌++◌, refl, sym, ap, subst, ◌∙◌, inl, inr, arith, nat_tests, nat_lt, lt-ltb, ltb-true, ltb-false, both_ways, and_parts, agree_below_at, append_assoc, append-nil, encode_utf8, encode_utf8_all, encodes-append, flat_map, AllByRecursion, IsUtf8, chars, chars-IsAscii, codes, list_all, digit_value}
+-- Lemmas about JSON strings: the appended text, and the text that a JSON string represents.
+use Rattle.rl_syntax.proofs.Common.{◌≡◌, ◌⊎◌, ℕ, ◌+◌, ◌-◌, ◌*◌, ◌/◌, ◌%◌, ◌<◌, ◌≤◌, ◌==◌, ◌≢◌, lit<, IsAscii, Bool, true, false, ◌||◌, cond, eqb-true, List, [], ◌∷◌, ◌++◌, refl, sym, ap, subst, ◌∙◌, inl, inr, arith, nat_tests, nat_lt, lt-ltb, ltb-true, ltb-false, both_ways, and_parts, agree_below_at, append_assoc, append-nil, encode_utf8, encode_utf8_all, encodes-append, flat_map, AllByRecursion, IsUtf8, chars, chars-IsAscii, codes, list_all, digit_value}
 use Rattle.std.proofs.lemmas.Bool.{le-ltb}
 use Rattle.std.specs.Char.{digit_char, is_control, IsScalar}
 use Rattle.std.specs.Char.Escape.{encode_utf16}
 use Rattle.std.proofs.Math.Utf8.{scalars, scalar_cases}
 use Rattle.std.proofs.lemmas.Str.{digit_value-digit_char, scalars-chars}
 use Rattle.std.proofs.lemmas.Str.Ascii.{IsAscii-nil, IsAscii-cons}
-use Rattle.rl_forms.specs.Quoted.{is_hex_digit}
-use Rattle.rl_files.specs.Visible.{is_hiding}
-use Rattle.rl_lines.specs.Bare.{is_bare}
-use Rattle.rl_lines.specs.Lines.{Joins}
-use Rattle.rl_lines.proofs.LineLemmas.{pushed}
+use Rattle.rl_syntax.specs.Quoted.{is_hex_digit}
+use Rattle.rl_files.specs.Visible.{is_invisible_or_bidi}
+use Rattle.rl_program.specs.Bare.{is_bare}
+use Rattle.rl_program.specs.Lines.{Joins}
+use Rattle.rl_program.proofs.LineLemmas.{pushed}
 use Rattle.rl_output.specs.JsonStrings.{IsLetterEscape, JsonQuote, JsonBackslash, JsonLineFeed, JsonReturn, JsonTab, IsUnitEscape, IsPairEscape, IsJsonPiece, HidesNothing, IsJsonStringOf, unit_escape, letter_escape, other_char, json_char, json_body, json_string}
 use Rattle.rl_output.proofs.Pieces.{low_text}
 
--- ---- what is appended, in bytes
+-- ---- the appended text, in bytes
 
 pub pair_written : (old mid new : List ℕ) (c d : ℕ) → mid ≡ old ++ encode_utf8 c → new ≡ mid ++ encode_utf8 d
     → new ≡ old ++ encode_utf8_all (c ∷ d ∷ [])
@@ -32,7 +32,7 @@ pub three_written : (old a b new p q r : List ℕ) → a ≡ old ++ encode_utf8_
     → new ≡ b ++ encode_utf8_all r → new ≡ old ++ encode_utf8_all (p ++ (q ++ r))
 three_written old a b new p q r e f g = both_written old a new p (q ++ r) e (both_written a b new q r f g)
 
--- a character's units
+-- The UTF-16 code units of a character up to U+FFFF: one unit.
 pub one_unit : (c : ℕ) → nat_lt c 0x10000 ≡ true → flat_map unit_escape (encode_utf16 c) ≡ unit_escape c
 one_unit c h =
     ap (λ (b : Bool). flat_map unit_escape (cond b (c ∷ []) ((0xD800 + (c - 0x10000) / 0x400)
@@ -56,14 +56,14 @@ number_written c code old mid new same past e f =
     ∙ ap (λ (z : List ℕ). old ++ encode_utf8_all z) (sym (two_units code (le-ltb code 0x10000 past)))
     ∙ ap (λ (n : ℕ). old ++ encode_utf8_all (flat_map unit_escape (encode_utf16 n))) same
 
--- bare ASCII
-low_not_hiding : (c : ℕ) → c < 127 → is_hiding c ≡ false
+-- A printable ASCII character is neither invisible nor bidirectional.
+low_not_hiding : (c : ℕ) → c < 127 → is_invisible_or_bidi c ≡ false
 low_not_hiding c h = grind (arith, nat_tests)
 
 not_control : (c : ℕ) → 32 ≤ c → c < 127 → is_control c ≡ false
 not_control c low high = grind (arith, nat_tests)
 
--- A bare character is printable ASCII, and no quote and no backslash.
+-- A character that represents itself in a string literal: printable ASCII, and neither a quote nor a backslash.
 record IsBare (c : ℕ) : Type 0 where
   low : 32 ≤ c
   high : c < 127
@@ -110,7 +110,7 @@ bare_written old new text u bare e =
     pushed old new text u e
     ∙ ap (λ (z : List ℕ). chars old ++ z) (itself ∙ sym same.0 ∙ ap json_body (sym itself))
 
--- the quotes
+-- The JSON string is a quote, the text with its escapes, and a quote.
 pub quotes_written : (old a b new body : List ℕ) → IsUtf8 old → IsUtf8 b → a ≡ old ++ codes "\""
     → chars b ≡ chars a ++ body → new ≡ b ++ codes "\"" → chars new ≡ chars old ++ (34 ∷ (body ++ 34 ∷ []))
 quotes_written old a b new body u v first inside last =
@@ -121,7 +121,7 @@ quotes_written old a b new body u v first inside last =
     ∙ append_assoc (chars old ++ codes "\"") body (codes "\"")
     ∙ append_assoc (chars old) (codes "\"") (body ++ codes "\"")
 
--- ---- what a string stands for
+-- ---- the text that a JSON string represents
 
 hex_value_is : (d : ℕ) → d < 16 → digit_value (digit_char d) ≡ d
 hex_value_is d h = digit_value-digit_char d (omega arith)
@@ -182,7 +182,7 @@ pair_stands c past most =
       character_is = omega arith;
     }
 
--- a character by its number
+-- The escape of a character by its number represents the character.
 number_stands : (c : ℕ) → IsScalar c → IsJsonPiece c (flat_map unit_escape (encode_utf16 c))
 number_stands c s = go (nat_lt c 0x10000) refl
   where
@@ -192,7 +192,7 @@ number_stands c s = go (nat_lt c 0x10000) refl
     go false h = subst (IsJsonPiece c) (sym (two_units c h))
         (inr (inr (inr (pair_stands c (ltb-false c 0x10000 h) (scalar_most c s)))))
 
-no_control : (c : ℕ) → (is_control c || is_hiding c) ≡ false → 0x20 ≤ c
+no_control : (c : ℕ) → (is_control c || is_invisible_or_bidi c) ≡ false → 0x20 ≤ c
 no_control c h = grind (arith, nat_tests)
 
 differs : (c d : ℕ) → (c == d) ≡ false → c ≢ d
@@ -202,9 +202,9 @@ differs c d h e = both_ways (c == d) h (ap (λ (z : ℕ). z == d) e ∙ same d)
     same n = grind (arith, nat_tests)
 
 other_stands : (c : ℕ) → IsScalar c → (c == 34) ≡ false → (c == 92) ≡ false → IsJsonPiece c (other_char c)
-other_stands c s quote backslash = go (is_control c || is_hiding c) refl
+other_stands c s quote backslash = go (is_control c || is_invisible_or_bidi c) refl
   where
-    go : (b : Bool) → (is_control c || is_hiding c) ≡ b
+    go : (b : Bool) → (is_control c || is_invisible_or_bidi c) ≡ b
         → IsJsonPiece c (cond b (flat_map unit_escape (encode_utf16 c)) (c ∷ []))
     go true h = number_stands c s
     go false h = inl (refl, (no_control c h, scalar_most c s, differs c 34 quote, differs c 92 backslash))
@@ -213,7 +213,7 @@ letter_stands : (c d letter : ℕ) → (c == d) ≡ true → IsLetterEscape lett
 letter_stands c d letter h e =
     inr (inl (letter, refl, subst (IsLetterEscape letter) (sym (eqb-true c d h)) e))
 
--- a character as it is written stands for it
+-- The text that is written for a character represents the character.
 char_stands : (c : ℕ) → IsScalar c → IsJsonPiece c (json_char c)
 char_stands c s = quote (c == 34) refl
   where
@@ -252,7 +252,7 @@ body_stands (c ∷ cs) h =
     let each = and_parts _ _ h in
     (json_char c, json_body cs, char_stands c each.0, body_stands cs each.1, refl)
 
--- ---- what a string shows
+-- ---- the characters of a JSON string as they are displayed
 
 show_both : (a b : List ℕ) → AllByRecursion HidesNothing a → AllByRecursion HidesNothing b
     → AllByRecursion HidesNothing (a ++ b)
@@ -260,7 +260,7 @@ show_both [] b h k = k
 show_both (c ∷ cs) b h k = (h.0, show_both cs b h.1 k)
 
 digit_shows : (d : ℕ) → d < 16 → HidesNothing (digit_char d)
-digit_shows d h = agree_below_at (λ d. is_control (digit_char d) || is_hiding (digit_char d)) (λ d. false) 16 d refl h
+digit_shows d h = agree_below_at (λ d. is_control (digit_char d) || is_invisible_or_bidi (digit_char d)) (λ d. false) 16 d refl h
 
 unit_shows : (unit : ℕ) → unit < 0x10000 → AllByRecursion HidesNothing (unit_escape unit)
 unit_shows unit h = (
@@ -297,9 +297,9 @@ number_shows c s = go (nat_lt c 0x10000) refl
         (unit_shows (0xDC00 + (c - 0x10000) % 0x400) low))
 
 other_shows : (c : ℕ) → IsScalar c → AllByRecursion HidesNothing (other_char c)
-other_shows c s = go (is_control c || is_hiding c) refl
+other_shows c s = go (is_control c || is_invisible_or_bidi c) refl
   where
-    go : (b : Bool) → (is_control c || is_hiding c) ≡ b
+    go : (b : Bool) → (is_control c || is_invisible_or_bidi c) ≡ b
         → AllByRecursion HidesNothing (cond b (flat_map unit_escape (encode_utf16 c)) (c ∷ []))
     go true h = number_shows c s
     go false h = (h, tt)
@@ -320,7 +320,7 @@ body_shows (c ∷ cs) h =
     let each = and_parts _ _ h in
     show_both (json_char c) (json_body cs) (char_shows c each.0) (body_shows cs each.1)
 
--- the law
+-- The theorem: the JSON string of a text represents the text.
 pub string_stands : (text : List ℕ) → IsUtf8 text → IsJsonStringOf (chars text) (json_string (chars text))
 string_stands text u =
     let are = scalars-chars text u in

@@ -1,25 +1,25 @@
--- Lines, taken from the last one back.
-use Rattle.rl_text.proofs.Common.{IsCharBoundary, IsCharBoundary-after_ascii, IsCharBoundary-start, IsUtf8, List, [], ap, append-nil, chars, encode_ascii, encodes-append, encodes-chars, append_assoc, arith, drop, get_or, inl, inr, length, length-append, lit<, subst, sym, ℕ, ◌++◌, ◌+◌, ◌<◌, ◌∙◌, ◌∷◌, ◌≡◌, ◌≤◌, ◌⊎◌}
+-- Lemmas about the last lines of a text, which are counted from its end.
+use Rattle.rl_syntax.proofs.Common.{IsCharBoundary, IsCharBoundary-after_ascii, IsCharBoundary-start, IsUtf8, List, [], ap, append-nil, chars, encode_ascii, encodes-append, encodes-chars, append_assoc, arith, drop, get_or, inl, inr, length, length-append, lit<, subst, sym, ℕ, ◌++◌, ◌+◌, ◌<◌, ◌∙◌, ◌∷◌, ◌≡◌, ◌≤◌, ◌⊎◌}
 use Rattle.std.proofs.Common.{add-one}
 use Rattle.std.proofs.lemmas.List.{length-drop}
 use Rattle.std.proofs.Math.Seq.{get_or-append_seam}
 use Rattle.std.specs.Prelude.{encode_utf8, encode_utf8_all}
 use Rattle.rl_output.specs.Contexts.{AreLastLines, AreWholeLines, ends_among}
 
--- What is left of the bytes after which no LF stands.
+-- `left` is a start of `bytes`, and the bytes after it contain no LF.
 pub record IsLeftOf (bytes left : List ℕ) : Type 0 where
   pub back : List ℕ
   pub bytes_are : bytes ≡ left ++ back
   pub no_end : ends_among back ≡ 0
 
--- Of some lines these are left, and of those after them, as many are wanted as there are fewer than so many.
+-- `left` are the lines before the counted ones. The counted lines, and the number of lines still wanted, are `count` together.
 pub record LinesLeft (lines left : List ℕ) (count wanted : ℕ) : Type 0 where
   pub are : AreWholeLines left
   pub back : List ℕ
   pub lines_are : lines ≡ left ++ back
   pub counted : ends_among back + wanted ≡ count
 
--- after lines a text is cut at a character
+-- A text can be split after whole lines.
 pub cut_after_lines : (text front back : List ℕ) → IsUtf8 text → text ≡ front ++ back → AreWholeLines front
     → IsCharBoundary text (length front)
 cut_after_lines text front back utf8 cut (inl none) =
@@ -39,7 +39,7 @@ cut_after_lines text front back utf8 cut (inr (others, is)) =
     subst (IsCharBoundary text) (sym front_len)
     (IsCharBoundary-after_ascii text (length others) utf8 less (subst (λ (n : ℕ). n < 128) (sym byte) (lit< tt)))
 
--- so the bytes are cut at a character
+-- A text can be split where its last lines begin.
 pub lines_cut : (lines : List ℕ) (count at : ℕ) → IsUtf8 lines → at ≤ length lines
     → AreLastLines count lines (drop at lines) → IsCharBoundary lines at
 lines_cut lines count at utf8 within last =
@@ -52,7 +52,7 @@ lines_cut lines count at utf8 within last =
     ) in
     subst (IsCharBoundary lines) long (cut_after_lines lines last.front (drop at lines) utf8 last.lines_are last.cut)
 
--- lines in characters are lines in bytes
+-- Characters that are whole lines are whole lines as bytes.
 pub whole_lines : (lines : List ℕ) → IsUtf8 lines
     → (chars lines ≡ []) ⊎ ((others : List ℕ) × (chars lines ≡ others ++ 10 ∷ [])) → AreWholeLines lines
 whole_lines lines utf8 (inl none) = inl (sym (encodes-chars lines utf8) ∙ ap encode_utf8_all none)

@@ -1,10 +1,10 @@
--- What is appended, piece by piece.
-use Rattle.rl_text.proofs.Common.{Bool, IsAscii, IsUtf8, List, [], ap, append_assoc, arith, chars, chars-IsAscii, cond, false, is_ascii, list_all, ltb-true, and_parts, nat_tests, refl, sym, true, zero, suc, ℕ, ◌%◌, ◌++◌, ◌/◌, ◌<◌, ◌==◌, ◌∙◌, ◌∷◌, ◌≡◌}
+-- Lemmas about text that is appended part by part.
+use Rattle.rl_syntax.proofs.Common.{Bool, IsAscii, IsUtf8, List, [], ap, append_assoc, arith, chars, chars-IsAscii, cond, false, is_ascii, list_all, ltb-true, and_parts, nat_tests, refl, sym, true, zero, suc, ℕ, ◌%◌, ◌++◌, ◌/◌, ◌<◌, ◌==◌, ◌∙◌, ◌∷◌, ◌≡◌}
 use Rattle.std.specs.Fmt.{digits, decimal, digits_onto, digit_glyph}
 use Rattle.std.proofs.lemmas.Str.Ascii.{IsAscii-nil, IsAscii-cons}
 use Rattle.std.proofs.lemmas.Str.{IsUtf8-past_char}
 use Rattle.std.specs.Prelude.{encode_utf8_all}
-use Rattle.rl_lines.proofs.LineLemmas.{pushed}
+use Rattle.rl_program.proofs.LineLemmas.{pushed}
 
 -- ---- ASCII
 
@@ -26,14 +26,14 @@ pub decimal_ascii : (n : ℕ) → IsAscii (decimal n)
 unfolding digits
 decimal_ascii n = onto_ascii 64 n [] IsAscii-nil
 
--- what ASCII passes
+-- If the function `is_ascii` accepts all characters of a text, the text is ASCII.
 pub low_text : (cs : List ℕ) → list_all is_ascii cs ≡ true → IsAscii cs
 low_text [] h = IsAscii-nil
 low_text (c ∷ cs) h =
     let both = and_parts (is_ascii c) (list_all is_ascii cs) h in
     IsAscii-cons c cs (ltb-true c 128 both.0) (low_text cs both.1)
 
--- ---- pieces
+-- ---- parts of a text
 
 pub ascii_chars : (cs : List ℕ) → list_all is_ascii cs ≡ true → chars cs ≡ cs
 ascii_chars cs h = chars-IsAscii cs (low_text cs h)
@@ -59,14 +59,14 @@ pub five_parts : (old a b d f new p q r s t : List ℕ) → a ≡ old ++ p → b
 five_parts old a b d f new p q r s t e g h i j =
     two_pieces old a new p (q ++ (r ++ (s ++ t))) e (four_parts a b d f new q r s t g h i j)
 
--- one of two
+-- The first of two texts is appended if the condition is true.
 pub chosen_on : (b : Bool) (x y old new : List ℕ) → b ≡ true → new ≡ old ++ x → new ≡ old ++ cond b x y
 chosen_on b x y old new is e = e ∙ ap (λ (t : Bool). old ++ cond t x y) (sym is)
 
 pub chosen_off : (b : Bool) (x y old new : List ℕ) → b ≡ false → new ≡ old ++ y → new ≡ old ++ cond b x y
 chosen_off b x y old new is e = e ∙ ap (λ (t : Bool). old ++ cond t x y) (sym is)
 
--- what is left after the front of a text is a text
+-- The end of a UTF-8 text after some characters is UTF-8.
 pub back_utf8 : (front back : List ℕ) → IsUtf8 (encode_utf8_all (front ++ back)) → IsUtf8 (encode_utf8_all back)
 back_utf8 [] back u = u
 back_utf8 (c ∷ cs) back u = back_utf8 cs back (IsUtf8-past_char (encode_utf8_all (c ∷ (cs ++ back)))

@@ -1,12 +1,12 @@
--- Places, as they are printed.
-use Rattle.rl_text.proofs.Common.{IsAscii, IsUtf8, List, [], ap, chars, chars-IsAscii, chars-append, codes, is_ascii, list_all, lit<, refl, ℕ, ◌++◌, ◌∙◌, ◌∷◌, ◌≡◌, true}
+-- Lemmas about the displayed form of positions.
+use Rattle.rl_syntax.proofs.Common.{IsAscii, IsUtf8, List, [], ap, chars, chars-IsAscii, chars-append, codes, is_ascii, list_all, lit<, refl, ℕ, ◌++◌, ◌∙◌, ◌∷◌, ◌≡◌, true}
 use Rattle.std.specs.Fmt.{decimal}
 use Rattle.std.proofs.lemmas.Str.{IsAscii-append}
 use Rattle.std.proofs.lemmas.Str.Ascii.{IsAscii-nil, IsAscii-cons}
-use Rattle.rl_lines.proofs.LineLemmas.{pushed}
+use Rattle.rl_program.proofs.LineLemmas.{pushed}
 use Rattle.rl_output.specs.declared.place.Place.{Place}
 use Rattle.rl_output.specs.declared.place.Place.TheVariants.{Bytes, Line, Whole}
-use Rattle.rl_output.specs.declared.spot.Extent.{Extent}
+use Rattle.rl_output.specs.declared.line_column.Extent.{Extent}
 use Rattle.rl_output.specs.Fronts.{annotation_place, place_text}
 use Rattle.rl_output.specs.Github.{extent_properties}
 use Rattle.rl_output.specs.Members.{extent_members}
@@ -43,7 +43,7 @@ pub spaced_ascii : (place : Place) → IsAscii (place_text place ++ 32 ∷ [])
 spaced_ascii place = IsAscii-append (place_text place) (32 ∷ []) (place_ascii place)
     (IsAscii-cons 32 [] (lit< tt) IsAscii-nil)
 
--- what stands before a line
+-- The start of an output line is the position and a space.
 pub front_bare : (place : Place) (old new : List ℕ) → IsUtf8 old → new ≡ old ++ (place_text place ++ 32 ∷ [])
     → chars new ≡ chars old ++ (place_text place ++ 32 ∷ [])
 front_bare place old new utf8 written =
@@ -62,7 +62,7 @@ front_in_file path place old new utf8 is_path written =
     ∙ ap (λ z. chars old ++ z) (chars-append path after is_path
     ∙ ap (λ z. chars path ++ z) (chars-IsAscii after ascii))
 
--- the properties of a place
+-- The properties of an annotation for a range are ASCII.
 extent_low : (e : Extent) → IsAscii (extent_properties e)
 extent_low e =
     named_on (codes "line=") _ e.start.line refl (

@@ -1,18 +1,18 @@
--- Lines and columns of places in a text.
-use Rattle.rl_text.proofs.Common.{◌≡◌, ℕ, ◌+◌, ◌-◌, ◌<◌, ◌≤◌, ◌==◌, Bool, true, false, cond, drop, List, [], ◌∷◌, ◌++◌, length, refl, sym, ap, ◌∙◌, arith, append-nil, append_assoc, append_cancel_right, encode_utf8, encodes-chars, length-append, eqb, eqb-true, eq-eqb, chars, if◌then◌else◌, IsUtf8, nat_tests}
+-- Lemmas about lines and columns of positions in a text.
+use Rattle.rl_syntax.proofs.Common.{◌≡◌, ℕ, ◌+◌, ◌-◌, ◌<◌, ◌≤◌, ◌==◌, Bool, true, false, cond, drop, List, [], ◌∷◌, ◌++◌, length, refl, sym, ap, ◌∙◌, arith, append-nil, append_assoc, append_cancel_right, encode_utf8, encodes-chars, length-append, eqb, eqb-true, eq-eqb, chars, if◌then◌else◌, IsUtf8, nat_tests}
 use Rattle.std.specs.Prelude.{encode_utf8_all, take}
 use Rattle.std.specs.List.{slice_range}
 use Rattle.std.proofs.lemmas.Bool.{false≢true}
 use Rattle.std.proofs.lemmas.Str.{length-le-encodes}
-use Rattle.rl_text.specs.Texts.{IsTail, byte_len}
-use Rattle.rl_lexer.specs.Sources.{without_mark}
-use Rattle.rl_text.proofs.TailLemmas.{tail_step}
+use Rattle.rl_syntax.specs.Texts.{IsTail, byte_len}
+use Rattle.rl_lexer.specs.Sources.{without_byte_order_mark}
+use Rattle.rl_syntax.proofs.TailLemmas.{tail_step}
 use Rattle.rl_lexer.proofs.CutLemmas.{byte_len-append}
 use Rattle.rl_lexer.proofs.ErrorKinds.{char_len}
-use Rattle.rl_output.specs.Spots.{bytes_before, covered, next_spot, spot_after, first_spot, IsSpotOf}
-use Rattle.rl_output.specs.declared.spot.Spot.{Spot}
+use Rattle.rl_output.specs.Spots.{bytes_before, covered, next_position, position_after, first_position, IsPositionOf}
+use Rattle.rl_output.specs.declared.line_column.Position.{Position}
 
--- the text before a place
+-- The slice up to a byte offset is the text before it.
 pub taken_before : (text seen : List ℕ) (at : ℕ) (r : List ℕ) → seen ≡ text → IsUtf8 text → r ≡ slice_range text 0 at
     → r ≡ bytes_before (chars seen) at
 taken_before text seen at r same u is =
@@ -21,11 +21,11 @@ taken_before text seen at r same u is =
     ∙ encodes-chars text u in
     is ∙ ap (λ (n : ℕ). take n text) whole ∙ ap (λ (z : List ℕ). take at z) (sym bytes)
 
-pub spot_after-append : (p : Spot) (xs ys : List ℕ) → spot_after p (xs ++ ys) ≡ spot_after (spot_after p xs) ys
-spot_after-append p [] ys = refl
-spot_after-append p (x ∷ xs) ys = spot_after-append (next_spot p x) xs ys
+pub position_after-append : (p : Position) (xs ys : List ℕ) → position_after p (xs ++ ys) ≡ position_after (position_after p xs) ys
+position_after-append p [] ys = refl
+position_after-append p (x ∷ xs) ys = position_after-append (next_position p x) xs ys
 
--- nothing stands before the whole text
+-- Before an end of the text that has the length of the whole text is no other text.
 no_front : (text rest front : List ℕ) → IsUtf8 text → IsUtf8 rest → chars text ≡ front ++ chars rest
     → length rest ≡ length text → front ≡ []
 no_front text rest [] u v e same = refl
@@ -45,9 +45,9 @@ whole_rest text rest front u v e none =
     let same : chars text ≡ chars rest = e ∙ ap (λ (z : List ℕ). z ++ chars rest) none in
     omega (arith, char_len text u, char_len rest v, ap byte_len same)
 
--- what has columns of a front and of what follows it
+-- The part of a longer text that counts for columns is that of its start and that of its end.
 columns_more : (front more : List ℕ) (is_whole : Bool) → (is_whole ≡ true → front ≡ []) → (front ≡ [] → is_whole ≡ true)
-    → without_mark (front ++ more) ≡ without_mark front ++ cond is_whole (without_mark more) more
+    → without_byte_order_mark (front ++ more) ≡ without_byte_order_mark front ++ cond is_whole (without_byte_order_mark more) more
 columns_more [] more true none whole = refl
 columns_more [] more false none whole = absurd (false≢true (whole refl))
 columns_more (c ∷ cs) more true none whole = let e = none refl in absurd cc
@@ -57,23 +57,23 @@ columns_more (c ∷ cs) more false none whole = go (c == 0xfeff)
     go true = refl
     go false = refl
 
--- the place of a rest of what was left
-pub spot_of_rest : (text rest after passed counted : List ℕ) (at new : Spot) → IsSpotOf text rest at
+-- The position of an end of the text, counted from an earlier position.
+pub spot_of_rest : (text rest after passed counted : List ℕ) (at new : Position) → IsPositionOf text rest at
     → IsTail rest after → rest ≡ passed ++ after → chars rest ≡ chars passed ++ chars after
-    → chars counted ≡ cond (eqb (length rest) (length text)) (without_mark (chars passed)) (chars passed)
-    → length counted ≤ length passed → new ≡ spot_after at (chars counted)
+    → chars counted ≡ cond (eqb (length rest) (length text)) (without_byte_order_mark (chars passed)) (chars passed)
+    → length counted ≤ length passed → new ≡ position_after at (chars counted)
     → new.line ≤ at.line + length counted → new.column ≤ at.column + length counted
-    → new.byte_column ≤ at.byte_column + length counted → IsSpotOf text after new
+    → new.byte_column ≤ at.byte_column + length counted → IsPositionOf text after new
 spot_of_rest text rest after passed counted at new is in_rest cut same counted_is no_more new_is line column bytes =
     let before = is.place in
     let whole = is.cursor.is_text in
     let rest_utf8 = is.cursor.following.is_text in
     let long : length passed + length after ≡ length rest = omega (arith, ap length cut, length-append passed after) in
-    let columns : without_mark (before.front ++ chars passed) ≡ without_mark before.front ++ chars counted =
+    let columns : without_byte_order_mark (before.front ++ chars passed) ≡ without_byte_order_mark before.front ++ chars counted =
     columns_more before.front (chars passed) (eqb (length rest) (length text))
     (λ t. no_front text rest before.front whole rest_utf8 before.text_is (eqb-true _ _ t))
     (λ n. eq-eqb _ _ (whole_rest text rest before.front whole rest_utf8 before.text_is n))
-    ∙ ap (λ (z : List ℕ). without_mark before.front ++ z) (sym counted_is)
+    ∙ ap (λ (z : List ℕ). without_byte_order_mark before.front ++ z) (sym counted_is)
     in
     record {
       cursor = record { is_text = is.cursor.is_text; following = tail_step text rest after is.cursor.following in_rest };
@@ -81,18 +81,18 @@ spot_of_rest text rest after passed counted at new is in_rest cut same counted_i
         front = before.front ++ chars passed;
         text_is = before.text_is ∙ ap (λ z. before.front ++ z) same
             ∙ sym (append_assoc before.front (chars passed) (chars after));
-        spot_is = new_is ∙ ap (λ p. spot_after p (chars counted)) before.spot_is
-            ∙ sym (spot_after-append first_spot (without_mark before.front) (chars counted))
-            ∙ ap (λ (z : List ℕ). spot_after first_spot z) (sym columns);
+        spot_is = new_is ∙ ap (λ p. position_after p (chars counted)) before.spot_is
+            ∙ sym (position_after-append first_position (without_byte_order_mark before.front) (chars counted))
+            ∙ ap (λ (z : List ℕ). position_after first_position z) (sym columns);
       };
       line_fits = omega (arith, is.line_fits, line, long, no_more);
       column_fits = omega (arith, is.column_fits, column, long, no_more);
       bytes_fit = omega (arith, is.bytes_fit, bytes, long, no_more);
     }
 
--- ---- the rests of a text
+-- ---- the ends of a text
 
--- a rest that isn't longer stands after another
+-- If one end of a text isn't longer than another end, it is also an end of that one.
 tail_by : (x y a b : List ℕ) → x ++ a ≡ y ++ b → length b ≤ length a → (z : List ℕ) × (a ≡ z ++ b)
 tail_by [] y a b e le = (y, e)
 tail_by (c ∷ x) [] a b e le = absurd (omega (arith, ap length e, length-append x a))
@@ -103,11 +103,9 @@ later_tail text a b p q le =
     let found = tail_by p.front q.front a b (sym p.text_is ∙ q.text_is) le in
     record { front = found.0; text_is = found.1; is_text = q.is_text }
 
--- ---- the characters that bytes belong to
+-- ---- the characters that bytes cover
 
--- Of the characters that the text's first bytes belong to these were passed, and those are left that so many bytes of
--- the rest
--- belong to.
+-- The invariant of the loop over characters: those before `rest` are covered, and `left` bytes still cover characters of `rest`.
 pub record Passed (bytes : ℕ) (text : List ℕ) (left : ℕ) (rest : List ℕ) : Type 0 where
   pub done : List ℕ
   pub text_is : text ≡ done ++ rest

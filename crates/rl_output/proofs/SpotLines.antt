@@ -1,17 +1,17 @@
--- The place after some lines, and after what stands in one.
-use Rattle.rl_text.proofs.Common.{◌≡◌, ℕ, ◌+◌, ◌<◌, ◌≤◌, ◌⊎◌, ◌==◌, Bool, true, false, cond, inl, inr, List, [], ◌∷◌, ◌++◌, length, take, drop, refl, sym, ap, subst, ◌∙◌, arith, chars, eqb-true, lit<, encode_ascii, encode_utf8, encodes-chars, chars-append, chars-nil, get_or, length-append, take-append_seam, IsCharBoundary, IsUtf8, IsUtf8-take}
+-- Lemmas about the position after some lines and a part of a line.
+use Rattle.rl_syntax.proofs.Common.{◌≡◌, ℕ, ◌+◌, ◌<◌, ◌≤◌, ◌⊎◌, ◌==◌, Bool, true, false, cond, inl, inr, List, [], ◌∷◌, ◌++◌, length, take, drop, refl, sym, ap, subst, ◌∙◌, arith, chars, eqb-true, lit<, encode_ascii, encode_utf8, encodes-chars, chars-append, chars-nil, get_or, length-append, take-append_seam, IsCharBoundary, IsUtf8, IsUtf8-take}
 use Rattle.std.specs.Prelude.{encode_utf8_all}
 use Rattle.std.proofs.Math.Seq.{drop-append_seam, get_or-append_seam}
 use Rattle.std.proofs.lemmas.Bool.{false≢true}
 use Rattle.std.proofs.lemmas.List.Sums.{sum_by-append, sum_by-cons}
 use Rattle.std.proofs.lemmas.Str.{IsCharBoundary-before_ascii, chars-IsAscii}
 use Rattle.std.proofs.lemmas.Str.Ascii.{IsAscii-cons, IsAscii-nil}
-use Rattle.rl_text.specs.Texts.{byte_len}
-use Rattle.rl_text.proofs.LowBytes.{AllHigh, cases128, encode_high, not_equal}
+use Rattle.rl_syntax.specs.Texts.{byte_len}
+use Rattle.rl_syntax.proofs.LowBytes.{AllHigh, cases128, encode_high, not_equal}
 use Rattle.rl_output.specs.Contexts.{AreWholeLines, ends_among}
-use Rattle.rl_output.specs.Spots.{next_spot, spot_after}
-use Rattle.rl_output.specs.declared.spot.Spot.{Spot}
-use Rattle.rl_output.proofs.SpotLemmas.{spot_after-append}
+use Rattle.rl_output.specs.Spots.{next_position, position_after}
+use Rattle.rl_output.specs.declared.line_column.Position.{Position}
+use Rattle.rl_output.proofs.SpotLemmas.{position_after-append}
 use Rattle.rl_output.proofs.LastLines.{cut_after_lines}
 
 -- ---- LFs among characters are those among their bytes
@@ -43,34 +43,34 @@ ends_more c cs =
     sum_by-append (λ (x : ℕ). cond (x == 10) 1 0) (encode_utf8 c) (encode_utf8_all cs)
     ∙ ap (λ (n : ℕ). n + ends_among (encode_utf8_all cs)) (ends_of_char c)
 
--- ---- places by their numbers
+-- ---- positions from numbers of lines and characters
 
-abbrev pub spot_by : ℕ → ℕ → ℕ → Spot
+abbrev pub spot_by : ℕ → ℕ → ℕ → Position
 spot_by line column byte_column = record { line = line; column = column; byte_column = byte_column }
 
-same_spot : (p : Spot) (line column byte_column : ℕ) → line ≡ p.line → column ≡ p.column → byte_column ≡ p.byte_column
+same_spot : (p : Position) (line column byte_column : ℕ) → line ≡ p.line → column ≡ p.column → byte_column ≡ p.byte_column
     → spot_by line column byte_column ≡ p
 same_spot p line column byte_column l c b =
     ap (λ (n : ℕ). spot_by n column byte_column) l ∙ ap (λ (n : ℕ). spot_by p.line n byte_column) c
     ∙ ap (λ (n : ℕ). spot_by p.line p.column n) b
 
-next_by : (p : Spot) (c : ℕ) (b : Bool) → (c == 10) ≡ b
-    → next_spot p c ≡ cond b (spot_by (p.line + 1) 1 1)
+next_by : (p : Position) (c : ℕ) (b : Bool) → (c == 10) ≡ b
+    → next_position p c ≡ cond b (spot_by (p.line + 1) 1 1)
     (spot_by p.line (p.column + 1) (p.byte_column + length (encode_utf8 c)))
 next_by p c b e =
     ap (λ (t : Bool). cond t (spot_by (p.line + 1) 1 1)
     (spot_by p.line (p.column + 1) (p.byte_column + length (encode_utf8 c)))) e
 
-next_line : (p : Spot) (c : ℕ) → (next_spot p c).line ≡ p.line + end_count (c == 10)
+next_line : (p : Position) (c : ℕ) → (next_position p c).line ≡ p.line + end_count (c == 10)
 next_line p c = go (c == 10) refl
   where
-    go : (b : Bool) → (c == 10) ≡ b → (next_spot p c).line ≡ p.line + end_count (c == 10)
-    go true e = omega (arith, ap (λ (q : Spot). q.line) (next_by p c true e), ap end_count e)
-    go false e = omega (arith, ap (λ (q : Spot). q.line) (next_by p c false e), ap end_count e)
+    go : (b : Bool) → (c == 10) ≡ b → (next_position p c).line ≡ p.line + end_count (c == 10)
+    go true e = omega (arith, ap (λ (q : Position). q.line) (next_by p c true e), ap end_count e)
+    go false e = omega (arith, ap (λ (q : Position). q.line) (next_by p c false e), ap end_count e)
 
-line_after : (p : Spot) (cs : List ℕ) → (spot_after p cs).line ≡ p.line + ends_among (encode_utf8_all cs)
+line_after : (p : Position) (cs : List ℕ) → (position_after p cs).line ≡ p.line + ends_among (encode_utf8_all cs)
 line_after p [] = omega arith
-line_after p (c ∷ cs) = omega (arith, line_after (next_spot p c) cs, next_line p c, ends_more c cs)
+line_after p (c ∷ cs) = omega (arith, line_after (next_position p c) cs, next_line p c, ends_more c cs)
 
 -- ---- in one line
 
@@ -82,42 +82,42 @@ no_end c cs none = go (c == 10) refl
     go true e = absurd (omega (arith, ends_more c cs, ap end_count e, none))
     go false e = (e, omega (arith, ends_more c cs, none))
 
--- the columns after characters among which no LF is
-columns_after : (p : Spot) (cs : List ℕ) → ends_among (encode_utf8_all cs) ≡ 0
-    → ((spot_after p cs).column ≡ p.column + length cs) × ((spot_after p cs).byte_column ≡ p.byte_column + byte_len cs)
+-- The columns after characters without an LF: the column grows by the number of characters, the byte column by the number of bytes.
+columns_after : (p : Position) (cs : List ℕ) → ends_among (encode_utf8_all cs) ≡ 0
+    → ((position_after p cs).column ≡ p.column + length cs) × ((position_after p cs).byte_column ≡ p.byte_column + byte_len cs)
 columns_after p [] none = (omega arith, omega arith)
 columns_after p (c ∷ cs) none =
     let (other, others) = no_end c cs none in
     let next = next_by p c false other in
-    let (column, bytes) = columns_after (next_spot p c) cs others in (
-      omega (arith, column, ap (λ (q : Spot). q.column) next),
+    let (column, bytes) = columns_after (next_position p c) cs others in (
+      omega (arith, column, ap (λ (q : Position). q.column) next),
       omega (
         arith,
         bytes,
-        ap (λ (q : Spot). q.byte_column) next,
+        ap (λ (q : Position). q.byte_column) next,
         length-append (encode_utf8 c) (encode_utf8_all cs),
       ),
     )
 
-pub spot_within : (p : Spot) (inside : List ℕ) (count : ℕ) → IsUtf8 inside → ends_among inside ≡ 0
+pub spot_within : (p : Position) (inside : List ℕ) (count : ℕ) → IsUtf8 inside → ends_among inside ≡ 0
     → count ≡ length (chars inside)
-    → spot_by p.line (p.column + count) (p.byte_column + length inside) ≡ spot_after p (chars inside)
+    → spot_by p.line (p.column + count) (p.byte_column + length inside) ≡ position_after p (chars inside)
 spot_within p inside count utf8 none counted =
     let bytes : encode_utf8_all (chars inside) ≡ inside = encodes-chars inside utf8 in
     let none_here : ends_among (encode_utf8_all (chars inside)) ≡ 0 = ap ends_among bytes ∙ none in
     let (column, byte_column) = columns_after p (chars inside) none_here in
-    same_spot (spot_after p (chars inside)) p.line (p.column + count) (p.byte_column + length inside)
+    same_spot (position_after p (chars inside)) p.line (p.column + count) (p.byte_column + length inside)
     (omega (arith, line_after p (chars inside), none_here)) (omega (arith, column, counted))
     (omega (arith, byte_column, ap length bytes))
 
 -- ---- after lines
 
-pub spot_after_none : (p : Spot) (lines : List ℕ) → (length lines == 0) ≡ true → p ≡ spot_after p (chars lines)
-spot_after_none p [] none = ap (spot_after p) (sym chars-nil)
+pub spot_after_none : (p : Position) (lines : List ℕ) → (length lines == 0) ≡ true → p ≡ position_after p (chars lines)
+spot_after_none p [] none = ap (position_after p) (sym chars-nil)
 spot_after_none p (b ∷ bs) none = absurd (let z = eqb-true (length (b ∷ bs)) 0 none in omega arith)
 
-pub spot_after_lines : (p : Spot) (lines : List ℕ) (count : ℕ) → IsUtf8 lines → AreWholeLines lines
-    → (length lines == 0) ≡ false → count ≡ ends_among lines → spot_by (p.line + count) 1 1 ≡ spot_after p (chars lines)
+pub spot_after_lines : (p : Position) (lines : List ℕ) (count : ℕ) → IsUtf8 lines → AreWholeLines lines
+    → (length lines == 0) ≡ false → count ≡ ends_among lines → spot_by (p.line + count) 1 1 ≡ position_after p (chars lines)
 spot_after_lines p lines count utf8 (inl none) some counted = absurd
     (false≢true (sym some ∙ ap (λ (z : List ℕ). length z == 0) none))
 spot_after_lines p lines count utf8 (inr (others, is)) some counted =
@@ -132,26 +132,26 @@ spot_after_lines p lines count utf8 (inr (others, is)) some counted =
     let characters : chars lines ≡ chars others ++ (10 ∷ []) = ap chars is ∙ chars-append others (10 ∷ []) text
     ∙ ap (λ (z : List ℕ). chars others ++ z) (chars-IsAscii (10 ∷ []) (IsAscii-cons 10 [] (lit< tt) IsAscii-nil)) in
     let bytes : encode_utf8_all (chars lines) ≡ lines = encodes-chars lines utf8 in
-    let last : spot_after p (chars lines) ≡ next_spot (spot_after p (chars others)) 10 =
-    ap (spot_after p) characters ∙ spot_after-append p (chars others) (10 ∷ []) in
-    same_spot (spot_after p (chars lines)) (p.line + count) 1 1
-    (omega (arith, line_after p (chars lines), ap ends_among bytes, counted)) (sym (ap (λ (q : Spot). q.column) last))
-    (sym (ap (λ (q : Spot). q.byte_column) last))
+    let last : position_after p (chars lines) ≡ next_position (position_after p (chars others)) 10 =
+    ap (position_after p) characters ∙ position_after-append p (chars others) (10 ∷ []) in
+    same_spot (position_after p (chars lines)) (p.line + count) 1 1
+    (omega (arith, line_after p (chars lines), ap ends_among bytes, counted)) (sym (ap (λ (q : Position). q.column) last))
+    (sym (ap (λ (q : Position). q.byte_column) last))
 
--- ---- a text of both
+-- ---- a text of lines and a part of one
 
 pub utf8_lines : (text lines back : List ℕ) → IsUtf8 text → text ≡ lines ++ back → AreWholeLines lines → IsUtf8 lines
 utf8_lines text lines back utf8 cut whole =
     let taken : take (length lines) text ≡ lines = ap (take (length lines)) cut ∙ take-append_seam lines back in
     subst IsUtf8 taken (IsUtf8-take text (length lines) utf8 (cut_after_lines text lines back utf8 cut whole))
 
-pub spot_of_both : (p next new : Spot) (text lines back inside : List ℕ) → IsUtf8 text → text ≡ lines ++ back
-    → AreWholeLines lines → inside ≡ drop (length lines) text → next ≡ spot_after p (chars lines)
-    → new ≡ spot_after next (chars inside) → new ≡ spot_after p (chars text)
-spot_of_both p next new text lines back inside utf8 cut whole rest next_is new_is =
+pub spot_of_both : (p next new : Position) (text lines back inside : List ℕ) → IsUtf8 text → text ≡ lines ++ back
+    → AreWholeLines lines → inside ≡ drop (length lines) text → next ≡ position_after p (chars lines)
+    → new ≡ position_after next (chars inside) → new ≡ position_after p (chars text)
+spot_of_both p next new text lines back inside utf8 cut whole rest begins_with_kind new_is =
     let rest_is : inside ≡ back = rest ∙ ap (drop (length lines)) cut ∙ drop-append_seam lines back in
     let both : chars text ≡ chars lines ++ chars inside = ap chars cut
     ∙ chars-append lines back (utf8_lines text lines back utf8 cut whole)
     ∙ ap (λ (z : List ℕ). chars lines ++ chars z) (sym rest_is) in
-    new_is ∙ ap (λ (q : Spot). spot_after q (chars inside)) next_is
-    ∙ sym (ap (spot_after p) both ∙ spot_after-append p (chars lines) (chars inside))
+    new_is ∙ ap (λ (q : Position). position_after q (chars inside)) begins_with_kind
+    ∙ sym (ap (position_after p) both ∙ position_after-append p (chars lines) (chars inside))

@@ -1,4 +1,4 @@
--- Names of the errors of a source, that stay.
+-- Identifiers of the errors of a source, for output that programs read. They never change.
 use Rattle.std.specs.Prelude.{ℕ, List, codes}
 use Rattle.rl_lexer.specs.declared.lex_error.LexKind.{LexKind}
 use Rattle.rl_lexer.specs.declared.lex_error.LexKind.TheVariants.{DocComment, UnclosedComment, UnclosedQuote, Lifetime, RawIdentifier, StrayCharacter, UnmatchedClose, UnclosedGroup, TooDeep, Memory}

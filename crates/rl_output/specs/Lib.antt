@@ -4,6 +4,7 @@ pub mod Colors
 pub mod Spots
 pub mod JsonStrings
 pub mod Members
+pub mod Paths
 pub mod Github
 pub mod Fronts
 pub mod ErrorIds

@@ -1,42 +1,42 @@
-//! Which literals of a source are shown, how they are printed, and how a text is looked for.
+//! Selects the literals of a source that are shown, their form, and how a search compares texts.
 
 ghost use Rattle.std.specs.Prelude.{◌↔◌, IsTrue};
 ghost use Rattle.rl_output.specs.Choices.{Names, Picks};
 
-/// How a literal is printed.
+/// The form in which a literal is shown.
 #[derive(Clone, Copy)]
 pub enum Spelling {
-    /// Its kind, its value and its suffix.
+    /// A literal is shown by its kind, its decoded value and its suffix.
     Value,
-    /// As it is written in the source.
+    /// A literal is shown as written in the source.
     Source,
 }
 
-/// Which literals are shown.
+/// The literals that are shown.
 #[derive(Clone, Copy)]
 pub enum Shown<'a> {
-    /// All of them.
+    /// All literals are shown.
     All,
-    /// Those whose lines begin with one of these words, in any case of their letters; commas separate the words.
+    /// The literals of the listed kinds are shown. The list has names of kinds with commas between, in upper or lower case.
     Only(&'a str),
-    /// Those that are bad: no literal tokens of Rust, where a CR LF of the file is an LF, integers past 128 bits, or literals that
-    /// Rust has no type for, or that stand right after a reserved prefix.
+    /// The invalid literals are shown: those that aren't literals of Rust (a CR LF of the file counts as an LF), are integers above
+    /// 128 bits, have no type in Rust, or follow a reserved prefix.
     Bad,
-    /// None: in their place the characters of the source are shown that turn or hide text, wherever they stand.
+    /// The invisible and bidirectional characters of the source are shown, in literals and elsewhere. Literals aren't shown.
     Hidden,
 }
 
-/// How a text is looked for.
+/// The rules by which a search compares texts.
 #[derive(Clone, Copy)]
 pub struct Matching {
-    /// Whether small letters of ASCII and large ones are the same.
+    /// Whether a search treats lower and upper case of ASCII letters as equal.
     pub ignores_case: bool,
-    /// Whether it has to stand as whole words: between bytes that are no letter and no digit of ASCII, no `_`, and not past
-    /// ASCII.
+    /// Whether a search matches only whole words. A whole word has no ASCII letter, digit, `_` or non-ASCII byte right before or
+    /// after it.
     pub whole_words: bool,
 }
 
-/// Whether this is one of the words of a list, in any case of its letters; commas separate the words.
+/// Returns `true` if `label` is one of the words in `list`. Commas separate the words, and case doesn't count.
 pub fn names(list: &str, label: &str) -> bool
     ensures { IsTrue result ↔ Names list.now label.now }
 {
@@ -44,7 +44,7 @@ pub fn names(list: &str, label: &str) -> bool
 }
 
 impl Shown<'_> {
-    /// Whether a literal is shown whose line begins with this word, and which is bad or not.
+    /// Returns `true` if a literal is shown. `label` is the name of its kind, and `is_bad` tells whether it is invalid.
     pub fn picks(self, label: &str, is_bad: bool) -> bool
         ensures { IsTrue result ↔ Picks self.entry label.now (IsTrue is_bad) }
     {

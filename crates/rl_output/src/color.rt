@@ -1,4 +1,4 @@
-//! Colours of a terminal.
+//! Colours of output on a terminal.
 
 ghost use Rattle.std.specs.Prelude.{◌≡◌, ◌++◌, codes, OnOk, string_bytes};
 ghost use Rattle.std.specs.Str.{chars};
@@ -8,21 +8,21 @@ ghost use Rattle.rl_output.specs.declared.color.Paint.TheVariants.{Error};
 use crate::form::Form;
 use std::alloc::{AllocError, Allocator};
 
-/// What ends a colour.
+/// The terminal sequence that ends a colour.
 pub(crate) const PAINT_END: &str = "\x1b[0m";
 
-/// What of a line has a colour.
+/// A part of an output line that may have a colour.
 #[derive(Clone, Copy)]
 pub enum Paint {
-    /// Its path: magenta.
+    /// The path of a file, in magenta.
     Path,
-    /// Its place: green.
+    /// The position in a file, in green.
     Place,
-    /// The word `error`: bold red.
+    /// The word `error`, in bold red.
     Error,
 }
 
-/// What begins a colour.
+/// Returns the terminal sequence that starts the colour of a part of a line.
 pub(crate) fn start_of(paint: Paint) -> &'static str
     ensures { result.now ≡ paint_start paint }
 {
@@ -33,7 +33,7 @@ pub(crate) fn start_of(paint: Paint) -> &'static str
     }
 }
 
-/// Whether lines have colours.
+/// Whether the format of lines has colours.
 #[inline(always)]
 pub(crate) fn has_colors(form: Form) -> bool
     ensures { result ≡ is_colored form }
@@ -41,11 +41,11 @@ pub(crate) fn has_colors(form: Form) -> bool
     matches!(form, Form::Colored)
 }
 
-/// Appends a text, in a colour where lines have colours.
+/// Appends a text, with its colour if the format of lines has colours.
 ///
 /// # Errors
 ///
-/// An allocation failure. A beginning may have been appended then.
+/// Returns an error if an allocation fails. A beginning of the text may have been appended then.
 pub fn push_painted<A: Allocator>(
     out: &mut String<A>,
     form: Form,
@@ -61,11 +61,11 @@ pub fn push_painted<A: Allocator>(
     Ok(())
 }
 
-/// Appends the word that the line of an error begins with.
+/// Appends the word `error`, with its colour if the format of lines has colours.
 ///
 /// # Errors
 ///
-/// An allocation failure. A beginning may have been appended then.
+/// Returns an error if an allocation fails. A beginning of the word may have been appended then.
 pub fn push_error_word<A: Allocator>(out: &mut String<A>, form: Form) -> Result<(), AllocError>
     ensures { OnOk result (chars (string_bytes out.new)
         ≡ chars (string_bytes out.old) ++ painted form Error (codes "error")) }

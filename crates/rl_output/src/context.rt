@@ -1,44 +1,44 @@
-//! The line of a source where a place stands, carets below it, and lines before and after it.
+//! Shows the line of a source where a range begins, with carets below the range, and lines of context before and after it.
 
 ghost use Rattle.std.specs.Prelude.{◌≡◌, ◌++◌, ◌∷◌, [], codes, OnOk, string_bytes, encode_utf8_all};
 ghost use Rattle.std.specs.Char.Escape.{escape_default};
 ghost use Rattle.std.specs.List.{flat_map};
 ghost use Rattle.std.specs.Str.{chars};
-ghost use Rattle.rl_text.specs.Texts.{IsTail};
+ghost use Rattle.rl_syntax.specs.Texts.{IsTail};
 ghost use Rattle.rl_output.specs.Contexts.{ends_line as is_end, first_line as up_to_end, line_char, line_text, mark_below, marks_below, carets, context_lines, is_long as is_too_long, marked_line, after_first_line as text_after, shown_line, shown_lines};
 
+use crate::line_column::front_covered;
 use crate::member::push_ascii;
-use crate::spot::front_covered;
 use rl_files::{needs_escape, push_visible};
-use rl_text::text::{before, begins_with, split_char};
+use rl_syntax::text::{before, begins_with, split_char};
 use std::alloc::{AllocError, Allocator};
 
-/// How far a line stands in.
+/// The indentation of the source's lines in the output.
 const MARGIN: &str = "    ";
 
-/// A line of more bytes isn't shown.
+/// The maximum length, in bytes, of a source's line that is shown.
 const MOST_BYTES: usize = 1024;
 
-/// What stands in its place.
+/// The message in place of a source's line that is too long.
 const LEFT_OUT: &str = "    (a line of more than 1024 bytes)\n";
 
-/// How many lines are shown before and after that of a place.
+/// The numbers of lines of context that are shown before and after a line of the source.
 #[derive(Clone, Copy)]
 pub struct Context {
-    /// Before it.
+    /// The number of lines of context before the line.
     pub before: usize,
-    /// After it.
+    /// The number of lines of context after the line.
     pub after: usize,
 }
 
-/// Whether a character, which stands before this, ends a line.
+/// Whether the line ends at `c`, since `c` is an LF or the CR of a CR LF. `after` is the text after `c`.
 fn ends_line(c: char, after: &str) -> bool
     ensures { result ≡ is_end c (chars after.now) }
 {
     c == '\n' || c == '\r' && begins_with(after, '\n')
 }
 
-/// The text up to the end of its first line: an LF, or CR LF.
+/// Returns the first line of a text, without its line end, which is an LF or CR LF.
 pub fn first_line(text: &str) -> &str
     ensures { chars result.now ≡ up_to_end (chars text.now) }
 {
@@ -52,7 +52,8 @@ pub fn first_line(text: &str) -> &str
     text
 }
 
-/// Appends the first character of a rest of a line, after which so much is left, as it is printed: a tab stays.
+/// Appends the character `c` of a source's line: a tab unchanged, an invisible character as an escape. `rest` is the text from `c`,
+/// and `after` the text after `c`.
 fn push_line_char<A: Allocator>(
     out: &mut String<A>,
     rest: &str,
@@ -70,7 +71,7 @@ fn push_line_char<A: Allocator>(
     push_visible(out, before(rest, after))
 }
 
-/// Appends a part of a line as it is printed: a tab stays.
+/// Appends a part of a source's line, with escapes for invisible characters except tabs.
 fn push_line<A: Allocator>(out: &mut String<A>, text: &str) -> Result<(), AllocError>
     ensures { OnOk result (chars (string_bytes out.new)
         ≡ chars (string_bytes out.old) ++ line_text (chars text.now)) }
@@ -83,7 +84,7 @@ fn push_line<A: Allocator>(out: &mut String<A>, text: &str) -> Result<(), AllocE
     Ok(())
 }
 
-/// Appends a mark for each character of an escape.
+/// Appends `mark` once for each character of the escape of `c`.
 fn push_escape_marks<A: Allocator>(
     out: &mut String<A>,
     c: char,
@@ -98,7 +99,8 @@ fn push_escape_marks<A: Allocator>(
     Ok(())
 }
 
-/// Appends what stands below a character: a mark for each that is printed of it, and for a tab its own.
+/// Appends the text below a shown character of a line: `tab` for a tab, else `mark` once for each character that is shown,
+/// including those of an escape.
 fn push_mark<A: Allocator>(
     out: &mut String<A>,
     c: char,
@@ -119,7 +121,7 @@ fn push_mark<A: Allocator>(
     Ok(())
 }
 
-/// Appends what stands below a part of a line.
+/// Appends the text below a shown part of a line: `tab` for each tab, and `mark` for each other character that is shown.
 fn push_marks<A: Allocator>(
     out: &mut String<A>,
     text: &str,
@@ -135,7 +137,7 @@ fn push_marks<A: Allocator>(
     Ok(())
 }
 
-/// Appends the carets under a part of a line: one where it is empty.
+/// Appends carets below a shown part of a line, or one caret if that part is empty.
 fn push_carets<A: Allocator>(out: &mut String<A>, text: &str) -> Result<(), AllocError>
     ensures { OnOk result (chars (string_bytes out.new)
         ≡ chars (string_bytes out.old) ++ carets (chars text.now)) }
@@ -146,14 +148,14 @@ fn push_carets<A: Allocator>(out: &mut String<A>, text: &str) -> Result<(), Allo
     push_marks(out, text, '^', '^')
 }
 
-/// Whether a line of which so much stands before a place, and so much after it, has more bytes than are shown.
+/// Whether a line is longer than 1,024 bytes. `before` and `after` are its two parts.
 fn is_long(before: &str, after: &str) -> bool
     ensures { result ≡ is_too_long (chars before.now ++ chars after.now) }
 {
     before.len() > MOST_BYTES || after.len() > MOST_BYTES - before.len()
 }
 
-/// The text after its first line.
+/// Returns the text after its first line.
 fn after_first_line(text: &str) -> &str
     ensures { chars result.now ≡ text_after (chars text.now) }
 {
@@ -167,7 +169,7 @@ fn after_first_line(text: &str) -> &str
     rest
 }
 
-/// Appends a line, four columns in.
+/// Appends a source's line, indented by four columns, and a line end.
 fn push_whole_line<A: Allocator>(out: &mut String<A>, line: &str) -> Result<(), AllocError>
     ensures { OnOk result (chars (string_bytes out.new)
         ≡ chars (string_bytes out.old) ++ (codes "    " ++ (line_text (chars line.now) ++ codes "\n"))) }
@@ -177,7 +179,7 @@ fn push_whole_line<A: Allocator>(out: &mut String<A>, line: &str) -> Result<(), 
     push_ascii(out, "\n")
 }
 
-/// Appends the first line of a text, as it is shown.
+/// Appends the first line of a text, indented by four columns, or a message if it is longer than 1,024 bytes.
 fn push_shown_line<A: Allocator>(out: &mut String<A>, text: &str) -> Result<(), AllocError>
     ensures { OnOk result (chars (string_bytes out.new)
         ≡ chars (string_bytes out.old) ++ shown_line (chars text.now)) }
@@ -189,7 +191,7 @@ fn push_shown_line<A: Allocator>(out: &mut String<A>, text: &str) -> Result<(), 
     push_whole_line(out, line)
 }
 
-/// Appends the first lines of a text, so many, or all where there are fewer.
+/// Appends the first `count` lines of a text, or all lines if there are fewer. Each is indented by four columns.
 fn push_shown_lines<A: Allocator>(
     out: &mut String<A>,
     text: &str,
@@ -211,7 +213,9 @@ fn push_shown_lines<A: Allocator>(
     Ok(())
 }
 
-/// Appends the line where a place begins, and below it carets under the place, up to the end of that line.
+/// Appends the line where a range begins, and below it carets for the range, up to the end of that line.
+///
+/// `before` is the line before the range, `rest` the text from the range, and `bytes` the length of the range.
 fn push_marked_line<A: Allocator>(
     out: &mut String<A>,
     before: &str,
@@ -231,14 +235,18 @@ fn push_marked_line<A: Allocator>(
     push_ascii(out, "\n")
 }
 
-/// Whether the line of a place has more bytes than are shown: so much of it stands before the place, with which a rest begins.
+/// Whether the line at a position is longer than 1,024 bytes. `before` is the line before the position, and `rest` the text from
+/// the position.
 fn is_long_about(before: &str, rest: &str) -> bool
     ensures { result ≡ is_too_long (chars before.now ++ up_to_end (chars rest.now)) }
 {
     is_long(before, "") || is_long(before, first_line(rest))
 }
 
-/// Appends the line where a place begins, with carets below it, and lines before and after it.
+/// Appends the line where a range begins, carets below the range, and the lines of context before and after.
+///
+/// `lines` is the text before that line, `before` the line before the range, `rest` the text from the range, and `bytes` the length
+/// of the range.
 fn push_whole_context<A: Allocator>(
     out: &mut String<A>,
     context: Context,
@@ -256,14 +264,16 @@ fn push_whole_context<A: Allocator>(
     push_shown_lines(out, after_first_line(rest), context.after)
 }
 
-/// Appends the line where a place begins, with carets below it under the place, up to the end of that line, and lines before and after
-/// it. `lines` stands before that line: its first lines are shown, as many as are wanted. `before` stands in the line before the place,
-/// `rest` begins with it, and so many bytes of that are in it. A tab before the place is one in the line of carets too. In place of a
-/// line of more than 1,024 bytes stands that it is so long; of a place in such a line that alone is shown.
+/// Appends the line of a source where a range begins, carets below the range, and the lines of context before and after.
+///
+/// `lines` is the text from the first line of context up to the line where the range begins. `before` is that line before the
+/// range, `rest` the text from the range, and `bytes` the length of the range. The carets end at the end of the line. A tab before
+/// the range is also a tab in the line of carets. A message replaces a line of more than 1,024 bytes. If the range begins in such a
+/// line, only the message is appended.
 ///
 /// # Errors
 ///
-/// An allocation failure. A beginning may have been appended then.
+/// Returns an error if an allocation fails. A beginning of the lines may have been appended then.
 pub fn push_context<A: Allocator>(
     out: &mut String<A>,
     context: Context,

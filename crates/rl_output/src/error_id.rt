@@ -1,11 +1,11 @@
-//! Names of the errors of a source.
+//! Identifiers of the errors of a source, for output that programs read.
 
 ghost use Rattle.std.specs.Prelude.{◌≡◌};
 ghost use Rattle.rl_output.specs.ErrorIds.{error_id};
 
 use rl_lexer::LexKind;
 
-/// What is wrong with a source, by a name that stays.
+/// Returns the identifier of an error of a source, as `unclosed-comment`. It never changes.
 pub fn id_of(kind: LexKind) -> &'static str
     ensures { result.now ≡ error_id kind }
 {

@@ -1,22 +1,22 @@
-//! How a line is written.
+//! The format of an output line.
 
 ghost use Rattle.std.specs.Prelude.{◌≡◌};
 ghost use Rattle.rl_output.specs.Forms.{has_extents as with_extents, is_github as for_github, is_json as prints_json};
 
-/// How a line is written.
+/// The format of an output line.
 #[derive(Clone, Copy)]
 pub enum Form {
-    /// As words after its place.
+    /// A line is a position and a text.
     Plain,
-    /// As these, with colours for a terminal.
+    /// A line is a position and a text, with colours for a terminal.
     Colored,
-    /// As an object of JSON.
+    /// A line is a JSON object.
     Json,
-    /// As an annotation that a workflow of GitHub makes of a line: `::error file=PATH,line=L,..::MESSAGE`.
+    /// A line is an annotation for GitHub workflows: `::error file=PATH,line=L,..::MESSAGE`.
     Github,
 }
 
-/// Whether lines are objects.
+/// Returns `true` if output lines are JSON objects.
 #[inline(always)]
 pub fn is_json(form: Form) -> bool
     ensures { result ≡ prints_json form }
@@ -24,7 +24,7 @@ pub fn is_json(form: Form) -> bool
     matches!(form, Form::Json)
 }
 
-/// Whether lines are annotations.
+/// Returns `true` if output lines are GitHub annotations.
 #[inline(always)]
 pub fn is_github(form: Form) -> bool
     ensures { result ≡ for_github form }
@@ -32,7 +32,7 @@ pub fn is_github(form: Form) -> bool
     matches!(form, Form::Github)
 }
 
-/// Whether lines say where what they are about begins and ends.
+/// Returns `true` if output lines have the start and the end of a range. JSON objects and GitHub annotations have both.
 #[inline(always)]
 pub fn has_extents(form: Form) -> bool
     ensures { result ≡ with_extents form }

@@ -1,4 +1,4 @@
-//! Texts as strings of JSON.
+//! Writes texts as JSON strings.
 
 ghost use Rattle.std.specs.Prelude.{◌≡◌, ◌<◌, ◌++◌, ◌∷◌, [], OnOk, string_bytes, encode_utf8_all};
 ghost use Rattle.std.specs.Char.{digit_char};
@@ -8,10 +8,10 @@ ghost use Rattle.std.specs.Str.{chars};
 ghost use Rattle.rl_output.specs.JsonStrings.{IsJsonStringOf, two_digits, unit_escape, letter_escape, other_char, json_char, json_body, json_string};
 
 use rl_files::needs_escape;
-use rl_lines::are_bare;
+use rl_program::need_no_escapes;
 use std::alloc::{AllocError, Allocator};
 
-/// A hexadecimal digit.
+/// Returns the hexadecimal digit for a value below 16.
 fn digit(value: u32) -> char
     requires { value < 16 }
     ensures { result ≡ digit_char value }
@@ -38,7 +38,7 @@ fn push_byte<A: Allocator>(out: &mut String<A>, byte: u32) -> Result<(), AllocEr
     push_pair(out, digit(byte / 16), digit(byte % 16))
 }
 
-/// Appends the escape of a unit of UTF-16 by its number.
+/// Appends the escape of a UTF-16 code unit, as `\u202e`.
 fn push_unit<A: Allocator>(out: &mut String<A>, unit: u32) -> Result<(), AllocError>
     requires { unit < 0x10000 }
     ensures { OnOk result (string_bytes out.new
@@ -49,7 +49,7 @@ fn push_unit<A: Allocator>(out: &mut String<A>, unit: u32) -> Result<(), AllocEr
     push_byte(out, unit % 256)
 }
 
-/// Appends a character by its number, one past FFFF by those of its two halves.
+/// Appends the escape of a character, as `\u202e`. A character above U+FFFF has two escapes, for its two surrogates.
 fn push_number<A: Allocator>(out: &mut String<A>, c: char) -> Result<(), AllocError>
     ensures { OnOk result (string_bytes out.new
         ≡ string_bytes out.old ++ encode_utf8_all (flat_map unit_escape (encode_utf16 c))) }
@@ -63,7 +63,7 @@ fn push_number<A: Allocator>(out: &mut String<A>, c: char) -> Result<(), AllocEr
     push_unit(out, 0xDC00 + above % 0x400)
 }
 
-/// Appends a letter after a backslash.
+/// Appends a backslash and a letter, which are an escape in a JSON string.
 fn push_letter<A: Allocator>(out: &mut String<A>, letter: char) -> Result<(), AllocError>
     ensures { OnOk result (string_bytes out.new
         ≡ string_bytes out.old ++ encode_utf8_all (letter_escape letter)) }
@@ -71,7 +71,8 @@ fn push_letter<A: Allocator>(out: &mut String<A>, letter: char) -> Result<(), Al
     push_pair(out, '\\', letter)
 }
 
-/// Appends a character that is no quote, no backslash, and no LF, CR or tab.
+/// Appends a character other than a quote, a backslash, LF, CR and a tab. A control, invisible or bidirectional character is
+/// escaped by its number.
 fn push_other<A: Allocator>(out: &mut String<A>, c: char) -> Result<(), AllocError>
     ensures { OnOk result (string_bytes out.new
         ≡ string_bytes out.old ++ encode_utf8_all (other_char c)) }
@@ -83,7 +84,7 @@ fn push_other<A: Allocator>(out: &mut String<A>, c: char) -> Result<(), AllocErr
     Ok(())
 }
 
-/// Appends a character as it is written in a string.
+/// Appends a character, or its escape in a JSON string.
 fn push_char<A: Allocator>(out: &mut String<A>, c: char) -> Result<(), AllocError>
     ensures { OnOk result (string_bytes out.new
         ≡ string_bytes out.old ++ encode_utf8_all (json_char c)) }
@@ -98,7 +99,7 @@ fn push_char<A: Allocator>(out: &mut String<A>, c: char) -> Result<(), AllocErro
     }
 }
 
-/// Appends the characters of a text as they are written in a string.
+/// Appends the characters of a text, with their escapes in a JSON string.
 fn push_chars<A: Allocator>(out: &mut String<A>, text: &str) -> Result<(), AllocError>
     ensures { OnOk result (chars (string_bytes out.new)
         ≡ chars (string_bytes out.old) ++ json_body (chars text.now)) }
@@ -109,24 +110,27 @@ fn push_chars<A: Allocator>(out: &mut String<A>, text: &str) -> Result<(), Alloc
     Ok(())
 }
 
-/// Appends what stands between the quotes of a text's string. A text of bare ASCII is copied at once.
+/// Appends a text, with the escapes of a JSON string but without its quotes. Printable ASCII without quotes and backslashes is
+/// copied at once.
 fn push_json_body<A: Allocator>(out: &mut String<A>, text: &str) -> Result<(), AllocError>
     ensures { OnOk result (chars (string_bytes out.new)
         ≡ chars (string_bytes out.old) ++ json_body (chars text.now)) }
 {
-    if are_bare(text.as_bytes()) {
+    if need_no_escapes(text.as_bytes()) {
         out.push_str(text)?;
         return Ok(());
     }
     push_chars(out, text)
 }
 
-/// Appends a text as a string of JSON: a quote, a backslash, LF, CR and a tab by a letter after a backslash, other control
-/// characters and what turns or hides text by their numbers, as `\u202e`, all else as it is.
+/// Appends a text as a JSON string.
+///
+/// A quote, a backslash, LF, CR and a tab are escaped by a backslash and a letter. Other control characters, and invisible or
+/// bidirectional characters, are escaped by their numbers, as `\u202e`. All other characters are unchanged.
 ///
 /// # Errors
 ///
-/// An allocation failure. A beginning may have been appended then.
+/// Returns an error if an allocation fails. A beginning of the string may have been appended then.
 pub fn push_json_string<A: Allocator>(out: &mut String<A>, text: &str) -> Result<(), AllocError>
     ensures { OnOk result (chars (string_bytes out.new)
         ≡ chars (string_bytes out.old) ++ json_string (chars text.now)) }
@@ -137,7 +141,7 @@ pub fn push_json_string<A: Allocator>(out: &mut String<A>, text: &str) -> Result
     Ok(())
 }
 
-/// What is written of a text is a string of JSON that stands for the text, and nothing in it turns or hides text.
-pub fn json_strings_stand(text: &str)
+/// Proves that `json_string` of a text is a JSON string that represents the text, without invisible and bidirectional characters.
+pub fn a_json_string_represents_its_text(text: &str)
     ensures { IsJsonStringOf (chars text.now) (json_string (chars text.now)) }
 {}

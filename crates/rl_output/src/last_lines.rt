@@ -1,9 +1,9 @@
-//! How many lines there are, and the last of them.
+//! Counts the lines of a text, and finds its last lines.
 
 ghost use Rattle.std.specs.Prelude.{◌≡◌, ◌≤◌, drop, length};
 ghost use Rattle.rl_output.specs.Contexts.{AreLastLines, AreWholeLines, IsThroughEnd, ends_among};
 
-/// How many LFs are among so few bytes that the count fits a byte, which is what lets the compiler count sixteen at once.
+/// Returns the number of LFs in at most 255 bytes. The count fits a byte, so that the compiler can count sixteen bytes at once.
 fn ends_in(block: &[u8]) -> u8
     requires short { length block.now ≤ 255 }
     ensures { result ≡ ends_among block.now }
@@ -11,8 +11,8 @@ fn ends_in(block: &[u8]) -> u8
     block.iter().map(|byte| (*byte == b'\n') as u8).sum()
 }
 
-/// How many LFs are among bytes: of whole lines how many there are.
-pub fn count_ends(bytes: &[u8]) -> usize
+/// Returns the number of LFs in the bytes. If the bytes end with an LF, it is the number of lines.
+pub fn count_line_feeds(bytes: &[u8]) -> usize
     ensures { result ≡ ends_among bytes.now }
 {
     let mut ends = 0;
@@ -25,7 +25,7 @@ pub fn count_ends(bytes: &[u8]) -> usize
     ends + ends_in(rest) as usize
 }
 
-/// The bytes through the last LF among them.
+/// Returns the bytes up to and including the last LF. Without an LF the result is empty.
 pub(crate) fn through_end(bytes: &[u8]) -> &[u8]
     ensures cut { IsThroughEnd bytes.now result.now }
     ensures within { length result.now ≤ length bytes.now }
@@ -40,7 +40,7 @@ pub(crate) fn through_end(bytes: &[u8]) -> &[u8]
     left
 }
 
-/// Where the last of some lines begin, so many, or all where there are fewer.
+/// Returns the byte offset where the last `count` lines begin, or 0 if there are fewer lines.
 fn last_lines_at(lines: &[u8], count: usize) -> usize
     requires { AreWholeLines lines.now }
     ensures last { AreLastLines count lines.now (drop result lines.now) }
@@ -58,7 +58,7 @@ fn last_lines_at(lines: &[u8], count: usize) -> usize
     left.len()
 }
 
-/// The last of some lines, so many, or all where there are fewer.
+/// Returns the last `count` lines, or all lines if there are fewer.
 pub(crate) fn last_lines(lines: &str, count: usize) -> &str
     requires { AreWholeLines lines.now }
     ensures { AreLastLines count lines.now result.now }

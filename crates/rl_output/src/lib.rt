@@ -1,5 +1,5 @@
-//! What a line of the programs looks like: places, colours, strings of JSON, annotations of GitHub, and the line of the source
-//! with a mark below, and lines about it; and which literals have one.
+//! The parts of the output lines for literals: positions, colours, JSON strings, GitHub annotations, and the lines of the source
+//! with carets below a range. Also selects the literals that have an output line.
 #![tactic(auto)]
 
 mod choice;
@@ -10,9 +10,10 @@ mod form;
 mod github;
 mod json_string;
 mod last_lines;
+mod line_column;
 mod member;
+mod path;
 mod place;
-mod spot;
 
 pub use crate::choice::{Matching, Shown, Spelling, names};
 pub use crate::color::{Paint, push_error_word, push_painted};
@@ -20,8 +21,9 @@ pub use crate::context::{Context, first_line, push_context};
 pub use crate::error_id::id_of;
 pub use crate::form::{Form, has_extents, is_github, is_json};
 pub use crate::github::{Level, push_annotation_end, push_data};
-pub use crate::json_string::{json_strings_stand, push_json_string};
-pub use crate::last_lines::count_ends;
+pub use crate::json_string::{a_json_string_represents_its_text, push_json_string};
+pub use crate::last_lines::count_line_feeds;
+pub use crate::line_column::{Extent, Places, Position};
 pub use crate::member::{push_ascii, push_member};
-pub use crate::place::{Place, push_front};
-pub use crate::spot::{Extent, Places, Spot};
+pub use crate::path::without_dot;
+pub use crate::place::{LineColumn, Place, push_front};

@@ -1,4 +1,4 @@
-//! Members of objects of JSON.
+//! Writes members of JSON objects.
 
 ghost use Rattle.std.specs.Prelude.{◌≡◌, ◌++◌, true, OnOk, string_bytes};
 ghost use Rattle.std.specs.Char.{is_ascii};
@@ -9,11 +9,11 @@ ghost use Rattle.rl_output.specs.Members.{object_front, string_member};
 use crate::json_string::push_json_string;
 use std::alloc::{AllocError, Allocator};
 
-/// Appends ASCII.
+/// Appends an ASCII text.
 ///
 /// # Errors
 ///
-/// An allocation failure.
+/// Returns an error if an allocation fails.
 pub fn push_ascii<A: Allocator>(out: &mut String<A>, piece: &str) -> Result<(), AllocError>
     requires { list_all is_ascii piece.now ≡ true }
     ensures { OnOk result
@@ -23,7 +23,7 @@ pub fn push_ascii<A: Allocator>(out: &mut String<A>, piece: &str) -> Result<(), 
     Ok(())
 }
 
-/// Appends where an object begins.
+/// Appends the start of a JSON object: the brace, and the member `path` if there is a path.
 pub(crate) fn push_object_front<A: Allocator>(
     out: &mut String<A>,
     path: Option<&str>,
@@ -41,11 +41,11 @@ pub(crate) fn push_object_front<A: Allocator>(
     }
 }
 
-/// Appends a member after others, whose value is a string.
+/// Appends a comma and a member of a JSON object: its name and its value, a string.
 ///
 /// # Errors
 ///
-/// An allocation failure. A beginning may have been appended then.
+/// Returns an error if an allocation fails. A beginning of the member may have been appended then.
 pub fn push_member<A: Allocator>(
     out: &mut String<A>,
     name: &str,

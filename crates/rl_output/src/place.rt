@@ -1,4 +1,4 @@
-//! Places, as they are printed, and what stands before a line.
+//! Writes positions, and the start of an output line.
 
 ghost use Rattle.std.specs.Prelude.{◌≡◌, ◌++◌, Some, codes, OnOk, string_bytes};
 ghost use Rattle.std.specs.Str.{chars};
@@ -9,24 +9,32 @@ ghost use Rattle.rl_output.specs.declared.form.Form.TheVariants.{Colored};
 use crate::color::{PAINT_END, Paint, has_colors, start_of};
 use crate::form::Form;
 use crate::github::{Level, push_annotation_path, word_of};
+use crate::line_column::Extent;
 use crate::member::{push_ascii, push_object_front};
-use crate::spot::Extent;
-use rl_lexer::LineColumn;
 use std::alloc::{AllocError, Allocator};
 use std::fmt;
 
-/// A place of a source, as it is printed: `LO..HI`, `LINE:COLUMN`, or in an object of JSON all of that, as members.
+/// A line and a column, as compilers print them. An LF is the last character of its line.
+#[derive(Clone, Copy, PartialEq, Eq, Debug)]
+pub struct LineColumn {
+    /// The number of the line, from 1.
+    pub line: usize,
+    /// The column in characters, from 1.
+    pub column: usize,
+}
+
+/// A position in a source, as it is displayed: `LO..HI`, `LINE:COLUMN`, or members of a JSON object that have both.
 #[derive(Clone, Copy)]
 pub enum Place {
-    /// From a byte up to the byte after the last.
+    /// The byte offsets of the start and the end of a range.
     Bytes(usize, usize),
-    /// The line and column where it begins.
+    /// The line and column of the start of a range.
     Line(LineColumn),
-    /// Bytes, and the lines and columns where they begin and end.
+    /// The byte offsets, lines and columns of the start and the end of a range.
     Whole(Extent),
 }
 
-/// Appends what stands before a line in a file: the path and the place, each with a colon, and a space.
+/// Appends the start of an output line for a file: the path and the position, each with a colon, and a space.
 fn push_in_file<A: Allocator>(
     out: &mut String<A>,
     path: &str,
@@ -39,7 +47,7 @@ fn push_in_file<A: Allocator>(
     Ok(())
 }
 
-/// Appends what stands before a line in a file, in colours.
+/// Appends the start of an output line for a file, in colours: the path and the position, each with a colon, and a space.
 fn push_colored_in_file<A: Allocator>(
     out: &mut String<A>,
     path: &str,
@@ -56,7 +64,7 @@ fn push_colored_in_file<A: Allocator>(
     )
 }
 
-/// Appends what stands before a line, in colours.
+/// Appends the start of an output line, in colours: the path if there is one, and the position.
 #[inline(never)]
 fn push_colored_front<A: Allocator>(
     out: &mut String<A>,
@@ -72,7 +80,7 @@ fn push_colored_front<A: Allocator>(
     }
 }
 
-/// Appends a place and a space. A place in bytes, as most are, is written in one piece.
+/// Appends a position and a space. Byte offsets, the most frequent form, are written at once.
 #[inline(never)]
 fn push_place<A: Allocator>(out: &mut String<A>, place: &Place) -> Result<(), AllocError>
     ensures { OnOk result (string_bytes out.new
@@ -84,7 +92,7 @@ fn push_place<A: Allocator>(out: &mut String<A>, place: &Place) -> Result<(), Al
     }
 }
 
-/// Appends what stands before a line of words: its place, after the path where there is one.
+/// Appends the start of an output line of text: the path if there is one, and the position.
 #[inline(always)]
 fn push_worded_front<A: Allocator>(
     out: &mut String<A>,
@@ -104,7 +112,7 @@ fn push_worded_front<A: Allocator>(
     }
 }
 
-/// Appends an object up to its place.
+/// Appends the start of a JSON object: the path if there is one, and the position.
 #[inline(never)]
 fn push_json_front<A: Allocator>(
     out: &mut String<A>,
@@ -119,7 +127,8 @@ fn push_json_front<A: Allocator>(
     Ok(())
 }
 
-/// Appends the place of an annotation: of a place in words its line and column alone.
+/// Appends the properties of a GitHub annotation for a position. Byte offsets have none, and a line and column only `line` and
+/// `col`.
 fn push_annotation_place<A: Allocator>(out: &mut String<A>, place: &Place) -> Result<(), AllocError>
     ensures { OnOk result (string_bytes out.new ≡ string_bytes out.old ++ annotation_place place.now) }
 {
@@ -134,7 +143,7 @@ fn push_annotation_place<A: Allocator>(out: &mut String<A>, place: &Place) -> Re
     }
 }
 
-/// Appends an annotation up to its place.
+/// Appends the start of a GitHub annotation: its level, the path if there is one, and the position.
 #[inline(never)]
 fn push_annotation_front<A: Allocator>(
     out: &mut String<A>,
@@ -152,11 +161,11 @@ fn push_annotation_front<A: Allocator>(
     push_annotation_place(out, place)
 }
 
-/// Appends what stands before a line, up to its place; `level` is what its annotation is.
+/// Appends the start of an output line: the path if there is one, and the position. GitHub annotations also have the `level`.
 ///
 /// # Errors
 ///
-/// An allocation failure. A beginning may have been appended then.
+/// Returns an error if an allocation fails. A part of this start may have been appended then.
 #[inline(always)]
 pub fn push_front<A: Allocator>(
     out: &mut String<A>,
@@ -175,7 +184,7 @@ pub fn push_front<A: Allocator>(
     }
 }
 
-/// As members of an object.
+/// Writes the members of a JSON object for a range: byte offsets, lines and columns of its start and its end.
 impl fmt::Display for Extent {
     ghost output = { λ extent. Some (extent_members extent) };
 

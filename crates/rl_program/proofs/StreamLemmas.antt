@@ -1,18 +1,18 @@
--- Turns of reading and writing.
-use Rattle.rl_text.proofs.Common.{List, None, Option, Some, [], ap, append-nil, append_assoc, arith, drop, length, refl, subst, sym, take, take-append-drop, take-append_seam, take_all, ℕ, ◌++◌, ◌-◌, ◌<◌, ◌∙◌, ◌≡◌}
+-- Lemmas about repeated reads and writes.
+use Rattle.rl_syntax.proofs.Common.{List, None, Option, Some, [], ap, append-nil, append_assoc, arith, drop, length, refl, subst, sym, take, take-append-drop, take-append_seam, take_all, ℕ, ◌++◌, ◌-◌, ◌<◌, ◌∙◌, ◌≡◌}
 use Rattle.std.proofs.Common.{length-drop}
 use Rattle.std.specs.Prelude.{IfSome}
 use Rattle.std.specs.Io.KnownBytes.{Appends, Consumes, IsAtEnd, Keeps}
 use Rattle.std.proofs.KnownBytes.{Appends-trans, Appends-kept, Consumes-all, Consumes-trans}
 use Rattle.rl_program.specs.Streams.{AppendsBeginning}
 
--- So much of the bytes has been written: a front of them, and the rest is left.
+-- The invariant of the loop over writes: a start of the bytes is written, and `rest` are the bytes after it.
 pub record IsWritten (old new : Option (List ℕ)) (all rest : List ℕ) : Type 0 where
   pub front : List ℕ
   pub all_is : all ≡ front ++ rest
   pub appends : Appends old new front
 
--- one write more
+-- The loop's invariant stays true after one more write.
 pub written_more : (a b c : Option (List ℕ)) (all rest piece left : List ℕ) → IsWritten a b all rest → Appends b c piece
     → rest ≡ piece ++ left → IsWritten a c all left
 written_more a b c all rest piece left w p e = record {
@@ -21,7 +21,7 @@ written_more a b c all rest piece left w p e = record {
   appends = Appends-trans a b c w.front piece w.appends p;
 }
 
--- a beginning, where the write after them failed
+-- If the next write fails, a beginning of the bytes has been written.
 pub written_beginning : (a b c : Option (List ℕ)) (all rest : List ℕ) → IsWritten a b all rest → Keeps b c
     → AppendsBeginning a c all
 written_beginning a b c all rest w k =
@@ -29,20 +29,20 @@ written_beginning a b c all rest w k =
     ∙ take-append_seam w.front rest in
     (length w.front, rw front (Appends-kept a b c w.front w.appends k))
 
--- a write of none keeps what is there
+-- A write of no byte changes nothing.
 pub none_kept : (a b : Option (List ℕ)) (bytes : List ℕ) (n : ℕ) → n ≡ 0 → Appends a b (take n bytes) → Keeps a b
 none_kept None b bytes n e h = tt
 none_kept (Some xs) None bytes n e h = h
 none_kept (Some xs) (Some ys) bytes n e h = h ∙ ap (λ z. xs ++ take z bytes) e ∙ append-nil xs
 
--- a slice up to the end is what is after its start
+-- A list is its first elements and the slice from there to its end.
 pub slice_rest : (n : ℕ) (xs : List ℕ) → xs ≡ take n xs ++ take (length xs - n) (drop n xs)
 slice_rest n xs =
     let all : take (length xs - n) (drop n xs) ≡ drop n xs = take_all (length xs - n) (drop n xs)
     (omega (arith, length-drop n xs)) in
     rw all (sym (take-append-drop n xs))
 
--- all that was left has been read, where a turn gives nothing
+-- If a call of the reader returns no byte, everything has been read.
 pub consumed_all : (a b d : Option (List ℕ)) (bytes buffer : List ℕ) (n : ℕ) → Consumes a b bytes → n ≡ 0
     → Consumes b d (take n buffer) × (n ≡ 0 → 0 < length buffer → IsAtEnd d) → 0 < length buffer
     → IfSome a (λ all. bytes ≡ all)

@@ -1,9 +1,9 @@
--- How a program ends, by what its error says.
+-- The end of a program: its exit status, and its line on standard error.
 use Rattle.std.specs.Prelude.{ℕ, List, [], Option, Some}
-use Rattle.rl_program.specs.declared.ending.Ending.{Ending}
-use Rattle.rl_program.specs.declared.ending.Ending.TheVariants.{Done, FoundBad, Reported, Closed, Usage, Failed}
+use Rattle.rl_program.specs.declared.exit.Ending.{Ending}
+use Rattle.rl_program.specs.declared.exit.Ending.TheVariants.{Done, FoundBad, Reported, Closed, Usage, Failed}
 
--- the status that the program ends with
+-- The exit status of a program for the result of its run.
 abbrev pub status_of : {E : Type 0} → (E → ℕ) → Ending E → ℕ
 status_of error_status Done = 0
 status_of error_status FoundBad = 1
@@ -12,8 +12,7 @@ status_of error_status Closed = 0
 status_of error_status (Usage line) = 2
 status_of error_status (Failed error) = error_status error
 
--- the line on standard error; nothing where all lines were written, or errors were
--- reported before
+-- The line on standard error: the usage, or the error that ended the program. It is empty for other results of a run.
 abbrev pub ending_line : {E : Type 0} → (E → Option (List ℕ)) → Ending E → Option (List ℕ)
 ending_line error_line Done = Some []
 ending_line error_line FoundBad = Some []

@@ -1,8 +1,7 @@
--- What a run does to the bytes that its reader has left and that its writer holds, where those are
--- known.
+-- The effect of a run on the bytes that its reader hasn't returned yet, and on the bytes that its writer has received.
 use Rattle.std.specs.Prelude.{ℕ, List, take, Option}
 use Rattle.std.specs.Io.KnownBytes.{Appends}
 
--- known bytes grow by a beginning of these, perhaps none of them
+-- A beginning of `bytes` is appended to the written bytes, perhaps an empty one, if the written bytes are known.
 abbrev pub AppendsBeginning : Option (List ℕ) → Option (List ℕ) → List ℕ → Type 0
 AppendsBeginning old new bytes = (count : ℕ) × Appends old new (take count bytes)

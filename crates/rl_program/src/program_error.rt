@@ -1,31 +1,31 @@
-//! Why a run fails.
+//! The errors that end a program's run.
 
 ghost use Rattle.std.specs.Prelude.{Some};
 ghost use Rattle.rl_program.specs.ProgramErrors.{error_line};
 
-use crate::ending::RunError;
+use crate::exit::RunError;
 use crate::rejection::Rejection;
 use rl_tokens::Error;
 use std::alloc::{AllocError, Allocator, Global};
 use std::fmt;
 
-/// Why a run failed.
+/// The reason why a program's run failed.
 #[derive(Drop)]
 #[derive_where(Debug)]
 pub enum ProgramError<A: Allocator = Global> {
-    /// A call of the reader failed, or its turns brought no end.
+    /// A call of the reader failed, or the input has no end.
     Read,
-    /// A call of the writer failed, or took no byte.
+    /// A call of the writer failed, or wrote no byte.
     Write,
     /// The input isn't UTF-8.
     NotText,
-    /// An allocation failed, outside a literal.
+    /// An allocation failed, but not for a literal.
     Memory,
-    /// The text was rejected, at a place of it.
+    /// The text of a literal was rejected. The field is the error, with its position.
     Literal(Error<A>),
 }
 
-/// The status is 2 where reading or writing failed, else 1.
+/// Defines the program's exit status: 2 if reading or writing failed, else 1.
 impl<A: Allocator> RunError for ProgramError<A> {
     ghost use Rattle.rl_program.specs.ProgramErrors.{program_status};
 
@@ -39,7 +39,7 @@ impl<A: Allocator> RunError for ProgramError<A> {
     }
 }
 
-/// An allocation failure.
+/// Converts a failed allocation to `Memory`.
 impl<A: Allocator> From<AllocError> for ProgramError<A> {
     ghost use Rattle.std.specs.Prelude.{◌≡◌};
     ghost use Rattle.rl_program.specs.declared.program_error.ProgramError.TheVariants.{Memory};
@@ -51,7 +51,7 @@ impl<A: Allocator> From<AllocError> for ProgramError<A> {
     }
 }
 
-/// The line that a program reports the error by, with places in bytes.
+/// Writes the line by which a program reports the error. Positions are in bytes.
 impl<A: Allocator> fmt::Display for ProgramError<A> {
     ghost output = { λ error. Some (error_line error) };
 

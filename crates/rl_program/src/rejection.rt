@@ -1,10 +1,10 @@
-//! The line of an error.
+//! The line by which programs report an error of the library.
 
 use rl_tokens::Error;
 use std::alloc::{Allocator, Global};
 use std::fmt;
 
-/// A borrowed error, displayed as the programs report it: its place in bytes, and its message.
+/// A borrowed error that is displayed as the programs report it, with its position in bytes and its message.
 #[derive(Drop)]
 pub struct Rejection<'a, A: Allocator = Global>(pub &'a Error<A>);
 

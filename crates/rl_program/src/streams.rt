@@ -1,4 +1,4 @@
-//! Reading a whole input, its text, and writing whole lines.
+//! Reads a whole input, and writes all bytes of an output.
 
 ghost use Rattle.std.specs.Prelude.{◌≡◌, ◌⊎◌, OnOk, OnErr, IfOk, IfErr, IfSome};
 ghost use Rattle.std.specs.Str.{IsUtf8};
@@ -10,21 +10,22 @@ use crate::program_error::ProgramError;
 use std::alloc::Allocator;
 use std::io::{ErrorKind, Read, Write};
 
-/// How many bytes a turn of reading asks for.
+/// The number of bytes that one call of the reader requests.
 const TURN: usize = 8192;
 
-/// How many turns of reading there are at most.
+/// The maximum number of calls of the reader.
 const TURNS: u32 = u32::MAX;
 
 const _: () = prove!(TURNS == 4_294_967_295);
 
-/// All bytes of the input, read in at most 4,294,967,295 turns. An error of any kind counts as a
-/// failed call.
+/// Returns all bytes of the input.
+///
+/// The reader is called at most 4,294,967,295 times.
 ///
 /// # Errors
 ///
-/// `Read` where a call of the reader failed or the turns brought no end, `Memory` where an
-/// allocation failed.
+/// Returns `Read` if a call of the reader fails with any error, or if the last allowed call still returns bytes. Returns `Memory`
+/// if an allocation fails.
 pub fn read_whole<A: Allocator, R: Read>(
     alloc: A,
     input: &mut R,
@@ -49,11 +50,11 @@ pub fn read_whole<A: Allocator, R: Read>(
     Err(ProgramError::Read)
 }
 
-/// The text of the bytes.
+/// Returns the bytes as text.
 ///
 /// # Errors
 ///
-/// `NotText` where they aren't UTF-8.
+/// Returns `NotText` if the bytes aren't UTF-8.
 pub fn text_of<A: Allocator>(bytes: &[u8]) -> Result<&str, ProgramError<A>>
     ensures text { IfOk result (λ text. text.now ≡ bytes.now) }
     ensures utf8 { OnOk result (IsUtf8 bytes.now) }
@@ -65,16 +66,16 @@ pub fn text_of<A: Allocator>(bytes: &[u8]) -> Result<&str, ProgramError<A>>
     }
 }
 
-/// Why bytes could not be written.
+/// The reason why bytes couldn't be written.
 #[derive(Clone, Copy, PartialEq, Eq, Debug)]
 pub enum WriteError {
-    /// Nobody reads them: the other end of the pipe is closed.
+    /// The reader at the other end of the pipe is closed.
     Closed,
-    /// A call of the writer failed, or took no byte.
+    /// A call of the writer failed, or wrote no byte.
     Failed,
 }
 
-/// Why a call of the writer failed.
+/// Returns the error for a failed call of the writer.
 fn write_error(kind: ErrorKind) -> WriteError {
     match kind {
         ErrorKind::BrokenPipe => WriteError::Closed,
@@ -82,11 +83,11 @@ fn write_error(kind: ErrorKind) -> WriteError {
     }
 }
 
-/// Writes all bytes. A write that takes none counts as failed.
+/// Writes all bytes to `out`.
 ///
 /// # Errors
 ///
-/// Where a call of the writer failed. A beginning of the bytes may have been written then.
+/// Returns an error if a call of the writer fails or writes no byte. A beginning of the bytes may have been written then.
 pub fn write_bytes<W: Write>(out: &mut W, bytes: &[u8]) -> Result<(), WriteError>
     ensures all { OnOk result (Appends (W.contents out.old) (W.contents out.new) bytes.now) }
     ensures beginning { OnErr result
@@ -103,11 +104,11 @@ pub fn write_bytes<W: Write>(out: &mut W, bytes: &[u8]) -> Result<(), WriteError
     Ok(())
 }
 
-/// Writes all bytes. A write that takes none counts as failed.
+/// Writes all bytes to `out`. An error is the `ProgramError` `Write`.
 ///
 /// # Errors
 ///
-/// `Write` where a call of the writer failed. A beginning of the bytes may have been written then.
+/// Returns `Write` if a call of the writer fails or writes no byte. A beginning of the bytes may have been written then.
 pub fn write_whole<A: Allocator, W: Write>(out: &mut W, bytes: &[u8]) -> Result<(), ProgramError<A>>
     ensures all { OnOk result (Appends (W.contents out.old) (W.contents out.new) bytes.now) }
     ensures beginning { IfErr result (λ error. (error ≡ Write)

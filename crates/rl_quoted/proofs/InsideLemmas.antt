@@ -1,8 +1,8 @@
--- Parsing inside a literal, and a literal with nothing after its closing quote.
-use Rattle.rl_reading.proofs.Names.{Characters, HasContents, HasSuffix, SpannedText, Str}
-use Rattle.rl_text.proofs.Common.{Err, List, Ok, Result, [], ap, arith, chars, chars-nil, inl, inr, length, nat_tests, refl, subst, true, ℕ, ◌==◌, ◌∙◌, ◌≡◌, ◌≢◌, ◌⊎◌}
+-- Lemmas about parsing the decoded value of a string literal, and about literals without a suffix.
+use Rattle.rl_lenient.proofs.Names.{Characters, HasContents, HasSuffix, SpannedText, Str}
+use Rattle.rl_syntax.proofs.Common.{Err, List, Ok, Result, [], ap, arith, chars, chars-nil, inl, inr, length, nat_tests, refl, subst, true, ℕ, ◌==◌, ◌∙◌, ◌≡◌, ◌≢◌, ◌⊎◌}
 use Rattle.std.proofs.lemmas.List.{nil_from_length}
-use Rattle.rl_text.specs.declared.span.Span.{Span}
+use Rattle.rl_syntax.specs.declared.span.Span.{Span}
 use Rattle.rl_lexer.specs.declared.lex_error.LexKind.{LexKind}
 use Rattle.rl_lexer.specs.declared.lex_error.LexKind.TheVariants.{DocComment, UnclosedComment, UnclosedQuote, Lifetime, RawIdentifier, StrayCharacter, UnmatchedClose, UnclosedGroup, TooDeep, Memory as LexMemory}
 use Rattle.rl_tokens.specs.declared.error.Error.{Error}
@@ -16,14 +16,15 @@ use Rattle.rl_tokens.proofs.TreeRests.{run_moved}
 use Rattle.rl_quoted.specs.declared.inside.Placing.{Placing}
 use Rattle.rl_quoted.specs.Inside.{AreInside, AreMoved, IsLeftoverAt, IsReportedAt, RejectsLexingInside, RejectsInsideAt, Runs}
 
--- no suffix stands where no bytes do
+-- If a literal's suffix has no bytes, the literal has the empty suffix.
 pub empty_suffix : (text suffix : List ℕ) → (length suffix == 0) ≡ true → HasSuffix Str text (chars suffix)
     → HasSuffix Str text []
 empty_suffix text suffix e h =
     let z : length suffix ≡ 0 = grind (arith, nat_tests) in
     subst (λ x. HasSuffix Str text x) (ap chars (nil_from_length suffix z) ∙ chars-nil) h
 
--- what a parser did on a buffer of the trees inside, with the literal's span as its scope
+-- A parser's result for a buffer of the token trees of a string literal's decoded value is its result inside the
+-- literal. The buffer's scope is the literal's span.
 pub ran_inside : {T E : Type 0} (placing : Placing) (runs : List Tree → Span → Result T E → List Tree → Type 0)
     (token : SpannedText) (buffer trees left rest : List Tree) (scope : Span) (r : Result T E)
     → AreInside placing token trees → buffer ≡ trees → scope ≡ token.span → left ≡ rest → runs buffer scope r left
@@ -34,7 +35,7 @@ ran_inside placing runs token buffer trees left rest scope r inside same place e
   ran = run_moved runs buffer trees scope token.span r left rest same place ends ran;
 }
 
--- why nothing is parsed
+-- If a string literal's decoded value can't be lexed, or an allocation fails, the literal is rejected for that reason.
 pub refuses_trees : {T A : Type 0} (placing : Placing) (runs : List Tree → Span → Result T (Error A) → List Tree
     → Type 0) (token : SpannedText) (e : Error A) → RejectsLexingInside placing token e ⊎ (e ≡ memory_at token.span)
     → RejectsInsideAt placing runs token e
@@ -53,7 +54,7 @@ pub refuses_left : {T A : Type 0} (placing : Placing) (runs : List Tree → Span
 refuses_left placing runs token value rest at ran some reported =
     inr (inr (inl (record { value = value; rest = rest; ran = ran; some = some; place = at; reported = reported; error = refl })))
 
--- the lexer's error at the literal's span, made of one at a place inside it
+-- A lexer's error whose span is replaced is that lexer's error at the new span.
 pub moved_refusal : {A : Type 0} (kind : LexKind) (place : Span) (at : Span) (e : Error A) → e
     ≡ lex_rejection kind place → record { span = at; kind = e.kind } ≡ lex_rejection kind at
 moved_refusal DocComment place at e q = ap (λ x. record { span = at; kind = x.kind }) q
@@ -67,7 +68,7 @@ moved_refusal UnclosedGroup place at e q = ap (λ x. record { span = at; kind = 
 moved_refusal TooDeep place at e q = ap (λ x. record { span = at; kind = x.kind }) q
 moved_refusal LexMemory place at e q = ap (λ x. record { span = at; kind = x.kind }) q
 
--- the lexer's error stands at its place
+-- The span of a lexer's error is the span at which it was created.
 rejection_span : {A : Type 0} (kind : LexKind) (place : Span) (e : Error A) → e ≡ lex_rejection kind place → e.span
     ≡ place
 rejection_span DocComment place e q = ap (λ x. x.span) q
@@ -81,7 +82,8 @@ rejection_span UnclosedGroup place e q = ap (λ x. x.span) q
 rejection_span TooDeep place e q = ap (λ x. x.span) q
 rejection_span LexMemory place e q = ap (λ x. x.span) q
 
--- the lexer's error in the text that the literal stands for, where it is reported
+-- A lexing error of a string literal's decoded value, at the span in the file that `placing` gives, rejects the
+-- literal.
 pub refuses_lexing : {A : Type 0} (placing : Placing) (token : SpannedText) (value text : List ℕ) (file : ℕ) (at : Span)
     (e : Error A) → HasContents Str (chars token.text) (Characters value) → chars text ≡ value → file ≡ token.span.file
     → IsReportedAt placing token e.span at → RejectsLexing (chars text) file e
@@ -98,7 +100,8 @@ refuses_lexing placing token value text file at e contents same where_from repor
   error = moved_refusal lexing.kind (place_at file lexing.at) at e lexing.error;
 }
 
--- the trees of the text that the literal stands for, where they are reported
+-- The token trees of a string literal's decoded value, with their spans replaced as `placing` says, are the token trees
+-- inside the literal.
 pub are_inside : (placing : Placing) (token : SpannedText) (value text : List ℕ) (file : ℕ) (cut trees : List Tree)
     → HasContents Str (chars token.text) (Characters value) → chars text ≡ value → file ≡ token.span.file
     → Lexes (chars text) file cut → AreMoved (IsReportedAt placing token) cut trees → AreInside placing token trees

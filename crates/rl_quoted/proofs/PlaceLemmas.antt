@@ -1,39 +1,39 @@
--- The places of parts, as reading finds them, and what stands there.
-use Rattle.rl_reading.proofs.Names.{Byte, Bytes, Char, Characters, HasContents, IsScalar, Kind, ReadsAs, is_single, is_string, quoted_contents}
-use Rattle.rl_text.proofs.Common.{IsUtf8, List, [], ◌∷◌, ◌<◌, ◌∙◌, chars, or_left, or_right, false, refl, subst, sym, true, ℕ, ◌≡◌}
-use Rattle.rl_forms.proofs.OneReading.{one_reading}
-use Rattle.rl_reading.specs.declared.found.Body.{Body}
-use Rattle.rl_reading.specs.declared.found.Found.{Found}
-use Rattle.rl_reading.specs.Bodies.{HasBody, HasSingleBody, SingleStandsFor}
-use Rattle.rl_reading.specs.Founds.{IsFound, IsUnitOf, body_in, is_quoted}
-use Rattle.rl_reading.proofs.FoundLemmas.{quoted_found_of}
-use Rattle.rl_reading.proofs.SingleBodies.{single_at}
-use Rattle.rl_quoted.specs.Places.{StandsAt}
+-- Lemmas about the byte offsets of a quoted literal's parts, and the text at these offsets.
+use Rattle.rl_lenient.proofs.Names.{Byte, Bytes, Char, Characters, HasContents, IsScalar, Kind, ReadsAs, is_single, is_string, quoted_contents}
+use Rattle.rl_syntax.proofs.Common.{IsUtf8, List, [], ◌∷◌, ◌<◌, ◌∙◌, chars, or_left, or_right, false, refl, subst, sym, true, ℕ, ◌≡◌}
+use Rattle.rl_syntax.proofs.OneReading.{one_reading}
+use Rattle.rl_lenient.specs.declared.found.Body.{Body}
+use Rattle.rl_lenient.specs.declared.found.Found.{Found}
+use Rattle.rl_lenient.specs.Bodies.{HasBody, HasSingleBody, SingleRepresents}
+use Rattle.rl_lenient.specs.Founds.{IsFound, IsUnitOf, body_in, is_quoted}
+use Rattle.rl_lenient.proofs.FoundLemmas.{quoted_found_of}
+use Rattle.rl_lenient.proofs.SingleBodies.{single_at}
+use Rattle.rl_quoted.specs.Places.{HasPartsAt}
 
--- what is found is of the kind that the text reads as
+-- If a text is a literal of a kind, its parse result has that kind.
 pub found_kind : (kind : Kind) (t : List ℕ) (found : Found) → ReadsAs kind (chars t) → IsFound t found → found.kind
     ≡ kind
 found_kind kind t found r f = (one_reading (chars t) found.kind kind f.reads.0 r.0 _ r.1 f.reads.1 r.2).0
 
--- what is found stands at its places
+-- A literal's parts are at the byte offsets of its parse result.
 pub stands_at : (kind : Kind) (t : List ℕ) (found : Found) → found.kind ≡ kind → IsFound t found
-    → StandsAt kind t found.body
+    → HasPartsAt kind t found.body
 stands_at kind t found same f =
-    subst (λ k. StandsAt k t found.body) same (record { reads = f.reads; stands = f.stands; plain = f.plain; quoted = f.quoted })
+    subst (λ k. HasPartsAt k t found.body) same (record { reads = f.reads; stands = f.stands; plain = f.plain; quoted = f.quoted })
 
--- the body of a string, which is a quoted literal
-pub has_body : (kind : Kind) (t : List ℕ) (body : Body) → is_string kind ≡ true → StandsAt kind t body
+-- The text between the stored byte offsets of a string literal is the text between its quotes.
+pub has_body : (kind : Kind) (t : List ℕ) (body : Body) → is_string kind ≡ true → HasPartsAt kind t body
     → HasBody kind (chars t) (body_in t body) body.plain
 has_body kind t body s at =
     let q = at.quoted (or_left (is_string kind) (is_single kind) s) in
     record { string = s; form = q.form; value = q.value; suffix = _; parts = q.parts; plain_is = q.plain_is }
 
--- the body of a character or a byte, which is a quoted literal
-pub single_body : (kind : Kind) (t : List ℕ) (body : Body) → is_single kind ≡ true → StandsAt kind t body
+-- The text between the stored byte offsets of a character or byte literal is the text between its quotes.
+pub single_body : (kind : Kind) (t : List ℕ) (body : Body) → is_single kind ≡ true → HasPartsAt kind t body
     → HasSingleBody kind (chars t) (body_in t body)
 single_body kind t body s at = single_at kind t body s (at.quoted (or_right (is_string kind) (is_single kind) s))
 
--- what is held of the number of a character or a byte
+-- The number `n` is the value of a character or byte literal, or 0 for a literal of another kind.
 pub record HeldUnit (kind : Kind) (t : List ℕ) (n : ℕ) : Type 0 where
   pub unit : is_single kind ≡ true → IsUnitOf kind (chars t) n
   pub none : (kind ≡ Byte → ⊥) → (kind ≡ Char → ⊥) → n ≡ 0
@@ -45,7 +45,7 @@ pub single_character : (kind : Kind) → kind ≡ Char → is_single kind ≡ tr
 single_character kind e = subst (λ (k : Kind). is_single k ≡ true) (sym e) refl
 
 pub held_byte : (kind : Kind) (t body : List ℕ) (n : ℕ) → kind ≡ Byte → HasSingleBody kind (chars t) body
-    → SingleStandsFor Byte body (Bytes (n ∷ [])) → n < 256 → HeldUnit kind t n
+    → SingleRepresents Byte body (Bytes (n ∷ [])) → n < 256 → HeldUnit kind t n
 held_byte kind t body n is has stands small = record {
   unit = λ s. record {
     reads = subst (λ (k : Kind). HasContents k (chars t) (quoted_contents k (n ∷ []))) (sym is)
@@ -57,7 +57,7 @@ held_byte kind t body n is has stands small = record {
 }
 
 pub held_character : (kind : Kind) (t body : List ℕ) (n : ℕ) → kind ≡ Char → HasSingleBody kind (chars t) body
-    → SingleStandsFor Char body (Characters (n ∷ [])) → IsScalar n → HeldUnit kind t n
+    → SingleRepresents Char body (Characters (n ∷ [])) → IsScalar n → HeldUnit kind t n
 held_character kind t body n is has stands scalar = record {
   unit = λ s. record {
     reads = subst (λ (k : Kind). HasContents k (chars t) (quoted_contents k (n ∷ []))) (sym is)
@@ -73,8 +73,8 @@ held_none Byte t b c = absurd (b refl)
 held_none Char t b c = absurd (c refl)
 held_none kind t b c = record { unit = λ s. absurd (cc); none = λ d e. refl }
 
--- what reading finds, from the places that are held
+-- The parse result that is built from a quoted literal's stored byte offsets is that of its text.
 pub held_found : (kind : Kind) (t : List ℕ) (body : Body) (n : ℕ) (found : Found) → IsUtf8 t → is_quoted kind ≡ true
-    → StandsAt kind t body → HeldUnit kind t n
+    → HasPartsAt kind t body → HeldUnit kind t n
     → found ≡ record { kind = kind; body = body; magnitude = 0; truth = false; unit = n } → IsFound t found
 held_found kind t body n found u h at held is = quoted_found_of t kind body n found u (at.quoted h) held.unit held.none is

@@ -1,20 +1,20 @@
--- Places in the file of what a literal stands for.
-use Rattle.rl_reading.proofs.Names.{Kind, SpannedText, Str}
-use Rattle.rl_text.proofs.Common.{Bool, IsUtf8, List, [], ap, arith, chars, cond, encodes-chars, false, get_or, length, ltb, ltb-false, ltb-true, map, refl, subst, sym, true, ℕ, ◌+◌, ◌-◌, ◌∙◌, ◌∷◌, ◌≡◌, ◌≤◌}
+-- Lemmas about the spans in the file from which a literal's decoded value comes.
+use Rattle.rl_lenient.proofs.Names.{Kind, SpannedText, Str}
+use Rattle.rl_syntax.proofs.Common.{Bool, IsUtf8, List, [], ap, arith, chars, cond, encodes-chars, false, get_or, length, ltb, ltb-false, ltb-true, map, refl, subst, sym, true, ℕ, ◌+◌, ◌-◌, ◌∙◌, ◌∷◌, ◌≡◌, ◌≤◌}
 use Rattle.std.proofs.Common.{min}
-use Rattle.rl_text.specs.declared.span.Span.{Span}
-use Rattle.rl_text.specs.Spans.{nowhere, entry_at, looked_up}
+use Rattle.rl_syntax.specs.declared.span.Span.{Span}
+use Rattle.rl_syntax.specs.Spans.{nowhere, entry_at, looked_up}
 use Rattle.rl_tokens.specs.Trees.{Tree, Trees, GroupTree, IdentTree, PunctTree, LiteralTree, NoTrees, MoreTrees, all_relocated, all_respanned, relocated, respanned}
-use Rattle.rl_reading.specs.Segments.{IsByteEnd, IsBytePlace, IsSegmentsOf, IsSpanTable, SegmentsState, begins_in, ends_in, unit_place, span_from, units_bytes}
-use Rattle.rl_reading.proofs.SegmentLemmas.{place_at_end, unit_span}
-use Rattle.rl_reading.proofs.SegmentLawLemmas.{end_in_text, place_in_text}
-use Rattle.rl_reading.proofs.SegmentStarts.{given_in_whole}
-use Rattle.rl_parts.specs.Ranges.{IsRangeOf}
+use Rattle.rl_lenient.specs.Segments.{IsByteEnd, IsBytePlace, IsSegmentsOf, IsSpanTable, SegmentsState, begins_in, ends_in, unit_place, span_from, units_bytes}
+use Rattle.rl_lenient.proofs.SegmentLemmas.{place_at_end, unit_span}
+use Rattle.rl_lenient.proofs.SegmentLawLemmas.{end_in_text, place_in_text}
+use Rattle.rl_lenient.proofs.SegmentStarts.{given_in_whole}
+use Rattle.rl_lenient.specs.Ranges.{IsRangeOf}
 use Rattle.rl_quoted.specs.declared.inside.Placing.{Placing}
 use Rattle.rl_quoted.specs.declared.inside.Placing.TheVariants.{AtLiteral, InFile}
 use Rattle.rl_quoted.specs.Inside.{AreMoved, AreMovedInside, IsMoved, IsReportedAt}
 
--- both ends of a range are within the text
+-- Both ends of the byte range from which a part of a literal's decoded value comes are within the literal's text.
 pub range_fits : (kind : Kind) (t : List ℕ) (lo hi first last : ℕ) → IsUtf8 t
     → IsRangeOf kind (chars t) lo hi first last → (first ≤ length t) × (last ≤ length t)
 range_fits kind t lo hi first last u r =
@@ -37,9 +37,10 @@ range_fits kind t lo hi first last u r =
           (ltb-false lo hi e),
     )
 
--- ---- tables
+-- ---- lemmas about tables with a span for each byte
 
--- what a table says of a byte, also past its end
+-- A table's span for a byte of the decoded value is the span of the character or escape from which the byte comes. For
+-- a byte after the end it is the last span.
 entry_is : (s : SegmentsState) (base : Span) (table : List Span) (t : IsSpanTable s base table) (at : ℕ)
     → entry_at table at ≡ unit_span s base t.units at
 entry_is s base table t at = go (ltb at (length table)) refl
@@ -102,7 +103,8 @@ looks_up kind text s base table span whole t = go (ltb span.lo span.hi) refl
       is = first_is ∙ ap (λ b. record { file = base.file; lo = base.lo + place span.lo; hi = cond b (entry_at table (span.hi - 1)).hi (base.lo + place span.lo) }) e;
     }
 
--- what a table says is where the bytes come from
+-- The span that a table gives for a range of a string literal's decoded value is the span in the file from which the
+-- range comes.
 spans_by : (token : SpannedText) (s : SegmentsState) (table : List Span) → IsSegmentsOf Str (chars token.text) s
     → IsSpanTable s token.span table → token.span.lo + length token.text ≡ token.span.hi → (span : Span)
     → IsReportedAt InFile token span (looked_up table span)
@@ -110,7 +112,7 @@ spans_by token s table whole t long span =
     let found = looks_up Str (chars token.text) s token.span table span whole t in
     record { placed = λ e. (found.first, found.last, found.range, found.is); other = λ e. absurd (e long) }
 
--- ---- trees
+-- ---- lemmas about the spans of token trees
 
 mutual
   tree_relocated : (goes : Span → Span → Type 0) (table : List Span) → ((s : Span) → goes s (looked_up table s))
@@ -187,7 +189,7 @@ are_respanned goes place h (t ∷ ts) = (
   refl,
 )
 
--- where the table puts them
+-- If the spans of token trees are looked up in the table, each token tree has the span in the file from which it comes.
 pub moved_by_table : (token : SpannedText) (s : SegmentsState) (base : Span) (table : List Span) (cut trees : List Tree)
     → IsSegmentsOf Str (chars token.text) s → base ≡ token.span → IsSpanTable s base table
     → token.span.lo + length token.text ≡ token.span.hi → trees ≡ map (relocated table) cut
@@ -197,7 +199,7 @@ moved_by_table token s base table cut trees whole from t long is =
     subst (AreMoved goes cut) (sym is) (are_relocated goes table
     (spans_by token s table whole (subst (λ b. IsSpanTable s b table) from t) long) cut)
 
--- all at the literal
+-- If the spans of token trees are replaced by the literal's span, each token tree has the literal's span.
 pub moved_at_literal : (placing : Placing) (token : SpannedText) (place : Span) (cut trees : List Tree) → placing
     ≡ AtLiteral → place ≡ token.span → trees ≡ map (respanned place) cut
     → AreMoved (IsReportedAt placing token) cut trees
@@ -206,7 +208,7 @@ moved_at_literal placing token place cut trees at from is =
     let moved : AreMoved goes cut (map (respanned place) cut) = are_respanned goes place (λ s. from) cut in
     subst (λ p. AreMoved (IsReportedAt p token) cut trees) (sym at) (subst (AreMoved goes cut) (sym is) moved)
 
--- where the literal's text stands elsewhere
+-- If a literal's span isn't as long as its text, the token trees of its decoded value get the literal's span.
 pub moved_elsewhere : (token : SpannedText) (place : Span) (cut trees : List Tree) → place ≡ token.span
     → (token.span.lo + length token.text ≡ token.span.hi → ⊥) → trees ≡ map (respanned place) cut
     → AreMoved (IsReportedAt InFile token) cut trees

@@ -1,24 +1,24 @@
--- Where the parts stand of a literal that the writer wrote.
-use Rattle.rl_reading.proofs.Names.{Byte, ByteStr, CStr, Char, Contents, Cooked, Float, Int, Kind, Reads, ReadsQuoted, Single, Str, is_single, is_string, opener, quoted_contents, texts, unit_text}
-use Rattle.rl_text.proofs.Common.{Bool, IsCharBoundary, IsTrue, IsUtf8, List, [], ap, append_assoc, arith, both_ways, chars, chars-nil, drop, encodes-append, encodes-chars, false, inl, inr, length, length-append, length-encode, refl, subst, sym, take, take-append_seam, true, ℕ, ◌++◌, ◌+◌, ◌-◌, ◌<◌, ◌∙◌, ◌∷◌, ◌≡◌, ◌≤◌}
+-- Lemmas about the byte offsets of the parts of a literal that was written from its value.
+use Rattle.rl_lenient.proofs.Names.{Byte, ByteStr, CStr, Char, Contents, Cooked, Float, Int, Kind, Reads, ReadsQuoted, Single, Str, is_single, is_string, opener, quoted_contents, texts, unit_text}
+use Rattle.rl_syntax.proofs.Common.{Bool, IsCharBoundary, IsTrue, IsUtf8, List, [], ap, append_assoc, arith, both_ways, chars, chars-nil, drop, encodes-append, encodes-chars, false, inl, inr, length, length-append, length-encode, refl, subst, sym, take, take-append_seam, true, ℕ, ◌++◌, ◌+◌, ◌-◌, ◌<◌, ◌∙◌, ◌∷◌, ◌≡◌, ◌≤◌}
 use Rattle.std.proofs.Math.Seq.{drop-append_seam, drop-length}
 use Rattle.std.proofs.Math.Utf8.{scalars}
 use Rattle.std.specs.Prelude.{◌↔◌, encode_utf8_all}
 use Rattle.std.proofs.lemmas.Str.{IsCharBoundary-at_seam, IsCharBoundary-end, IsUtf8-append, chars-encodes, scalars-chars, len_utf8_ascii}
-use Rattle.rl_forms.specs.declared.kind.Kind.TheVariants.{Bool as BoolKind}
-use Rattle.rl_forms.specs.Written.{IsWrittenForm}
-use Rattle.rl_text.proofs.Basics.{scalars_parts}
-use Rattle.rl_reading.specs.declared.found.Body.{Body}
-use Rattle.rl_reading.specs.Decoded.{in_bytes}
-use Rattle.rl_reading.specs.Founds.{IsQuotedAt, StandsIn, body_in, suffix_in, is_quoted}
-use Rattle.rl_reading.specs.Forms.{PartsAre, front_len, is_plain_body}
-use Rattle.rl_reading.proofs.BodyLemmas.{openers_differ, cooked_other, cooked_shortens}
-use Rattle.rl_reading.proofs.ContentLemmas.{plain_bytes}
-use Rattle.rl_reading.proofs.FormLemmas.{HasParts, cooked_has, single_has}
-use Rattle.rl_reading.proofs.FoundLemmas.{body_text, quoted_whole}
-use Rattle.rl_quoted.specs.Places.{IsWrittenAs, StandsAt}
+use Rattle.rl_syntax.specs.declared.kind.Kind.TheVariants.{Bool as BoolKind}
+use Rattle.rl_syntax.specs.Written.{IsWrittenForm}
+use Rattle.rl_syntax.proofs.Basics.{scalars_parts}
+use Rattle.rl_lenient.specs.declared.found.Body.{Body}
+use Rattle.rl_lenient.specs.Decoded.{in_bytes}
+use Rattle.rl_lenient.specs.Founds.{IsQuotedAt, IsBodyWithin, body_in, suffix_in, is_quoted}
+use Rattle.rl_lenient.specs.Forms.{PartsAre, front_len, is_plain_body}
+use Rattle.rl_lenient.proofs.BodyLemmas.{openers_differ, cooked_other, cooked_shortens}
+use Rattle.rl_lenient.proofs.ContentLemmas.{plain_bytes}
+use Rattle.rl_lenient.proofs.FormLemmas.{HasParts, cooked_has, single_has}
+use Rattle.rl_lenient.proofs.FoundLemmas.{body_text, quoted_whole}
+use Rattle.rl_quoted.specs.Places.{IsWrittenAs, HasPartsAt}
 
--- ---- by characters
+-- ---- lemmas about the characters of a written literal
 
 quoted_reading : (kind : Kind) (t : List ℕ) (v : Contents) (x : List ℕ) → is_quoted kind ≡ true → Reads t kind v x
     → ReadsQuoted t kind v x
@@ -39,7 +39,7 @@ one_value Int v w e = cc
 one_value Float v w e = cc
 one_value BoolKind v w e = cc
 
--- What is written: its opener, what stands inside, and a closing quote.
+-- A written literal consists of its opening delimiter, the text inside, and a closing quote of one byte.
 record Enclosed (kind : Kind) (t value : List ℕ) : Type 0 where
   pub inside : List ℕ
   pub quote : ℕ
@@ -93,7 +93,7 @@ enclosed kind t v q w =
       ]
     ]
 
--- ---- by bytes
+-- ---- lemmas about the bytes of a written literal
 
 opener_long : (kind : Kind) → length (encode_utf8_all (opener kind)) ≡ length (opener kind)
 unfolding lib.Utf8.encode
@@ -109,7 +109,8 @@ opener_long BoolKind = refl
 one_long : (c : ℕ) → c < 128 → length (encode_utf8_all (c ∷ [])) ≡ 1
 one_long c h = omega (arith, length-append {A = ℕ}, length-encode c, len_utf8_ascii c h)
 
--- The places at the ends of what is written.
+-- The byte offsets of a written literal's parts: the body is between the opening delimiter and the last byte, and the
+-- suffix is empty.
 record AtEnds (kind : Kind) (t : List ℕ) (body : Body) : Type 0 where
   pub at : body.lo ≡ length (opener kind)
   pub end_at : body.hi ≡ length t - 1
@@ -118,9 +119,9 @@ record AtEnds (kind : Kind) (t : List ℕ) (body : Body) : Type 0 where
 record Between (t inside : List ℕ) (body : Body) : Type 0 where
   pub body_is : chars (body_in t body) ≡ inside
   pub suffix_is : chars (suffix_in t body) ≡ []
-  pub stands : StandsIn t body
+  pub stands : IsBodyWithin t body
 
--- What is written, in bytes, is at least its opener and its quote.
+-- The bytes of a written literal are those of its opening delimiter, its body, and one byte for the closing quote.
 record Lengths (kind : Kind) (t : List ℕ) : Type 0 where
   pub front : List ℕ
   pub body : List ℕ
@@ -182,9 +183,9 @@ between kind t v e body u ends =
       };
     }
 
--- ---- what is reported
+-- ---- lemmas for the contract of the function `written_body`
 
--- the opener and the quote are within what is written
+-- A written literal is at least as long as its opening delimiter and its closing quote.
 pub written_long : (kind : Kind) (t bytes : List ℕ) → IsUtf8 t → is_quoted kind ≡ true
     → IsWrittenAs kind bytes (chars t) → length (opener kind) + 1 ≤ length t
 written_long kind t bytes u q w =
@@ -198,7 +199,7 @@ written_long kind t bytes u q w =
       l.back_long,
     )
 
--- the body is whole where it is the value
+-- `plain` is `true` exactly if the literal is of a kind of strings and its body has the bytes of its value.
 abbrev Whole : Kind → Bool → List ℕ → List ℕ → Type 0
 Whole kind plain body bytes = IsTrue plain ↔ (IsTrue (is_string kind) × (body ≡ bytes))
 
@@ -214,10 +215,10 @@ not_false false n = absurd (n refl)
 single_of : (kind : Kind) → is_quoted kind ≡ true → is_string kind ≡ false → is_single kind ≡ true
 single_of kind q s = cc
 
--- the places of what the value with these bytes is written as
+-- The parts of a written literal are at the byte offsets that `written_body` returns.
 pub written_at : (kind : Kind) (t bytes : List ℕ) (body : Body) → IsUtf8 t → is_quoted kind ≡ true
     → IsWrittenAs kind bytes (chars t) → body.lo ≡ length (opener kind) → body.hi ≡ length t - 1 → body.suffix_at
-    ≡ length t → Whole kind body.plain (body_in t body) bytes → StandsAt kind t body
+    ≡ length t → Whole kind body.plain (body_in t body) bytes → HasPartsAt kind t body
 written_at kind t bytes body u q w at end_at suffix_at whole =
     let e = enclosed kind (chars t) w.value q w.written in
     let b = between kind t w.value e body u (record { at = at; end_at = end_at; suffix_at = suffix_at }) in

@@ -1,19 +1,19 @@
--- What it means to parse inside a string: the text that the literal stands for is cut into trees,
--- each of these is reported at the literal's span or where it comes from in the file, and a parser
--- runs on them with the literal's span as its scope.
+-- The meaning of parsing a string literal's decoded value. The value is lexed into token trees. Each token tree gets
+-- the literal's span, or the span in the file from which it comes. A parser runs on the token trees with the literal's
+-- span as scope.
 use Rattle.std.specs.Prelude.{◌≡◌, ◌≢◌, ◌⊎◌, ℕ, List, [], ◌∷◌, Result, Ok, Err, string_bytes}
 use Rattle.std.specs.Str.{chars}
-use Rattle.rl_text.specs.declared.span.Span.{Span}
-use Rattle.rl_forms.specs.declared.kind.Kind.TheVariants.{Str}
+use Rattle.rl_syntax.specs.declared.span.Span.{Span}
+use Rattle.rl_syntax.specs.declared.kind.Kind.TheVariants.{Str}
 use Rattle.rl_lexer.specs.declared.lex_error.LexKind.{LexKind}
 use Rattle.rl_tokens.specs.declared.error.ErrorKind.{ErrorKind}
 use Rattle.rl_tokens.specs.declared.error.ErrorKind.TheVariants.{Unexpected, Suffix}
 use Rattle.rl_tokens.specs.declared.error.Error.{Error}
 use Rattle.rl_tokens.specs.Errors.{memory_at, lex_rejection}
 use Rattle.rl_tokens.specs.Buffers.{first_span}
-use Rattle.rl_text.specs.Texts.{SpannedText}
+use Rattle.rl_syntax.specs.Texts.{SpannedText}
 use Rattle.rl_tokens.specs.Trees.{Tree, Trees, GroupTree, IdentTree, PunctTree, LiteralTree, NoTrees, MoreTrees}
-use Rattle.rl_forms.specs.Reading.{Characters, HasContents, HasSuffix}
+use Rattle.rl_syntax.specs.Reading.{Characters, HasContents, HasSuffix}
 use Rattle.rl_tokens.specs.Lexing.{Lexes}
 use Rattle.rl_lexer.specs.Cuts.{Rejects}
 use Rattle.rl_tokens.specs.Whole.{place_at}
@@ -21,17 +21,20 @@ use Rattle.rl_quoted.specs.declared.inside.Placing.{Placing}
 use Rattle.rl_quoted.specs.declared.inside.Placing.TheVariants.{AtLiteral, InFile}
 use Rattle.rl_quoted.specs.Places.{IsSpanOf}
 
--- A span in the contents is reported as this one: the literal's, or that of where its bytes come from.
+-- The span `place` in the file for a range of a string literal's decoded value: the literal's span, or the span from
+-- which the range's bytes come.
 abbrev pub IsReportedAt : Placing → SpannedText → Span → Span → Type 0
 IsReportedAt AtLiteral token span place = place ≡ token.span
 IsReportedAt InFile token span place = IsSpanOf Str token span.lo span.hi place
 
--- Trees that are left over are reported here: at the literal, or at the first of them.
+-- The span `place` of the error for token trees that a parser leaves over in a string literal: the literal's span, or
+-- the span of the first of the token trees.
 abbrev pub IsLeftoverAt : Placing → SpannedText → List Tree → Span → Type 0
 IsLeftoverAt AtLiteral token rest place = place ≡ token.span
 IsLeftoverAt InFile token rest place = place ≡ first_span rest token.span
 
--- The second tree is the first with each span put elsewhere, also inside groups.
+-- The second token tree is the first one with each span replaced, also inside groups. `goes` relates an old span to its
+-- new span.
 abbrev mutual
   pub IsMoved : (Span → Span → Type 0) → Tree → Tree → Type 0
   IsMoved goes (GroupTree d inside span) moved =
@@ -56,8 +59,8 @@ AreMoved goes (t ∷ ts) moved =
     (first : Tree) × (others : List Tree) × IsMoved goes t first × AreMoved goes ts others
     × (moved ≡ first ∷ others)
 
--- The text that the string stands for is cut into these trees, and each span, also inside groups, is
--- the one that is reported.
+-- The string literal's decoded value is lexed into the token trees `trees`, with their spans replaced as `placing`
+-- says, also inside groups.
 pub record AreInside (placing : Placing) (token : SpannedText) (trees : List Tree) : Type 0 where
   pub value : List ℕ
   pub contents : HasContents Str (chars token.text) (Characters value)
@@ -65,8 +68,8 @@ pub record AreInside (placing : Placing) (token : SpannedText) (trees : List Tre
   pub lexes : Lexes value token.span.file cut
   pub moved : AreMoved (IsReportedAt placing token) cut trees
 
--- The parser, by what it means, runs on the trees inside the string to this answer, and leaves the
--- rest.
+-- A parser runs on the token trees of a string literal's decoded value. The parser's result is `answer`, and it leaves
+-- the token trees `rest` over. `runs` is the parser's meaning.
 pub record Runs {R : Type 0} (placing : Placing)
     (runs : List Tree → Span → R → List Tree → Type 0) (token : SpannedText) (answer : R)
     (rest : List Tree) : Type 0 where
@@ -74,15 +77,16 @@ pub record Runs {R : Type 0} (placing : Placing)
   pub inside : AreInside placing token trees
   pub ran : runs trees token.span answer rest
 
--- The parser makes this value of all the trees, and the literal has no suffix.
+-- A parser consumes all token trees of a string literal's decoded value and returns `value`, and the literal has no
+-- suffix.
 pub record IsParsed {T E : Type 0} (placing : Placing)
     (runs : List Tree → Span → Result T E → List Tree → Type 0) (token : SpannedText) (value : T)
     : Type 0 where
   pub ran : Runs placing runs token (Ok value) []
   pub no_suffix : HasSuffix Str (chars token.text) []
 
--- The text that the string stands for can't be cut: the error is its first error, or an
--- allocation failure, where it is reported.
+-- The error `e` is that of a string literal whose decoded value can't be lexed: the first error of the decoded value,
+-- or an allocation failure, at the span in the file that `placing` gives for its position.
 pub record RejectsLexingInside {A : Type 0} (placing : Placing) (token : SpannedText) (e : Error A)
     : Type 0 where
   pub value : List ℕ
@@ -94,14 +98,15 @@ pub record RejectsLexingInside {A : Type 0} (placing : Placing) (token : Spanned
   pub reported : IsReportedAt placing token (place_at token.span.file at) place
   pub error : e ≡ lex_rejection kind place
 
--- The error is the parser's own.
+-- The error `e` is the own error of a parser that runs on the token trees of a string literal's decoded value.
 pub record IsOwnRejection {T E : Type 0} (placing : Placing)
     (runs : List Tree → Span → Result T E → List Tree → Type 0) (token : SpannedText) (e : E)
     : Type 0 where
   pub rest : List Tree
   pub ran : Runs placing runs token (Err e) rest
 
--- The parser makes a value, and trees are left over.
+-- The error `e` is `Unexpected`: a parser returns a value, and leaves over token trees of a string literal's decoded
+-- value.
 pub record LeavesTreesInside {T A : Type 0} (placing : Placing)
     (runs : List Tree → Span → Result T (Error A) → List Tree → Type 0) (token : SpannedText)
     (e : Error A) : Type 0 where
@@ -113,18 +118,19 @@ pub record LeavesTreesInside {T A : Type 0} (placing : Placing)
   pub reported : IsLeftoverAt placing token rest place
   pub error : e ≡ record { span = place; kind = Unexpected }
 
--- the error is a suffix: that of the text, which isn't empty
+-- The kind of error is `Suffix`, with the literal's suffix, which isn't empty.
 abbrev pub ReportsSuffix : {A : Type 0} → List ℕ → ErrorKind A → Type 0
 ReportsSuffix text (Suffix suffix) =
     HasSuffix Str text (chars (string_bytes suffix)) × (string_bytes suffix ≢ [])
 ReportsSuffix text _ = ⊥
 
--- The literal has a suffix, which is the error.
+-- The error `e` is that of a string literal with a suffix: `Suffix`, at the literal's span.
 pub record IsSuffixed {A : Type 0} (token : SpannedText) (e : Error A) : Type 0 where
   pub span : e.span ≡ token.span
   pub suffix : ReportsSuffix (chars token.text) e.kind
 
--- The parser makes a value of all the trees, and the literal has a suffix.
+-- The error `e` is that of a string literal with a suffix, and a parser consumes all token trees of the literal's
+-- decoded value.
 pub record LeavesSuffix {T A : Type 0} (placing : Placing)
     (runs : List Tree → Span → Result T (Error A) → List Tree → Type 0) (token : SpannedText)
     (e : Error A) : Type 0 where
@@ -132,8 +138,9 @@ pub record LeavesSuffix {T A : Type 0} (placing : Placing)
   pub ran : Runs placing runs token (Ok value) []
   pub suffixed : IsSuffixed token e
 
--- Why nothing is parsed, in the order in which it is reported: an error of the text, the parser's own
--- error, trees that are left over, a suffix; or an allocation failure, at the literal.
+-- The errors of parsing a string literal's decoded value, in the order in which they are reported: a lexing error, the
+-- parser's own error, token trees that are left over, and a suffix of the literal. An allocation failure at the
+-- literal's span is one more.
 abbrev pub RejectsInsideAt : {T A : Type 0} → Placing
     → (List Tree → Span → Result T (Error A) → List Tree → Type 0) → SpannedText → Error A → Type 0
 RejectsInsideAt placing runs token e =
@@ -141,7 +148,7 @@ RejectsInsideAt placing runs token e =
     ⊎ LeavesTreesInside placing runs token e ⊎ LeavesSuffix placing runs token e
     ⊎ (e ≡ memory_at token.span)
 
--- all of it reported at the literal
+-- The result and the errors of parsing a string literal's decoded value if each token gets the literal's span.
 abbrev pub IsParsedInside : {T E : Type 0}
     → (List Tree → Span → Result T E → List Tree → Type 0) → SpannedText → T → Type 0
 IsParsedInside = IsParsed AtLiteral
@@ -150,7 +157,8 @@ abbrev pub RejectsInside : {T A : Type 0}
     → (List Tree → Span → Result T (Error A) → List Tree → Type 0) → SpannedText → Error A → Type 0
 RejectsInside = RejectsInsideAt AtLiteral
 
--- each token reported where it comes from in the file
+-- The result and the errors of parsing a string literal's decoded value if each token gets the span in the file from
+-- which it comes.
 abbrev pub IsParsedInFile : {T E : Type 0}
     → (List Tree → Span → Result T E → List Tree → Type 0) → SpannedText → T → Type 0
 IsParsedInFile = IsParsed InFile

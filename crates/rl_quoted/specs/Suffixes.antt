@@ -1,9 +1,9 @@
--- Suffixes that are there.
+-- Literals with a suffix that isn't empty.
 use Rattle.std.specs.Prelude.{◌≢◌, ℕ, List, []}
-use Rattle.rl_forms.specs.declared.kind.Kind.{Kind}
-use Rattle.rl_forms.specs.Reading.{HasSuffix}
+use Rattle.rl_syntax.specs.declared.kind.Kind.{Kind}
+use Rattle.rl_syntax.specs.Reading.{HasSuffix}
 
--- A suffix stands after the literal.
+-- The text is a literal of the kind `kind` with a suffix that isn't empty.
 pub record HasSomeSuffix (kind : Kind) (text : List ℕ) : Type 0 where
   pub suffix : List ℕ
   pub has : HasSuffix kind text suffix

@@ -1,11 +1,11 @@
-//! Parsing inside strings.
+//! Methods that parse the decoded value of a string literal.
 
 ghost use Rattle.std.specs.Prelude.{◌≡◌, ◌≢◌, ◌⊎◌, [], OnOk, IfOk, IfErr, Ok};
 ghost use Rattle.std.specs.Str.{chars};
-ghost use Rattle.rl_forms.specs.declared.kind.Kind.TheVariants.{Str};
+ghost use Rattle.rl_syntax.specs.declared.kind.Kind.TheVariants.{Str};
 ghost use Rattle.rl_tokens.specs.Buffers.{trees_in};
 ghost use Rattle.rl_tokens.specs.Errors.{memory_at};
-ghost use Rattle.rl_forms.specs.Reading.{HasSuffix};
+ghost use Rattle.rl_syntax.specs.Reading.{HasSuffix};
 ghost use Rattle.rl_tokens.specs.Trees.{stream_view};
 ghost use Rattle.rl_quoted.specs.declared.inside.Placing.TheVariants.{InFile};
 ghost use Rattle.rl_quoted.specs.Inside.{
@@ -25,23 +25,24 @@ ghost use Rattle.rl_quoted.specs.Inside.{
 };
 
 use crate::lit_str::LitStr;
-use rl_fronts::spans_of;
+use rl_fronts::byte_spans_of;
 use rl_tokens::{
-    ByParse, Error, ErrorKind, Parse, ParseBuffer, Parser, Span, TokenStream, trees_of_text,
+    ByParse, Error, ErrorKind, Parse, ParseBuffer, Parser, Span, TokenStream, lex_for_parsing,
 };
 use std::alloc::Allocator;
 
-/// Where what stands inside a literal is reported.
+/// The choice of the spans for the tokens of a string literal's decoded value.
 #[derive(Clone, Copy)]
 enum Placing {
-    /// At the literal's span.
+    /// Each token gets the span of the whole literal.
     AtLiteral,
-    /// Where it comes from in the file.
+    /// Each token gets the span in the file from which it comes.
     InFile,
 }
 
 impl<A: Allocator> LitStr<A> {
-    /// Where a span in the contents is reported.
+    /// Returns the span in the file for `span`, a range of the literal's decoded value, according to `placing`: the
+    /// literal's span, or the span from which the range comes.
     fn reported_at(&self, placing: Placing, span: Span) -> Span
         ensures { IsReportedAt placing self.now span result }
     {
@@ -51,8 +52,9 @@ impl<A: Allocator> LitStr<A> {
         }
     }
 
-    /// Where trees that are left over are reported.
-    fn leftover_at<B: Allocator>(&self, placing: Placing, left: &ParseBuffer<'_, B>) -> Span
+    /// Returns the span of the error `Unexpected` for the token trees of `left`, which a parser left over, according to
+    /// `placing`: the literal's span, or the span of the first of the token trees.
+    fn leftover_span<B: Allocator>(&self, placing: Placing, left: &ParseBuffer<'_, B>) -> Span
         requires { trees_in left.now ≢ [] }
         ensures { IsLeftoverAt placing self.now (trees_in left.now) result }
     {
@@ -62,8 +64,9 @@ impl<A: Allocator> LitStr<A> {
         }
     }
 
-    /// Puts each tree of the contents where it comes from in the file; at the literal's span, where this isn't as long as
-    /// its text.
+    /// Sets the span of each token tree of `stream`, which was lexed from the literal's decoded value, to the span in
+    /// the file from which the token tree comes. If the literal's span isn't as long as its text, each token tree gets
+    /// the literal's span.
     fn move_trees<B: Allocator>(
         &self,
         alloc: B,
@@ -78,7 +81,7 @@ impl<A: Allocator> LitStr<A> {
             stream.respan(span);
             return Ok(());
         }
-        match spans_of(alloc, self.segments(), span) {
+        match byte_spans_of(alloc, self.segments(), span) {
             Ok(table) => {
                 stream.relocate(table.as_slice());
                 Ok(())
@@ -87,7 +90,8 @@ impl<A: Allocator> LitStr<A> {
         }
     }
 
-    /// Puts each tree of the contents where it is reported.
+    /// Sets the span of each token tree of `stream`, which was lexed from the literal's decoded value, according to
+    /// `placing`: to the literal's span, or to the span in the file from which the token tree comes.
     fn place_trees<B: Allocator>(
         &self,
         placing: Placing,
@@ -107,7 +111,8 @@ impl<A: Allocator> LitStr<A> {
         }
     }
 
-    /// The trees of the text that the literal stands for, each where it is reported.
+    /// Lexes the literal's decoded value into token trees, and returns these with their spans set according to
+    /// `placing`.
     fn trees_inside<B: Allocator + Copy>(
         &self,
         placing: Placing,
@@ -118,7 +123,7 @@ impl<A: Allocator> LitStr<A> {
             (λ e. RejectsLexingInside placing self.now e ⊎ (e ≡ memory_at self.now.span)) }
     {
         let value = self.value(alloc)?;
-        match trees_of_text(alloc, value.as_str(), self.span().file()) {
+        match lex_for_parsing(alloc, value.as_str(), self.span().file()) {
             Ok(mut stream) => {
                 self.place_trees(placing, alloc, &mut stream)?;
                 Ok(stream)
@@ -130,7 +135,7 @@ impl<A: Allocator> LitStr<A> {
         }
     }
 
-    /// Rejects a suffix.
+    /// Returns the error `Suffix` at the literal's span if the literal has a suffix.
     fn reject_suffix<B: Allocator>(&self, alloc: B) -> Result<(), Error<B>>
         ensures ok { OnOk result (HasSuffix Str (chars self.now.text) []) }
         ensures rejected { IfErr result
@@ -150,7 +155,8 @@ impl<A: Allocator> LitStr<A> {
         }
     }
 
-    /// What the parser makes of all the trees inside; the suffix isn't judged.
+    /// Runs `parser` on the token trees of the literal's decoded value, and returns its result. A token tree that the
+    /// parser leaves over is an error. The literal's suffix isn't checked.
     fn parse_whole<P: Parser<B>, B: Allocator + Copy>(
         &self,
         placing: Placing,
@@ -168,14 +174,15 @@ impl<A: Allocator> LitStr<A> {
         let parsed = parser.parse(alloc, &mut inside)?;
         if !inside.is_empty() {
             return Err(Error {
-                span: self.leftover_at(placing, &inside),
+                span: self.leftover_span(placing, &inside),
                 kind: ErrorKind::Unexpected,
             });
         }
         Ok(parsed)
     }
 
-    /// What the parser makes of all the trees inside, where the literal has no suffix.
+    /// Runs `parser` on the token trees of the literal's decoded value, and returns its result. A token tree that the
+    /// parser leaves over is an error, and so is a suffix of the literal.
     fn parse_placed<P: Parser<B>, B: Allocator + Copy>(
         &self,
         placing: Placing,
@@ -193,18 +200,18 @@ impl<A: Allocator> LitStr<A> {
         Ok(parsed)
     }
 
-    /// What the parser makes of the text that the literal stands for.
+    /// Parses the literal's decoded value with `parser`.
     ///
-    /// The text is cut into tokens, each of them gets the literal's span, also inside groups, and
-    /// the parser runs on them with that span as scope.
+    /// The decoded value is lexed into tokens. Each token gets the literal's span, also inside groups, and the parser
+    /// runs on the tokens with that span as scope.
     ///
-    /// See the example of [`Parser`]. [`parse_in_file`](LitStr::parse_in_file) tells where in the file each token stands.
+    /// See the example of [`Parser`]. [`parse_in_file`](LitStr::parse_in_file) gives each token its span in the file.
     ///
     /// # Errors
     ///
-    /// In this order: the lexer's, as `Lex`; the parser's own; `Unexpected` where trees are left
-    /// over; `Suffix` where the literal has one. All but the parser's own are reported at the
-    /// literal's span, and so is an allocation failure.
+    /// Returns the lexer's error as `Lex`. Otherwise returns the parser's own error. Otherwise returns `Unexpected` if
+    /// the parser leaves token trees over. Otherwise returns `Suffix` if the literal has a suffix. The parser
+    /// determines the span of its own error. All others, and an allocation failure, are at the literal's span.
     pub fn parse_with<P: Parser<B>, B: Allocator + Copy>(
         &self,
         alloc: B,
@@ -219,19 +226,21 @@ impl<A: Allocator> LitStr<A> {
         self.parse_placed(Placing::AtLiteral, alloc, parser)
     }
 
-    /// What the parser makes of the text that the literal stands for, with each token where it comes from in the file:
-    /// escapes, line ends of two characters and continuations shift what stands after them.
+    /// Parses the literal's decoded value with `parser`, and gives each token its span in the file. The spans take
+    /// account of escapes, line ends of two characters and escaped line ends before a token.
     ///
-    /// The text is cut into tokens, the span of each, also inside groups, is that of the bytes of the file that it comes
-    /// from ([`span_of`](LitStr::span_of)), and the parser runs on them with the literal's span as scope. Where the
-    /// literal's span isn't as long as its text, which then stands elsewhere, each token gets the literal's span, as by
-    /// [`parse_with`](LitStr::parse_with).
+    /// The decoded value is lexed into tokens. Each token, also inside groups, gets the span of the bytes of the file
+    /// from which it comes ([`span_of`](LitStr::span_of)). The parser runs on the tokens with the literal's span as
+    /// scope. If the literal's span isn't as long as its text, the text isn't at that place in the file, and each token
+    /// gets the literal's span, as by [`parse_with`](LitStr::parse_with).
     ///
     /// # Errors
     ///
-    /// In this order: the lexer's, as `Lex`, where it comes from; the parser's own; `Unexpected` at the first of the trees
-    /// that are left over; `Suffix` at the literal's span where the literal has one. An allocation failure is reported at
-    /// the literal's span, or, in cutting the text, where the token comes from.
+    /// Returns the lexer's error as `Lex`, at the position in the file from which the rejected text comes. Otherwise
+    /// returns the parser's own error. Otherwise returns `Unexpected` at the first token tree that the parser leaves
+    /// over. Otherwise returns `Suffix` at the literal's span if the literal has a suffix. An allocation failure is at
+    /// the literal's span. If memory is needed for a token while the decoded value is lexed, the failure is at the
+    /// position in the file from which the token comes.
     ///
     /// # Example
     ///
@@ -265,13 +274,13 @@ impl<A: Allocator> LitStr<A> {
         self.parse_placed(Placing::InFile, alloc, parser)
     }
 
-    /// What the parser of a type makes of the text that the literal stands for.
+    /// Parses the literal's decoded value as a value of the type `T`, which implements [`Parse`].
     ///
     /// See the example of [`Parser`].
     ///
     /// # Errors
     ///
-    /// As [`parse_with`](LitStr::parse_with).
+    /// Returns the errors of [`parse_with`](LitStr::parse_with).
     pub fn parse<T: Parse<B> + Drop, B: Allocator + Copy>(&self, alloc: B) -> Result<T, Error<B>>
         ensures parsed { IfOk result (IsParsedInside T.runs self.now) }
         ensures rejected { IfErr result (RejectsInside T.runs self.now) }

@@ -1,4 +1,19 @@
-//! The quoted literals: strings, byte strings, C strings, bytes and characters.
+//! The types of quoted literals: strings, byte strings, C strings, bytes and characters. The crate is modelled on
+//! `src/lit.rs` of the crate `syn` 3.0.9.
+//!
+//! # Example
+//!
+//! ```
+//! use rl_quoted::LitStr;
+//! use rl_tokens::Span;
+//! use std::alloc::Global;
+//!
+//! pub fn string_of(alloc: Global, value: &str) -> Option<String> {
+//!     let literal = LitStr::new(alloc, value, Span::call_site()).ok()?;
+//!     String::from_str(alloc, literal.text()).ok()
+//! }
+//! // string_of(alloc, "a\tb") == Some("\"a\\tb\"")
+//! ```
 #![tactic(auto)]
 
 mod inside;

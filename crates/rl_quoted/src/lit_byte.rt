@@ -1,19 +1,19 @@
-//! Byte literals.
+//! The type of byte literals.
 
 ghost use Rattle.std.specs.Prelude.{◌≡◌, ◌∷◌, [], IfOk, IfErr};
 ghost use Rattle.std.specs.Str.{chars};
-ghost use Rattle.rl_forms.specs.declared.kind.Kind.TheVariants.{Byte};
+ghost use Rattle.rl_syntax.specs.declared.kind.Kind.TheVariants.{Byte};
 ghost use Rattle.rl_tokens.specs.Errors.{memory_at};
-ghost use Rattle.rl_forms.specs.Reading.{Bytes, HasContents};
-ghost use Rattle.rl_forms.specs.Written.{IsWrittenForm};
+ghost use Rattle.rl_syntax.specs.Reading.{Bytes, HasContents};
+ghost use Rattle.rl_syntax.specs.Written.{IsWrittenForm};
 
 use crate::quoted::{Quoted, QuotedKind};
-use rl_forms::Kind;
-use rl_reading::byte_of_body;
+use rl_lenient::byte_of_body;
+use rl_syntax::Kind;
 use rl_tokens::{Error, Literal, Span};
 use std::alloc::{Allocator, Global};
 
-/// The kind of bytes, as a type: what distinguishes `LitByte` from its siblings.
+/// The type that represents the kind of bytes. It makes `LitByte` a type of its own among the quoted literals.
 pub struct ByteKind;
 
 impl QuotedKind for ByteKind {
@@ -28,11 +28,11 @@ impl QuotedKind for ByteKind {
 pub type LitByte<A = Global> = Quoted<ByteKind, A>;
 
 impl<A: Allocator> LitByte<A> {
-    /// The literal that the byte is written as, with no suffix, at this span.
+    /// Creates the byte literal that represents the byte `value`, without a suffix, at the span `span`.
     ///
     /// # Errors
     ///
-    /// `Memory` at the span.
+    /// Returns `Memory` at `span` if an allocation fails.
     pub fn new(alloc: A, value: u8, span: Span) -> Result<LitByte<A>, Error<A>>
         ensures text { IfOk result (λ l. IsWrittenForm Byte (value ∷ []) (chars l.text)) }
         ensures span { IfOk result (λ l. l.span ≡ span) }
@@ -44,7 +44,7 @@ impl<A: Allocator> LitByte<A> {
         }
     }
 
-    /// The byte that the literal stands for. No memory is taken.
+    /// Returns the byte that the byte literal represents. Nothing is allocated.
     ///
     /// See the example of [`Lit`].
     pub fn value(&self) -> u8

@@ -1,20 +1,21 @@
-//! Byte string literals.
+//! The type of byte string literals.
 
 ghost use Rattle.std.specs.Prelude.{◌≡◌, IfOk, IfErr, IfSome, OnSome, IfNone};
 ghost use Rattle.std.specs.Str.{chars};
-ghost use Rattle.rl_forms.specs.declared.kind.Kind.TheVariants.{ByteStr};
+ghost use Rattle.rl_syntax.specs.declared.kind.Kind.TheVariants.{ByteStr};
 ghost use Rattle.rl_tokens.specs.Errors.{memory_at};
-ghost use Rattle.rl_forms.specs.Reading.{Bytes, HasContents};
-ghost use Rattle.rl_forms.specs.Written.{IsWrittenForm};
-ghost use Rattle.rl_reading.specs.WholeShapes.{IsPlain};
+ghost use Rattle.rl_syntax.specs.Reading.{Bytes, HasContents};
+ghost use Rattle.rl_syntax.specs.Written.{IsWrittenForm};
+ghost use Rattle.rl_lenient.specs.WholeShapes.{IsPlain};
 
 use crate::quoted::{Quoted, QuotedKind};
-use rl_forms::Kind;
 use rl_fronts::bytes_of_body;
+use rl_syntax::Kind;
 use rl_tokens::{Error, Literal, Span};
 use std::alloc::{Allocator, Global};
 
-/// The kind of byte strings, as a type: what distinguishes `LitByteStr` from its siblings.
+/// The type that represents the kind of byte strings. It makes `LitByteStr` a type of its own among the quoted
+/// literals.
 pub struct ByteStrKind;
 
 impl QuotedKind for ByteStrKind {
@@ -44,11 +45,11 @@ impl QuotedKind for ByteStrKind {
 pub type LitByteStr<A = Global> = Quoted<ByteStrKind, A>;
 
 impl<A: Allocator> LitByteStr<A> {
-    /// The literal that the bytes are written as, with no suffix, at this span.
+    /// Creates the byte string literal that represents the bytes `value`, without a suffix, at the span `span`.
     ///
     /// # Errors
     ///
-    /// `Memory` at the span.
+    /// Returns `Memory` at `span` if an allocation fails.
     pub fn new(alloc: A, value: &[u8], span: Span) -> Result<LitByteStr<A>, Error<A>>
         ensures text { IfOk result (λ l. IsWrittenForm ByteStr value.now (chars l.text)) }
         ensures span { IfOk result (λ l. l.span ≡ span) }
@@ -60,13 +61,13 @@ impl<A: Allocator> LitByteStr<A> {
         }
     }
 
-    /// The bytes that the literal stands for, as a copy.
+    /// Returns a copy of the bytes that the byte string literal represents.
     ///
     /// See the example of [`LitByteStr`].
     ///
     /// # Errors
     ///
-    /// `Memory` at the literal's span.
+    /// Returns `Memory` at the literal's span if an allocation fails.
     pub fn value<B: Allocator>(&self, alloc: B) -> Result<Vec<u8, B>, Error<B>>
         ensures value { IfOk result
             (λ v. HasContents ByteStr (chars self.now.text) (Bytes v.items)) }
@@ -79,9 +80,9 @@ impl<A: Allocator> LitByteStr<A> {
         }
     }
 
-    /// The bytes that the literal stands for, borrowed: `None` where they aren't what stands between
-    /// the quotes, byte for byte, that is where an escape or a line end of two characters stands
-    /// there, and the string isn't raw. No memory is taken.
+    /// Returns the bytes that the byte string literal represents, borrowed, or `None` if they differ from the text
+    /// between the quotes. They differ if the literal isn't raw and contains an escape or a line end of two characters.
+    /// Nothing is allocated.
     ///
     /// See the example of [`LitByteStr`].
     pub fn value_ref(&self) -> Option<&[u8]>

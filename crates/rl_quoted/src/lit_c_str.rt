@@ -1,20 +1,20 @@
-//! C string literals.
+//! The type of C string literals.
 
 ghost use Rattle.std.specs.Prelude.{◌≡◌, IfOk, IfErr, IfSome, OnSome, IfNone};
 ghost use Rattle.std.specs.Str.{chars};
-ghost use Rattle.rl_forms.specs.declared.kind.Kind.TheVariants.{CStr};
+ghost use Rattle.rl_syntax.specs.declared.kind.Kind.TheVariants.{CStr};
 ghost use Rattle.rl_tokens.specs.Errors.{memory_at};
-ghost use Rattle.rl_forms.specs.Reading.{Bytes, HasContents};
-ghost use Rattle.rl_forms.specs.Written.{IsWrittenForm};
-ghost use Rattle.rl_reading.specs.WholeShapes.{IsPlain};
+ghost use Rattle.rl_syntax.specs.Reading.{Bytes, HasContents};
+ghost use Rattle.rl_syntax.specs.Written.{IsWrittenForm};
+ghost use Rattle.rl_lenient.specs.WholeShapes.{IsPlain};
 
 use crate::quoted::{Quoted, QuotedKind};
-use rl_forms::Kind;
 use rl_fronts::bytes_of_body;
+use rl_syntax::Kind;
 use rl_tokens::{CString, Error, Literal, Span};
 use std::alloc::{Allocator, Global};
 
-/// The kind of C strings, as a type: what distinguishes `LitCStr` from its siblings.
+/// The type that represents the kind of C strings. It makes `LitCStr` a type of its own among the quoted literals.
 pub struct CStrKind;
 
 impl QuotedKind for CStrKind {
@@ -41,11 +41,11 @@ impl QuotedKind for CStrKind {
 pub type LitCStr<A = Global> = Quoted<CStrKind, A>;
 
 impl<A: Allocator> LitCStr<A> {
-    /// The literal that the bytes are written as, with no suffix, at this span.
+    /// Creates the C string literal that represents the bytes of `value`, without a suffix, at the span `span`.
     ///
     /// # Errors
     ///
-    /// `Memory` at the span.
+    /// Returns `Memory` at `span` if an allocation fails.
     pub fn new<C: Allocator>(
         alloc: A,
         value: &CString<C>,
@@ -61,14 +61,14 @@ impl<A: Allocator> LitCStr<A> {
         }
     }
 
-    /// The bytes that the literal stands for, as a copy: characters in UTF-8, and no zero at the
-    /// end.
+    /// Returns a copy of the bytes that the C string literal represents. Characters are in UTF-8, and there is no zero
+    /// at the end.
     ///
     /// See the example of [`LitCStr`].
     ///
     /// # Errors
     ///
-    /// `Memory` at the literal's span.
+    /// Returns `Memory` at the literal's span if an allocation fails.
     pub fn value<B: Allocator>(&self, alloc: B) -> Result<CString<B>, Error<B>>
         ensures value { IfOk result (λ v. HasContents CStr (chars self.now.text) (Bytes v)) }
         ensures memory { IfErr result (λ e. e ≡ memory_at self.now.span) }
@@ -80,8 +80,8 @@ impl<A: Allocator> LitCStr<A> {
         }
     }
 
-    /// The bytes that the literal stands for, borrowed: `None` where they aren't what stands between the quotes, that is
-    /// where an escape or a line end of two characters stands there, and the string isn't raw.
+    /// Returns the bytes that the C string literal represents, borrowed, or `None` if they differ from the text between
+    /// the quotes. They differ if the literal isn't raw and contains an escape or a line end of two characters.
     pub fn value_ref(&self) -> Option<&[u8]>
         ensures some { IfSome result (λ v. HasContents CStr (chars self.now.text) (Bytes v.now)) }
         ensures plain { OnSome result (IsPlain CStr self.now.text) }

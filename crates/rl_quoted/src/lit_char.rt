@@ -1,19 +1,19 @@
-//! Character literals.
+//! The type of character literals.
 
 ghost use Rattle.std.specs.Prelude.{◌≡◌, ◌∷◌, [], IfOk, IfErr};
 ghost use Rattle.std.specs.Str.{chars};
-ghost use Rattle.rl_forms.specs.declared.kind.Kind.TheVariants.{Char};
+ghost use Rattle.rl_syntax.specs.declared.kind.Kind.TheVariants.{Char};
 ghost use Rattle.rl_tokens.specs.Errors.{memory_at};
-ghost use Rattle.rl_forms.specs.Reading.{Characters, HasContents};
-ghost use Rattle.rl_forms.specs.Written.{IsWrittenForm};
+ghost use Rattle.rl_syntax.specs.Reading.{Characters, HasContents};
+ghost use Rattle.rl_syntax.specs.Written.{IsWrittenForm};
 
 use crate::quoted::{Quoted, QuotedKind};
-use rl_forms::Kind;
-use rl_reading::char_of_body;
+use rl_lenient::char_of_body;
+use rl_syntax::Kind;
 use rl_tokens::{Error, Literal, Span};
 use std::alloc::{Allocator, Global};
 
-/// The kind of characters, as a type: what distinguishes `LitChar` from its siblings.
+/// The type that represents the kind of characters. It makes `LitChar` a type of its own among the quoted literals.
 pub struct CharKind;
 
 impl QuotedKind for CharKind {
@@ -28,11 +28,11 @@ impl QuotedKind for CharKind {
 pub type LitChar<A = Global> = Quoted<CharKind, A>;
 
 impl<A: Allocator> LitChar<A> {
-    /// The literal that the character is written as, with no suffix, at this span.
+    /// Creates the character literal that represents the character `value`, without a suffix, at the span `span`.
     ///
     /// # Errors
     ///
-    /// `Memory` at the span.
+    /// Returns `Memory` at `span` if an allocation fails.
     pub fn new(alloc: A, value: char, span: Span) -> Result<LitChar<A>, Error<A>>
         ensures text { IfOk result (λ l. IsWrittenForm Char (value ∷ []) (chars l.text)) }
         ensures span { IfOk result (λ l. l.span ≡ span) }
@@ -48,7 +48,7 @@ impl<A: Allocator> LitChar<A> {
         }
     }
 
-    /// The character that the literal stands for. No memory is taken.
+    /// Returns the character that the character literal represents. Nothing is allocated.
     ///
     /// See the example of [`Lit`].
     pub fn value(&self) -> char

@@ -1,20 +1,20 @@
-//! String literals.
+//! The type of string literals.
 
 ghost use Rattle.std.specs.Prelude.{◌≡◌, IfOk, IfErr, IfSome, OnSome, IfNone, string_bytes};
 ghost use Rattle.std.specs.Str.{chars};
-ghost use Rattle.rl_forms.specs.declared.kind.Kind.TheVariants.{Str};
+ghost use Rattle.rl_syntax.specs.declared.kind.Kind.TheVariants.{Str};
 ghost use Rattle.rl_tokens.specs.Errors.{memory_at};
-ghost use Rattle.rl_forms.specs.Reading.{Characters, HasContents};
-ghost use Rattle.rl_forms.specs.Written.{IsWrittenForm};
-ghost use Rattle.rl_reading.specs.WholeShapes.{IsPlain};
+ghost use Rattle.rl_syntax.specs.Reading.{Characters, HasContents};
+ghost use Rattle.rl_syntax.specs.Written.{IsWrittenForm};
+ghost use Rattle.rl_lenient.specs.WholeShapes.{IsPlain};
 
 use crate::quoted::{Quoted, QuotedKind};
-use rl_forms::Kind;
 use rl_fronts::str_of_body;
+use rl_syntax::Kind;
 use rl_tokens::{Error, Literal, Span};
 use std::alloc::{Allocator, Global};
 
-/// The kind of strings, as a type: what distinguishes `LitStr` from its siblings.
+/// The type that represents the kind of strings. It makes `LitStr` a type of its own among the quoted literals.
 pub struct StrKind;
 
 impl QuotedKind for StrKind {
@@ -44,12 +44,12 @@ impl QuotedKind for StrKind {
 pub type LitStr<A = Global> = Quoted<StrKind, A>;
 
 impl<A: Allocator> LitStr<A> {
-    /// The literal that the text is written as, with no suffix, at this span: `"`, `\` and the
-    /// control characters of ASCII are written as escapes, all else as it stands.
+    /// Creates the string literal that represents the text `value`, without a suffix, at the span `span`. The literal
+    /// has escapes for `"`, `\` and the control characters of ASCII. All other characters are unchanged.
     ///
     /// # Errors
     ///
-    /// `Memory` at the span.
+    /// Returns `Memory` at `span` if an allocation fails.
     ///
     /// # Example
     ///
@@ -75,14 +75,14 @@ impl<A: Allocator> LitStr<A> {
         }
     }
 
-    /// The text that the literal stands for, as a copy: unless it is raw, escapes are decoded and
-    /// CR LF is LF. The suffix is no part of it.
+    /// Returns a copy of the text that the string literal represents, without the suffix. Unless the literal is raw,
+    /// escapes are decoded, and CR LF becomes LF.
     ///
     /// See the example of [`LitStr`].
     ///
     /// # Errors
     ///
-    /// `Memory` at the literal's span.
+    /// Returns `Memory` at the literal's span if an allocation fails.
     pub fn value<B: Allocator>(&self, alloc: B) -> Result<String<B>, Error<B>>
         ensures value { IfOk result
             (λ v. HasContents Str (chars self.now.text) (Characters (chars (string_bytes v)))) }
@@ -95,9 +95,9 @@ impl<A: Allocator> LitStr<A> {
         }
     }
 
-    /// The text that the literal stands for, borrowed: `None` where it isn't what stands between the
-    /// quotes, byte for byte, that is where an escape or a line end of two characters stands there,
-    /// and the string isn't raw. No memory is taken.
+    /// Returns the text that the string literal represents, borrowed, or `None` if it differs from the text between the
+    /// quotes. It differs if the literal isn't raw and contains an escape or a line end of two characters. Nothing is
+    /// allocated.
     ///
     /// See the example of [`LitStr`].
     pub fn value_ref(&self) -> Option<&str>

@@ -1,4 +1,5 @@
-//! What the five have in common: a token, its kind, and the places of its parts.
+//! The type `Quoted`, which the five types of quoted literals are instances of: a token, its kind, and the byte offsets
+//! of the parts of its text.
 
 ghost use Rattle.std.specs.Fmt.{padded};
 ghost use Rattle.std.specs.Prelude.{◌≡◌, ◌≢◌, ◌↔◌, IsTrue, MatchBool, IfOk, IfErr, ◌==◌, ◌≤◌, ◌+◌, ◌++◌, ◌∷◌, [], length, OnOk, OnErr, Some, codes};
@@ -9,25 +10,24 @@ ghost use Rattle.std.specs.Hash as fed;
 ghost use Rattle.std.specs.Ordering.{on};
 ghost use Rattle.std.proofs.Common.{rules};
 ghost use Rattle.std.specs.Str.{chars, IsUtf8};
-ghost use Rattle.rl_forms.specs.declared.kind.Kind.{Kind};
+ghost use Rattle.rl_syntax.specs.declared.kind.Kind.{Kind};
 ghost use Rattle.rl_tokens.specs.Errors.{memory_at};
-ghost use Rattle.rl_forms.specs.Reading.{HasSuffix, ReadsAs};
+ghost use Rattle.rl_syntax.specs.Reading.{HasSuffix, ReadsAs};
 ghost use Rattle.rl_tokens.specs.Trees.{LiteralTree, stream_view};
-ghost use Rattle.rl_forms.specs.Quoted.{is_single, is_string};
-ghost use Rattle.rl_reading.specs.Bodies.{HasBody, HasSingleBody};
-ghost use Rattle.rl_reading.specs.Founds.{IsFound, is_quoted};
-ghost use Rattle.rl_reading.specs.Segments.{IsByteEnd, IsBytePlace, IsSegmentsOf};
-ghost use Rattle.rl_reading.specs.WholeShapes.{IsPlain};
-ghost use Rattle.rl_quoted.specs.Places.{IsSpanOf, IsWrittenAs, StandsAt};
-ghost use Rattle.rl_parts.specs.Ranges.{IsRangeOf};
+ghost use Rattle.rl_syntax.specs.Quoted.{is_single, is_string};
+ghost use Rattle.rl_lenient.specs.Bodies.{HasBody, HasSingleBody};
+ghost use Rattle.rl_lenient.specs.Founds.{IsFound, is_quoted};
+ghost use Rattle.rl_lenient.specs.Segments.{IsByteEnd, IsBytePlace, IsSegmentsOf};
+ghost use Rattle.rl_lenient.specs.WholeShapes.{IsPlain};
+ghost use Rattle.rl_quoted.specs.Places.{IsSpanOf, IsWrittenAs, HasPartsAt};
+ghost use Rattle.rl_lenient.specs.Ranges.{IsRangeOf};
 ghost use Rattle.rl_quoted.specs.Suffixes.{HasSomeSuffix};
-ghost use Rattle.rl_forms.specs.Words.{kind_name};
+ghost use Rattle.rl_syntax.specs.Words.{kind_name};
 
 use crate::written::written_body;
-use rl_forms::Kind;
-use rl_fronts::{next_is, take_kind};
-use rl_parts::range_of;
-use rl_reading::{Body, Found, Segments, byte_of_body, char_of_body, find};
+use rl_fronts::{begins_with_kind, take_literal_of_kind};
+use rl_lenient::{Body, Found, Segments, byte_of_body, char_of_body, find, text_range};
+use rl_syntax::Kind;
 use rl_tokens::{
     Error, Literal, Parse, ParseBuffer, Span, ToTokens, Token, TokenStream, append_literal,
 };
@@ -36,23 +36,24 @@ use std::fmt;
 use std::hash::{Hash, Hasher};
 use std::marker::{Model, PhantomData};
 
-/// Whether the text has a character.
+/// Whether `text` isn't empty.
 fn holds_some(text: &str) -> bool
     ensures { MatchBool result (chars text.now ≢ []) (chars text.now ≡ []) }
 {
     !text.is_empty()
 }
 
-/// A kind of quoted literals, as a type. It has five implementations; callers need none of their
-/// own.
+/// A type that represents a kind of quoted literals. The five implementations are `StrKind`, `ByteStrKind`, `CStrKind`,
+/// `ByteKind` and `CharKind`. Callers need no others.
 pub trait QuotedKind {
     ghost KIND: { Kind };
 
-    /// The kind that its texts read as.
+    /// The kind of literals that the type represents.
     const KIND: Kind;
 }
 
-/// A quoted literal of a kind. Programs name it as [`LitStr`](crate::LitStr) or as one of its four siblings.
+/// A quoted literal of the kind `K`. Programs use it under five names: [`LitStr`](crate::LitStr), `LitByteStr`,
+/// `LitCStr`, `LitByte` and `LitChar`.
 #[derive(Drop)]
 pub struct Quoted<K: QuotedKind, A: Allocator = Global> {
     pub(crate) token: Literal<A>,
@@ -60,21 +61,22 @@ pub struct Quoted<K: QuotedKind, A: Allocator = Global> {
     of: PhantomData<K>,
 }
 
-/// The token's text reads as the kind, and its parts stand at the places that are kept.
+/// The value of a [`Quoted`] in contracts is its token. The invariant: the token's text is a literal of the kind `K`,
+/// and its parts are at the stored byte offsets.
 impl<K: QuotedKind, A: Allocator> Model for Quoted<K, A> {
-    ghost use Rattle.rl_text.specs.Texts.{SpannedText};
-    ghost use Rattle.rl_quoted.specs.Places.{StandsAt};
+    ghost use Rattle.rl_syntax.specs.Texts.{SpannedText};
+    ghost use Rattle.rl_quoted.specs.Places.{HasPartsAt};
 
     ghost Value = { SpannedText };
 
     ghost view = { λ l. l.token };
 
-    ghost invariant = { λ l. StandsAt K.KIND l.token.text l.body };
+    ghost invariant = { λ l. HasPartsAt K.KIND l.token.text l.body };
 }
 
 impl<K: QuotedKind, A: Allocator> Quoted<K, A> {
-    /// The literal of this token, whose text has to read as the kind, as `shape` of `rl_grammar`
-    /// says. `Lit::new` of `rust_literals` takes any token.
+    /// Creates the quoted literal of the literal token `token`. The token's text must be a literal of the kind `K`,
+    /// which `shape` of `rl_grammar` checks. `Lit::new` of `rust_literals` accepts any token.
     pub fn of_token(token: Literal<A>) -> Quoted<K, A>
         requires { ReadsAs K.KIND (chars token.text) }
         ensures { result ≡ token }
@@ -83,7 +85,8 @@ impl<K: QuotedKind, A: Allocator> Quoted<K, A> {
         Quoted::of_found(token, found)
     }
 
-    /// The literal of this token, in whose text [`find`] found this literal of the kind.
+    /// Creates the quoted literal of the literal token `token` from the parse result of the token's text. [`find`]
+    /// returned the parse result `found`. The text must be a literal of the kind `K`.
     #[inline(always)]
     pub fn of_found(token: Literal<A>, found: Found) -> Quoted<K, A>
         requires found { IsFound token.text found }
@@ -97,7 +100,8 @@ impl<K: QuotedKind, A: Allocator> Quoted<K, A> {
         }
     }
 
-    /// The literal of this token, which the writer wrote of the value with these bytes, at this span.
+    /// Creates the quoted literal of the literal token `token`, with the span `span`. The token's text must be the
+    /// literal that the crate's writer writes for the value with the bytes `value`.
     pub(crate) fn written(mut token: Literal<A>, value: &[u8], span: Span) -> Quoted<K, A>
         requires quoted { IsTrue (is_quoted K.KIND) }
         requires written { IsWrittenAs K.KIND value.now (chars token.text) }
@@ -112,7 +116,8 @@ impl<K: QuotedKind, A: Allocator> Quoted<K, A> {
         }
     }
 
-    /// What stands between the quotes of a string, and whether that is its contents, byte for byte.
+    /// Returns the text between the quotes of a string literal, and whether that text equals the literal's decoded
+    /// value, byte for byte.
     pub(crate) fn body(&self) -> (&str, bool)
         requires { IsTrue (is_string K.KIND) }
         ensures stands { HasBody K.KIND (chars self.now.text) result.0.now result.1 }
@@ -123,7 +128,7 @@ impl<K: QuotedKind, A: Allocator> Quoted<K, A> {
         (&self.token.text()[body.lo..body.hi], body.plain)
     }
 
-    /// What stands between the quotes.
+    /// Returns the text between the literal's quotes.
     fn between(&self) -> &str
         ensures single { IsTrue (is_single K.KIND) → HasSingleBody K.KIND (chars self.now.text) result.now }
         ensures text { IsUtf8 self.now.text }
@@ -132,7 +137,7 @@ impl<K: QuotedKind, A: Allocator> Quoted<K, A> {
         &self.token.text()[body.lo..body.hi]
     }
 
-    /// What stands between the quotes of a character or a byte.
+    /// Returns the text between the quotes of a character or byte literal.
     pub(crate) fn single_body(&self) -> &str
         requires { IsTrue (is_single K.KIND) }
         ensures { HasSingleBody K.KIND (chars self.now.text) result.now }
@@ -140,7 +145,8 @@ impl<K: QuotedKind, A: Allocator> Quoted<K, A> {
         self.between()
     }
 
-    /// What reading the token's text finds, as [`find`] does, by the places that are kept: nothing is looked for again.
+    /// Returns the parse result of the literal's text, as [`find`] does. It is built from the stored byte offsets, and
+    /// the text isn't parsed again.
     pub fn found(&self) -> Found
         requires { IsTrue (is_quoted K.KIND) }
         ensures found { IsFound self.now.text result }
@@ -161,8 +167,9 @@ impl<K: QuotedKind, A: Allocator> Quoted<K, A> {
         }
     }
 
-    /// The segments of what stands between the quotes: each piece, where it stands in the token's text, and what it stands
-    /// for. No memory is taken.
+    /// Returns an iterator over the segments of the text between the literal's quotes. A segment is a sequence of plain
+    /// characters, one escape, one escaped line end, or one line end of two characters. It has a position in the
+    /// literal's text, and a decoded value. Nothing is allocated.
     pub fn segments(&self) -> Segments<'_>
         requires { IsTrue (is_quoted K.KIND) }
         ensures segments { IsSegmentsOf K.KIND (chars self.now.text) result }
@@ -171,9 +178,9 @@ impl<K: QuotedKind, A: Allocator> Quoted<K, A> {
         self.body.segments_in(K::KIND, self.token.text())
     }
 
-    /// Where in the token's text what gives this byte of the contents begins: where characters stand for themselves the
-    /// byte itself, else the escape; at the end of the contents, and past it, the closing quote's place. No memory is
-    /// taken.
+    /// Returns the byte offset in the literal's text from which the byte at the offset `at` of the decoded value comes:
+    /// the offset of the byte itself, or of the start of its escape. If `at` is the length of the decoded value or
+    /// more, the result is the closing quote's offset. Nothing is allocated.
     ///
     /// # Example
     ///
@@ -190,14 +197,16 @@ impl<K: QuotedKind, A: Allocator> Quoted<K, A> {
     /// }
     /// // brace_in_file(alloc, "  \"\\u{e4}\\n{x}\"") == Some(11)
     /// ```
-    pub fn place_of(&self, at: usize) -> usize
+    pub fn text_offset(&self, at: usize) -> usize
         requires { IsTrue (is_quoted K.KIND) }
         ensures { IsBytePlace K.KIND (chars self.now.text) at result }
     {
-        self.segments().place_of(at)
+        self.segments().text_offset(at)
     }
 
-    /// Where that ends: after the byte itself, or after the escape. A continuation that follows is none of it.
+    /// Returns the byte offset in the literal's text after the text from which the byte at the offset `at` of the
+    /// decoded value comes: after the byte itself, or after its escape. An escaped line end that follows isn't
+    /// included.
     pub fn end_of(&self, at: usize) -> usize
         requires { IsTrue (is_quoted K.KIND) }
         ensures { IsByteEnd K.KIND (chars self.now.text) at result }
@@ -205,20 +214,22 @@ impl<K: QuotedKind, A: Allocator> Quoted<K, A> {
         self.segments().end_of(at)
     }
 
-    /// The bytes of the token's text that the bytes of the contents from `lo` up to `hi` come from.
-    fn range_of(&self, lo: usize, hi: usize) -> (usize, usize)
+    /// Returns the byte range of the literal's text from which the bytes `lo` up to `hi` of the decoded value come.
+    fn text_range(&self, lo: usize, hi: usize) -> (usize, usize)
         requires { IsTrue (is_quoted K.KIND) }
         ensures { IsRangeOf K.KIND (chars self.now.text) lo hi result.0 result.1 }
     {
-        range_of(K::KIND, self.token.text(), &self.body, lo, hi)
+        text_range(K::KIND, self.token.text(), &self.body, lo, hi)
     }
 
-    /// Where in its file the bytes of the contents from `lo` up to `hi` come from: from where what gives the first begins
-    /// ([`place_of`](Quoted::place_of)) to where what gives the last ends ([`end_of`](Quoted::end_of)). Of no bytes, no
-    /// bytes where the next begins. Where the literal's span isn't as long as its text, which then stands elsewhere, the
-    /// literal's span. No memory is taken.
+    /// Returns the span in the file from which the bytes `lo` up to `hi` of the literal's decoded value come.
     ///
-    /// See the example of [`place_of`](Quoted::place_of).
+    /// The span is from the start of the first byte's text ([`text_offset`](Quoted::text_offset)) to the end of the
+    /// last byte's text ([`end_of`](Quoted::end_of)). For an empty range the span is empty, where the next byte begins.
+    /// If the literal's span isn't as long as its text, the text isn't at that place in the file, and the result is the
+    /// literal's span. Nothing is allocated.
+    ///
+    /// See the example of [`text_offset`](Quoted::text_offset).
     pub fn span_of(&self, lo: usize, hi: usize) -> Span
         requires { IsTrue (is_quoted K.KIND) }
         ensures { IsSpanOf K.KIND self.now lo hi result }
@@ -227,7 +238,7 @@ impl<K: QuotedKind, A: Allocator> Quoted<K, A> {
         if !self.spans_text() {
             return span;
         }
-        let (first, last) = self.range_of(lo, hi);
+        let (first, last) = self.text_range(lo, hi);
         Span {
             file: span.file,
             lo: span.lo + first,
@@ -235,7 +246,7 @@ impl<K: QuotedKind, A: Allocator> Quoted<K, A> {
         }
     }
 
-    /// Whether the literal's span is as long as its text, as that of a literal is that was cut from a file.
+    /// Whether the literal's span is as long as its text. The span of a literal that was lexed from a file is.
     pub(crate) fn spans_text(&self) -> bool
         ensures long { MatchBool result
             (self.now.span.lo + length self.now.text ≡ self.now.span.hi)
@@ -247,14 +258,14 @@ impl<K: QuotedKind, A: Allocator> Quoted<K, A> {
         span.lo <= span.hi && span.hi - span.lo == len
     }
 
-    /// What stands after the closing quote, borrowed: empty, or any text.
+    /// Returns the literal's suffix, borrowed: the text after the closing quote, or an empty string.
     pub fn suffix(&self) -> &str
         ensures { HasSuffix K.KIND (chars self.now.text) (chars result.now) }
     {
         &self.token.text()[self.body.suffix_at..]
     }
 
-    /// Whether anything stands after the closing quote.
+    /// Returns `true` if the literal has a suffix.
     pub fn has_suffix(&self) -> bool
         ensures { MatchBool result (HasSomeSuffix K.KIND (chars self.now.text))
             (HasSuffix K.KIND (chars self.now.text) []) }
@@ -262,32 +273,32 @@ impl<K: QuotedKind, A: Allocator> Quoted<K, A> {
         holds_some(self.suffix())
     }
 
-    /// The token's text, from its first quote or letter to its suffix.
+    /// Returns the literal's text as written, from its first quote or letter to the end of its suffix.
     pub fn text(&self) -> &str
         ensures { result.now ≡ self.now.text }
     {
         self.token.text()
     }
 
-    /// Where the literal stands: its file, and its bytes in it.
+    /// Returns the literal's span: a file, and a range of bytes in that file.
     pub fn span(&self) -> Span
         ensures { result ≡ self.now.span }
     {
         self.token.span()
     }
 
-    /// Puts the literal elsewhere: its span becomes this one, and its text stays.
+    /// Sets the literal's span to `span`. The literal's text is unchanged.
     pub fn set_span(&mut self, span: Span)
         ensures { self.new ≡ record self.old { span = span } }
     {
         self.token.set_span(span);
     }
 
-    /// The token, with text and span as held.
+    /// Returns a new literal token with the literal's text and span.
     ///
     /// # Errors
     ///
-    /// `Memory` at the literal's span.
+    /// Returns `Memory` at the literal's span if an allocation fails.
     pub fn token<B: Allocator>(&self, alloc: B) -> Result<Literal<B>, Error<B>>
         ensures ok { IfOk result (λ l. l ≡ self.now) }
         ensures memory { IfErr result (λ e. e ≡ memory_at self.now.span) }
@@ -295,11 +306,11 @@ impl<K: QuotedKind, A: Allocator> Quoted<K, A> {
         Literal::from_text(alloc, self.token.text(), self.token.span())
     }
 
-    /// The literal once more, with its memory from this allocator.
+    /// Returns a copy of the literal, in memory from `alloc`.
     ///
     /// # Errors
     ///
-    /// `Memory` at the literal's span.
+    /// Returns `Memory` at the literal's span if an allocation fails.
     pub fn clone<B: Allocator>(&self, alloc: B) -> Result<Quoted<K, B>, Error<B>>
         ensures ok { IfOk result (λ l. l ≡ self.now) }
         ensures memory { IfErr result (λ e. e ≡ memory_at self.now.span) }
@@ -315,32 +326,33 @@ impl<K: QuotedKind, A: Allocator> Quoted<K, A> {
     }
 }
 
-/// Takes the literal of the kind that stands next. It is rejected as [`take_kind`] says.
+/// Parses the literal at the start of a buffer, which must be of the type's kind. The errors are those of
+/// [`take_literal_of_kind`].
 impl<K: QuotedKind, A: Allocator> Parse<A> for Quoted<K, A> {
     ghost use Rattle.rl_fronts.specs.Fronts.{RunsAs};
-    ghost use Rattle.rl_forms.specs.Words.{kind_word};
+    ghost use Rattle.rl_syntax.specs.Words.{kind_word};
 
     ghost runs = { RunsAs K.KIND (kind_word K.KIND) };
 
     fn parse(alloc: A, input: &mut ParseBuffer<'_, A>) -> Result<Quoted<K, A>, Error<A>> {
-        match take_kind(alloc, input, K::KIND, K::KIND.word()) {
+        match take_literal_of_kind(alloc, input, K::KIND, K::KIND.word()) {
             Ok((token, found)) => Ok(Quoted::of_found(token, found)),
             Err(error) => Err(error),
         }
     }
 }
 
-/// True exactly where the parser succeeds, if memory is found.
+/// `peek` returns `true` exactly if the type's parser would succeed, provided that no allocation fails.
 impl<K: QuotedKind, A: Allocator> Token for Quoted<K, A> {
     ghost use Rattle.rl_fronts.specs.Fronts.{HasFrontOf};
-    ghost use Rattle.rl_forms.specs.Words.{kind_shown};
+    ghost use Rattle.rl_syntax.specs.Words.{kind_shown};
 
     ghost peeks = { HasFrontOf K.KIND };
 
     ghost shown = { kind_shown K.KIND };
 
     fn peek<B: Allocator>(input: &ParseBuffer<'_, B>) -> bool {
-        next_is(input, K::KIND)
+        begins_with_kind(input, K::KIND)
     }
 
     fn display() -> &'static str {
@@ -348,7 +360,7 @@ impl<K: QuotedKind, A: Allocator> Token for Quoted<K, A> {
     }
 }
 
-/// Equal where the texts are; spans are ignored.
+/// Two quoted literals are equal if their texts are equal. Spans are ignored.
 impl<K: QuotedKind, A: Allocator> PartialEq for Quoted<K, A> {
     ghost eq = { on (λ l. l.text) (pointwise ◌==◌) };
 
@@ -363,7 +375,7 @@ impl<K: QuotedKind, A: Allocator> Eq for Quoted<K, A> {
     ghost laws = { on_equiv (λ l. l.text) nat_list_eq_equiv };
 }
 
-/// By the text alone.
+/// The hash of a quoted literal depends on its text only.
 impl<K: QuotedKind, A: Allocator> Hash for Quoted<K, A> {
     ghost hash_input = { λ l. fed.str l.text };
 
@@ -374,7 +386,7 @@ impl<K: QuotedKind, A: Allocator> Hash for Quoted<K, A> {
     }
 }
 
-/// The token's text; a width pads it, as it pads a `str`.
+/// Writes the literal's text as written. A width in the format pads the text, as it pads a `str`.
 impl<K: QuotedKind, A: Allocator> fmt::Display for Quoted<K, A> {
     ghost output = { λ l. Some l.text };
 
@@ -385,7 +397,7 @@ impl<K: QuotedKind, A: Allocator> fmt::Display for Quoted<K, A> {
     }
 }
 
-/// The token's text between the name and braces.
+/// Writes the type's name, and the literal's text in braces, as in `LitStr { token: "a" }`.
 impl<K: QuotedKind, A: Allocator> fmt::Debug for Quoted<K, A> {
     ghost debug_output = { λ l. Some (kind_name K.KIND ++ codes " { token: " ++ l.text
         ++ codes " }") };
@@ -397,7 +409,7 @@ impl<K: QuotedKind, A: Allocator> fmt::Debug for Quoted<K, A> {
     }
 }
 
-/// The token as it stands.
+/// Appends the literal's token to a token stream.
 impl<K: QuotedKind, A: Allocator> ToTokens for Quoted<K, A> {
     ghost appends = { λ l. LiteralTree l ∷ [] };
 

@@ -1,5 +1,5 @@
--- What nothing closes in a text, nothing closes in its end.
-use Rattle.rl_text.proofs.Common.{◌≡◌, ◌≤◌, ℕ, zero, suc, Bool, true, false, ◌&&◌, ◌==◌, cond, List, [], ◌∷◌, ◌++◌, drop, replicate, Option, Some, None, refl, sym, ◌∙◌, ap, subst, arith, append_assoc, and_parts, and_from, none-some, IfSome}
+-- A literal that is unclosed in a text is also unclosed in an end of the text.
+use Rattle.rl_syntax.proofs.Common.{◌≡◌, ◌≤◌, ℕ, zero, suc, Bool, true, false, ◌&&◌, ◌==◌, cond, List, [], ◌∷◌, ◌++◌, drop, replicate, Option, Some, None, refl, sym, ◌∙◌, ap, subst, arith, append_assoc, and_parts, and_from, none-some, IfSome}
 use Rattle.std.specs.Prelude.{IsSomeAnd}
 use Rattle.rl_lexer.specs.Lexemes.{begins_hashes, LiteralPrefix, prefix_text}
 use Rattle.rl_lexer.specs.Mirrors.LexemeAt.{after_quote, after_raw}
@@ -15,7 +15,8 @@ use Rattle.rl_recovery.proofs.OpenerLemmas.{hashed, quoted_stuck, quoted_unclose
 
 -- ---- quoted literals
 
--- a quote that is left stands behind a backslash, so what follows it is searched as the text is
+-- If the text ends with a quote that doesn't close the literal, a backslash escapes the quote. So the text after the quote is
+-- searched as the whole text is.
 quote_tail : (front body : List ℕ) → after_quote (front ++ 34 ∷ body) ≡ None → after_quote body ≡ None
 quote_tail [] body h = absurd (none-some body (sym h ∙ quote_now body))
 quote_tail (c ∷ []) body h = go (c == 34) (c == 92) h
@@ -40,7 +41,7 @@ quote_tail (c ∷ d ∷ front) body h = go (c == 34) (c == 92) h (quote_tail fro
 quoted_none : (body : List ℕ) → after_quote body ≡ None → NoneCloses Quoted body
 quoted_none t h = λ front body e. quote_tail front body (ap after_quote (sym e) ∙ h)
 
--- ---- raw literals
+-- ---- raw strings
 
 raw_tail : (n : ℕ) (front t : List ℕ) → after_raw n (front ++ t) ≡ None → after_raw n t ≡ None
 raw_tail n [] t h = h
@@ -71,7 +72,7 @@ raw_more n m (c ∷ t) l h = go (c == 34) (begins_hashes n t) (begins_hashes m t
     go true false true p r h more = absurd (let e : true ≡ false = sym (hashes_fewer n m t l r) ∙ p in cc)
     go true false false p r h more = more h
 
--- ---- both
+-- ---- strings with escapes and raw strings
 
 pub none_tail : (opener : Opener) (front t : List ℕ) → NoneCloses opener (front ++ t) → NoneCloses opener t
 none_tail Quoted front t h = λ f body e.
@@ -92,7 +93,7 @@ unclosed_tail k front t h = record {
 pub unclosed_end : (k : Unclosed) (t r : List ℕ) → EndsWith t r → AreUnclosed k t → AreUnclosed k r
 unclosed_end k t r ends h = unclosed_tail k ends.0 r (subst (AreUnclosed k) ends.1 h)
 
--- nothing is left
+-- In an empty text, each literal is unclosed.
 pub unclosed_nil : (k : Unclosed) → AreUnclosed k []
 unclosed_nil k = record { quoted = λ on front body e. absurd (no_quote front body e); raw = nothing k.raw }
   where
@@ -104,7 +105,7 @@ unclosed_nil k = record { quoted = λ on front body e. absurd (no_quote front bo
     nothing None = tt
     nothing (Some n) = refl
 
--- ---- an opener that is known begins no token
+-- ---- an opening delimiter that is known to be unclosed begins no token
 
 raw_closed_by : (o : Option ℕ) (n : ℕ) (t : List ℕ) → IsSomeAnd o (λ least. least ≤ n)
     → IfSome o (λ least. NoneCloses (Raw least) t) → after_raw n t ≡ None
@@ -128,7 +129,7 @@ known_stuck k (Raw n) t body h is (p, e) =
     let front = raw_front p n body in
     subst BeginsNoSource (sym e) (raw_stuck p n body (raw_tail n front.0 body (ap (after_raw n) (sym front.1) ∙ whole)))
 
--- ---- an opener that begins no token isn't closed in the lines after it
+-- ---- an opening delimiter that begins no token has no closing delimiter in the lines after it
 
 pub lines_unclosed : (opener : Opener) (joins : Bool) (t body lines : List ℕ) → BeginsNoSource t
     → BeginsOpener t opener body → from_line_end joins false (drop 1 t) ≡ Some lines → NoneCloses opener lines

@@ -1,3 +1,4 @@
+pub mod LeadingLemmas
 pub mod OpenerLemmas
 pub mod ClosingLemmas
 pub mod LineEnds

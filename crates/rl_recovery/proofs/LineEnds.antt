@@ -1,11 +1,11 @@
--- Where a line ends: what stands from there on is the end of the text, and of what follows an opener.
-use Rattle.rl_text.proofs.Common.{◌≡◌, ℕ, zero, suc, Bool, true, false, not, ◌&&◌, ◌==◌, List, [], ◌∷◌, ◌++◌, drop, replicate, Option, Some, refl, sym, ◌∙◌, ap, none-some, if◌then◌else◌}
+-- The text from the end of a line on is an end of the text, and of the text after an opening delimiter.
+use Rattle.rl_syntax.proofs.Common.{◌≡◌, ℕ, zero, suc, Bool, true, false, not, ◌&&◌, ◌==◌, List, [], ◌∷◌, ◌++◌, drop, replicate, Option, Some, refl, sym, ◌∙◌, ap, none-some, if◌then◌else◌}
 use Rattle.rl_lexer.proofs.Comments.{same_Some}
 use Rattle.rl_lexer.specs.Lexemes.{LiteralPrefix, NoPrefix, BytePrefix, CPrefix, prefix_text}
 use Rattle.rl_recovery.specs.Recoveries.{from_line_end}
 use Rattle.rl_recovery.proofs.OpenerLemmas.{hashed}
 
--- the one stands at the end of the other
+-- The second text is an end of the first one.
 abbrev pub EndsWith : List ℕ → List ℕ → Type 0
 EndsWith t r = (front : List ℕ) × (t ≡ front ++ r)
 
@@ -26,7 +26,7 @@ pub rest_ends : (joins escaped : Bool) (t r : List ℕ) → from_line_end joins 
 rest_ends joins escaped [] r h = absurd (none-some r h)
 rest_ends joins escaped (c ∷ t) r h = let (front, e) = line_ends joins escaped t r h in (c ∷ front, ap (λ z. c ∷ z) e)
 
--- ---- after an opener, none of whose characters is an LF or a backslash
+-- ---- the text after an opening delimiter that contains neither an LF nor a backslash
 
 and_false : (b : Bool) → (b && false) ≡ false
 and_false true = refl

@@ -1,8 +1,9 @@
--- What begins with the opener of a quoted or a raw literal: a token, where the literal is closed, and else none.
-use Rattle.rl_text.proofs.Common.{◌≡◌, ℕ, zero, suc, true, false, ◌&&◌, ◌||◌, cond, List, ◌∷◌, ◌++◌, drop, length, replicate, Option, Some, None, refl, sym, ◌∙◌, ap, lit<, inl, inr, option_map, encode_utf8_all, encodes-chars, chars, IsUtf8, codes}
-use Rattle.rl_text.specs.Texts.{first_passes, is_start, is_continue, begins_char, begins}
-use Rattle.rl_text.specs.Classes.{is_hash, after_run}
-use Rattle.rl_text.proofs.LowBytes.{low_front}
+-- A text that begins with the opening delimiter of a string begins with a token if the string is closed, and with no token
+-- otherwise.
+use Rattle.rl_syntax.proofs.Common.{◌≡◌, ℕ, zero, suc, true, false, ◌&&◌, ◌||◌, cond, List, ◌∷◌, ◌++◌, drop, length, replicate, Option, Some, None, refl, sym, ◌∙◌, ap, lit<, inl, inr, option_map, encode_utf8_all, encodes-chars, chars, IsUtf8, codes}
+use Rattle.rl_syntax.specs.Texts.{first_passes, is_start, is_continue, begins_char, begins}
+use Rattle.rl_syntax.specs.Classes.{is_hash, after_run}
+use Rattle.rl_syntax.proofs.LowBytes.{low_front}
 use Rattle.rl_lexer.specs.Lexemes.{LiteralPrefix, NoPrefix, BytePrefix, CPrefix, prefix_text, BeginsRaw, LexemeForm, LiteralForm}
 use Rattle.rl_lexer.specs.Mirrors.LexemeAt.{after_quote, after_raw, after_suffix, hashes, LetterBHead, LetterCHead, LetterRHead, QuoteHead, raw_at, literal_at, word_at, lexeme_at, begins_hashed_quote, begins_quote}
 use Rattle.rl_lexer.specs.Mirrors.SourceAt.{of_kind, other_at, opens, after_bad_quote, stray_at, or_stray}
@@ -13,7 +14,7 @@ use Rattle.rl_lexer.proofs.LexemeFronts.{at_class, class34, class98, class99, cl
 use Rattle.rl_lexer.proofs.LexemeOpeners.{quote_here, raw_opens_here}
 use Rattle.rl_lexer.proofs.SourceFronts.{plain_before, source_none}
 
--- ---- no token begins a text where none of the three readers finds one, and the other way round
+-- ---- no token begins a text if and only if each of the three parsers finds none
 
 stuck : (t : List ℕ) → lexeme_at t ≡ None → other_at t ≡ None → stray_at t ≡ None → BeginsNoSource t
 stuck t lexeme other stray = source_none t None (no_lexeme t lexeme) (sym (ap (λ o. or_stray o t) other ∙ stray))
@@ -25,7 +26,7 @@ lexeme_stuck t none = go (lexeme_at t) refl
     go None e = e
     go (Some p) e = absurd (none (PlainKind p.0) p.1 (plain_before t p.1 p.0 (form_before t p e)))
 
--- a literal that ends with a suffix, if its closer is found
+-- The literal with its suffix if its closing delimiter is found, and `None` otherwise.
 abbrev ended : Option (List ℕ) → Option (LexemeForm × List ℕ)
 ended o = literal_at (option_map after_suffix o)
 
@@ -60,9 +61,9 @@ pub quoted_unclosed : (p : LiteralPrefix) (body : List ℕ) → BeginsNoSource (
 quoted_unclosed p body none = not_ended (after_quote body)
     (sym (quoted_lexeme p body) ∙ lexeme_stuck (prefix_text p ++ 34 ∷ body) none)
 
--- ---- raw literals
+-- ---- raw strings
 
--- hashes, a quote and what follows it
+-- Hashes, a double quote and the text after it.
 abbrev pub hashed : ℕ → List ℕ → List ℕ
 hashed n body = replicate n 35 ++ 34 ∷ body
 
@@ -138,13 +139,13 @@ pub raw_unclosed : (p : LiteralPrefix) (n : ℕ) (body : List ℕ) → BeginsNoS
 raw_unclosed p n body none = not_ended (after_raw n body)
     (sym (raw_lexeme p n body) ∙ lexeme_stuck (prefix_text p ++ 114 ∷ hashed n body) none)
 
--- ---- how many hashes
+-- ---- the number of hashes
 
 hash_bytes : (n : ℕ) → length (encode_utf8_all (replicate n 35)) ≡ n
 hash_bytes zero = refl
 hash_bytes (suc n) = ap length (low_front 35 (replicate n 35) (lit< tt)) ∙ ap suc (hash_bytes n)
 
--- what stands between an `r` and a quote, as so many hashes
+-- The text between an `r` and a double quote, as a number of hashes.
 pub hashes_taken : (front : List ℕ) (t quote body : List ℕ) → IsUtf8 front → t ≡ chars front ++ quote
     → quote ≡ after_run is_hash t → quote ≡ 34 ∷ body → 114 ∷ t ≡ 114 ∷ hashed (length front) body
 hashes_taken front t quote body u cut past is =

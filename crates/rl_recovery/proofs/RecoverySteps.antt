@@ -1,8 +1,8 @@
--- Single steps of a source that is read on after its errors.
-use Rattle.rl_text.proofs.Common.{◌≡◌, ℕ, ◌+◌, ◌-◌, ◌≤◌, Bool, true, false, ◌==◌, List, [], length, take, drop, Option, Some, None, refl, sym, subst, arith, inr, append-nil, codes, chars, IsUtf8, IsUtf8-nil, IsUtf8-take, chars-nil, if◌then◌else◌, none-some}
-use Rattle.rl_text.specs.Texts.{IsTail, begins}
-use Rattle.rl_text.proofs.TailLemmas.{tail_self, tail_step, cut_boundary, cut_chars}
-use Rattle.rl_text.proofs.Rests.{tail_length}
+-- Single steps of a cursor over a source, which resumes after errors.
+use Rattle.rl_syntax.proofs.Common.{◌≡◌, ℕ, ◌+◌, ◌-◌, ◌≤◌, Bool, true, false, ◌==◌, List, [], length, take, drop, Option, Some, None, refl, sym, subst, arith, inr, append-nil, codes, chars, IsUtf8, IsUtf8-nil, IsUtf8-take, chars-nil, if◌then◌else◌, none-some}
+use Rattle.rl_syntax.specs.Texts.{IsTail, begins}
+use Rattle.rl_syntax.proofs.TailLemmas.{tail_self, tail_step, cut_boundary, cut_chars}
+use Rattle.rl_syntax.proofs.Rests.{tail_length}
 use Rattle.rl_lexer.specs.Cursors.{CursorState, IsCursorState}
 use Rattle.rl_lexer.specs.Sources.{source_view, BeginsNoSource, IsCutUpTo, IsLiteralText, PassesTo, TakesSource, TakesLiteralAfter, SourceErrorAt}
 use Rattle.rl_lexer.specs.Mirrors.SourceAt.{source_error_kind}
@@ -18,7 +18,7 @@ use Rattle.rl_recovery.specs.declared.unclosed.Unclosed.{Unclosed}
 use Rattle.rl_recovery.proofs.ClosingLemmas.{unclosed_end, unclosed_nil}
 use Rattle.rl_recovery.proofs.LineEnds.{EndsWith}
 
--- the end of a text, by characters
+-- If a text is an end of another one by its bytes, it is also an end by its characters.
 pub tail_chars : (a b : List ℕ) → IsUtf8 a → IsTail a b → EndsWith (chars a) (chars b)
 tail_chars a b u tail =
     let xs = take (length a - length b) a in
@@ -28,7 +28,7 @@ pub unclosed_rest : (k : Unclosed) (a b : List ℕ) → IsUtf8 a → IsTail a b 
     → AreUnclosed k (chars b)
 unclosed_rest k a b u tail is = unclosed_end k (chars a) (chars b) (tail_chars a b u tail) is
 
--- ---- from one literal to the next
+-- ---- the tokens between two literals
 
 pub stays : (s : CursorState) → IsUtf8 s.rest → PassesTo s s
 stays s u = record {
@@ -39,7 +39,7 @@ stays s u = record {
   following = tail_self s.rest u;
 }
 
--- tokens that are no literals were passed, and what is known not to be closed isn't
+-- The tokens read so far aren't literals, and each opening delimiter in the set `known` is unclosed in the rest.
 pub record Walks (known : Unclosed) (old now : CursorState) : Type 0 where
   pub passes : PassesTo old now
   pub unclosed : AreUnclosed known (chars now.rest)
@@ -55,7 +55,7 @@ walks_on k old now new l w takes other = record {
   unclosed = unclosed_rest k now.rest new.rest w.passes.following.is_text takes.following w.unclosed;
 }
 
--- ---- errors
+-- ---- errors of a source
 
 pub error_of : (rest : List ℕ) (kind : LexKind) → IsUtf8 rest → (empty : Bool) → empty ≡ (length rest == 0)
     → empty ≡ false → BeginsNoSource (chars rest) → kind ≡ source_error_kind (chars rest) → SourceErrorAt kind (chars rest)
@@ -72,7 +72,7 @@ lines_of t lines h = go (begins (codes "/*") t) h
     go true h = absurd (none-some lines (sym h))
     go false h = sym h
 
--- ---- the state of a source
+-- ---- the state of the cursor
 
 pub begins_state : (text rest : List ℕ) (known : Unclosed) → IsCursorState text rest
     → ((t : List ℕ) → AreUnclosed known t) → IsRecoveryState text text rest known
@@ -83,7 +83,7 @@ begins_state text rest known cursor all = record {
   unclosed = all (chars rest);
 }
 
--- further on in the same part
+-- The cursor's state after more tokens of the part in which lexing resumed last.
 pub further : (whole part left rest : List ℕ) (known : Unclosed) → IsRecoveryState whole part left known
     → IsTail left rest → IsRecoveryState whole part rest known
 further whole part left rest known is tail = record {
@@ -97,7 +97,7 @@ pub literal_tail : (old : CursorState) (l : SourceToken) (new : CursorState) →
     → IsTail old.rest new.rest
 literal_tail old l new t = tail_step old.rest t.between.rest new.rest t.passes.following t.takes.following
 
--- lines after an error
+-- The cursor's state when lexing resumes in the lines after an error.
 pub taken_up : (whole part left rest lines following : List ℕ) (known now : Unclosed)
     → IsRecoveryState whole part left known → IsTail left rest → IsTail rest lines → IsCursorState lines following
     → AreUnclosed now (chars lines) → IsRecoveryState whole lines following now
@@ -109,7 +109,7 @@ taken_up whole part left rest lines following known now is tail more cursor uncl
   unclosed = unclosed_rest now lines following cursor.is_text cursor.following unclosed;
 }
 
--- nothing after an error
+-- The cursor's state when no text follows an error.
 pub nothing_left : (whole part left : List ℕ) (known : Unclosed) → IsRecoveryState whole part left known
     → IsRecoveryState whole [] [] known
 nothing_left whole part left known is = record {
@@ -119,7 +119,7 @@ nothing_left whole part left known is = record {
   unclosed = subst (AreUnclosed known) (sym chars-nil) (unclosed_nil known);
 }
 
--- what stands in a part stands in the whole text
+-- A position in a part of the text is also a position in the whole text.
 pub in_whole_len : (whole part left rest : List ℕ) (known : Unclosed) → IsRecoveryState whole part left known
     → IsTail left rest → length rest ≤ length whole
 in_whole_len whole part left rest known is tail = omega (

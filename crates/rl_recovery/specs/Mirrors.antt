@@ -1,3 +1,3 @@
--- Mirrors of the code, for private functions and proofs.
+-- Executable models of the code, for the proofs of private functions only.
 
 pub mod Closing

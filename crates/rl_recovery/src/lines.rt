@@ -1,28 +1,17 @@
-//! Which error stands at the front of a text, and where reading goes on after it.
-#![tactic(auto, using(rl_text::proofs::TailLemmas::tail_step))]
+//! Finds the position where lexing resumes after an error.
+#![tactic(auto, using(rl_syntax::proofs::TailLemmas::tail_step))]
 
 ghost use Rattle.std.specs.Prelude.{◌≡◌, ◌<◌, ◌==◌, ◌&&◌, false, not, codes, length, option_map, IfSome};
 ghost use Rattle.std.specs.Str.{chars};
-ghost use Rattle.rl_text.specs.Texts.{code, IsTail};
-ghost use Rattle.rl_lexer.specs.Mirrors.SourceAt.{source_error_kind};
+ghost use Rattle.rl_syntax.specs.Texts.{code, IsTail};
 ghost use Rattle.rl_recovery.specs.Recoveries.{begins_character, from_line_end, lines_after};
 
-use rl_lexer::LexKind;
-use rl_text::text::{begins, begins_with, split_char};
+use rl_syntax::text::{begins, begins_with, split_char};
 
-/// Why no token begins the text, where none does.
-pub(crate) fn error_kind(text: &str) -> LexKind
-    ensures { result ≡ source_error_kind (chars text.now) }
-{
-    if begins(text, "/*") {
-        LexKind::UnclosedComment
-    } else {
-        LexKind::UnclosedQuote
-    }
-}
-
-/// What is left of the text after the error at its front: the lines after the one in which the quote opens, from the LF
-/// between them on. A comment that isn't closed leaves nothing. `None` where nothing is left.
+/// Returns the part of the text where lexing resumes after the error at the text's start, or `None` if there is no such part.
+///
+/// Lexing resumes at the LF that ends the line of an unclosed quote. After an unclosed block comment it doesn't resume.
+/// After the quote of an unclosed character or byte literal, an escaped line end continues the line.
 pub(crate) fn lines_after(text: &str) -> Option<&str>
     ensures lines { option_map (λ lines. chars lines.now) result ≡ lines_after (chars text.now) }
     ensures following { IfSome result (λ lines. IsTail text.now lines.now) }
@@ -35,8 +24,8 @@ pub(crate) fn lines_after(text: &str) -> Option<&str>
     from_line_end(begins_character(text), following)
 }
 
-/// The text from the end of its first line on. Where lines are joined, a backslash takes the character after it along, an LF
-/// too.
+/// Returns the text from the LF at the end of its first line on, or `None` if it has one line only. If `joins` is true, a
+/// backslash skips the character after it, even an LF.
 fn from_line_end(joins: bool, text: &str) -> Option<&str>
     ensures lines { option_map (λ lines. chars lines.now) result
         ≡ from_line_end joins false (chars text.now) }
@@ -54,21 +43,21 @@ fn from_line_end(joins: bool, text: &str) -> Option<&str>
     None
 }
 
-/// Whether the character ends a line: an LF that isn't escaped.
+/// Whether the character `c` ends a line: an LF that isn't escaped.
 fn ends_line(c: char, is_escaped: bool) -> bool
     ensures { result ≡ (c == code "\n" && not is_escaped) }
 {
     c == '\n' && !is_escaped
 }
 
-/// Whether the character takes the next one along: where lines are joined, a backslash that isn't escaped.
+/// Whether the character `c` escapes the next one: an unescaped backslash, if `joins` is true.
 fn escapes_next(joins: bool, c: char, is_escaped: bool) -> bool
     ensures { result ≡ (joins && c == code "\\" && not is_escaped) }
 {
     joins && c == '\\' && !is_escaped
 }
 
-/// Whether the opener of a character or a byte begins the text.
+/// Whether the text begins with the opening quote of a character or byte literal: `'` or `b'`.
 fn begins_character(text: &str) -> bool
     ensures { result ≡ begins_character (chars text.now) }
 {

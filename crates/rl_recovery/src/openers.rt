@@ -1,23 +1,24 @@
-//! What opens a quoted or a raw literal.
+//! The opening delimiters of quoted literals, which the search for unclosed literals compares.
 
 ghost use Rattle.std.specs.Prelude.{◌≡◌, ◌∷◌, IfSome};
 ghost use Rattle.std.specs.Str.{chars};
-ghost use Rattle.rl_text.specs.Texts.{code};
+ghost use Rattle.rl_syntax.specs.Texts.{code};
 ghost use Rattle.rl_recovery.specs.Mirrors.Closing.{opened, BeginsOpener};
 
-use rl_text::classes::skip_hashes;
-use rl_text::text::{before, split_ascii, strip_byte};
+use rl_syntax::classes::skip_hashes;
+use rl_syntax::text::{before, split_ascii, strip_byte};
 
-/// The opener of a quoted or a raw literal, without its prefix.
+/// The opening delimiter of a string, without its prefix `b` or `c`.
 #[derive(Clone, Copy)]
 pub(crate) enum Opener {
-    /// A quote; escapes may stand in the literal.
+    /// A double quote, without `r`.
     Quoted,
-    /// `r`, so many hashes and a quote.
+    /// The prefix `r` of a raw string, this number of hashes, and a double quote.
     Raw(usize),
 }
 
-/// The opener that the text begins with, perhaps after a prefix, and what follows it.
+/// Returns the opening delimiter of a string at the start of the text, optionally after the prefix `b` or `c`, and the text
+/// after it.
 pub(crate) fn split_opener(text: &str) -> Option<(Opener, &str)>
     ensures { IfSome result (λ p. BeginsOpener (chars text.now) p.0 (chars p.1.now)) }
 {
@@ -28,7 +29,7 @@ pub(crate) fn split_opener(text: &str) -> Option<(Opener, &str)>
     }
 }
 
-/// The opener that the text begins with, without a prefix, and what follows it.
+/// Returns the opening delimiter of a string at the start of the text, without a prefix, and the text after it.
 fn split_bare_opener(text: &str) -> Option<(Opener, &str)>
     ensures { IfSome result (λ p. chars text.now ≡ opened p.0 (chars p.1.now)) }
 {
@@ -39,7 +40,7 @@ fn split_bare_opener(text: &str) -> Option<(Opener, &str)>
     }
 }
 
-/// The opener of a raw literal, after whose `r` the text stands, and what follows it.
+/// Returns the opening delimiter of a raw string, whose `r` is before the text, and the text after the opening quote.
 fn split_raw_opener(text: &str) -> Option<(Opener, &str)>
     ensures { IfSome result (λ p. code "r" ∷ chars text.now ≡ opened p.0 (chars p.1.now)) }
 {

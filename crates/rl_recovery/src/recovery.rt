@@ -1,21 +1,23 @@
-//! A source that is read on after its errors.
+//! A cursor over the literals and the errors of a source. Lexing resumes after each error.
 
 ghost use Rattle.std.specs.Prelude.{◌≡◌, ◌≢◌, ◌+◌, ◌-◌, ◌<◌, ◌^◌, [], length, IfSome, IfNone, IfOk, IfErr};
 ghost use Rattle.std.specs.Str.{chars};
-ghost use Rattle.rl_text.specs.Texts.{IsTail};
+ghost use Rattle.rl_syntax.specs.Texts.{IsTail};
 ghost use Rattle.rl_lexer.specs.Cursors.{IsCursorState};
 ghost use Rattle.rl_lexer.specs.Sources.{BeginsNoSource, PassesTo, TakesLiteralAfter};
 ghost use Rattle.rl_recovery.specs.Recoveries.{StepsRecovery};
 ghost use Rattle.rl_recovery.specs.Mirrors.Closing.{AreUnclosed};
 
-use crate::lines::{error_kind, lines_after};
+use crate::lines::lines_after;
 use crate::unclosed::Unclosed;
-use rl_lexer::{LexError, SourceToken, Sources};
-use rl_reading::{SourceStep, find};
+use rl_lenient::{SourceStep, find};
+use rl_lexer::{LexError, SourceToken, Sources, source_error_kind};
 use std::marker::Model;
 
-/// The tokens up to the next literal and that one, as [`Sources::next_literal`] cuts them off. `None` where none comes before
-/// the end or the first error. An opener that is known not to be closed isn't searched for.
+/// Consumes tokens up to the next literal and returns it, as [`Sources::next_literal`] does. Returns `None` if the end or the
+/// first error of the source comes before it.
+///
+/// A literal that begins with a delimiter in `unclosed` is known to be unclosed. Its closing delimiter isn't searched for.
 fn next_known<'t>(tokens: &mut Sources<'t>, unclosed: Unclosed) -> Option<SourceToken<'t>>
     requires cursor { IsCursorState tokens.old.text tokens.old.rest }
     requires unclosed { AreUnclosed unclosed (chars tokens.old.rest) }
@@ -35,7 +37,8 @@ fn next_known<'t>(tokens: &mut Sources<'t>, unclosed: Unclosed) -> Option<Source
     }
 }
 
-/// What [`next_known`] cuts off; before the first error all is asked of [`Sources`].
+/// Returns the next literal, or `None` if the end or the first error of the source comes before it. While `unclosed` is empty,
+/// [`Sources::next_literal`] finds the literal.
 fn next_of<'t>(tokens: &mut Sources<'t>, unclosed: Unclosed) -> Option<SourceToken<'t>>
     requires cursor { IsCursorState tokens.old.text tokens.old.rest }
     requires unclosed { AreUnclosed unclosed (chars tokens.old.rest) }
@@ -44,28 +47,29 @@ fn next_of<'t>(tokens: &mut Sources<'t>, unclosed: Unclosed) -> Option<SourceTok
     ensures passed { IfNone result (PassesTo tokens.old tokens.new) }
     ensures none { IfNone result (BeginsNoSource (chars tokens.new.rest)) }
 {
-    if unclosed.is_nothing() {
+    if unclosed.is_none_open() {
         return tokens.next_literal();
     }
     next_known(tokens, unclosed)
 }
 
-/// The literals of a whole source, as [`Sources`] cuts them off, and the errors in it: each is reported, and reading goes on
-/// after it. It takes no memory.
+/// A cursor over the literals and the errors of a source. Each error is reported, and lexing resumes after it. Nothing is
+/// allocated.
 ///
-/// After a quote that isn't closed the lines after its own are read, as a source that begins there. Of a character's or a
-/// byte's quote, a line goes on after an escaped line end. A comment that isn't closed reaches to the text's end.
+/// After an unclosed quote, lexing resumes at the end of the quote's line, as in a source that begins there. After the quote of
+/// an unclosed character or byte literal, an escaped line end continues the line. An unclosed block comment extends to the
+/// text's end.
 ///
-/// Its time grows as the text does, whatever stands there: what isn't closed is searched for once and then known. A raw literal
-/// with fewer hashes than one before it that isn't closed is searched for again.
+/// The running time is linear in the text's length, since the closing delimiter of an unclosed literal is searched for once.
+/// After an unclosed raw string, a raw string with fewer hashes is searched for again.
 #[derive(Drop)]
 pub struct Recovery<'t> {
     text: &'t str,
-    // the part that was taken up last, up to the text's end
+    // The part of the text, up to its end, in which lexing resumed last.
     part: &'t str,
-    // what is left of it
+    // The rest of `part` that isn't lexed yet.
     rest: &'t str,
-    // what isn't closed in what is left
+    // The opening delimiters that are known to have no closing delimiter in `rest`.
     unclosed: Unclosed,
 }
 
@@ -88,7 +92,7 @@ impl<'t> Recovery<'t> {
     ghost use Rattle.rl_lexer.specs.Sources.{IsCutUpTo};
     ghost use Rattle.rl_recovery.specs.Recoveries.{TakesLiteral, TakesUpAfter, StopsAt, ReportsUnclosed, EndsAfter};
 
-    /// A source, from its front.
+    /// Creates a cursor at the start of a source.
     pub fn new(text: &'t str) -> Recovery<'t>
         ensures whole { result.whole ≡ text.now }
         ensures text { result.part.text ≡ text.now }
@@ -104,7 +108,8 @@ impl<'t> Recovery<'t> {
         }
     }
 
-    /// A source from a place on, where a cursor over the same text stood, whose [`rest`](Sources::rest) this is.
+    /// Creates a cursor that resumes a source. `rest` is the result of [`rest`](Sources::rest) of another cursor over the same
+    /// text.
     pub fn resume(text: &'t str, rest: &'t str) -> Recovery<'t>
         requires { IsCursorState text.now rest.now }
         ensures { result
@@ -118,7 +123,7 @@ impl<'t> Recovery<'t> {
         }
     }
 
-    /// The same source at the same place: what is taken there isn't taken here.
+    /// Returns a copy of the cursor at the same position. The two cursors advance independently.
     pub fn fork(&self) -> Recovery<'t>
         ensures { result ≡ self.now }
     {
@@ -130,14 +135,15 @@ impl<'t> Recovery<'t> {
         }
     }
 
-    /// What is left of the text, after white space and comments.
+    /// Returns the unread rest of the text, which doesn't begin with white space or a comment.
     pub fn rest(&self) -> &'t str
         ensures { result.now ≡ self.now.part.rest }
     {
         self.rest
     }
 
-    /// Takes up the lines after the error at the front of this rest; nothing, where it leaves none.
+    /// Moves the cursor to the part of the text where lexing resumes after the error at the start of `rest`, or to the text's
+    /// end if lexing doesn't resume.
     fn go_on(&mut self, rest: &'t str)
         requires following { IsTail self.old.part.rest rest.now }
         requires none { BeginsNoSource (chars rest.now) }
@@ -160,7 +166,8 @@ impl<'t> Recovery<'t> {
         }
     }
 
-    /// The error that stands at this rest, where no token begins; reading goes on after it. `None` where nothing is left.
+    /// Returns the error at the start of `rest`, where no token begins, and moves the cursor after it. Returns `None` if `rest`
+    /// is empty.
     fn stop(&mut self, rest: &'t str) -> Option<LexError>
         requires following { IsTail self.old.part.rest rest.now }
         requires none { BeginsNoSource (chars rest.now) }
@@ -178,14 +185,14 @@ impl<'t> Recovery<'t> {
             return None;
         }
         self.go_on(rest);
-        Some(LexError::new(error_kind(rest), at))
+        Some(LexError::new(source_error_kind(rest), at))
     }
 
-    /// Cuts off the next literal, as [`Sources::next_literal`] does, or reports the error that comes first and goes on after it.
-    /// `None` at the text's end. Places are bytes of the whole text.
+    /// Consumes and returns the next literal, as [`Sources::next_literal`] does, or the error before it. After an error, lexing
+    /// resumes after it. The result is `None` at the text's end. Offsets are in bytes of the whole text.
     pub fn next_literal(&mut self) -> Option<Result<SourceToken<'t>, LexError>>
         ensures found { IfSome result (λ r. IfOk r (λ l. TakesLiteral self.old l self.new)) }
-        // The first error of the part that was taken up last, and what is left after it.
+        // The first error of the last resumed part, and the text after it.
         ensures error { IfSome result (λ r. IfErr r (λ e. ReportsUnclosed self.old e self.new)) }
         ensures shorter { IfSome result
             (λ r. length self.new.part.rest < length self.old.part.rest) }
@@ -206,7 +213,7 @@ impl<'t> Recovery<'t> {
     }
 }
 
-/// The token with places that are so much further on.
+/// Returns the token with its byte offsets increased by `before`.
 fn placed(before: usize, token: SourceToken<'_>) -> SourceToken<'_>
     requires lo { before + token.lo < 2 ^ 64 }
     requires hi { before + token.hi < 2 ^ 64 }
@@ -225,8 +232,8 @@ fn placed(before: usize, token: SourceToken<'_>) -> SourceToken<'_>
     }
 }
 
-/// The next literal of a source, with what reading it finds, or the error that comes first, after which reading goes on; or that
-/// the text ends. No memory is taken.
+/// Returns the next literal of a source and its parse result, or the error before the literal. After an error, lexing resumes
+/// after it. The result is `End` at the text's end. Nothing is allocated.
 #[inline(always)]
 pub fn recovery_step<'t>(source: &mut Recovery<'t>) -> SourceStep<'t>
     ensures { StepsRecovery source.old result source.new }

@@ -1,23 +1,29 @@
-//! The answer to a command on a text.
+//! Prints the result of a test on a text.
 
 use crate::flaws::put_flaw;
 use crate::lists::{put_list, put_spans};
 use crate::literals::{call_literal, call_of};
 use crate::segments::segments;
 use crate::sources::put_source;
-use crate::words;
+use crate::{Page, words};
 use rl_attributes::read;
-use rl_failing::Page;
 use rl_grammar::strict::is_token;
-use rl_grammar::{explain, explain_value};
+use rl_grammar::{LineEnds, explain, explain_value};
 use rl_tokens::{Error, ErrorKind, Span, whitespace};
 use rust_literals::{Lit, LitFloat, LitInt, read_all};
 
-/// Prints what a command answers to a text. Under `text` a literal's line; under `int` and `float` such a line, `None` where the
-/// text is no such number, or `TooLarge`; under `skip` how many bytes stand after white space and comments; under `strict` whether
-/// the text is a strict token; under `value` what it borrows, or `None`; under `explain` why it is no literal token and where, or
-/// `None` where it is one, and under `explain-value` why it has no value; under `read`, `spans`, `attr` and `source` lines up to
-/// one with a point. Any other name is for the words of the worked rows.
+/// Prints the result of the test `name` on a text.
+///
+/// - `text` prints the output line of the literal, and `value` the part of the text that is its value, or `None`.
+/// - `int` and `float` print the output line of the number, or `None` for another text, or `TooLarge`.
+/// - `skip` prints the number of bytes after white space and comments.
+/// - `strict` prints whether the text is a token of Rust.
+/// - `segments` prints the segments of a quoted literal.
+/// - `explain` prints the reason why the text isn't a token of Rust, and its range, or `None`. `explain-value` prints the reason
+///   why it has no value.
+/// - `read`, `spans`, `attr` and `source` print lines, and then a line with a full stop.
+///
+/// Other names are tests of the module `words`.
 pub(crate) fn told(name: &str, text: &str, out: &mut Page) {
     let alloc = out.alloc();
     match name {
@@ -32,12 +38,12 @@ pub(crate) fn told(name: &str, text: &str, out: &mut Page) {
         "source" => put_source(alloc, text, out),
         "segments" => segments(text, out),
         "explain" => put_flaw(explain(text), out),
-        "explain-value" => put_flaw(explain_value(text), out),
+        "explain-value" => put_flaw(explain_value(text, LineEnds::Text, true), out),
         _ => words::told(name, text, out),
     }
 }
 
-/// Prints the line of a number, or why there is none.
+/// Prints the output line of a number, or the reason why the text isn't one.
 fn put_number<T: Into<Lit> + Drop>(made: Result<T, Error>, out: &mut Page) {
     match made {
         Ok(number) => call_of(Some(number.into()), "text", out),
@@ -45,7 +51,7 @@ fn put_number<T: Into<Lit> + Drop>(made: Result<T, Error>, out: &mut Page) {
     }
 }
 
-/// Prints why there is no number.
+/// Prints the reason why a text isn't a number: `None` for another text, or `TooLarge`.
 fn put_rejected(error: Error, out: &mut Page) {
     match &error.kind {
         ErrorKind::NotInteger | ErrorKind::NotFloat => out.put("None\n"),

@@ -1,12 +1,12 @@
-//! What a literal borrows of its text.
+//! Prints the value of a literal if it is a part of the literal's text.
 
+use crate::Page;
 use crate::lists::put_token;
-use rl_failing::Page;
 use rl_grammar::{Kind, is_plain};
 use rl_tokens::Literal;
 use rust_literals::{Lit, LitStr};
 
-/// What a string stands for, where that is its body, byte for byte.
+/// Returns the value of a string if it is the text between the quotes.
 fn borrowed_text(literal: &LitStr) -> Option<&[u8]> {
     match literal.value_ref() {
         Some(value) => Some(value.as_bytes()),
@@ -14,7 +14,7 @@ fn borrowed_text(literal: &LitStr) -> Option<&[u8]> {
     }
 }
 
-/// The digits of a number, where they are all that stands before the suffix of its text.
+/// Returns the digits of a number if they are the text before its suffix.
 fn borrowed_digits<'a>(kind: Kind, text: &str, digits: &'a str) -> Option<&'a [u8]> {
     if is_plain(kind, text) {
         Some(digits.as_bytes())
@@ -23,7 +23,8 @@ fn borrowed_digits<'a>(kind: Kind, text: &str, digits: &'a str) -> Option<&'a [u
     }
 }
 
-/// What a literal stands for, where that is its body, byte for byte.
+/// Returns the value of a literal if it is a part of the literal's text: the text between the quotes, or the text before a number's
+/// suffix.
 fn borrowed(literal: &Lit) -> Option<&[u8]> {
     match literal {
         Lit::Str(literal) => borrowed_text(literal),
@@ -39,7 +40,7 @@ fn borrowed(literal: &Lit) -> Option<&[u8]> {
     }
 }
 
-/// Prints what the literal stands for, where that is its body, byte for byte, written as a byte string; else `None`.
+/// Prints the value of a literal as a byte string if it is a part of the literal's text, else `None`.
 pub(crate) fn put_borrowed(literal: &Lit, out: &mut Page) {
     match borrowed(literal) {
         Some(bytes) => put_token(Literal::byte_string(out.alloc(), bytes), out),

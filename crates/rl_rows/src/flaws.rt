@@ -1,9 +1,10 @@
-//! Why a text is no literal of Rust, or has no value.
+//! Prints the reason why a text isn't a literal of Rust, or has no value.
 
-use rl_failing::Page;
+use crate::Page;
 use rl_grammar::Flaw;
 
-/// Prints a flaw: its kind, where its piece begins, and the bytes where it stands; `None` where there is none.
+/// Prints the first flaw of a literal: its kind, the offset where its displayed text begins, and its range. Without a flaw it
+/// prints `None`.
 pub(crate) fn put_flaw(flaw: Option<Flaw>, out: &mut Page) {
     match flaw {
         Some(flaw) => {

@@ -1,22 +1,22 @@
-//! Texts that are cut or long, given to five calls: `Lit::new`, `skip`, `lex`, `read_all` and `is_token`; and attributes
-//! whose names were chosen.
+//! Tests with incomplete and long texts. Each is passed to `Lit::new`, `skip`, `lex`, `read_all` and `is_token`. Also tests
+//! attributes with many names.
 
+use crate::Page;
 use crate::literals::{Called, call_literal};
 use crate::noted::{parts_of, put_places};
 use rl_attributes::read;
-use rl_failing::Page;
 use rl_grammar::strict;
 use rl_program::Rejection;
 use rl_tokens::{lex, whitespace};
 use rust_literals::{Lit, read_all};
 
-/// Lines longer than this are printed as their lengths.
+/// The maximum length of an output line that is printed. A longer line is printed as its length.
 const LONGEST: usize = 100;
 
-/// How many literals of a list are printed.
+/// The maximum number of literals of a list that are printed.
 const MOST: usize = 4;
 
-/// Prints a literal's line without its end, or where that is long its kind and how many bytes it has.
+/// Prints the output line of a literal without its line end. For a long line it prints the kind and the number of bytes.
 pub(crate) fn put_brief(line: &str, out: &mut Page) {
     let (line, _) = parts_of(line, '\n');
     if line.len() <= LONGEST {
@@ -27,7 +27,7 @@ pub(crate) fn put_brief(line: &str, out: &mut Page) {
     out.put_number(line.len())
 }
 
-/// Prints a line: how long the text is, and what the five calls return.
+/// Prints a line for a text: its length, and the results of `skip`, `lex`, `is_token`, `read_all` and `Lit::new`.
 fn put_text(text: &str, out: &mut Page) {
     out.put("  ");
     out.show(&text.len(), ": skip ");
@@ -43,7 +43,7 @@ fn put_text(text: &str, out: &mut Page) {
     out.put("\n")
 }
 
-/// Prints what `lex` returns: how many trees, or an error and its place.
+/// Prints the result of `lex`: the number of token trees, or an error and its position.
 fn put_lexed(text: &str, out: &mut Page) {
     match lex(out.alloc(), text, 0) {
         Ok(stream) => out.put_number(stream.trees().len()),
@@ -54,7 +54,7 @@ fn put_lexed(text: &str, out: &mut Page) {
     }
 }
 
-/// Prints what `read_all` returns: how many literals, the first of them and their places, or an error and its places.
+/// Prints the result of `read_all`: the number of literals and the first of them with their ranges, or an error and its range.
 fn put_read(text: &str, out: &mut Page) {
     match read_all(out.alloc(), text, 0) {
         Ok(literals) => put_first(literals.as_slice(), out),
@@ -66,7 +66,7 @@ fn put_read(text: &str, out: &mut Page) {
     }
 }
 
-/// Prints how many literals there are, and the first of them and their places.
+/// Prints the number of literals, and the first of them with their ranges.
 fn put_first(literals: &[Lit], out: &mut Page) {
     out.put_number(literals.len());
     for literal in literals.get(..MOST).unwrap_or(literals) {
@@ -76,7 +76,7 @@ fn put_first(literals: &[Lit], out: &mut Page) {
     }
 }
 
-/// The character that a picture stands for, or itself.
+/// Returns the control character that a character like `␊` represents, or the character itself.
 fn unpictured(c: char) -> char {
     match c {
         '␊' => '\n',
@@ -87,14 +87,14 @@ fn unpictured(c: char) -> char {
     }
 }
 
-/// Puts a text last whose line ends, tabs and zeros are written as pictures.
+/// Appends a text in which characters like `␊` are replaced by the control characters that they represent.
 pub(crate) fn put_unpictured(text: &str, out: &mut Page) {
     for c in text.chars() {
         out.put_char(unpictured(c))
     }
 }
 
-/// Prints what the five calls return of the text cut at each place; in the row pictures stand for line ends, tabs and zeros.
+/// Prints a line for each prefix of a text, as `put_text`. In the row, characters like `␊` represent control characters.
 pub(crate) fn cuts(row: &str, out: &mut Page) {
     let mut text = out.another();
     for c in row.chars() {
@@ -104,8 +104,8 @@ pub(crate) fn cuts(row: &str, out: &mut Page) {
     put_text(text.text(), out)
 }
 
-/// Prints what the five calls return of the text of these parts: each a number, a space, and a text that stands so many
-/// times; tabs between them.
+/// Prints a line for a long text, as `put_text`. The row has the parts of the text, with tabs between. Each part is a number, a
+/// space, and a text that is repeated as often.
 pub(crate) fn long(row: &str, out: &mut Page) {
     let mut text = out.another();
     for part in row.split('\t') {
@@ -115,23 +115,25 @@ pub(crate) fn long(row: &str, out: &mut Page) {
     put_text(text.text(), out)
 }
 
-/// The number that a word spells, or zero.
+/// Returns the number that `word` is in base ten, or 0.
 fn number_of(word: &str) -> usize {
     word.parse::<usize>().unwrap_or(0)
 }
 
-/// Puts a text last, so many times.
+/// Appends a text `count` times.
 pub(crate) fn put_times(count: usize, piece: &str, text: &mut Page) {
     for _ in 0..count {
         text.put(piece)
     }
 }
 
-/// The number of the first name: those after it have as many digits.
+/// The number in the first attribute's name. All later numbers have as many digits.
 const FIRST: usize = 10_000_000;
 
-/// Prints how many attributes are read whose names are a front and a number each, and then what comes of them with
-/// the first one once more. A row is how many they are, a space and the front.
+/// Prints the number of attributes that are parsed from a long list, and then the result for that list with the first name
+/// repeated.
+///
+/// The row has the number of attributes, a space, and the start of their names. A number follows the start in each name.
 pub(crate) fn names(row: &str, out: &mut Page) {
     let (count, front) = parts_of(row, ' ');
     let mut text = out.another();
@@ -143,13 +145,13 @@ pub(crate) fn names(row: &str, out: &mut Page) {
     put_attributes(text.text(), out)
 }
 
-/// Puts a setting last whose name is a front and a number.
+/// Appends an attribute with the value 1. Its name is `front` and the number.
 fn put_setting(front: &str, number: usize, text: &mut Page) {
     text.put(front);
     text.show(&number, "=1,")
 }
 
-/// Prints a line: how many attributes were read, or why none were.
+/// Parses attributes, and prints a line with their number, or with the error.
 fn put_attributes(text: &str, out: &mut Page) {
     out.put("  ");
     match read(out.alloc(), text, 0) {

@@ -1,17 +1,16 @@
-//! Answers of several lines: the literals of a list, where they stand, and attributes. They end in a line with a point.
+//! Prints results of several lines: the literals of a list, their ranges, or attributes. A line with a full stop ends the result.
 
+use crate::Page;
 use rl_attributes::Attrs;
 use rl_commands::{entry_lines, push_literal};
-use rl_failing::Page;
-use rl_lines::label_of;
-use rl_program::Rejection;
+use rl_program::{Rejection, label_of};
 use rl_tokens::{Error, Literal};
 use rust_literals::{Lit, read_all};
 use std::alloc::{AllocError, Global};
 
-/// What has lines.
+/// A value that is printed as output lines.
 pub(crate) trait Lines {
-    /// Its lines.
+    /// Returns the output lines of the value.
     fn lines(&self, alloc: Global) -> Result<String, AllocError>;
 }
 
@@ -31,7 +30,7 @@ impl Lines for Attrs {
     }
 }
 
-/// Prints the lines of a list, or that of its error, and one with a point.
+/// Prints the output lines of a list, or that of its error, and a line with a full stop.
 pub(crate) fn put_list<T: Lines + Drop>(read: Result<T, Error>, out: &mut Page) {
     match read {
         Ok(list) => put_lines(list.lines(out.alloc()), out),
@@ -39,7 +38,7 @@ pub(crate) fn put_list<T: Lines + Drop>(read: Result<T, Error>, out: &mut Page) 
     }
 }
 
-/// Prints lines, and one with a point.
+/// Prints output lines, and a line with a full stop.
 fn put_lines(lines: Result<String, AllocError>, out: &mut Page) {
     match lines {
         Ok(lines) => out.say(lines.as_str(), ".\n"),
@@ -47,14 +46,14 @@ fn put_lines(lines: Result<String, AllocError>, out: &mut Page) {
     }
 }
 
-/// Prints the line of an error, and one with a point.
+/// Prints the output line of an error, and a line with a full stop.
 fn put_error(error: Error, out: &mut Page) {
     out.show(&Rejection(&error), "\n.\n");
     drop(error)
 }
 
-/// Prints of each of the text's literals its kind, the bytes where it stands, and its text, a line each, or the line of its
-/// error; and one with a point.
+/// Parses a list of literals, and prints the kind, the range and the text of each, one literal a line. If parsing fails, it prints
+/// the error. A line with a full stop follows.
 pub(crate) fn put_spans(alloc: Global, text: &str, out: &mut Page) {
     match read_all(alloc, text, 0) {
         Ok(literals) => put_each_span(literals.as_slice(), out),
@@ -62,7 +61,7 @@ pub(crate) fn put_spans(alloc: Global, text: &str, out: &mut Page) {
     }
 }
 
-/// Prints of each literal its kind, the bytes where it stands, and its text, a line each, and a line with a point.
+/// Prints the kind, the range and the text of each literal, one literal a line, and a line with a full stop.
 fn put_each_span(literals: &[Lit], out: &mut Page) {
     for literal in literals {
         put_span(literal, out);
@@ -70,7 +69,7 @@ fn put_each_span(literals: &[Lit], out: &mut Page) {
     out.put(".\n")
 }
 
-/// Prints a literal's kind, the bytes where it stands, and its text.
+/// Prints a literal's kind, its range, and its text.
 fn put_span(literal: &Lit, out: &mut Page) {
     let span = literal.span();
     out.say(label_of(literal.kind()), " ");
@@ -79,7 +78,7 @@ fn put_span(literal: &Lit, out: &mut Page) {
     put_token(Literal::string(out.alloc(), literal.text()), out)
 }
 
-/// Prints the line of a token.
+/// Prints the text of a token, and a line end.
 pub(crate) fn put_token(made: Result<Literal, Error>, out: &mut Page) {
     match made {
         Ok(token) => out.say(token.text(), "\n"),

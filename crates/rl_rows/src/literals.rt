@@ -1,26 +1,26 @@
-//! Words that call the literal that a text is.
+//! Tests that call functions of a literal.
 
+use crate::Page;
 use crate::borrowed::put_borrowed;
 use crate::hostile::put_brief;
 use crate::noted::{HERE, literal_of, noted};
 use rl_commands::line_of;
-use rl_failing::Page;
 use rust_literals::Lit;
 
-/// What words call.
+/// A value whose functions are called by the names of tests.
 pub(crate) trait Called {
-    /// Prints what a word's calls return.
+    /// Makes the calls of the test `word`, and prints their results.
     fn call(&self, word: &str, out: &mut Page);
 }
 
-/// Prints what a word's calls on the value return, where there is one.
+/// Makes the calls of the test `word` on the value, if there is one, and prints their results.
 pub(crate) fn call_of<T: Called + Drop>(made: Option<T>, word: &str, out: &mut Page) {
     if let Some(value) = made {
         value.call(word, out)
     }
 }
 
-/// Prints what a word's calls on the literal return that the text is.
+/// Parses a text as a literal, makes the calls of the test `word` on it, and prints their results.
 pub(crate) fn call_literal(word: &str, text: &str, out: &mut Page) {
     call_of(literal_of(text, HERE, out), word, out)
 }
@@ -37,7 +37,7 @@ impl Called for Lit {
     }
 }
 
-/// Prints the literal's line, or it in brief.
+/// Prints the output line of a literal, or a short form of it if `is_brief`.
 fn put_line(literal: &Lit, is_brief: bool, out: &mut Page) {
     if let Some(line) = noted(line_of(out.alloc(), literal), out) {
         if is_brief {
@@ -48,7 +48,7 @@ fn put_line(literal: &Lit, is_brief: bool, out: &mut Page) {
     }
 }
 
-/// Prints what a string borrows of its text.
+/// Prints the result of `value_ref` for a string, byte string or C string.
 fn put_contents(literal: &Lit, out: &mut Page) {
     match literal {
         Lit::Str(string) => out.debug(&string.value_ref(), "\n"),

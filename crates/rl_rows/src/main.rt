@@ -1,15 +1,17 @@
-//! What is printed of many texts: reads lines of input, and answers each, for stored rows, and to be compared with what other
-//! programs say.
+//! The program `rl_rows`, for tests. It reads lines of input, each of which is a test, and prints their results. Stored tests and
+//! comparisons with other programs use it. It contains an allocator whose allocations fail on request.
 #![tactic(auto)]
 
 mod answer;
 mod borrowed;
+mod failing;
 mod flaws;
 mod hostile;
 mod lists;
 mod literals;
 mod memory;
 mod noted;
+mod page;
 mod pairs;
 mod plain;
 mod row;
@@ -20,6 +22,8 @@ mod turns;
 mod values;
 mod words;
 
+pub use crate::failing::Failing;
+pub use crate::page::Page;
 use std::alloc::Global;
 use std::io;
 use std::io::{BufRead, BufReader, BufWriter, Write};
@@ -31,7 +35,7 @@ fn main(rt: HostRuntime) -> io::Result<()> {
     out.flush()
 }
 
-/// Writes what is printed for the lines of an input.
+/// Runs the tests in the lines of an input, and writes their results.
 fn answer_all<R: BufRead + Drop, W: Write>(alloc: Global, input: R, out: &mut W) -> io::Result<()> {
     for line in input.split(alloc, b'\n') {
         answer_to(alloc, line?, out)?;
@@ -39,12 +43,12 @@ fn answer_all<R: BufRead + Drop, W: Write>(alloc: Global, input: R, out: &mut W)
     Ok(())
 }
 
-/// Writes what is printed for a line of input.
+/// Runs the test in a line of input, and writes its result.
 fn answer_to<W: Write>(alloc: Global, line: Vec<u8>, out: &mut W) -> io::Result<()> {
     write_answer(row::told(alloc, line.as_slice())?, out)
 }
 
-/// Writes an answer.
+/// Writes the result of a test.
 fn write_answer<W: Write>(answer: String, out: &mut W) -> io::Result<()> {
     out.write_all(answer.as_bytes())
 }

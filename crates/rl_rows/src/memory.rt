@@ -1,11 +1,11 @@
-//! Calls whose allocations fail.
+//! Tests of calls whose allocations fail.
 
+mod format_results;
 mod free;
 mod held;
 mod inside;
 mod made;
 pub(crate) mod rows;
 pub(crate) mod runs;
-mod tell;
 mod tokens;
 mod trial;

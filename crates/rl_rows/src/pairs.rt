@@ -1,12 +1,14 @@
-//! Literals that are read back with gaps between them.
+//! Tests of two literals with a separator between them.
 
+use crate::Page;
 use crate::lists::Lines;
 use crate::noted::{noted, parts_of};
-use rl_failing::Page;
 use rust_literals::read_all;
 
-/// Prints which texts of two rows, a gap between them, don't read as each reads by itself, and how many do. A U+001E parts the gap,
-/// the texts in front and those after; a U+001F parts texts.
+/// Parses each first text, the separator and each second text as a list of literals. Prints the pairs whose parse result differs
+/// from those of both texts alone, and the number of other pairs.
+///
+/// In the row, U+001E is between the separator, the first texts and the second texts. U+001F is between texts.
 pub(crate) fn pairs(row: &str, out: &mut Page) {
     let (gap, texts) = parts_of(row, '\u{1e}');
     let (fronts, backs) = parts_of(texts, '\u{1e}');
@@ -17,7 +19,8 @@ pub(crate) fn pairs(row: &str, out: &mut Page) {
     out.show(&agreed, " agree\n")
 }
 
-/// A number, and how many texts read after this one and a gap as each reads by itself; those that don't are printed.
+/// Compares `first` with each second text, as `agrees`, and prints the pairs that differ. Returns `number` plus the number of
+/// other pairs.
 fn agreeing(first: &str, gap: &str, backs: &str, number: usize, out: &mut Page) -> usize {
     let mut agreed = number;
     for second in backs.split('\u{1f}') {
@@ -31,7 +34,8 @@ fn agreeing(first: &str, gap: &str, backs: &str, number: usize, out: &mut Page) 
     agreed
 }
 
-/// Whether two texts with a gap between them read as each reads by itself, and have literals.
+/// Whether two texts with the separator `gap` between them are parsed to the same literals as both texts alone, and to at least
+/// one.
 fn agrees(first: &str, gap: &str, second: &str, out: &Page) -> bool {
     let mut whole = out.another();
     whole.say(first, gap);
@@ -44,7 +48,7 @@ fn agrees(first: &str, gap: &str, second: &str, out: &Page) -> bool {
     !found.text().is_empty() && found.text() == alone.text()
 }
 
-/// Prints the lines of a text's literals, where all of it reads.
+/// Parses a text as a list of literals, and prints their output lines.
 fn put_read(text: &str, out: &mut Page) {
     if let Some(literals) = noted(read_all(out.alloc(), text, 0), out) {
         if let Some(lines) = noted(literals.lines(out.alloc()), out) {

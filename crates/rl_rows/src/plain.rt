@@ -1,19 +1,22 @@
-//! Rows of plain text: hostile texts, and calls whose allocations fail.
+//! Tests whose rows are plain text: with incomplete and long texts, and with calls whose allocations fail.
 //!
-//! They begin with `cut`, `long`, `names`, `ample`, `lent`, `run`, `attributes` or a type's name. After `cut` stands a text that is cut at each
-//! place. After `long` stand the parts of a long text. After `names` stand how many attributes there are, and how their names begin.
-//! After a type's name stand a call of it and a text: the allocations of the call fail, each in turn. So do those of a run after `run` and
-//! a command's name, and those of the parser of attributes after `attributes`. After `ample` stands a type's name, a call and a text, and
-//! no allocation fails. After `lent` stand the contents of a string, ten
-//! thousand times over, whose value needs one allocation.
+//! The first word of a row selects the test:
+//!
+//! - `cut`: each prefix of the text that follows.
+//! - `long`: a text of repeated parts.
+//! - `names`: attributes with many names. Their number and the start of the names follow.
+//! - `ample`: a call without failures. A type, the name of a function and a text follow.
+//! - `lent`: the value of a string, with one allocation. The text that follows is repeated ten thousand times.
+//! - `run`: a command, whose name and input follow. Each allocation fails in turn.
+//! - `attributes`: the parser of attributes. Each allocation fails in turn.
+//! - The name of a type: a call, while each allocation fails in turn. The name of a function and a text follow.
 
-use crate::hostile;
 use crate::memory::rows::Row;
 use crate::memory::{rows, runs};
 use crate::noted::parts_of;
-use rl_failing::Page;
+use crate::{Page, hostile};
 
-/// Prints a row, and what is printed for it.
+/// Prints the row of a test, and its result.
 pub(crate) fn told(row: &str, out: &mut Page) {
     out.say(row, "\n");
     let (of, rest) = parts_of(row, ' ');

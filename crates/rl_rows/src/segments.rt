@@ -1,17 +1,18 @@
-//! The segments of quoted literals, and the byte range that each byte of a value comes from.
+//! Prints the segments of a quoted literal, and the byte range of its text that encodes each byte of its value.
 
-use rl_failing::Page;
-use rl_grammar::{SegmentValue, Segments, place_of, spans_of};
+use crate::Page;
+use rl_grammar::{SegmentValue, Segments, byte_spans_of, text_offset};
 use rl_tokens::Span;
 
-/// Prints the segments of a text, and the byte range that each byte of the value comes from, by `spans_of` and by `place_of`; or `None`.
+/// Prints the segments of the literal `text`. Then prints the byte range that encodes each byte of its value, as `byte_spans_of` and as
+/// `text_offset` return it. If the text isn't a quoted literal, it prints `None`.
 pub(crate) fn segments(text: &str, out: &mut Page) {
     let Some(segments) = Segments::of(text) else {
         return out.put("None\n");
     };
     for segment in segments {
         place(Span::new(7, segment.lo, segment.hi), out);
-        tell_value(segment.value, out);
+        append_value(segment.value, out);
     }
     out.put("\n");
     table(text, out);
@@ -20,34 +21,34 @@ pub(crate) fn segments(text: &str, out: &mut Page) {
     }
 }
 
-/// Prints a segment's value: the length of plain text, or the number of an escape's character or byte.
-fn tell_value(value: SegmentValue<'_>, out: &mut Page) {
+/// Prints the value of a segment: the length of plain text, or the number of an escape's character or byte.
+fn append_value(value: SegmentValue<'_>, out: &mut Page) {
     match value {
-        SegmentValue::Text(run) => tell_number("T", run.len(), out),
-        SegmentValue::Char(c) => tell_number("C", c as usize, out),
-        SegmentValue::Byte(byte) => tell_number("B", byte as usize, out),
+        SegmentValue::Text(run) => append_decimal("T", run.len(), out),
+        SegmentValue::Char(c) => append_decimal("C", c as usize, out),
+        SegmentValue::Byte(byte) => append_decimal("B", byte as usize, out),
         SegmentValue::Nothing => out.put("N "),
     }
 }
 
 /// Prints a letter and a number.
-fn tell_number(letter: &str, number: usize, out: &mut Page) {
+fn append_decimal(letter: &str, number: usize, out: &mut Page) {
     out.put(letter);
     out.show(&number, " ")
 }
 
-/// Prints a range.
+/// Prints the byte range of a span.
 fn place(span: Span, out: &mut Page) {
     out.show(&span.lo, "..");
     out.show(&span.hi, " ")
 }
 
-/// Prints the spans that `spans_of` returns.
+/// Prints the spans that `byte_spans_of` returns for the literal `text`.
 fn table(text: &str, out: &mut Page) {
     let Some(segments) = Segments::of(text) else {
         return;
     };
-    match spans_of(out.alloc(), segments, Span::new(7, 0, text.len())) {
+    match byte_spans_of(out.alloc(), segments, Span::new(7, 0, text.len())) {
         Ok(spans) => {
             for span in spans.as_slice() {
                 place(*span, out);
@@ -58,28 +59,28 @@ fn table(text: &str, out: &mut Page) {
     }
 }
 
-/// Prints the range that each byte of the value comes from, and two more past the value's end.
+/// Prints the byte range that encodes each byte of the literal's value, and the results for the two bytes after the value's end.
 fn each_place(segments: Segments<'_>, text: &str, out: &mut Page) {
     let mut at = 0;
     for segment in segments {
         for _ in 0..segment.value.len() {
-            tell_place(text, at, out);
+            append_place(text, at, out);
             at = after(at);
         }
     }
-    tell_place(text, at, out);
-    tell_place(text, after(at), out);
+    append_place(text, at, out);
+    append_place(text, after(at), out);
     out.put("\n")
 }
 
-/// The next number, within 64 bits.
+/// Returns the next number, or the largest one.
 fn after(at: usize) -> usize {
     at.saturating_add(1)
 }
 
-/// Prints the range that a byte of the value comes from.
-fn tell_place(text: &str, at: usize, out: &mut Page) {
-    if let (Some(lo), Some(segments)) = (place_of(text, at), Segments::of(text)) {
+/// Prints the byte range of the literal `text` that encodes the byte `at` of its value.
+fn append_place(text: &str, at: usize, out: &mut Page) {
+    if let (Some(lo), Some(segments)) = (text_offset(text, at), Segments::of(text)) {
         place(Span::new(7, lo, segments.end_of(at)), out);
     }
 }

@@ -1,10 +1,11 @@
-//! The literals of a whole source.
+//! Prints the literals of a whole source.
 
-use rl_failing::Page;
+use crate::Page;
 use rl_sources::{Options, ScanError, scan};
 use std::alloc::Global;
 
-/// Prints the lines of the source's literals, each after its place; at an error its line; and one with a point.
+/// Prints the output lines of the literals in a source, each with its position. An error of the source has a line too. A line with
+/// a full stop follows.
 pub(crate) fn put_source(alloc: Global, text: &str, out: &mut Page) {
     let mut lines = Vec::new(alloc);
     let answer = scan(alloc, Options::default(), text, &mut lines);
@@ -12,7 +13,7 @@ pub(crate) fn put_source(alloc: Global, text: &str, out: &mut Page) {
     put_end(answer, out)
 }
 
-/// Prints the text that bytes are.
+/// Prints bytes as text.
 pub(crate) fn put_bytes(bytes: &[u8], out: &mut Page) {
     match std::str::from_utf8(bytes) {
         Ok(text) => out.put(text),
@@ -20,7 +21,7 @@ pub(crate) fn put_bytes(bytes: &[u8], out: &mut Page) {
     }
 }
 
-/// Prints what stands after the lines of a source's literals: the line of its error, where it has one, and a line with a point.
+/// Prints the line for an error of a source, if it has one, and a line with a full stop.
 fn put_end(answer: Result<bool, ScanError>, out: &mut Page) {
     match answer {
         Ok(_) => out.put(".\n"),

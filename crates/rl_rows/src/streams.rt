@@ -1,14 +1,14 @@
-//! Runs of a command over streams that fail after some bytes.
+//! Runs commands with a reader and a writer that fail after some bytes.
 
+use crate::Page;
 use crate::noted::parts_of;
 use crate::sources::put_bytes;
 use rl_commands::Command;
 use rl_commands::run::run;
-use rl_failing::Page;
 use rl_program::RunError;
 use std::io::{self, ErrorKind, Read, Write};
 
-/// An input that fails after some bytes.
+/// A reader that fails after some bytes.
 #[derive(Drop)]
 struct Input<'a> {
     bytes: &'a [u8],
@@ -26,7 +26,7 @@ impl Read for Input<'_> {
     }
 }
 
-/// An output that fails, or takes no byte, after some bytes.
+/// A writer that fails after some bytes, or writes no byte after them if `is_full`.
 #[derive(Drop)]
 struct Output<'a> {
     held: &'a mut Vec<u8>,
@@ -50,13 +50,15 @@ impl Write for Output<'_> {
     }
 }
 
-/// The number that a word spells, and no limit where it spells none.
+/// Returns the number that `word` is in base ten, or the largest number for another text.
 fn limit_of(word: &str) -> usize {
     word.parse::<usize>().unwrap_or(usize::MAX)
 }
 
-/// Prints what a run writes, its status and its error. The words are those of the row's name, with a colon between: the command's name;
-/// after how many bytes reading fails; after how many writing does; and `full` where then no byte is taken in place of an error.
+/// Runs a command, and prints its output, its exit status and its error.
+///
+/// `words` are separated by colons: the command's name, the number of bytes after which reading fails, the number of bytes after
+/// which writing fails, and `full`. With `full`, the writer then writes no byte and doesn't fail.
 pub(crate) fn told(words: &str, bytes: &[u8], out: &mut Page) {
     let (name, rest) = parts_of(words, ':');
     let (readable, rest) = parts_of(rest, ':');
@@ -78,7 +80,7 @@ pub(crate) fn told(words: &str, bytes: &[u8], out: &mut Page) {
     }
 }
 
-/// Prints the status that a run ends with, and its error.
+/// Prints the exit status of a command, and its error.
 fn put_ended<E: RunError + Drop>(answer: Result<(), E>, out: &mut Page) {
     match answer {
         Ok(()) => out.put("0\n"),

@@ -1,11 +1,12 @@
-//! A buffer that is read by two parsers in turn.
+//! Tests two parsers that consume the token trees of one buffer in turn.
 
+use crate::Page;
 use crate::noted::noted;
-use rl_failing::Page;
 use rl_tokens::{ParseBuffer, Punct, Span, lex};
 use rust_literals::Lit;
 
-/// Prints what the parser of literals and `punct` return in turn of a text's trees, and whether the buffer is empty then.
+/// Parses the token trees of a text by the parser of literals and by `punct` in turn, and prints the results. Then prints whether
+/// the buffer is empty.
 pub(crate) fn turns(text: &str, out: &mut Page) {
     if let Some(stream) = noted(lex(out.alloc(), text, 0), out) {
         let mut input = ParseBuffer::new(stream.trees(), Span::call_site());
@@ -18,7 +19,7 @@ pub(crate) fn turns(text: &str, out: &mut Page) {
     }
 }
 
-/// Prints what the parser of literals and then `punct` return.
+/// Prints the next literal, and then the result of `punct`.
 fn put_turn(input: &mut ParseBuffer<'_>, out: &mut Page) {
     if let Some(literal) = noted(input.parse::<Lit>(out.alloc()), out) {
         out.show(&literal, " ")
@@ -26,7 +27,7 @@ fn put_turn(input: &mut ParseBuffer<'_>, out: &mut Page) {
     put_mark(input.punct(), out)
 }
 
-/// Prints a mark, or that there is none.
+/// Prints a punctuation character, or `none` without one.
 fn put_mark(mark: Option<&Punct>, out: &mut Page) {
     match mark {
         Some(mark) => out.show(&mark.as_char(), " "),

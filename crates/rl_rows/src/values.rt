@@ -1,7 +1,7 @@
-//! Literals of bytes, numbers of them, and whether they are equal.
+//! Tests the numbers that integers are parsed to, literals of bytes, and the equality of literals.
 
+use crate::Page;
 use crate::noted::{HERE, literal_of, noted, parts_of};
-use rl_failing::Page;
 use rl_tokens::{CString, Error, NulError, Span};
 use rust_literals::{Lit, LitByteStr, LitFloat, LitInt};
 use std::alloc::Global;
@@ -9,14 +9,14 @@ use std::fmt::Display;
 use std::hash::{DefaultHasher, Hash, Hasher};
 use std::str::FromStr;
 
-/// Prints an integer as numbers of 8 bits with a sign, of 8 and of 16 bits.
+/// Parses a text as an integer, and prints it as an `i8`, as a `u8` and as a `u16`.
 pub(crate) fn small(text: &str, out: &mut Page) {
     if let Some(integer) = noted(LitInt::new(out.alloc(), text, HERE), out) {
         put_numbers(&integer, out)
     }
 }
 
-/// Prints an integer as numbers of 8 bits with a sign, of 8 and of 16 bits.
+/// Prints an integer as an `i8`, as a `u8` and as a `u16`.
 fn put_numbers(integer: &LitInt, out: &mut Page) {
     put_number::<i8>(integer, out);
     put_number::<u8>(integer, out);
@@ -24,7 +24,7 @@ fn put_numbers(integer: &LitInt, out: &mut Page) {
     out.put("\n")
 }
 
-/// Prints the number that a type makes of an integer, or that there is none.
+/// Prints an integer as a number of the type `N`, or `none` if the type doesn't have it.
 fn put_number<N: FromStr + Display + Drop>(integer: &LitInt, out: &mut Page)
 where
     N::Err: Display + Drop,
@@ -35,7 +35,8 @@ where
     }
 }
 
-/// Prints a byte string of the bytes, and where a C string of them has a zero, and the bytes that are handed back then.
+/// Prints the bytes as a byte string literal. Then prints the offset of the NUL that prevents a C string, and the bytes that the
+/// error returns.
 pub(crate) fn bytes(bytes: &[u8], out: &mut Page) {
     if let Some(literal) = noted(LitByteStr::new(out.alloc(), bytes, HERE), out) {
         out.put(literal.text())
@@ -45,7 +46,7 @@ pub(crate) fn bytes(bytes: &[u8], out: &mut Page) {
     }
 }
 
-/// Prints where a C string would have a zero, and the bytes that are handed back.
+/// Prints the offset of the NUL that prevents a C string, and the bytes that the error returns.
 fn put_zero(made: Result<CString, NulError>, out: &mut Page) {
     match made {
         Ok(_) => out.put(" without a zero\n"),
@@ -57,14 +58,15 @@ fn put_zero(made: Result<CString, NulError>, out: &mut Page) {
     }
 }
 
-/// Prints whether two literals are equal, a LF between their texts, and whether they hash alike, at two spans.
+/// Parses two texts with an LF between them as literals, at different spans. Prints whether they are equal, and whether their
+/// hashes are equal.
 pub(crate) fn equal(text: &str, out: &mut Page) {
     let (first, second) = parts_of(text, '\n');
     let first = literal_of(first, HERE, out);
     put_equal(first, literal_of(second, Span::new(3, 1, 2), out), out)
 }
 
-/// Prints whether the text's integer equals the text's float, and whether they hash alike.
+/// Prints whether a text as an integer equals the same text as a float, and whether their hashes are equal.
 pub(crate) fn across(text: &str, out: &mut Page) {
     let integer = made_of(LitInt::new(out.alloc(), text, HERE), out);
     put_equal(
@@ -74,7 +76,7 @@ pub(crate) fn across(text: &str, out: &mut Page) {
     )
 }
 
-/// What was made, as a literal of any kind.
+/// Returns a number as a literal of any kind. An error is recorded in `out` like a failed allocation.
 fn made_of<T: Into<Lit>>(made: Result<T, Error>, out: &mut Page) -> Option<Lit> {
     match noted(made, out) {
         Some(number) => Some(number.into()),
@@ -82,13 +84,13 @@ fn made_of<T: Into<Lit>>(made: Result<T, Error>, out: &mut Page) -> Option<Lit> 
     }
 }
 
-/// Prints whether two values are equal, and whether they hash alike.
+/// Prints whether two values are equal, and whether their hashes are equal.
 fn put_equal<T: Eq + Hash + Drop>(first: T, second: T, out: &mut Page) {
     out.show(&(first == second), " ");
     out.show(&(hash_of(&first) == hash_of(&second)), "\n")
 }
 
-/// A number that equal values share.
+/// Returns the hash of a value.
 fn hash_of<T: Hash>(value: &T) -> u64 {
     let mut state = DefaultHasher::new();
     value.hash(&mut state);

@@ -1,13 +1,13 @@
-//! Words of the worked rows: each makes calls of the libraries on a text, and prints what they return.
+//! Tests that call functions of the libraries with a text. The name of a test is a word.
 
+use crate::Page;
 use crate::literals::call_literal;
 use crate::pairs::pairs;
 use crate::turns::turns;
 use crate::values::{across, equal, small};
-use rl_failing::Page;
 use rl_grammar::{Parts, shape, shape_negative};
 
-/// Prints what a word's calls return of a text; any other word calls the literal that the text is.
+/// Calls the functions of the test `word` with a text, and prints their results. An unknown word is a test of a literal.
 pub(crate) fn told(word: &str, text: &str, out: &mut Page) {
     match word {
         "shape" => put_parts(shape(text), out),
@@ -21,7 +21,7 @@ pub(crate) fn told(word: &str, text: &str, out: &mut Page) {
     }
 }
 
-/// Prints a kind, a body and a suffix.
+/// Prints the kind, the body and the suffix of a literal, or `None`.
 fn put_parts(parts: Option<Parts<'_>>, out: &mut Page) {
     match parts {
         Some(parts) => {

@@ -1,17 +1,40 @@
-//! Prints each literal of Rust sources: its place, its kind, what it stands for, and its suffix; or what is wrong with
-//! them.
+//! The program `rl_scan`. It prints each literal of Rust sources with its position, kind, value and suffix, or the errors in the
+//! sources. It also rewrites the literals in a style, and prints the changes or a unified diff.
 #![tactic(auto)]
 
+mod change;
+mod changes;
+mod diff;
+mod exit;
+pub mod laws;
+mod outcome;
+mod report;
+mod restyling;
+mod runs;
+mod stats;
+mod visit_report;
+
+pub use crate::change::push_change;
+pub use crate::changes::push_changes;
+pub use crate::diff::push_diff;
+pub use crate::exit::{CallError, call, out_of_memory};
+pub use crate::outcome::{Outcome, check_options, rewrite_outcome};
+pub use crate::report::Report;
+pub use crate::runs::{RunStop, Tally, run};
+pub use crate::visit_report::report_of;
 use rl_files::Host;
+pub use rl_options::{
+    Action, ArgumentError, Command, Console, HELP, LineError, Macros, Output, PlaceForm, Restyling,
+    VERSION,
+};
 use rl_program::{arguments, finish};
-use rl_reports::{Console, call, out_of_memory};
 use std::alloc::Global;
 use std::env;
 use std::env::VarError;
 use std::io::IsTerminal;
 use std::process::ExitCode;
 
-/// Whether NO_COLOR has a value that isn't empty, as it says that no program colours its output.
+/// Whether the environment variable NO_COLOR isn't empty. It requests that programs print no colours.
 fn forbids_colors(rt: &HostRuntime) -> bool {
     match env::var(rt, "NO_COLOR") {
         Ok(value) => !value.is_empty(),
@@ -19,7 +42,7 @@ fn forbids_colors(rt: &HostRuntime) -> bool {
     }
 }
 
-/// Whether TERM names a terminal without colours.
+/// Whether the environment variable TERM is `dumb`, which is a terminal without colours.
 fn is_dumb(rt: &HostRuntime) -> bool {
     match env::var(rt, "TERM") {
         Ok(value) => value.as_str() == "dumb",
@@ -27,7 +50,7 @@ fn is_dumb(rt: &HostRuntime) -> bool {
     }
 }
 
-/// What a call knows of where it runs.
+/// Returns the properties of standard input and output that a call depends on.
 fn console(rt: &HostRuntime) -> Console {
     Console {
         input_is_terminal: rt.stdin().is_terminal(),

@@ -1,10 +1,10 @@
--- The text of a name with dots: its parts stand in the text as they are, one directly after another.
-use Rattle.rl_text.proofs.Common.{◌≡◌, ◌≢◌, ℕ, ◌+◌, ◌-◌, ◌<◌, ◌≤◌, ◌⊎◌, inl, inr, Bool, true, false, List, [], ◌∷◌, ◌++◌, length, length-append, append_assoc, take, slice_range, refl, sym, ◌∙◌, ap, subst, arith, chars, encode_utf8_all, encode_ascii, encodes-append, encodes-chars, and_parts, Option, Some, None, IfSome, IfNone, take-append_seam, IsUtf8, IsCharBoundary}
+-- The text of a name with dots: its identifiers and dots are in the input text, each directly after the one before it.
+use Rattle.rl_syntax.proofs.Common.{◌≡◌, ◌≢◌, ℕ, ◌+◌, ◌-◌, ◌<◌, ◌≤◌, ◌⊎◌, inl, inr, Bool, true, false, List, [], ◌∷◌, ◌++◌, length, length-append, append_assoc, take, slice_range, refl, sym, ◌∙◌, ap, subst, arith, chars, encode_utf8_all, encode_ascii, encodes-append, encodes-chars, and_parts, Option, Some, None, IfSome, IfNone, take-append_seam, IsUtf8, IsCharBoundary}
 use Rattle.std.proofs.lemmas.Str.{scalars-chars, IsCharBoundary-at_seam}
 use lib.Utf8.{scalars}
 use Prim.Native.Char.{code}
-use Rattle.rl_text.specs.Texts.{IsTail}
-use Rattle.rl_text.proofs.TailLemmas.{tail_step}
+use Rattle.rl_syntax.specs.Texts.{IsTail}
+use Rattle.rl_syntax.proofs.TailLemmas.{tail_step}
 use Rattle.rl_lexer.specs.declared.cursor.Lexeme.{Lexeme}
 use Rattle.rl_lexer.specs.Cursors.{CursorState, TakesNext, form_view}
 use Rattle.rl_lexer.specs.Cuts.{LexedToken, end_of}
@@ -55,14 +55,14 @@ token_front old new l utf8 takes =
       );
     }
 
--- two rests of one text are one where they are as long
+-- Two ends of one text are equal if they have the same length.
 same_tail : (xs ys us vs : List ℕ) → xs ++ us ≡ ys ++ vs → length us ≡ length vs → us ≡ vs
 same_tail [] [] us vs e l = e
 same_tail [] (y ∷ ys) us vs e l = absurd (omega (arith, ap length e, l, length-append ys vs))
 same_tail (x ∷ xs) [] us vs e l = absurd (omega (arith, ap length e, l, length-append xs us))
 same_tail (x ∷ xs) (y ∷ ys) us vs e l = same_tail xs ys us vs (cc) l
 
--- the dot's text
+-- The text of a dot token.
 dot_tree : (t : Tree) → form_of t ≡ MarkForm (code ".") → lexeme_text t ≡ code "." ∷ []
 dot_tree (lexemes.MarkLexeme c) e = cc
 dot_tree (lexemes.DelimiterLexeme c) e = absurd (cc)
@@ -80,7 +80,7 @@ dot_text old new dot t =
     ∙ ap encode_utf8_all (dot_tree t.takes.cut.lexeme (cut.form_is ∙ t.is_dot))
     ∙ ap (λ x. x ++ []) (encode_ascii (code ".") (omega arith))
 
--- ---- one part more
+-- ---- a name with one more identifier
 
 parts_more : (end hi : ℕ) (t mid new : CursorState) (parts : List Lexeme) (part : Lexeme) → AreNameParts end t parts mid hi
     → JoinsName hi mid part new → AreNameParts end t (parts ++ part ∷ []) new part.hi
@@ -99,7 +99,7 @@ dotted_more first [] part = refl
 dotted_more first (l ∷ ls) part = ap (λ x. first.text.now ++ (code "." ∷ x)) (dotted_more l ls part)
     ∙ sym (append_assoc first.text.now (code "." ∷ dotted l ls) (code "." ∷ part.text.now))
 
--- The name up to here, and the text directly after it.
+-- The beginning of a name, and the text directly after it.
 pub record NameUpTo (start : CursorState) (first : Lexeme) (t : CursorState) (hi : ℕ) : Type 0 where
   pub parts : List Lexeme
   pub begins : BeginsDottedName start first parts t hi
@@ -127,7 +127,7 @@ name_begins start t first utf8 (takes, is_name) =
       following = takes.following;
     }
 
--- what is left begins directly after the name, where the next token does
+-- If the next token directly follows the beginning of a name, the unread text begins with this token.
 stands_at : (start t next : CursorState) (front tail : List ℕ) (l : Lexeme) (hi : ℕ) → start.rest ≡ front ++ tail
     → hi + length tail ≡ length start.text → IsTail start.rest t.rest → t.text ≡ start.text → TakesNext t l next
     → l.lo ≡ hi → t.rest ≡ tail
@@ -172,7 +172,7 @@ name_goes_on start t new first part hi name joins =
           (tail_step t.rest at.rest new.rest takes_dot.following takes_part.following);
     }
 
--- ---- the name is a slice
+-- ---- the name is a slice of the input text
 
 pub name_len : (start t : CursorState) (first : Lexeme) (hi : ℕ) (name : NameUpTo start first t hi)
     → length (dotted first name.parts) ≡ hi - first.lo
@@ -199,11 +199,11 @@ name_text start t first hi name = ap (λ n. take n start.rest) (sym (name_len st
 pub slice_front : (r s : List ℕ) (n : ℕ) → r ≡ s → slice_range r 0 n ≡ take n s
 slice_front r s n e = ap (λ m. take m r) (let q : n - 0 ≡ n = omega arith in q) ∙ ap (λ x. take n x) e
 
--- a cursor at which a mark stands is in its text
+-- The position of the next punctuation character is in the input text.
 pub mark_fits : (c : ℕ) (old new : CursorState) → TakesMark c old new → length old.rest ≤ length old.text
 mark_fits c old new (l, takes, is) = omega (arith, takes.place)
 
--- ---- what a step keeps
+-- ---- each step leaves the input text unchanged
 
 parts_same : (end hi : ℕ) (t new : CursorState) (parts : List Lexeme) → AreNameParts end t parts new hi → new.text ≡ t.text
 parts_same end hi t new [] are = ap (λ (s : CursorState). s.text) are.0
@@ -215,9 +215,9 @@ name_same old new name takes =
     let begins = takes.begins in
     parts_same takes.first.hi name.hi begins.following new takes.parts begins.are_parts ∙ begins.named.0.same
 
--- what a call returns: a part, or none
-pub some_of : {A : Type 0} (P : A → Type 0) (o : Option A) (x : A) → o ≡ Some x → IfSome o P → P x
-some_of {A = A} P o x e p = subst (λ (z : Option A). IfSome z P) e p
+-- A property of an optional result: it holds for the result if there is one.
+pub groups_if_any : {A : Type 0} (P : A → Type 0) (o : Option A) (x : A) → o ≡ Some x → IfSome o P → P x
+groups_if_any {A = A} P o x e p = subst (λ (z : Option A). IfSome z P) e p
 
 pub none_of : {A : Type 0} (P : Type 0) (o : Option A) → ((x : A) → o ≡ Some x → ⊥) → IfNone o P → P
 none_of P None none p = p

@@ -1,10 +1,10 @@
--- The open groups in their array, and what the loop over a text's tokens keeps.
-use Rattle.rl_text.proofs.Common.{◌≡◌, ◌≢◌, ℕ, ◌+◌, ◌<◌, ◌≤◌, ◌⊎◌, inl, inr, Bool, true, false, not, ◌&&◌, ◌||◌, List, [], ◌∷◌, ◌++◌, length, map, drop, get_or, Option, Some, None, IfSome, IfNone, refl, sym, ◌∙◌, ap, subst, arith, chars-nil, chars, IsUtf8}
+-- The open groups in the array that stores them, and the invariant of the loop over a text's tokens.
+use Rattle.rl_syntax.proofs.Common.{◌≡◌, ◌≢◌, ℕ, ◌+◌, ◌<◌, ◌≤◌, ◌⊎◌, inl, inr, Bool, true, false, not, ◌&&◌, ◌||◌, List, [], ◌∷◌, ◌++◌, length, map, drop, get_or, Option, Some, None, IfSome, IfNone, refl, sym, ◌∙◌, ap, subst, arith, chars-nil, chars, IsUtf8}
 use Rattle.std.specs.Prelude.{MatchOption}
 use Rattle.std.proofs.lemmas.List.{drop_more}
 use Rattle.std.proofs.Math.ListN.{drop_of_length-le}
-use Rattle.rl_text.specs.Texts.{IsTail, is_among}
-use Rattle.rl_text.proofs.TailLemmas.{tail_step}
+use Rattle.rl_syntax.specs.Texts.{IsTail, is_among}
+use Rattle.rl_syntax.proofs.TailLemmas.{tail_step}
 use Rattle.rl_lexer.specs.Skipping.{Skipped}
 use Rattle.rl_lexer.specs.declared.lex_error.LexKind.{LexKind}
 use Rattle.rl_lexer.specs.declared.lex_error.LexKind.TheVariants.{UnmatchedClose, UnclosedGroup, TooDeep}
@@ -22,25 +22,25 @@ use Rattle.rl_settings.specs.WholeCuts.{IsCutWhole}
 
 -- ---- the array
 
--- no group is open at its end
+-- An index at the array's end means that no group is open.
 pub none_from : (xs : List Opened) (start : ℕ) → length xs ≤ start → map open_view (drop start xs) ≡ []
 none_from xs start h = ap (map open_view) (drop_of_length-le xs {i = start} h)
 
--- the group that is open at a place, and those around it
+-- The open group at an index of the array, and the open groups around it.
 pub one_from : (xs : List Opened) (start : ℕ) (d : Opened) → start < length xs → map open_view (drop start xs)
     ≡ open_view (get_or xs start d) ∷ map open_view (drop (start + 1) xs)
 one_from xs start d h = ap (map open_view) (drop_more xs start d h)
 
--- ---- the loop
+-- ---- the loop over a text's tokens
 
--- The text is cut up to the rest, where these groups are open.
+-- The text before the rest is lexed, and the groups in the list are open there.
 pub record HasPassed (text rest : List ℕ) (groups : List OpenGroup) : Type 0 where
   pub cuts : List LexedToken
   pub are_cuts : LexesUpTo 0 (chars text) cuts (chars rest)
   pub are_open : open_groups [] cuts ≡ Some groups
   pub following : IsTail text rest
 
--- before the first turn
+-- The loop's invariant holds before the first iteration.
 pub passed_none : (text rest : List ℕ) (groups : List OpenGroup) → Skipped (chars text) (chars rest) → IsTail text rest
     → groups ≡ [] → HasPassed text rest groups
 passed_none text rest groups skips following none = record {
@@ -50,7 +50,7 @@ passed_none text rest groups skips following none = record {
   following = following;
 }
 
--- one turn
+-- The loop's invariant holds after one more iteration.
 pub passed_more : (text : List ℕ) (from to : CursorState) (old new : List OpenGroup) (l : Borrowed) → from.text ≡ text
     → HasPassed text from.rest old → TakesNext from l to → after_form old (form_view l.form) l.lo ≡ Some new
     → HasPassed text to.rest new
@@ -70,7 +70,7 @@ passed_more text from to old new l same has next passes =
       following = tail_step text from.rest to.rest has.following next.following;
     }
 
--- ---- how it ends
+-- ---- the end of the loop
 
 error_found : (text rest : List ℕ) (groups : List OpenGroup) (kind : LexKind) (at place : ℕ) → IsUtf8 text
     → HasPassed text rest groups → place + length rest ≡ length text → ErrorAt kind groups (chars rest) → at
@@ -87,7 +87,7 @@ error_found text rest groups kind at place is has here error at_is = record {
   at_is = at_is;
 }
 
--- all is cut
+-- At the end of the loop the whole text is lexed.
 pub all_passed : (text rest : List ℕ) (groups : List OpenGroup) → HasPassed text rest groups → rest ≡ [] → groups ≡ []
     → IsCutWhole (chars text)
 all_passed text rest groups has ends none = record {
@@ -96,7 +96,7 @@ all_passed text rest groups has ends none = record {
   none_open = has.are_open ∙ ap Some none;
 }
 
--- a group is open at the end
+-- At the end of the text a group is open.
 pub ends_open : (text rest : List ℕ) (groups : List OpenGroup) (e : LexError) → IsUtf8 text → HasPassed text rest groups
     → rest ≡ [] → EndsOpen groups e → HasFirstError (chars text) e.kind e.at
 ends_open text rest groups e is has nothing ends =
@@ -105,7 +105,7 @@ ends_open text rest groups e is has nothing ends =
     (error_found text rest groups UnclosedGroup e.at (length text) is has (omega (arith, ap length nothing))
     (ap chars nothing ∙ chars-nil, ends.some_open) (ends.place (length text)))
 
--- the lexeme at the front of the rest can't stand there
+-- The next token is an error: a delimiter that isn't allowed there.
 closer_is : (c : ℕ) → is_among delimiters c ≡ true → is_opener c ≡ false → is_closer c ≡ true
 closer_is c h other =
     let either : (is_opener c || is_closer c) ≡ true = among delimiters (λ k. is_opener k || is_closer k) c refl h in
@@ -144,7 +144,7 @@ rejected_token text from to groups l kind is same has next h =
     (omega (arith, next.place, ap length same)) next.begins next.is_lexeme
     (subst (λ (f : LexemeForm). StopsForm groups f kind) (sym next.is_cut.form_is) h)
 
--- the cursor stays where no token begins what is left, and tells the error
+-- If the rest of the text begins with no token, the cursor doesn't advance and returns the error.
 pub error_told : (text : List ℕ) (old new : CursorState) (groups : List OpenGroup) (e : LexError) → old.text ≡ text
     → new ≡ old → HasPassed text old.rest groups → IsFirstError new e.kind e.at → HasFirstError (chars text) e.kind e.at
 error_told text old new groups e same stays has first =
@@ -153,14 +153,14 @@ error_told text old new groups e same stays has first =
     (λ (t : List ℕ). LexesUpTo 0 (chars t) has.cuts (chars old.rest)) (sym same) has.are_cuts in
     subst (λ (t : List ℕ). HasFirstError (chars t) e.kind e.at) same (here has.cuts groups cuts has.are_open)
 
--- where it tells none, the text has ended
+-- If the cursor stops without an error, it is at the text's end.
 pub told_end : (old new : CursorState) → new ≡ old → BeginsNoLexeme (chars old.rest) → (new.rest ≡ [])
     ⊎ BeginsLexeme (chars new.rest) → old.rest ≡ []
 told_end old new stays none (inl nothing) = ap (λ (t : CursorState). t.rest) (sym stays) ∙ nothing
 told_end old new stays none (inr (after, before)) = absurd (none after
     (subst (λ (t : CursorState). LexemeBefore (chars t.rest) after) stays before))
 
--- the error at the text's end, where there is one
+-- The error at the text's end, if a group is open there.
 pub error_at_end : (text rest : List ℕ) (groups : List OpenGroup) (r : Option LexError) → IsUtf8 text
     → HasPassed text rest groups → rest ≡ [] → MatchOption r (groups ≡ []) (EndsOpen groups)
     → IfSome r (λ e. HasFirstError (chars text) e.kind e.at)

@@ -1,5 +1,5 @@
--- What stands where a part of a setting was expected, and where a tree ends.
-use Rattle.rl_text.proofs.Common.{◌≡◌, ◌≢◌, ℕ, ◌+◌, ◌-◌, ◌≤◌, inl, inr, Bool, true, false, List, [], ◌∷◌, length, refl, ◌∙◌, ◌==◌, ap, subst, arith, chars, if◌then◌else◌}
+-- The tokens at a position where a part of a setting was expected, and the end of a token tree.
+use Rattle.rl_syntax.proofs.Common.{◌≡◌, ◌≢◌, ℕ, ◌+◌, ◌-◌, ◌≤◌, inl, inr, Bool, true, false, List, [], ◌∷◌, length, refl, ◌∙◌, ◌==◌, ap, subst, arith, chars, if◌then◌else◌}
 use Rattle.rl_lexer.specs.declared.cursor.Lexeme.{Lexeme}
 use Rattle.rl_lexer.specs.declared.lex_error.LexKind.{LexKind}
 use Rattle.rl_lexer.specs.declared.lex_error.LexKind.TheVariants.{Memory}
@@ -10,25 +10,25 @@ use Rattle.rl_lexer.specs.Lexemes.{LexemeForm, LiteralForm, IdentifierForm, Deli
 use Rattle.rl_lexer.specs.Cuts.{BeginsNoLexeme, OpenGroup, ErrorAt, is_opener}
 use Rattle.rl_settings.specs.SettingSteps.{depth_after, EndsInside}
 
--- a form that is no identifier's
+-- The form of a token isn't that of an identifier.
 pub other_name : (f : FoundForm) → (f ≡ found.Identifier → ⊥) → form_view f ≡ IdentifierForm → ⊥
 other_name found.Literal h e = absurd (cc)
 other_name found.Identifier h e = h refl
 other_name (found.Delimiter c) h e = absurd (cc)
 other_name (found.Mark c) h e = absurd (cc)
 
--- no error of a text is an allocation failure
+-- An error of a text isn't an allocation failure.
 pub no_memory : (kind : LexKind) (r : List ℕ) → ((groups : List OpenGroup) → ErrorAt kind groups r) → kind ≡ Memory → ⊥
 no_memory kind r h e = subst (λ (k : LexKind). ErrorAt k [] r) e (h [])
 
--- something is left
+-- The rest of the text isn't empty.
 pub some_rest : (rest now : List ℕ) (empty : Bool) → now ≡ rest → empty ≡ (length now == 0) → empty ≡ false → rest ≡ []
     → ⊥
 some_rest rest now empty same is none e =
     let q : (length now == 0) ≡ true = ap (λ (t : List ℕ). length t == 0) (same ∙ e) in
     absurd (cc)
 
--- a token opens one group at most
+-- A token opens at most one group, so the depth increases by at most one.
 pub one_deeper : (f : LexemeForm) (depth : ℕ) → depth_after f depth ≤ depth + 1
 one_deeper LiteralForm depth = omega arith
 one_deeper IdentifierForm depth = omega arith
@@ -39,26 +39,26 @@ one_deeper (DelimiterForm c) depth = go (is_opener c)
     go false = omega arith
 one_deeper (MarkForm c) depth = omega arith
 
--- ---- the loop up to a tree's end
+-- ---- the loop over the tokens of a token tree
 
--- Where what is ahead ends, the tree ends.
+-- The loop's invariant: the token tree ends where the rest of the tree ends.
 abbrev pub Leads : ℕ → ℕ → CursorState → ℕ → ℕ → CursorState → Type 0
 Leads depth end t first_depth first_end first =
     (hi : ℕ) → EndsInside depth end t hi → EndsInside first_depth first_end first hi
 
--- one token more
+-- The loop's invariant holds after one more token.
 pub leads_more : (depth end first_depth first_end : ℕ) (t new first : CursorState) (l : Lexeme) → depth ≢ 0
     → TakesNext t l new → Leads depth end t first_depth first_end first
     → Leads (depth_after (form_view l.form) depth) l.hi new first_depth first_end first
 leads_more depth end first_depth first_end t new first l some takes leads hi (inside, are) =
     leads hi (l ∷ inside, (some, (new, takes, are)))
 
--- no group is open
+-- The loop ends, since no group is open.
 pub ends_closed : (depth end first_depth first_end : ℕ) (t first : CursorState) → depth ≡ 0
     → Leads depth end t first_depth first_end first → EndsInside first_depth first_end first end
 ends_closed depth end first_depth first_end t first none leads = leads end ([], (inl none, refl))
 
--- no token can be cut off
+-- The loop ends, since the lexer fails.
 pub ends_stuck : (depth end first_depth first_end : ℕ) (t first : CursorState) → BeginsNoLexeme (chars t.rest)
     → Leads depth end t first_depth first_end first → EndsInside first_depth first_end first end
 ends_stuck depth end first_depth first_end t first none leads = leads end ([], (inr none, refl))

@@ -1,16 +1,16 @@
--- What errors of lists and of settings say, and which error of the lexer or of a list each is.
+-- The messages of the errors of lists and settings, and the conversion of errors of the lexer and of lists.
 use Rattle.std.specs.Prelude.{ℕ, ◌==◌, List, [], ◌∷◌, ◌++◌, codes, if◌then◌else◌}
 use Prim.Native.Char.{code}
 use Rattle.rl_lexer.specs.declared.lex_error.LexKind.{LexKind}
 use Rattle.rl_lexer.specs.declared.lex_error.LexKind.TheVariants as lex
-use Rattle.rl_reading.specs.declared.next_literals.RejectionKind.{RejectionKind}
-use Rattle.rl_reading.specs.declared.next_literals.RejectionKind.TheVariants as list
+use Rattle.rl_lenient.specs.declared.next_literals.RejectionKind.{RejectionKind}
+use Rattle.rl_lenient.specs.declared.next_literals.RejectionKind.TheVariants as list
 use Rattle.rl_settings.specs.declared.syntax_error.Part.{Part}
 use Rattle.rl_settings.specs.declared.syntax_error.Part.TheVariants.{Name, Equals, Literal, Comma}
 use Rattle.rl_settings.specs.declared.syntax_error.SyntaxErrorKind.{SyntaxErrorKind}
-use Rattle.rl_settings.specs.declared.syntax_error.SyntaxErrorKind.TheVariants.{NoLiteral, NoNumber, Group, Expected, EndOfInput, Repeated, DocComment, UnclosedComment, UnclosedQuote, Lifetime, RawIdentifier, StrayCharacter, UnmatchedClose, UnclosedGroup, TooDeep}
+use Rattle.rl_settings.specs.declared.syntax_error.SyntaxErrorKind.TheVariants.{NotALiteral, NoNumber, Group, Expected, EndOfInput, Repeated, DocComment, UnclosedComment, UnclosedQuote, Lifetime, RawIdentifier, StrayCharacter, UnmatchedClose, UnclosedGroup, TooDeep}
 
--- the word of a part
+-- The name of a part of a setting, for messages.
 abbrev pub part_words : Part → List ℕ
 part_words Name = codes "identifier"
 part_words Equals = codes "`=`"
@@ -23,25 +23,26 @@ expected_message part = codes "expected " ++ part_words part
 abbrev pub ended_message : Part → List ℕ
 ended_message part = codes "unexpected end of input, expected " ++ part_words part
 
--- the words of an error
+-- The message of a kind of error.
 abbrev pub syntax_message : SyntaxErrorKind → List ℕ
-syntax_message NoLiteral = codes "not a literal"
-syntax_message NoNumber = codes "minus without a number within 128 bits"
-syntax_message Group = codes "opening delimiter, and a group is no literal"
+syntax_message NotALiteral = codes "not a literal"
+syntax_message NoNumber = codes "expected number up to 128 bits after `-`"
+syntax_message Group = codes "expected literal, found group"
 syntax_message (Expected part) = expected_message part
 syntax_message (EndOfInput part) = ended_message part
 syntax_message Repeated = codes "repeated name"
-syntax_message DocComment = codes "doc comment"
-syntax_message UnclosedComment = codes "block comment isn't closed"
-syntax_message UnclosedQuote = codes "quoted literal isn't closed"
-syntax_message Lifetime = codes "lifetime"
-syntax_message RawIdentifier = codes "raw identifier"
-syntax_message StrayCharacter = codes "character that begins no token"
+syntax_message DocComment = codes "unexpected doc comment"
+syntax_message UnclosedComment = codes "unclosed block comment"
+syntax_message UnclosedQuote = codes "unclosed quote"
+syntax_message Lifetime = codes "unexpected lifetime: a string has double quotes"
+syntax_message RawIdentifier = codes "unexpected raw identifier"
+syntax_message StrayCharacter = codes "stray character"
 syntax_message UnmatchedClose = codes "unmatched closing delimiter"
-syntax_message UnclosedGroup = codes "group isn't closed"
+syntax_message UnclosedGroup = codes "unclosed group"
 syntax_message TooDeep = codes "groups nested too deep"
 
--- The lexer's error. An allocation failure is none of a text, and comes from nothing that takes no memory.
+-- Converts the kind of a lexer's error to a kind of syntax error. An allocation failure isn't an error of a text, and doesn't
+-- occur in code that doesn't allocate.
 abbrev pub of_lexer : LexKind → SyntaxErrorKind
 of_lexer lex.DocComment = DocComment
 of_lexer lex.UnclosedComment = UnclosedComment
@@ -54,14 +55,15 @@ of_lexer lex.UnclosedGroup = UnclosedGroup
 of_lexer lex.TooDeep = TooDeep
 of_lexer lex.Memory = StrayCharacter
 
--- no literal begins this text, which is bytes: after a minus no number does
-abbrev pub no_literal : List ℕ → SyntaxErrorKind
-no_literal [] = NoLiteral
-no_literal (c ∷ cs) = if c == code "-" then NoNumber else NoLiteral
+-- The error of a list where a literal was expected. The argument is the list's text from there on, in bytes. If it begins with
+-- a minus, a number was expected.
+abbrev pub literal_expected : List ℕ → SyntaxErrorKind
+literal_expected [] = NotALiteral
+literal_expected (c ∷ cs) = if c == code "-" then NoNumber else NotALiteral
 
--- why a list has no literal where this is left of it
+-- Converts the kind of a list's error, where `rest` is the unread rest of the list's text.
 abbrev pub of_list : RejectionKind → List ℕ → SyntaxErrorKind
 of_list (list.Lex kind) rest = of_lexer kind
 of_list list.Group rest = Group
 of_list list.UnmatchedClose rest = UnmatchedClose
-of_list list.NoLiteral rest = no_literal rest
+of_list list.NotALiteral rest = literal_expected rest

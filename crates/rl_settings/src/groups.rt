@@ -1,26 +1,26 @@
-//! The groups of a text: whether each is closed, by its own delimiter, and how deep they stand.
+//! Checks that each group of a text (parentheses, brackets or braces) is closed by its own delimiter, and how deep they nest.
 
 ghost use Rattle.std.specs.Prelude.{◌≡◌, ◌≤◌, ◌<◌, ◌∷◌, [], length, Some, IfSome, IfNone, MatchOption, MatchBool};
 ghost use Rattle.std.specs.Str.{chars};
 ghost use Rattle.rl_lexer.specs.Cursors.{form_view};
-ghost use Rattle.rl_lexer.specs.Cuts.{is_opener, is_pair, closes, popped, after_form, HasFirstError};
+ghost use Rattle.rl_lexer.specs.Cuts.{is_pair, closes, popped, after_form, HasFirstError};
 ghost use Rattle.rl_settings.specs.WholeCuts.{IsCutWhole};
 
-use rl_lexer::{Form, LexError, LexKind, Tokens};
+use rl_lexer::{Form, LexError, LexKind, Tokens, is_opener};
 
-/// How many groups may be open at once.
+/// The maximum number of nested groups.
 const MAX_OPEN: usize = 128;
 
-/// A group that is open.
+/// A group that is open: its opening delimiter and its position.
 #[derive(Clone, Copy)]
 struct Opened {
-    /// Its opening delimiter.
+    /// The opening delimiter of the group: `(`, `[` or `{`.
     opener: char,
-    /// The byte where that stands.
+    /// The byte offset of the group's opening delimiter.
     at: usize,
 }
 
-/// The groups that are open: the last ones of an array, the innermost first.
+/// The groups that are open, innermost first. They are the last elements of the array, from the index `start` on.
 #[derive(Drop)]
 struct Groups {
     groups: [Opened; MAX_OPEN],
@@ -28,14 +28,7 @@ struct Groups {
     ghost within: { start ≤ 128 },
 }
 
-/// Whether a delimiter opens a group.
-fn is_opener(c: char) -> bool
-    ensures { result ≡ is_opener c }
-{
-    matches!(c, '(' | '[' | '{')
-}
-
-/// Whether the second delimiter closes a group that the first one opens.
+/// Whether the delimiter `closer` closes a group that `opener` opens.
 fn is_pair(opener: char, closer: char) -> bool
     ensures { result ≡ is_pair opener closer }
 {
@@ -50,7 +43,7 @@ fn is_pair(opener: char, closer: char) -> bool
 impl Groups {
     ghost use Rattle.rl_settings.specs.Groups.{open_in, StopsForm, EndsOpen, IsInnermost};
 
-    /// No group is open.
+    /// Creates the state without open groups.
     fn new() -> Groups
         ensures { open_in result ≡ [] }
     {
@@ -60,7 +53,7 @@ impl Groups {
         }
     }
 
-    /// The innermost open group.
+    /// Returns the innermost open group, or `None` if no group is open.
     fn innermost(&self) -> Option<Opened>
         ensures { IsInnermost (open_in self.now) result }
     {
@@ -70,7 +63,7 @@ impl Groups {
         Some(self.groups[self.start])
     }
 
-    /// Opens a group inside the others, and says whether it may be: not where 128 are open.
+    /// Opens a group inside the open ones. Returns `false`, and opens no group, if 128 groups are open already.
     fn open_group(&mut self, opener: char, at: usize) -> bool
         ensures { MatchBool result
             ((length (open_in self.old) < 128)
@@ -85,7 +78,7 @@ impl Groups {
         true
     }
 
-    /// Closes the innermost group, and says whether this delimiter does.
+    /// Closes the innermost open group if `closer` is its closing delimiter, and returns whether it is.
     fn close_group(&mut self, closer: char) -> bool
         ensures closes { result ≡ closes (open_in self.old) closer }
         ensures popped { MatchBool result (open_in self.new ≡ popped (open_in self.old)) (self.new ≡ self.old) }
@@ -100,7 +93,8 @@ impl Groups {
         true
     }
 
-    /// Goes on past a token of this form at the byte, or says why it can't stand there.
+    /// Updates the open groups for a token of the form `form` at the byte offset `at`. Returns the kind of error if the token
+    /// is a delimiter that isn't allowed there.
     fn pass(&mut self, form: Form, at: usize) -> Option<LexKind>
         ensures passed { IfNone result
             (after_form (open_in self.old) (form_view form) at ≡ Some (open_in self.new)) }
@@ -122,7 +116,7 @@ impl Groups {
         }
     }
 
-    /// The error of a text that ends here.
+    /// Returns the error for a text that ends while a group is open, or `None` if no group is open.
     fn error_at_end(&self) -> Option<LexError>
         ensures { MatchOption result (open_in self.now ≡ []) (EndsOpen (open_in self.now)) }
     {
@@ -133,9 +127,11 @@ impl Groups {
     }
 }
 
-/// The first error of a text: where it can't be cut into tokens, where a group is closed by another delimiter than its own or is
-/// the 129th that is open, or, at the text's end, the innermost group that is open there. `None` of a text that is cut to its end.
-/// It is the error that `lex` of `rl_tokens` reports, and takes no memory.
+/// Returns the first error of a text's tokens and groups, or `None` if the text has none.
+///
+/// The errors are those of the lexer, a group with a wrong closing delimiter, and a group inside 128 others. If all of these
+/// are absent and groups are open at the text's end, the error is the innermost of these groups. `lex` of `rl_tokens` returns
+/// the same error. Nothing is allocated.
 pub fn first_error(text: &str) -> Option<LexError>
     ensures error { IfSome result (λ e. HasFirstError (chars text.now) e.kind e.at) }
     ensures whole { IfNone result (IsCutWhole (chars text.now)) }

@@ -1,79 +1,80 @@
-//! What is wrong with a text of literals, or of settings.
+//! The errors of a text of literals, of settings, or of a source.
 
 ghost use Rattle.std.specs.Prelude.{◌≡◌, ◌≢◌, Some};
 ghost use Rattle.std.specs.Fmt.{padded};
 ghost use Rattle.rl_lexer.specs.declared.lex_error.LexKind.TheVariants.{Memory};
-ghost use Rattle.rl_reading.specs.declared.next_literals.RejectionKind.TheVariants.{Lex};
+ghost use Rattle.rl_lenient.specs.declared.next_literals.RejectionKind.TheVariants.{Lex};
 ghost use Rattle.rl_settings.specs.SyntaxErrors.{part_words, expected_message, ended_message, syntax_message, of_lexer, of_list};
 
+use rl_lenient::RejectionKind;
 use rl_lexer::LexKind;
-use rl_reading::RejectionKind;
 use std::fmt;
 
-/// A part of a setting.
+/// A part of a setting: the name, `=`, the literal, or the comma.
 #[derive(Clone, Copy, PartialEq, Eq, Hash, Debug)]
 #[non_exhaustive]
 pub enum Part {
-    /// The name, an identifier.
+    /// The name of a setting, an identifier.
     Name,
-    /// The `=` after the name.
+    /// The `=` after the name of a setting.
     Equals,
-    /// The literal.
+    /// The literal after the `=` of a setting.
     Literal,
-    /// The comma after it.
+    /// The comma after the literal of a setting.
     Comma,
 }
 
-/// What is wrong with a text of literals, of settings, or of a source.
+/// A kind of error in a list of literals, in settings, or in a source.
 #[derive(Clone, Copy, PartialEq, Eq, Hash, Debug)]
 #[non_exhaustive]
 pub enum SyntaxErrorKind {
-    /// A list has no literal there: a word or a mark.
-    NoLiteral,
-    /// A list has no number within 128 bits after a minus.
+    /// An identifier or a punctuation character in a list of literals, where a literal was expected.
+    NotALiteral,
+    /// A minus in a list of literals that isn't followed by a number up to 128 bits.
     NoNumber,
-    /// A list has an opening delimiter: a group is no literal.
+    /// An opening delimiter in a list of literals, where a literal was expected.
     Group,
-    /// Settings have something else where this part was expected.
+    /// A token or group in settings, where this part of a setting was expected.
     Expected(Part),
-    /// Settings end where this part was expected.
+    /// The end of the settings, where this part of a setting was expected.
     EndOfInput(Part),
-    /// Settings have a name that stood before.
+    /// A setting with a name that an earlier setting has.
     Repeated,
-    /// A doc comment.
+    /// A doc comment, which isn't allowed.
     DocComment,
     /// A block comment that isn't closed.
     UnclosedComment,
-    /// A quoted or raw literal that isn't closed.
+    /// A quoted literal that isn't closed.
     UnclosedQuote,
-    /// A lifetime.
+    /// A lifetime, which isn't allowed.
     Lifetime,
-    /// A raw identifier.
+    /// A raw identifier, which isn't allowed.
     RawIdentifier,
     /// A character that begins no token.
     StrayCharacter,
-    /// A closing delimiter that isn't that of the innermost open group; in a list, in which no group is open, any.
+    /// A closing delimiter that doesn't match the innermost open group. In a list no group is open, so each closing
+    /// delimiter is this error.
     UnmatchedClose,
-    /// A group that isn't closed.
+    /// A group whose closing delimiter is missing.
     UnclosedGroup,
     /// Groups nested more than 128 deep.
     TooDeep,
 }
 
-/// What is wrong with a text, and where.
+/// An error of a text: its kind, and its range.
 #[derive(Clone, Copy, PartialEq, Eq, Debug)]
 pub struct SyntaxError {
-    /// What is wrong.
+    /// The kind of error.
     pub kind: SyntaxErrorKind,
-    /// The byte where it begins.
+    /// The byte offset where the error begins.
     pub lo: usize,
-    /// The byte after it.
+    /// The byte offset after the error.
     pub hi: usize,
 }
 
 impl Part {
-    /// Its word in messages.
-    pub fn words(self) -> &'static str
+    /// Returns the name of the part for messages, for example `identifier`.
+    pub fn noun(self) -> &'static str
         ensures { result.now ≡ part_words self }
     {
         match self {
@@ -84,7 +85,7 @@ impl Part {
         }
     }
 
-    /// The words where something else stands in its place.
+    /// Returns the error message for another token in the part's place, for example `expected identifier`.
     fn expected(self) -> &'static str
         ensures { result.now ≡ expected_message self }
     {
@@ -96,7 +97,7 @@ impl Part {
         }
     }
 
-    /// The words where the text ends in its place.
+    /// Returns the error message for a text that ends before the part.
     fn ended(self) -> &'static str
         ensures { result.now ≡ ended_message self }
     {
@@ -110,31 +111,31 @@ impl Part {
 }
 
 impl SyntaxErrorKind {
-    /// The words of the error.
-    pub fn words(self) -> &'static str
+    /// Returns the error message, for example `not a literal`.
+    pub fn message(self) -> &'static str
         ensures { result.now ≡ syntax_message self }
     {
         match self {
-            SyntaxErrorKind::NoLiteral => "not a literal",
-            SyntaxErrorKind::NoNumber => "minus without a number within 128 bits",
-            SyntaxErrorKind::Group => "opening delimiter, and a group is no literal",
+            SyntaxErrorKind::NotALiteral => "not a literal",
+            SyntaxErrorKind::NoNumber => "expected number up to 128 bits after `-`",
+            SyntaxErrorKind::Group => "expected literal, found group",
             SyntaxErrorKind::Expected(part) => part.expected(),
             SyntaxErrorKind::EndOfInput(part) => part.ended(),
             SyntaxErrorKind::Repeated => "repeated name",
-            SyntaxErrorKind::DocComment => "doc comment",
-            SyntaxErrorKind::UnclosedComment => "block comment isn't closed",
-            SyntaxErrorKind::UnclosedQuote => "quoted literal isn't closed",
-            SyntaxErrorKind::Lifetime => "lifetime",
-            SyntaxErrorKind::RawIdentifier => "raw identifier",
-            SyntaxErrorKind::StrayCharacter => "character that begins no token",
+            SyntaxErrorKind::DocComment => "unexpected doc comment",
+            SyntaxErrorKind::UnclosedComment => "unclosed block comment",
+            SyntaxErrorKind::UnclosedQuote => "unclosed quote",
+            SyntaxErrorKind::Lifetime => "unexpected lifetime: a string has double quotes",
+            SyntaxErrorKind::RawIdentifier => "unexpected raw identifier",
+            SyntaxErrorKind::StrayCharacter => "stray character",
             SyntaxErrorKind::UnmatchedClose => "unmatched closing delimiter",
-            SyntaxErrorKind::UnclosedGroup => "group isn't closed",
+            SyntaxErrorKind::UnclosedGroup => "unclosed group",
             SyntaxErrorKind::TooDeep => "groups nested too deep",
         }
     }
 }
 
-/// The error of the lexer, which is no allocation failure.
+/// Converts the kind of a lexer's error to a `SyntaxErrorKind`. `kind` isn't an allocation failure.
 pub fn lexer_error(kind: LexKind) -> SyntaxErrorKind
     requires { kind ≢ Memory }
     ensures { result ≡ of_lexer kind }
@@ -153,7 +154,7 @@ pub fn lexer_error(kind: LexKind) -> SyntaxErrorKind
     }
 }
 
-/// Why a list has no literal where this is left of its text.
+/// Converts the kind of an error in a list of literals. `rest` is the unread rest of the list's text.
 pub fn list_error(kind: RejectionKind, rest: &str) -> SyntaxErrorKind
     requires { kind ≢ Lex Memory }
     ensures { result ≡ of_list kind rest.now }
@@ -162,9 +163,9 @@ pub fn list_error(kind: RejectionKind, rest: &str) -> SyntaxErrorKind
         RejectionKind::Lex(kind) => lexer_error(kind),
         RejectionKind::Group => SyntaxErrorKind::Group,
         RejectionKind::UnmatchedClose => SyntaxErrorKind::UnmatchedClose,
-        RejectionKind::NoLiteral => match rest.as_bytes().first() {
+        RejectionKind::NotALiteral => match rest.as_bytes().first() {
             Some(b'-') => SyntaxErrorKind::NoNumber,
-            _ => SyntaxErrorKind::NoLiteral,
+            _ => SyntaxErrorKind::NotALiteral,
         },
     }
 }
@@ -175,7 +176,7 @@ impl fmt::Display for SyntaxErrorKind {
     ghost styled_output = { λ kind spec. Some (padded spec (syntax_message kind)) };
 
     fn fmt<W: fmt::Write>(&self, f: &mut fmt::Formatter<W>) -> fmt::Result {
-        f.pad(self.words())
+        f.pad(self.message())
     }
 }
 

@@ -1,13 +1,13 @@
--- The first of the texts that are looked for.
-use Rattle.rl_text.proofs.Common.{Bool, Bor, List, None, Option, Some, [], ap, arith, common_steps, cond, drop, false, get_or, length, nat_le, refl, subst, sym, true, ℕ, ◌+◌, ◌<◌, ◌∷◌, ◌≡◌, ◌≤◌}
+-- Lemmas about the first match of any of several sought texts.
+use Rattle.rl_syntax.proofs.Common.{Bool, Bor, List, None, Option, Some, [], ap, arith, common_steps, cond, drop, false, get_or, length, nat_le, refl, subst, sym, true, ℕ, ◌+◌, ◌<◌, ◌∷◌, ◌≡◌, ◌≤◌}
 use Rattle.std.proofs.lemmas.List.{drop_all}
 use Rattle.rl_files.specs.Globs.{borrowed_texts}
 use Rattle.std.specs.Prelude.{IfNone, IfSome}
-use Rattle.rl_text.specs.Texts.{byte_len}
+use Rattle.rl_syntax.specs.Texts.{byte_len}
 use Rattle.rl_output.specs.declared.choice.Matching.{Matching}
 use Rattle.rl_sources.specs.Held.{AreHeldIn, Holds, IsCutAt, IsFirstHeld, IsHeldAt, IsHeldIn, first_after, first_range}
 
--- This is the first range so far, and these texts are left.
+-- `first` is the first range of the texts that have been searched for, and `left` are the other texts.
 pub record Seeks (matching : Matching) (text : List ℕ) (soughts : List (List ℕ)) (first : Option (ℕ × ℕ))
     (left : List (List ℕ)) : Type 0 where
   pub goes : (ranges : List (Option (ℕ × ℕ))) → AreHeldIn matching text left ranges
@@ -24,7 +24,7 @@ seeks_start matching text soughts = record {
   within = tt;
 }
 
--- of two ranges that are so, the first is so
+-- If each of two ranges has a property, the first of them has it.
 either : (P : ℕ × ℕ → Type 0) (first held : Option (ℕ × ℕ)) → IfSome first P → IfSome held P
     → IfSome (first_range first held) P
 either P None held p q = q
@@ -35,7 +35,7 @@ either P (Some range) (Some later) p q = go (nat_le range.0 later.0)
     go true = p
     go false = q
 
--- where a text is held, or not
+-- The range of a match in the text, or `None` if there is no match.
 held_in : (matching : Matching) (text sought : List ℕ) (held : Option (ℕ × ℕ))
     → IfSome held (λ range. IsHeldAt matching sought text range.0 range.1)
     → IfNone held (Holds matching sought text → ⊥) → IsHeldIn matching text sought held
@@ -49,8 +49,8 @@ pub seeks_more : (matching : Matching) (text : List ℕ) (soughts : List (List �
     → IfNone held (Holds matching sought text → ⊥) → IfSome held (λ range. IsCutAt text range.0)
     → IfSome held (λ range. range.1 ≤ byte_len text) → Seeks matching text soughts first left
     → Seeks matching text soughts next others
-seeks_more matching text soughts first left sought others held next is next_is some none cut within s =
-    subst (λ (o : Option (ℕ × ℕ)). Seeks matching text soughts o others) (sym next_is) (record {
+seeks_more matching text soughts first left sought others held next is begins_with_kind some none cut within s =
+    subst (λ (o : Option (ℕ × ℕ)). Seeks matching text soughts o others) (sym begins_with_kind) (record {
       goes = λ ranges are. s.goes (held ∷ ranges)
           (subst (λ (z : List (List ℕ)). AreHeldIn matching text z (held ∷ ranges)) (sym is)
           (held_in matching text sought held some none, are));
@@ -64,11 +64,12 @@ pub seeks_end : (matching : Matching) (text : List ℕ) (soughts : List (List �
 seeks_end matching text soughts first left is s =
     s.goes [] (subst (λ (z : List (List ℕ)). AreHeldIn matching text z []) (sym is) tt)
 
--- the texts from one on
+-- The sought texts from the index `i` are the text at `i` and those after it.
 pub cut_at : (soughts : List (Bor (List ℕ))) (i : ℕ) (other : Bor (List ℕ)) → i < length soughts
     → borrowed_texts (drop i soughts) ≡ (get_or soughts i other).now ∷ borrowed_texts (drop (i + 1) soughts)
 cut_at soughts i other within =
-    let cut : drop i soughts ≡ get_or soughts i other ∷ drop (i + 1) soughts = grind (arith, common_steps) in ap borrowed_texts cut
+    let cut : drop i soughts ≡ get_or soughts i other ∷ drop (i + 1) soughts = grind (arith, common_steps) in ap
+    borrowed_texts cut
 
 pub none_left : (soughts : List (Bor (List ℕ))) (i : ℕ) → length soughts ≤ i → borrowed_texts (drop i soughts) ≡ []
 none_left soughts i end = ap borrowed_texts (drop_all i soughts end)

@@ -1,15 +1,15 @@
--- What a literal stands for, in bytes, and what is looked for in it.
-use Rattle.rl_text.proofs.Common.{◌≡◌, ◌⊎◌, ℕ, false, true, IsUtf8, List, [], ◌∷◌, ap, append-nil, both_ways, chars, encode_utf8, encodes-chars, inl, inr, refl, subst, sym, ◌∙◌}
-use Rattle.rl_reading.proofs.Names.{BoolKind, Byte, ByteStr, Bytes, CStr, Char, Characters, Float, HasContents, Int, Kind, Reads, Str, is_string, quoted_contents}
-use Rattle.rl_forms.proofs.OneReading.{one_reading}
-use Rattle.rl_reading.proofs.FoundContents.{found_kind, unit_of}
-use Rattle.rl_reading.specs.Decoded.{in_bytes}
-use Rattle.rl_reading.specs.declared.found.Found.{Found}
-use Rattle.rl_reading.specs.Founds.{IsFound, is_quoted}
+-- Lemmas about the value of a literal in bytes, and about matches in it.
+use Rattle.rl_syntax.proofs.Common.{◌≡◌, ◌⊎◌, ℕ, false, true, IsUtf8, List, [], ◌∷◌, ap, append-nil, both_ways, chars, encode_utf8, encodes-chars, inl, inr, refl, subst, sym, ◌∙◌}
+use Rattle.rl_lenient.proofs.Names.{BoolKind, Byte, ByteStr, Bytes, CStr, Char, Characters, Float, HasContents, Int, Kind, Reads, Str, is_string, quoted_contents}
+use Rattle.rl_syntax.proofs.OneReading.{one_reading}
+use Rattle.rl_lenient.proofs.FoundContents.{found_kind, unit_of}
+use Rattle.rl_lenient.specs.Decoded.{in_bytes}
+use Rattle.rl_lenient.specs.declared.found.Found.{Found}
+use Rattle.rl_lenient.specs.Founds.{IsFound, is_quoted}
 use Rattle.rl_output.specs.declared.choice.Matching.{Matching}
 use Rattle.rl_sources.specs.Held.{AreContentsOf, Holds, MatchesAt}
 
--- ---- one text has one contents
+-- ---- one text has one value
 
 one_value : (kind : Kind) (v w : List ℕ) → quoted_contents kind v ≡ quoted_contents kind w → v ≡ w
 one_value Str v w e = cc
@@ -35,15 +35,16 @@ same_contents text kind other bytes others a b =
     b.contents.0 a.contents.1 b.contents.1 in
     a.bytes_are ∙ same_value kind other a.value b.value one.0 one.1 ∙ sym b.bytes_are
 
--- ---- where nothing is held
+-- ---- without a match
 
 pub holds_none : (matching : Matching) (sought text : List ℕ) (kind : Kind) (bytes : List ℕ)
     → AreContentsOf text kind bytes → ((at : ℕ) → MatchesAt matching sought bytes at → ⊥)
     → Holds matching sought text → ⊥
 holds_none matching sought text kind bytes are none (other, others, at, is, stands) =
-    none at (subst (λ (z : List ℕ). MatchesAt matching sought z at) (same_contents text other kind others bytes is are) stands)
+    none at (subst (λ (z : List ℕ). MatchesAt matching sought z at) (same_contents text other kind others bytes is are)
+    stands)
 
--- what has such contents has quotes
+-- A text with a quoted value has quotes.
 has_quotes : (kind : Kind) (text v x : List ℕ) → Reads text kind (quoted_contents kind v) x → is_quoted kind ≡ true
 has_quotes Str text v x r = refl
 has_quotes ByteStr text v x r = refl
@@ -54,14 +55,15 @@ has_quotes Int text v x r = let e = r.contents_is in absurd (cc)
 has_quotes Float text v x r = let e = r.contents_is in absurd (cc)
 has_quotes BoolKind text v x r = let e = r.contents_is in absurd (cc)
 
-pub holds_no_quotes : (matching : Matching) (sought text : List ℕ) (found : Found) → IsFound text found → is_quoted found.kind ≡ false
+pub holds_no_quotes : (matching : Matching) (sought text : List ℕ) (found : Found) → IsFound text found
+    → is_quoted found.kind ≡ false
     → Holds matching sought (chars text) → ⊥
 holds_no_quotes matching sought text found is other (kind, bytes, at, are, stands) =
     let same = found_kind kind text found (_, are.contents.0, are.contents.1) is in
     both_ways (is_quoted found.kind) other (ap is_quoted same
     ∙ has_quotes kind (chars text) are.value are.contents.0 are.contents.1)
 
--- ---- what is found
+-- ---- the value of a found literal
 
 pub str_bytes : (text bytes : List ℕ) → IsUtf8 bytes → HasContents Str text (Characters (chars bytes))
     → AreContentsOf text Str bytes

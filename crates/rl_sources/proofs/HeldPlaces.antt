@@ -1,18 +1,18 @@
--- What is looked for begins with a character, and stands where one begins in the literal's text.
-use Rattle.rl_text.proofs.Common.{◌≡◌, ◌⊎◌, inl, inr, ℕ, zero, suc, ◌+◌, ◌-◌, ◌<◌, ◌≤◌, ◌==◌, Bool, true, false, cond, ltb, List, and_parts, eqb-true, [], ◌∷◌, ◌++◌, length, drop, get_or, refl, replicate, sym, ap, subst, ◌∙◌, arith, append-nil, append_assoc, encode_utf8, length-encode, IsUtf8, IsCharBoundary-start, map, nat_tests, ⊤}
+-- A sought text begins with a character, and its match begins with one in the literal's text.
+use Rattle.rl_syntax.proofs.Common.{◌≡◌, ◌⊎◌, inl, inr, ℕ, zero, suc, ◌+◌, ◌-◌, ◌<◌, ◌≤◌, ◌==◌, Bool, true, false, cond, ltb, List, and_parts, eqb-true, [], ◌∷◌, ◌++◌, length, drop, get_or, refl, replicate, sym, ap, subst, ◌∙◌, arith, append-nil, append_assoc, encode_utf8, length-encode, IsUtf8, IsCharBoundary-start, map, nat_tests, ⊤}
 use Rattle.std.proofs.lemmas.Bool.{cases_lt, false≢true}
 use Rattle.std.proofs.lemmas.List.{get_or_append_left}
 use Rattle.std.proofs.lemmas.Str.{inside_one, len_utf8_ascii}
 use Rattle.std.specs.List.{starts_with}
 use Rattle.rl_lexer.proofs.CutLemmas.{byte_len-append}
-use Rattle.rl_text.specs.Texts.{byte_len}
-use Rattle.rl_reading.proofs.Names.{BoolKind, Byte, ByteStr, CStr, Char, Continuation, CrLf, Float, Hex, Int, Kind, Named, Plain, QuotedUnit, Str, Unicode, opener, raw_opener, texts, unit_text, unit_value, values, Cooked, Raw, Single, HasContents, ReadsQuoted, quoted_contents}
-use Rattle.rl_reading.proofs.ContentLemmas.{held_in_bytes, in_bytes_append, nothing_in_bytes}
-use Rattle.rl_reading.proofs.FrontLenLemmas.{byte_len_ascii, hashes_long}
-use Rattle.rl_reading.proofs.SegmentLemmas.{run_bytes, run_texts, tested}
-use Rattle.rl_reading.proofs.SegmentStarts.{quoted_kind, quoted_reads_as}
-use Rattle.rl_reading.specs.Decoded.{in_bytes}
-use Rattle.rl_reading.specs.Segments.{AreUnitsOf, IsBytePlace, begins_in, is_itself, unit_bytes, unit_place, units_bytes}
+use Rattle.rl_syntax.specs.Texts.{byte_len}
+use Rattle.rl_lenient.proofs.Names.{BoolKind, Byte, ByteStr, CStr, Char, Continuation, CrLf, Float, Hex, Int, Kind, Named, Plain, QuotedUnit, Str, Unicode, opener, raw_opener, texts, unit_text, unit_value, values, Cooked, Raw, Single, HasContents, ReadsQuoted, quoted_contents}
+use Rattle.rl_lenient.proofs.ContentLemmas.{held_in_bytes, in_bytes_append, nothing_in_bytes}
+use Rattle.rl_lenient.proofs.FrontLenLemmas.{byte_len_ascii, hashes_long}
+use Rattle.rl_lenient.proofs.SegmentLemmas.{run_bytes, run_texts, tested}
+use Rattle.rl_lenient.proofs.SegmentStarts.{quoted_kind, quoted_reads_as}
+use Rattle.rl_lenient.specs.Decoded.{in_bytes}
+use Rattle.rl_lenient.specs.Segments.{AreUnitsOf, IsBytePlace, begins_in, is_itself, unit_bytes, unit_place, units_bytes}
 use Rattle.std.specs.Char.{to_ascii_lowercase}
 use Rattle.rl_output.specs.declared.choice.Matching.{Matching}
 use Rattle.rl_sources.specs.Held.{AreContentsOf, FirstMatchAt, IsCutAt, MatchesFirst, compared}
@@ -20,7 +20,7 @@ use Rattle.rl_sources.proofs.HeldLemmas.{same_contents}
 
 -- ---- the bytes of a character
 
--- such a byte isn't one after a character's first
+-- The byte isn't a continuation byte of UTF-8: it is ASCII, or the first byte of a character.
 abbrev pub IsLead : ℕ → Type 0
 IsLead b = 128 ≤ b → 192 ≤ b
 
@@ -49,7 +49,7 @@ later_below (b ∷ bs) i is l = next_below bs i is (omega (arith, l))
 at_least : (b : ℕ) → (b < 128 → ⊥) → 128 ≤ b
 at_least b h = search arith
 
--- only the first can begin one
+-- In the bytes of a character, only the first one isn't a continuation byte.
 only_first : (c i : ℕ) → i < length (encode_utf8 c) → IsLead (get_or (encode_utf8 c) i 0) → i ≡ 0
 only_first c zero l lead = refl
 only_first c (suc i) l lead =
@@ -60,7 +60,7 @@ only_first c (suc i) l lead =
     (omega (arith, e, low, l, length-encode c, len_utf8_ascii c (omega (arith, e, low))))) in
     absurd (omega (arith, small, lead high))
 
--- ---- places in units
+-- ---- offsets in characters and escapes
 
 cut_later : (before text : List ℕ) (at : ℕ) → IsCutAt text at → IsCutAt (before ++ text) (byte_len before + at)
 cut_later before text at cut = record {
@@ -81,7 +81,7 @@ cut_longer text after at cut = record {
 cut_first : (text : List ℕ) → IsCutAt text 0
 cut_first text = record { front = []; back = text; text_is = refl; at_is = refl }
 
--- the first byte, or one that can begin a character
+-- The offset is 0, or its byte isn't a continuation byte of UTF-8.
 abbrev Begins : List ℕ → ℕ → Type 0
 Begins bytes at = (at ≡ 0) ⊎ IsLead (get_or bytes at 0)
 
@@ -126,7 +126,7 @@ in_units kind (u ∷ us) at b =
     (λ large. cut_later (unit_text u) (texts us) (unit_place begins_in kind us (at - n))
     (in_units kind us (at - n) (lead_past (unit_bytes kind u) (units_bytes kind us) at large b)))
 
--- ---- places in the whole literal
+-- ---- offsets in the whole literal
 
 opener_long : (kind : Kind) → byte_len (opener kind) ≡ length (opener kind)
 unfolding lib.Utf8.encode
@@ -180,7 +180,7 @@ whole_cut kind text units lo at (inr (inr (v, x, s, are, from))) cut =
     subst (IsCutAt text) (omega (arith, from, opener_long kind)) (subst
     (λ (t : List ℕ). IsCutAt t (byte_len (opener kind) + at)) (sym s.text_is) whole)
 
--- ---- the contents of units
+-- ---- the value of characters and escapes
 
 values_bytes : (kind : Kind) (us : List QuotedUnit) → in_bytes kind (values kind us) ≡ units_bytes kind us
 values_bytes kind [] = nothing_in_bytes kind
@@ -216,9 +216,9 @@ units_contents kind text units lo (inr (inr (v, x, s, are, at))) = record {
   bytes_are = ap (units_bytes kind) are ∙ append-nil (unit_bytes kind s.unit) ∙ ap (in_bytes kind) (sym s.value_is);
 }
 
--- ---- what is looked for
+-- ---- the sought text
 
--- the first byte of what stands there
+-- If the bytes match at an offset, the byte at that offset is the first byte of the sought text.
 first_is : (bytes : List ℕ) (at b : ℕ) (bs : List ℕ) → starts_with ◌==◌ (drop at bytes) (b ∷ bs) ≡ true
     → get_or bytes at 0 ≡ b
 first_is [] at b bs h = absurd (false≢true (nothing at ∙ h))
@@ -229,7 +229,7 @@ first_is [] at b bs h = absurd (false≢true (nothing at ∙ h))
 first_is (c ∷ cs) zero b bs h = sym (eqb-true b c (and_parts (b == c) _ h).0)
 first_is (c ∷ cs) (suc at) b bs h = first_is cs at b bs h
 
--- what is looked for begins so
+-- The list is empty, or its first byte isn't a continuation byte of UTF-8.
 abbrev BeginsLead : List ℕ → Type 0
 BeginsLead [] = ⊤
 BeginsLead (b ∷ bs) = IsLead b
@@ -245,7 +245,7 @@ begins_exactly whole [] bytes (suc at) lead first =
     absurd (first.1 0 (omega arith) ((omega arith, refl), λ words some. absurd (some refl)))
 begins_exactly whole (b ∷ bs) bytes at lead first = inr (subst IsLead (sym (first_is bytes at b bs first.0.0.1)) lead)
 
--- small letters for large ones change no byte past ASCII
+-- Conversion to lower case keeps an ASCII byte ASCII. `lower_high` says that it doesn't change other bytes.
 lower_low : (b : ℕ) → b < 128 → to_ascii_lowercase b < 128
 lower_low b h = grind (arith, nat_tests)
 
@@ -292,7 +292,7 @@ begins_first : (matching : Matching) (sought bytes : List ℕ) (at : ℕ) → Is
 begins_first matching sought bytes at utf8 first =
     begins_compared matching.ignores_case matching.whole_words sought bytes at (begins_lead sought utf8) first
 
--- the literal's text is cut where what gives it begins
+-- The literal's text can be split where the text that encodes the match begins.
 pub held_cut : (matching : Matching) (sought text : List ℕ) (kind : Kind) (bytes : List ℕ) (at place : ℕ)
     → IsUtf8 sought → AreContentsOf text kind bytes → FirstMatchAt matching sought bytes at
     → IsBytePlace kind text at place → IsCutAt text place

@@ -1,9 +1,9 @@
--- The lines of what turns or hides text.
-use Rattle.rl_text.proofs.Common.{Bool, List, [], ap, append-nil, append_assoc, arith, chars, chars-nil, encode_utf8, encode_utf8_all, false, inl, inr, length, length-append, nat_tests, not, refl, subst, sym, true, ℕ, ◌&&◌, ◌++◌, ◌+◌, ◌∙◌, ◌∷◌, ◌≡◌, ◌≤◌}
-use Rattle.rl_text.specs.Texts.{byte_len}
+-- Lemmas about the lines for invisible and bidirectional characters.
+use Rattle.rl_syntax.proofs.Common.{Bool, List, [], ap, append-nil, append_assoc, arith, chars, chars-nil, encode_utf8, encode_utf8_all, false, inl, inr, length, length-append, nat_tests, not, refl, subst, sym, true, ℕ, ◌&&◌, ◌++◌, ◌+◌, ◌∙◌, ◌∷◌, ◌≡◌, ◌≤◌}
+use Rattle.rl_syntax.specs.Texts.{byte_len}
 use Rattle.rl_lexer.specs.Cursors.{IsCursorState}
 use Rattle.rl_lexer.proofs.ErrorKinds.{char_len}
-use Rattle.rl_lines.specs.Lines.{Appends}
+use Rattle.rl_program.specs.Lines.{Appends}
 use Rattle.rl_sources.specs.declared.options.Options.{Options}
 use Rattle.rl_output.specs.declared.place.Place.{Place}
 use Rattle.rl_sources.specs.Hidden.{AreHiddenLines, IsHiddenLine, IsShownCharacter, hidden_end, hides, is_layout}
@@ -12,14 +12,15 @@ use Rattle.rl_sources.specs.Places.{IsContextIn, IsPlaceIn}
 use Rattle.rl_output.specs.Fronts.{line_front}
 use Rattle.rl_output.proofs.Pieces.{three_pieces}
 
--- ASCII that prints hides nothing
+-- Printable ASCII characters are neither invisible nor bidirectional.
 plain_shown : (c : ℕ) → 32 ≤ c → c ≤ 126 → needs_escape c ≡ false
 plain_shown c low high = grind (arith, nat_tests)
 
 pub plain_hides : (c : ℕ) (after : List ℕ) → 32 ≤ c → c ≤ 126 → hides c after ≡ false
 plain_hides c after low high = ap (λ (t : Bool). t && not (is_layout c after)) (plain_shown c low high)
 
--- These are the lines of what was passed: with those of the rest after them, they are the lines of all.
+-- `lines` are the lines for the characters before `rest`. With the lines for `rest` after them, they are the lines for the whole
+-- text.
 pub record PassesHidden (options : Options) (whole all rest lines : List ℕ) : Type 0 where
   pub goes_on : (more : List ℕ) → AreHiddenLines options whole rest more
       → AreHiddenLines options whole all (lines ++ more)
@@ -33,7 +34,7 @@ passes_none options whole all rest lines same nil = record {
       (subst (λ (r : List ℕ). AreHiddenLines options whole r more) same is);
 }
 
--- a character more
+-- The loop's invariant stays true after one more character.
 pub passes_more : (options : Options) (whole all rest after lines longer : List ℕ) (c : ℕ)
     → PassesHidden options whole all rest lines → rest ≡ c ∷ after
     → Appends (IsShownCharacter options whole c after) lines longer → PassesHidden options whole all after longer
@@ -46,7 +47,7 @@ passes_more options whole all rest after lines longer c passes split (line, is_l
       (subst (λ (r : List ℕ). AreHiddenLines options whole r (line ++ more)) (sym split) here));
 }
 
--- what is shown of one that hides, and of another
+-- The output for an invisible or bidirectional character is its line, and another character has no output.
 pub shown_hidden : (options : Options) (whole after old new : List ℕ) (c : ℕ) → hides c after ≡ true
     → Appends (IsHiddenLine options whole c after) old new → Appends (IsShownCharacter options whole c after) old new
 shown_hidden options whole after old new c hider (line, is, e) = (line, inl (hider, is), e)
@@ -55,7 +56,7 @@ pub shown_plain : (options : Options) (whole after old : List ℕ) (c : ℕ) →
     → Appends (IsShownCharacter options whole c after) old old
 shown_plain options whole after old c plain = ([], inr (plain, refl), sym (append-nil old))
 
--- the line of a character
+-- The line for an invisible or bidirectional character, from its parts.
 pub hidden_line : (options : Options) (whole rest after : List ℕ) (c lo hi : ℕ) (place : Place)
     (old mid ended new : List ℕ) → IsCursorState whole rest → IsCursorState whole after → chars rest ≡ c ∷ chars after
     → lo + length rest ≡ length whole → hi + length after ≡ length whole
@@ -94,7 +95,7 @@ hidden_line options whole rest after c lo hi place old mid ended new at_rest at_
           front end new_is,
     )
 
--- nothing is left
+-- At the end of the text, the lines are those for all its characters.
 pub passes_all : (options : Options) (whole all rest lines : List ℕ) → PassesHidden options whole all rest lines
     → rest ≡ [] → AreHiddenLines options whole all lines
 passes_all options whole all rest lines passes nil =

@@ -1,5 +1,5 @@
--- Objects of JSON, piece by piece.
-use Rattle.rl_text.proofs.Common.{◌≡◌, ◌==◌, ◌⊎◌, ◌<◌, ◌≤◌, ℕ, suc, Bool, true, false, List, [], ◌∷◌, ◌++◌, refl, sym, ap, subst, ◌∙◌, arith, inl, inr, length, lit<, nat_tests, rules, append_assoc, append-nil, IsAscii, IsUtf8, chars, chars-nil, chars_from_encodes, codes, encode_utf8, encodes-chars}
+-- Lemmas about JSON objects that are written part by part.
+use Rattle.rl_syntax.proofs.Common.{◌≡◌, ◌==◌, ◌⊎◌, ◌<◌, ◌≤◌, ℕ, suc, Bool, true, false, List, [], ◌∷◌, ◌++◌, refl, sym, ap, subst, ◌∙◌, arith, inl, inr, length, lit<, nat_tests, rules, append_assoc, append-nil, IsAscii, IsUtf8, chars, chars-nil, chars_from_encodes, codes, encode_utf8, encodes-chars}
 use Rattle.std.specs.Prelude.{cond, encode_utf8_all, nat_lt}
 use Rattle.std.proofs.lemmas.Bool.{false≢true}
 use Rattle.std.specs.Fmt.{decimal}
@@ -10,14 +10,14 @@ use Rattle.rl_lexer.specs.LexErrors.{lex_message}
 use Rattle.rl_lexer.specs.declared.lex_error.LexKind.{LexKind}
 use Rattle.rl_sources.specs.Findings.{reason_id, reason_message}
 use Rattle.rl_sources.specs.declared.finding.Reason.{Reason}
-use Rattle.rl_reading.specs.declared.found.Found.{Found}
-use Rattle.rl_reading.specs.Founds.{IsFound}
-use Rattle.rl_reading.proofs.FoundContents.{unit_of}
-use Rattle.rl_reading.proofs.Names.{BoolKind, Byte, Char, ByteStr, Bytes, CStr, Characters, Contents, Float, HasContents, HasNoReading, HasSuffix, Int, Kind, Reads, ReadsAs, Truth, truth_text}
-use Rattle.rl_forms.proofs.OneReading.{one_reading}
-use Rattle.rl_reading.specs.NumberShapes.{AreDigits}
-use Rattle.rl_lines.proofs.PrintLemmas.{truth_chars}
-use Rattle.rl_lines.specs.Lines.{Appends, kind_label}
+use Rattle.rl_lenient.specs.declared.found.Found.{Found}
+use Rattle.rl_lenient.specs.Founds.{IsFound}
+use Rattle.rl_lenient.proofs.FoundContents.{unit_of}
+use Rattle.rl_lenient.proofs.Names.{BoolKind, Byte, Char, ByteStr, Bytes, CStr, Characters, Contents, Float, HasContents, HasNoReading, HasSuffix, Int, Kind, Reads, ReadsAs, Truth, truth_text}
+use Rattle.rl_syntax.proofs.OneReading.{one_reading}
+use Rattle.rl_lenient.specs.NumberShapes.{AreDigits}
+use Rattle.rl_program.proofs.PrintLemmas.{truth_chars}
+use Rattle.rl_program.specs.Lines.{Appends, kind_label}
 use Rattle.rl_sources.specs.Held.{AreContentsOf}
 use Rattle.rl_sources.specs.Json.{more_numbers, number_array, json_value, literal_members, flawed_text_member, piece_member, IsJsonLiteral, IsJsonValueOf}
 use Rattle.rl_output.specs.Members.{string_member}
@@ -34,7 +34,7 @@ numbers_ascii (n ∷ ns) =
     IsAscii-append (44 ∷ decimal n) (more_numbers ns) (IsAscii-cons 44 (decimal n) (lit< tt) (decimal_ascii n))
     (numbers_ascii ns)
 
--- one number more
+-- The numbers with one more number, after a comma.
 pub number_more : (first old new done : List ℕ) (n : ℕ) → old ≡ first ++ more_numbers done
     → new ≡ old ++ (44 ∷ decimal n) → new ≡ first ++ more_numbers (done ++ n ∷ [])
 number_more first old new done n before now =
@@ -47,7 +47,7 @@ pub numbers_pushed : (old new ns : List ℕ) → IsUtf8 old → new ≡ old ++ m
     → chars new ≡ chars old ++ more_numbers ns
 numbers_pushed old new ns u e = ascii_pushed old new (more_numbers ns) u (numbers_ascii ns) e
 
--- an array
+-- An array, from its first number, the numbers after it, and its end.
 pub array_pushed : (old a b new ns others : List ℕ) (n : ℕ) → IsUtf8 old → ns ≡ n ∷ others
     → a ≡ old ++ (codes "[" ++ decimal n) → chars b ≡ chars a ++ more_numbers others
     → chars new ≡ chars b ++ codes "]" → chars new ≡ chars old ++ number_array ns
@@ -60,12 +60,12 @@ array_pushed old a b new ns others n u split first rest last =
 
 -- ---- values
 
--- the value of contents that the text has
+-- The written JSON value is that of the text's decoded value.
 pub value_is : (kind : Kind) (text old new : List ℕ) (contents : Contents) → HasContents kind text contents
     → new ≡ old ++ json_value contents → Appends (IsJsonValueOf kind text) old new
 value_is kind text old new contents has e = (json_value contents, (contents, has, refl), e)
 
--- bytes
+-- The written array is the JSON value of a byte string or a C string.
 pub bytes_value : (kind : Kind) (text bytes old new : List ℕ) → (kind ≡ ByteStr) ⊎ (kind ≡ CStr)
     → AreContentsOf text kind bytes → new ≡ old ++ number_array bytes → Appends (IsJsonValueOf kind text) old new
 bytes_value ByteStr text bytes old new is are e =
@@ -80,7 +80,7 @@ pub byte_value : (text bytes old new : List ℕ) → AreContentsOf text Byte byt
 byte_value text bytes old new are e =
     value_is Byte text old new (Bytes are.value) are.contents (e ∙ ap (λ z. old ++ number_array z) are.bytes_are)
 
--- digits
+-- The written digits are the JSON value of a number.
 pub digits_value : (kind : Kind) (text digits old new : List ℕ) → ReadsAs kind text → AreDigits kind text digits
     → new ≡ old ++ json_string digits → Appends (IsJsonValueOf kind text) old new
 digits_value Int text digits old new (v, x, r) are e = value_is Int text old new v (x, r)
@@ -89,7 +89,7 @@ digits_value Float text digits old new (v, x, r) are e = value_is Float text old
     (e ∙ ap (λ z. old ++ json_string z) (are r.numeral x r.reads) ∙ ap (λ z. old ++ json_value z) (sym r.contents_is))
 digits_value kind text digits old new reads are e = absurd are
 
--- a character
+-- The UTF-8 bytes of one character decode to this character.
 pub one_char : (bytes : List ℕ) (c : ℕ) → IsUtf8 bytes → bytes ≡ encode_utf8 c → chars bytes ≡ c ∷ []
 one_char bytes c u e = sym (chars_from_encodes (c ∷ []) bytes u (append-nil (encode_utf8 c) ∙ sym e))
 
@@ -100,7 +100,7 @@ character_value text old new value found c same is unit one e =
     value_is Char (chars text) old new (Characters (found.unit ∷ [])) (unit_of Char text found same refl is).reads
     (e ∙ ap (λ z. old ++ json_string z) (one ∙ ap (λ (n : ℕ). n ∷ []) unit))
 
--- a truth value
+-- The written word is the JSON value of a `bool`.
 pub truth_value : (text old new : List ℕ) (found : Found) → found.kind ≡ BoolKind → IsFound text found
     → new ≡ old ++ truth_text found.truth → Appends (IsJsonValueOf found.kind (chars text)) old new
 truth_value text old new found same is e =
@@ -116,7 +116,7 @@ truth_value text old new found same is e =
     value_is found.kind (chars text) old new (Truth found.truth)
     (subst (λ (k : Kind). HasContents k (chars text) (Truth found.truth)) (sym same) reads) e
 
--- ---- what is wrong
+-- ---- errors
 
 pub reason_words_are : (why : Reason) (new : List ℕ) → new ≡ reason_message why → chars new ≡ reason_message why
 reason_words_are why new e = ap chars e ∙ ascii_chars (reason_message why) (reason_low why)
@@ -130,7 +130,7 @@ error_id_is kind new e = ap chars e ∙ ascii_chars (error_id kind) (error_id_lo
 pub error_words_are : (kind : LexKind) (new : List ℕ) → new ≡ lex_message kind → chars new ≡ lex_message kind
 error_words_are kind new e = ap chars e ∙ ascii_chars (lex_message kind) (lex_low kind)
 
--- ---- the members of a literal
+-- ---- the members for a literal
 
 pub literal_is : (kind : Kind) (text old a b d f new suffix : List ℕ) → HasSuffix kind text suffix
     → a ≡ old ++ string_member (codes "kind") (kind_label kind) → b ≡ a ++ string_member (codes "text") text
@@ -156,7 +156,7 @@ verbatim_is text old a b d new none e g h j = (
       (codes ",\"value\":null") (string_member (codes "suffix") [] ++ codes "}\n") e g h j,
 )
 
--- the member of a piece, where there is none, and where there is one
+-- The member for a piece is empty without a piece. `some_piece` is the lemma for a piece.
 pub no_piece : (piece old : List ℕ) → (length piece == 0) ≡ true → old ≡ old ++ piece_member (chars piece)
 no_piece [] old none = sym (append-nil old) ∙ ap (λ (z : List ℕ). old ++ piece_member z) (sym chars-nil)
 no_piece (b ∷ bs) old none = absurd (false≢true (sym (not_empty (length bs)) ∙ none))
@@ -175,9 +175,9 @@ some_piece piece old new some utf8 e = go (chars piece) refl
     go (c ∷ cs) is = e ∙ ap (λ (z : List ℕ). old ++ string_member (codes "piece") z) is
         ∙ ap (λ (z : List ℕ). old ++ piece_member z) (sym is)
 
--- ---- the text of a literal in which something is wrong
+-- ---- the text of an invalid literal
 
--- how long it is, its bytes say
+-- The member for the text of an invalid literal is `null` if the text has more than 1,024 bytes.
 member_by_bytes : (text : List ℕ) (is : Bool) → IsUtf8 text → nat_lt 1024 (length text) ≡ is
     → flawed_text_member (chars text) ≡ cond is (codes ",\"text\":null") (string_member (codes "text") (chars text))
 member_by_bytes text is utf8 e =

@@ -4,7 +4,6 @@ pub mod HeldLemmas
 pub mod HeldPlaces
 pub mod SearchLemmas
 pub mod ReasonLemmas
-pub mod InFileLemmas
 pub mod FlawLineLemmas
 pub mod PrefixLemmas
 pub mod HiddenLemmas

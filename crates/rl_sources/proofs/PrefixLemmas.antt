@@ -1,13 +1,13 @@
--- What stands right before a literal and is reserved with it.
-use Rattle.rl_reading.proofs.Names.{byte_len}
-use Rattle.rl_text.proofs.Common.{Bool, IsAscii, IsCharBoundary, IsUtf8, IsUtf8-take, List, None, Option, Some, [], ap, append_assoc, arith, chars, chars-IsAscii, chars-append, chars_from_encodes, cond, drop, encodes-append, encodes-chars, false, length, length-append, nat_tests, refl, subst, sym, take, take-append_seam, true, ℕ, ◌++◌, ◌+◌, ◌-◌, ◌<◌, ◌∙◌, ◌∷◌, ◌≡◌, ◌≤◌}
+-- Lemmas about the reserved prefix right before a literal.
+use Rattle.rl_lenient.proofs.Names.{byte_len}
+use Rattle.rl_syntax.proofs.Common.{Bool, IsAscii, IsCharBoundary, IsUtf8, IsUtf8-take, List, None, Option, Some, [], ap, append_assoc, arith, chars, chars-IsAscii, chars-append, chars_from_encodes, cond, drop, encodes-append, encodes-chars, false, length, length-append, nat_tests, refl, subst, sym, take, take-append_seam, true, ℕ, ◌++◌, ◌+◌, ◌-◌, ◌<◌, ◌∙◌, ◌∷◌, ◌≡◌, ◌≤◌}
 use Rattle.std.specs.Prelude.{encode_utf8_all, reverse}
 use Rattle.std.proofs.Math.Seq.{drop-append_seam}
 use Rattle.std.proofs.lemmas.List.{append-nil, reverse-append, reverse-reverse}
 use Rattle.std.proofs.lemmas.Str.{IsAscii-append, IsCharBoundary-at_seam, IsUtf8-append, IsUtf8-from_ascii}
 use Rattle.std.proofs.lemmas.Str.Ascii.{IsAscii-cons, IsAscii-nil}
 use Rattle.rl_lexer.specs.declared.sources.SourceToken.{SourceToken}
-use Rattle.rl_text.specs.Classes.{is_hash}
+use Rattle.rl_syntax.specs.Classes.{is_hash}
 use Rattle.rl_output.specs.Spots.{bytes_before}
 use Rattle.rl_output.proofs.Pieces.{back_utf8}
 use Rattle.rl_types.specs.Before.{reserving}
@@ -24,7 +24,7 @@ hash_low b h = grind (arith, nat_tests)
 word_low : (b : ℕ) → is_of_prefix b ≡ true → b < 128
 word_low b h = grind (arith, nat_tests)
 
--- The bytes end with some of ASCII, after what this is.
+-- The bytes are `front` and ASCII bytes after it.
 record EndsLow (bytes front : List ℕ) : Type 0 where
   back : List ℕ
   bytes_are : bytes ≡ front ++ back
@@ -67,7 +67,7 @@ prefix_cut (Some E2021) before =
       low = IsAscii-append word.back hashes.back word.low hashes.low;
     }
 
--- The prefix ends what stands before the literal.
+-- The reserved prefix is at the end of the text before the literal.
 record IsPrefixAt (before literal : List ℕ) : Type 0 where
   front : List ℕ
   before_is : before ≡ front ++ reserved_prefix before literal
@@ -90,7 +90,7 @@ prefix_at before literal =
 
 -- ---- the literal with its prefix
 
--- The source is cut before the prefix and after the literal.
+-- The source can be split before the reserved prefix and after the literal.
 pub record IsCutAround (token : SourceToken) (places rest : List ℕ) (start : ℕ) : Type 0 where
   pub lo_is : start + length (reserved_prefix (bytes_before (chars places) token.lo) token.text.now) ≡ token.lo
   pub boundary : IsCharBoundary places start

@@ -1,27 +1,27 @@
--- The place of a flaw in the source, and its line.
-use Rattle.rl_reading.proofs.Names.{IsTail, byte_len}
-use Rattle.rl_text.proofs.Common.{IsAscii, IsCharBoundary, IsUtf8, List, [], ap, append_assoc, arith, chars, chars-IsAscii, chars-nil, codes, drop, encode_utf8, encodes-append, encodes-chars, is_ascii, length, length-append, list_all, refl, subst, sym, suc, false, true, ℕ, ◌==◌, ◌++◌, ◌+◌, ◌∙◌, ◌∷◌, ◌≡◌, ◌≤◌, inl, inr, take, ◌-◌}
+-- Lemmas about the byte range of a flaw in the source, and about its line.
+use Rattle.rl_lenient.proofs.Names.{IsTail, byte_len}
+use Rattle.rl_syntax.proofs.Common.{Bool, IsAscii, IsCharBoundary, IsUtf8, List, [], ap, append_assoc, arith, chars, chars-IsAscii, chars-nil, codes, drop, encode_utf8, encodes-append, encodes-chars, is_ascii, length, length-append, list_all, refl, subst, sym, suc, false, true, ℕ, ◌==◌, ◌++◌, ◌+◌, ◌∙◌, ◌∷◌, ◌≡◌, ◌≤◌, inl, inr, take, ◌-◌}
 use Rattle.std.specs.Prelude.{encode_utf8_all}
 use Rattle.std.proofs.Math.Seq.{drop-append_seam}
 use Rattle.std.proofs.lemmas.Str.{IsCharBoundary-from_drop, IsAscii-append}
 use Rattle.rl_lexer.specs.Cursors.{IsCursorState}
 use Rattle.rl_lexer.specs.declared.sources.SourceToken.{SourceToken}
-use Rattle.rl_text.proofs.TailLemmas.{tail_step}
+use Rattle.rl_syntax.proofs.TailLemmas.{tail_step}
 use Rattle.rl_lexer.proofs.CutLemmas.{byte_len-append}
 use Rattle.rl_lexer.specs.LexErrors.{lex_message}
 use Rattle.rl_lexer.specs.declared.lex_error.LexKind.{LexKind}
 use Rattle.rl_lexer.specs.declared.lex_error.LexKind.TheVariants.{DocComment, UnclosedComment, UnclosedQuote, Lifetime, RawIdentifier, StrayCharacter, UnmatchedClose, UnclosedGroup, TooDeep, Memory}
-use Rattle.rl_reasons.specs.declared.flaws.Flaw.{Flaw}
-use Rattle.rl_reasons.specs.declared.flaws.FlawKind.{FlawKind}
-use Rattle.rl_reasons.specs.declared.flaws.FlawKind.TheVariants.{Empty, NoLiteral, Unfinished, NoQuote, NoNumber, Unclosed, UnknownEscape, NoUnicode, NoHexDigit, NoBrace, EmptyBraces, TooManyDigits, PastAscii, PastUnicode, Surrogate, Nul, NotAscii, MustEscape, NoCharacter, TwoCharacters, NoExponentDigit, BadSuffix, TooLarge, Minus, TooManyHashes, CarriageReturn, EarlyQuote, ExtraHash, UnderscoreSuffix, NoDigits, DigitOfBase, BasedFloat, NoFractionDigit}
-use Rattle.rl_reasons.specs.Flaws.{first_len}
-use Rattle.rl_reasons.specs.Limits.{IsLimitFlaw}
-use Rattle.rl_reasons.specs.FlawWords.{flaw_id, flaw_message}
+use Rattle.rl_strict.specs.declared.flaws.Flaw.{Flaw}
+use Rattle.rl_strict.specs.declared.flaws.FlawKind.{FlawKind}
+use Rattle.rl_strict.specs.declared.flaws.FlawKind.TheVariants.{Empty, NotALiteral, UnexpectedEnd, NoQuote, NoNumber, Unclosed, UnknownEscape, NoUnicode, NoHexDigit, NoBrace, EmptyBraces, TooManyDigits, HexEscapeOutOfRange, UnicodeEscapeOutOfRange, Surrogate, Nul, NotAscii, MustEscape, NoCharacter, TwoCharacters, NoExponentDigit, BadSuffix, TooLarge, Minus, TooManyHashes, CarriageReturn, TextAfterQuote, ExtraHash, UnderscoreSuffix, NoDigits, InvalidDigit, BasedFloat, NoFractionDigit}
+use Rattle.rl_strict.specs.Flaws.{first_len}
+use Rattle.rl_strict.specs.Limits.{IsLimitFlaw}
+use Rattle.rl_strict.specs.FlawWords.{flaw_id, flaw_message}
 use Rattle.std.proofs.Common.{rules}
 use Rattle.std.proofs.lemmas.Bool.{false≢true}
 use Rattle.rl_files.specs.Visible.{visible}
-use Rattle.rl_lines.proofs.LineLemmas.{pushed}
-use Rattle.rl_file_reasons.specs.FileTexts.{ExplainsInFile}
+use Rattle.rl_program.proofs.LineLemmas.{pushed}
+use Rattle.rl_strict.specs.FileTexts.{ExplainsInFile}
 use Rattle.rl_output.specs.ErrorIds.{error_id}
 use Rattle.rl_sources.specs.Held.{IsCutAt}
 use Rattle.rl_types.specs.ErrorWords.{type_error_id, type_error_message}
@@ -35,7 +35,7 @@ use Rattle.rl_sources.specs.Scans.{error_reason}
 use Rattle.rl_sources.specs.Steps.{BeginsRest, HasPlace}
 use Rattle.rl_output.proofs.Pieces.{back_utf8, low_text}
 
--- the first character is within the text
+-- The first character of a text is within the text.
 first_within : (cs : List ℕ) → first_len cs ≤ byte_len cs
 first_within [] = omega arith
 first_within (c ∷ cs) =
@@ -43,7 +43,7 @@ first_within (c ∷ cs) =
     (encode_utf8_all cs) in
     omega (arith, whole)
 
--- a flaw has its place in the text
+-- The range of the flaw of an integer above 128 bits is within its text.
 limit_place : (text : List ℕ) (flaw : Flaw) → IsLimitFlaw text flaw → HasPlace text flaw
 limit_place text flaw e = record {
   front = e.number;
@@ -69,11 +69,12 @@ place_in_file text flaw e = record {
   within = omega (arith, e.hi.at_is, ap byte_len e.hi.text_is, byte_len-append e.hi.front e.hi.rest);
 }
 
-pub has_place : (text : List ℕ) (flaw : Flaw) → FindsFlaw text flaw → HasPlace text flaw
-has_place text flaw (inl e) = place_in_file text flaw e
-has_place text flaw (inr (_, (signed, e, no_float))) = limit_place text flaw e
+pub has_place : (any : Bool) (text : List ℕ) (flaw : Flaw) → FindsFlaw any text flaw → HasPlace text flaw
+has_place true text flaw e = place_in_file text flaw e
+has_place false text flaw (inl e) = place_in_file text flaw e
+has_place false text flaw (inr (_, (signed, e, no_float))) = limit_place text flaw e
 
--- Where the token's text is cut, the rest is.
+-- The end of the source that begins with a token can be split where the token's text can.
 pub record IsCutWithin (rest : List ℕ) (lo size : ℕ) : Type 0 where
   pub following : IsTail rest (drop lo rest)
   pub boundary : IsCharBoundary rest lo
@@ -125,7 +126,7 @@ cut_rest token text rest inside lo begins at is =
           at).following;
     })
 
--- the text is cut where a flaw stands
+-- The text can be split where a flaw begins.
 pub flaw_cut : (text : List ℕ) (flaw : Flaw) → HasPlace text flaw → IsCutAt text flaw.lo
 flaw_cut text flaw place = record { front = place.front; back = place.rest; text_is = place.text_is; at_is = place.lo_is }
 
@@ -133,8 +134,8 @@ flaw_cut text flaw place = record { front = place.front; back = place.rest; text
 
 pub message_low : (kind : FlawKind) → list_all is_ascii (flaw_message kind) ≡ true
 message_low Empty = refl
-message_low NoLiteral = refl
-message_low Unfinished = refl
+message_low NotALiteral = refl
+message_low UnexpectedEnd = refl
 message_low NoQuote = refl
 message_low NoNumber = refl
 message_low Unclosed = refl
@@ -144,8 +145,8 @@ message_low NoHexDigit = refl
 message_low NoBrace = refl
 message_low EmptyBraces = refl
 message_low TooManyDigits = refl
-message_low PastAscii = refl
-message_low PastUnicode = refl
+message_low HexEscapeOutOfRange = refl
+message_low UnicodeEscapeOutOfRange = refl
 message_low Surrogate = refl
 message_low Nul = refl
 message_low NotAscii = refl
@@ -158,11 +159,11 @@ message_low TooLarge = refl
 message_low Minus = refl
 message_low TooManyHashes = refl
 message_low CarriageReturn = refl
-message_low EarlyQuote = refl
+message_low TextAfterQuote = refl
 message_low ExtraHash = refl
 message_low UnderscoreSuffix = refl
 message_low NoDigits = refl
-message_low DigitOfBase = refl
+message_low InvalidDigit = refl
 message_low BasedFloat = refl
 message_low NoFractionDigit = refl
 
@@ -180,8 +181,8 @@ reason_low (reason.Type error) = type_error_low error
 
 flaw_id_low : (kind : FlawKind) → list_all is_ascii (flaw_id kind) ≡ true
 flaw_id_low Empty = refl
-flaw_id_low NoLiteral = refl
-flaw_id_low Unfinished = refl
+flaw_id_low NotALiteral = refl
+flaw_id_low UnexpectedEnd = refl
 flaw_id_low NoQuote = refl
 flaw_id_low NoNumber = refl
 flaw_id_low Unclosed = refl
@@ -191,8 +192,8 @@ flaw_id_low NoHexDigit = refl
 flaw_id_low NoBrace = refl
 flaw_id_low EmptyBraces = refl
 flaw_id_low TooManyDigits = refl
-flaw_id_low PastAscii = refl
-flaw_id_low PastUnicode = refl
+flaw_id_low HexEscapeOutOfRange = refl
+flaw_id_low UnicodeEscapeOutOfRange = refl
 flaw_id_low Surrogate = refl
 flaw_id_low Nul = refl
 flaw_id_low NotAscii = refl
@@ -205,11 +206,11 @@ flaw_id_low TooLarge = refl
 flaw_id_low Minus = refl
 flaw_id_low TooManyHashes = refl
 flaw_id_low CarriageReturn = refl
-flaw_id_low EarlyQuote = refl
+flaw_id_low TextAfterQuote = refl
 flaw_id_low ExtraHash = refl
 flaw_id_low UnderscoreSuffix = refl
 flaw_id_low NoDigits = refl
-flaw_id_low DigitOfBase = refl
+flaw_id_low InvalidDigit = refl
 flaw_id_low BasedFloat = refl
 flaw_id_low NoFractionDigit = refl
 
@@ -225,7 +226,7 @@ id_low (reason.Flaw kind) = flaw_id_low kind
 id_low reason.Reserved = refl
 id_low (reason.Type error) = type_error_id_low error
 
--- the words of an error, as they are written
+-- The message of an error is ASCII, with the characters that are written around it.
 message_ascii : (message after : List ℕ) → list_all is_ascii message ≡ true → list_all is_ascii after ≡ true
     → IsAscii (codes ": " ++ (message ++ after))
 message_ascii message after is_low low =
@@ -264,7 +265,7 @@ error_id_low UnclosedGroup = refl
 error_id_low TooDeep = refl
 error_id_low Memory = refl
 
--- without a piece
+-- The output of an error without a piece is its message.
 pub error_alone : (message piece old new : List ℕ) → list_all is_ascii message ≡ true → (length piece == 0) ≡ true
     → IsUtf8 old → new ≡ old ++ (codes ": " ++ (message ++ codes "\n"))
     → chars new ≡ chars old ++ error_reason message (chars piece)
@@ -276,7 +277,7 @@ error_alone message (b ∷ bs) old new low none utf8 written = absurd (false≢t
     not_empty : (n : ℕ) → (suc n == 0) ≡ false
     not_empty n = search rules
 
--- with one
+-- The output of an error with a piece is its message and the piece.
 pub error_of_piece : (message piece old a b new : List ℕ) → list_all is_ascii message ≡ true
     → (length piece == 0) ≡ false → IsUtf8 piece → IsUtf8 old → IsUtf8 b
     → a ≡ old ++ (codes ": " ++ (message ++ codes ": "))
@@ -305,7 +306,7 @@ error_of_piece message piece old a b new low some utf8 u v begun shown ended = g
         tail (c ∷ cs) (e ∙ ap (λ z. chars a ++ visible z) is)
         ∙ ap (λ z. chars old ++ error_reason message z) (sym is)
 
--- a text as it is written, and the line's end
+-- A literal as written, and a line end, are appended.
 pub source_shown : (text old b new : List ℕ) → IsUtf8 b → chars b ≡ chars old ++ visible text → new ≡ b ++ codes "\n"
     → chars new ≡ chars old ++ (visible text ++ codes "\n")
 source_shown text old b new u shown ended =

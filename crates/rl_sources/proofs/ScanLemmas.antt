@@ -1,5 +1,5 @@
--- What is shown of a source, token after token.
-use Rattle.rl_text.proofs.Common.{AllByRecursion, Bool, IsCharBoundary, IsTrue, IsUtf8, List, Option, [], ap, append_assoc, arith, chars, chars-nil, drop, encode_utf8_all, encodes-append, encodes-chars, eqb-true, false, inl, inr, length, not, refl, subst, sym, take, true, ℕ, ◌++◌, ◌+◌, ◌-◌, ◌==◌, ◌||◌, ◌&&◌, ◌∙◌, ◌∷◌, ◌≡◌, ◌≢◌}
+-- Lemmas about the output for a source, token by token.
+use Rattle.rl_syntax.proofs.Common.{AllByRecursion, Bool, IsCharBoundary, IsTrue, IsUtf8, List, Option, [], ap, append_assoc, arith, chars, chars-nil, drop, encode_utf8_all, encodes-append, encodes-chars, eqb-true, false, inl, inr, length, not, refl, subst, sym, take, true, ℕ, ◌++◌, ◌+◌, ◌-◌, ◌==◌, ◌||◌, ◌&&◌, ◌∙◌, ◌∷◌, ◌≡◌, ◌≢◌}
 use Rattle.std.specs.Prelude.{◌↔◌}
 use Rattle.std.specs.Io.KnownBytes.{Appends as AppendsBytes}
 use Rattle.std.proofs.KnownBytes.{Appends-trans}
@@ -7,18 +7,18 @@ use Rattle.std.proofs.lemmas.Bool.{false≢true}
 use Rattle.std.proofs.Math.Seq.{take-append-add}
 use Rattle.std.proofs.lemmas.List.{append-nil}
 use Rattle.std.proofs.lemmas.List.Elements.{All-push}
-use Rattle.rl_text.specs.Texts.{IsTail, byte_len}
+use Rattle.rl_syntax.specs.Texts.{IsTail, byte_len}
 use Rattle.rl_lexer.specs.Cursors.{CursorState, IsCursorState}
 use Rattle.rl_lexer.specs.Lexemes.{LiteralForm, IdentifierForm, DelimiterForm, MarkForm}
-use Rattle.rl_lexer.specs.Sources.{source_text, source_end, source_view, source_kind, SourceKind, PlainKind, RawIdentifierKind, LifetimeKind, DocCommentKind, StrayKind, CutSource, IsBorrowedSource, TakesSource, IsLiteralText, IsNoLiteral, PassesTo}
+use Rattle.rl_lexer.specs.Sources.{source_text, source_end, source_view, source_kind, SourceKind, PlainKind, RawIdentifierKind, LifetimeKind, DocCommentKind, StrayKind, CutSource, IsBorrowedSource, TakesSource, IsLiteralText, IsOtherToken, PassesTo}
 use Rattle.rl_lexer.specs.declared.sources.SourceToken.{SourceToken}
 use Rattle.rl_lexer.specs.declared.lex_error.LexError.{LexError}
 use Rattle.rl_lexer.specs.declared.lex_error.LexKind.{LexKind}
-use Rattle.rl_text.proofs.TailLemmas.{tail_step, cut_boundary, cut_drop}
+use Rattle.rl_syntax.proofs.TailLemmas.{tail_step, cut_boundary, cut_drop}
 use Rattle.rl_lexer.proofs.ErrorKinds.{char_len, chars_some}
 use Rattle.rl_program.specs.Streams.{AppendsBeginning}
-use Rattle.rl_lines.specs.Lines.{Appends, Joins}
-use Rattle.rl_lines.proofs.JoinLemmas.{joins_append, joins_one}
+use Rattle.rl_program.specs.Lines.{Appends, Joins}
+use Rattle.rl_program.proofs.JoinLemmas.{joins_append, joins_one}
 use Rattle.rl_sources.specs.declared.options.Options.{Options}
 use Rattle.rl_sources.specs.declared.step.Step.{Step}
 use Rattle.rl_sources.specs.declared.step.Step.TheVariants.{More, End, Error}
@@ -28,7 +28,7 @@ use Rattle.rl_sources.specs.Places.{IsPlaceIn}
 use Rattle.rl_sources.specs.Scans.{IsShownLiteral, IsShownStray, IsShownToken, IsShown, IsNoStray, ShowsUpTo, ShowsPart, ShowsSource, IsErrorAt, IsErrorLine}
 use Rattle.rl_sources.specs.Steps.{BeginsRest, IsCursorOver, Adds, Completes, IsUnshown, MayShow, TakesShown, IsStepOf, IsStopAt}
 
--- nothing more
+-- Without further tokens, nothing is added to the output.
 pub adds_none : (options : Options) (whole rest piece : List ℕ) → piece ≡ [] → Adds options whole rest rest piece
 adds_none options whole rest piece nothing = record {
   more = [];
@@ -38,7 +38,7 @@ adds_none options whole rest piece nothing = record {
       (subst (P cuts) (sym (ap (λ z. shown ++ z) nothing ∙ append-nil shown)) shows);
 }
 
--- what is shown of a token, by its cut
+-- The output for a token in the program is that for the token that the definitions lex.
 shown_cut : (options : Options) (whole : List ℕ) (l : SourceToken) (w : CutSource) (shown : List ℕ)
     → IsBorrowedSource l w → IsShownToken options whole (source_view l.form) (chars l.text.now) l.lo l.hi shown
     → IsShown options whole w shown
@@ -50,7 +50,7 @@ shown_cut options whole l w shown is h =
     (sym is.lo_is)
     (subst (λ n. IsShownToken options whole (source_view l.form) (chars l.text.now) l.lo n shown) (sym is.hi_is) h)))
 
--- one token more
+-- After one more token, the output has the lines for that token too.
 adds_one : (options : Options) (start : List ℕ) (old new : CursorState) (l : SourceToken) (piece longer : List ℕ)
     → Adds options (chars old.text) start (chars old.rest) piece → TakesSource old l new
     → (IsTrue (ends_at_strays options) → source_view l.form ≢ StrayKind)
@@ -81,7 +81,7 @@ adds_one options start old new l piece longer adds takes accepted (last, is_last
           here);
     }
 
--- the same, with the text as the loop's start and the cursor over places have it
+-- After one more token, the output has the lines for that token too. This lemma has the names of the loop in `gather`.
 pub adds_token : (options : Options) (text start : List ℕ) (old new : CursorState) (places : List ℕ) (l : SourceToken)
     (piece longer : List ℕ) → old.text ≡ text → places ≡ old.text
     → Adds options (chars text) start (chars old.rest) piece → TakesSource old l new
@@ -96,7 +96,7 @@ adds_token options text start old new places l piece longer same seen adds takes
     subst Here same (adds_one options start old new l piece longer (subst Before (sym same) adds) takes accepted
     (subst Shown seen shown))
 
--- the cursor after a token
+-- After a token, the cursor and the table of positions still belong to one text.
 pub stands_on : (tokens next : CursorState) (places later : List ℕ) (l : SourceToken) → IsCursorOver tokens places
     → TakesSource tokens l next → later ≡ places → IsCursorOver next later
 stands_on tokens next places later l stands takes same =
@@ -108,7 +108,7 @@ stands_on tokens next places later l stands takes same =
       text_is = same ∙ stands.text_is ∙ sym takes.same;
     }
 
--- the token begins what was left before it
+-- The token is at the start of the rest of the source that was left before it was lexed.
 pub begins_rest : (tokens next : CursorState) (places rest : List ℕ) (l : SourceToken) → IsCursorOver tokens places
     → TakesSource tokens l next → rest ≡ tokens.rest → BeginsRest l places rest
 begins_rest tokens next places rest l stands takes same =
@@ -122,7 +122,7 @@ begins_rest tokens next places rest l stands takes same =
     }) in
     subst (λ (r : List ℕ). BeginsRest l places r) (sym same) (whole places stands.text_is)
 
--- where an error stands, in bytes of the source's characters
+-- The byte offset of an error is the same in the program's text, a list of bytes, and in the definitions' list of characters.
 error_place : (text : List ℕ) (stop : CursorState) (places : List ℕ) (e : LexError) → stop.text ≡ text
     → IsCursorOver stop places → e.at + length stop.rest ≡ length stop.text
     → e.at + byte_len (chars stop.rest) ≡ byte_len (chars text)
@@ -135,7 +135,7 @@ error_place text stop places e same stands at = omega (
   char_len stop.text stands.cursor.is_text,
 )
 
--- the source stops at an error
+-- The scan stops at an error of the source, after the output for the tokens before it.
 pub stopped : (options : Options) (old stop : CursorState) (places piece longer : List ℕ) (new : CursorState)
     (later : List ℕ) (e : LexError) (step : Step) → stop.text ≡ old.text → IsCursorOver stop places
     → Adds options (chars old.text) (chars old.rest) (chars stop.rest) piece
@@ -157,7 +157,8 @@ stopped options old stop places piece longer new later e End same stands adds er
           rest_place = error_place old.text stop places e same stands at;
         };
         line = line;
-        line_is = subst (λ (t : List ℕ). IsErrorLine options (chars t) e.at e.at e.kind [] line) (stands.text_is ∙ same) is_line;
+        line_is = subst (λ (t : List ℕ). IsErrorLine options (chars t) e.at e.at e.kind [] line) (stands.text_is ∙ same)
+            is_line;
         shown_is = ap (λ (z : List ℕ). shown ++ z) longer_is ∙ sym (append_assoc shown piece line);
       });
     }
@@ -172,14 +173,14 @@ stopped options old stop places piece longer new later e (Error place kind) same
       unsaid,
     )
 
--- the source ends
+-- At the end of the source, the output is complete.
 pub completes : (options : Options) (whole old piece : List ℕ) → Adds options whole old [] piece
     → Completes options whole old piece
 completes options whole old piece adds = record {
   ends = λ cuts shown shows. inl (cuts ++ adds.more, adds.goes_on cuts shown shows);
 }
 
--- two pieces, one after the other
+-- Two parts of the output, one after the other, are one part.
 pub adds_join : (options : Options) (whole a b d first last : List ℕ) → Adds options whole a b first
     → Adds options whole b d last → Adds options whole a d (first ++ last)
 adds_join options whole a b d first last p q = record {
@@ -191,7 +192,7 @@ adds_join options whole a b d first last p q = record {
       (q.goes_on (cuts ++ p.more) (shown ++ first) (p.goes_on cuts shown shows)));
 }
 
--- ---- tokens of which nothing is shown
+-- ---- tokens without output
 
 nothing_of : (options : Options) (whole text : List ℕ) (kind : SourceKind) (lo hi : ℕ)
     → (MayShow options kind text → ⊥) → IsShownToken options whole kind text lo hi []
@@ -208,7 +209,7 @@ nothing_of options whole text StrayKind lo hi other = go (finds_strays options) 
     go true finds = absurd (other (inr (finds, refl)))
     go false none = refl
 
--- where strays aren't rejected, nothing is shown of what is no literal
+-- If stray characters aren't rejected, a token that isn't a literal has no output.
 no_literal_shown : (options : Options) (kind : SourceKind) (text : List ℕ) → options.rejects_strays ≡ false
     → (IsLiteralText kind text → ⊥) → MayShow options kind text → ⊥
 no_literal_shown options kind text lax other (inl is) = other is
@@ -216,7 +217,7 @@ no_literal_shown options kind text lax other (inr (finds, is)) =
     false≢true (sym (ap (λ (b : Bool). b && options.explains) lax) ∙ finds)
 
 joins_nothing : (options : Options) (whole : List ℕ) (ws : List CutSource) → options.rejects_strays ≡ false
-    → AllByRecursion IsNoLiteral ws → Joins (IsShown options whole) ws []
+    → AllByRecursion IsOtherToken ws → Joins (IsShown options whole) ws []
 joins_nothing options whole [] lax each = refl
 joins_nothing options whole (w ∷ ws) lax each =
     joins_append (IsShown options whole) (w ∷ []) ws [] [] (joins_one (IsShown options whole) w []
@@ -250,7 +251,7 @@ unshown_more options a b d l u takes accepted other = record {
   following = tail_step a.rest b.rest d.rest u.following takes.following;
 }
 
--- the cursor before a literal, or before an error
+-- Before a literal or an error, the cursor and the table of positions still belong to one text.
 pub stands_before : (options : Options) (tokens between : CursorState) (places : List ℕ) → IsCursorOver tokens places
     → IsUnshown options tokens between → IsCursorOver between places
 stands_before options tokens between places stands unshown =
@@ -262,7 +263,7 @@ stands_before options tokens between places stands unshown =
       text_is = stands.text_is ∙ sym unshown.same;
     }
 
--- a literal is shown as one, and is no stray
+-- The output for a token that is a literal is that for the literal. It isn't a stray character.
 shown_literal : (options : Options) (whole text : List ℕ) (kind : SourceKind) (lo hi : ℕ) (shown : List ℕ)
     → IsLiteralText kind text → IsShownLiteral options whole text lo hi shown
     → IsShownToken options whole kind text lo hi shown
@@ -270,7 +271,7 @@ shown_literal options whole text (PlainKind LiteralForm) lo hi shown is h = h
 shown_literal options whole text (PlainKind IdentifierForm) lo hi shown is h = inl (is.0, is.1, h)
 shown_literal options whole text kind lo hi shown is h = absurd is
 
--- a stray that may be shown is a finding
+-- A stray character that may have output is a finding.
 pub shown_stray : (options : Options) (whole text : List ℕ) (kind : SourceKind) (lo hi : ℕ) (old new : List ℕ)
     → kind ≡ StrayKind → MayShow options kind text
     → Appends (IsErrorLine options whole lo hi StrayCharacter text) old new
@@ -288,7 +289,7 @@ shown_stray options whole text kind lo hi old new is may (line, is_line, e) = (
       | inr found ↦ false≢true (sym none ∙ found.0)
     ])
 
--- what else may be shown is a literal
+-- Any token that may have output, and isn't a stray character, is a literal.
 pub shown_other : (options : Options) (whole text : List ℕ) (kind : SourceKind) (lo hi : ℕ) (old new : List ℕ)
     → kind ≢ StrayKind → MayShow options kind text → Appends (IsShownLiteral options whole text lo hi) old new
     → Appends (IsShownToken options whole kind text lo hi) old new
@@ -296,7 +297,7 @@ shown_other options whole text kind lo hi old new other (inl is) (shown, is_show
     (shown, shown_literal options whole text kind lo hi shown is is_shown, e)
 shown_other options whole text kind lo hi old new other (inr found) shown = absurd (other found.1)
 
--- where a stray ends the source, what may be shown is none
+-- If stray characters end the source, a token that may have output isn't a stray character.
 no_stray : (options : Options) (text : List ℕ) (kind : SourceKind) → MayShow options kind text
     → IsTrue (ends_at_strays options) → kind ≢ StrayKind
 no_stray options text kind (inl is) ends same = subst (λ k. IsLiteralText k text) same is
@@ -331,7 +332,7 @@ adds_unshown options text start piece old new same adds unshown =
     subst (λ (z : List ℕ). Adds options (chars text) start (chars new.rest) z) (append-nil piece)
     (adds_join options (chars text) start (chars old.rest) (chars new.rest) piece [] adds nothing)
 
--- where a rest of the text begins
+-- The byte offset where an end of the source begins is between characters.
 pub rest_boundary : (text places rest : List ℕ) (at : ℕ) → IsCursorState text rest → places ≡ text → at + length rest
     ≡ length text → IsCharBoundary places at
 rest_boundary text places rest at is seen place =
@@ -345,9 +346,9 @@ rest_is text places rest taken at is seen place drops =
     let e : at ≡ length text - length rest = omega (arith, place) in
     drops ∙ ap (λ t. drop at t) seen ∙ ap (λ n. drop n text) e ∙ cut_drop text rest is.following
 
--- ---- what was written
+-- ---- the written bytes
 
--- What was written is what is shown of the source up to the rest.
+-- The written bytes are the output for the source up to `rest`, and `any` tells whether they are any.
 pub record HasWritten (options : Options) (whole rest : List ℕ) (any : Bool) (old new : Option (List ℕ)) : Type 0 where
   pub cuts : List CutSource
   pub shown : List ℕ
@@ -355,7 +356,7 @@ pub record HasWritten (options : Options) (whole rest : List ℕ) (any : Bool) (
   pub any_is : IsTrue any ↔ (shown ≢ [])
   pub written : AppendsBytes old new (encode_utf8_all shown)
 
--- the lines as bytes
+-- The output and more lines as bytes are the bytes of the output and the bytes of the lines.
 lines_bytes : (shown lines : List ℕ) → IsUtf8 lines → encode_utf8_all (shown ++ chars lines) ≡ encode_utf8_all shown
     ++ lines
 lines_bytes shown lines utf8 = encodes-append shown (chars lines)
@@ -387,14 +388,14 @@ any_cases false true shown lines utf8 is k =
     ∙ chars-nil in
     (λ e. absurd (false≢true e), λ some. absurd (some nil))
 
--- whether anything was written
+-- Something was written if something was written before, or if the lines aren't empty.
 pub any_more : (any more : Bool) (shown lines : List ℕ) → IsUtf8 lines → (IsTrue any ↔ (shown ≢ [])) → more
     ≡ (any || not (length lines == 0)) → IsTrue more ↔ ((shown ++ chars lines) ≢ [])
 any_more any more shown lines utf8 is more_is =
     subst (λ (b : Bool). IsTrue b ↔ ((shown ++ chars lines) ≢ [])) (sym more_is)
     (any_cases any (length lines == 0) shown lines utf8 is refl)
 
--- the lines, after what was written before
+-- The written bytes are the output before and the lines.
 pub lines_written : (options : Options) (whole rest lines : List ℕ) (any : Bool) (old mid new : Option (List ℕ))
     (has : HasWritten options whole rest any old mid) → IsUtf8 lines → AppendsBytes mid new lines
     → AppendsBytes old new (encode_utf8_all (has.shown ++ chars lines))
@@ -402,7 +403,7 @@ lines_written options whole rest lines any old mid new has utf8 appends =
     subst (λ z. AppendsBytes old new z) (sym (lines_bytes has.shown lines utf8))
     (Appends-trans old mid new (encode_utf8_all has.shown) lines has.written appends)
 
--- lines more
+-- After more lines are written, the written bytes are the output for the source up to the next token.
 pub written_more : (options : Options) (whole rest next lines : List ℕ) (any more : Bool)
     (old mid new : Option (List ℕ)) → HasWritten options whole rest any old mid
     → Adds options whole rest next (chars lines) → IsUtf8 lines → AppendsBytes mid new lines → more
@@ -415,12 +416,12 @@ written_more options whole rest next lines any more old mid new has adds utf8 ap
   written = lines_written options whole rest lines any old mid new has utf8 appends;
 }
 
--- with this piece what is shown up to the rest is what is shown of a part of the source
+-- Output up to `rest` with this part after it is the output for a part of the source.
 abbrev pub ShowsOn : Options → List ℕ → List ℕ → List ℕ → Type 0
 ShowsOn options whole rest piece = (cuts : List CutSource) (shown : List ℕ) → ShowsUpTo options whole cuts rest shown
     → ShowsPart options whole (shown ++ piece)
 
--- a beginning of the lines
+-- After a beginning of the lines is written, the written bytes are a beginning of the output for a part of the source.
 pub written_beginning : (options : Options) (whole rest lines : List ℕ) (any : Bool)
     (old mid new : Option (List ℕ)) → HasWritten options whole rest any old mid
     → ShowsOn options whole rest (chars lines) → IsUtf8 lines → AppendsBeginning mid new lines → (shown : List ℕ)
@@ -442,7 +443,7 @@ part_of_all : (options : Options) (whole shown : List ℕ) → ShowsSource optio
 part_of_all options whole shown (inl (cuts, shows)) = inl (cuts, [], shows)
 part_of_all options whole shown (inr stops) = inr stops
 
--- a part of the source, whatever the step
+-- Each step of a scan adds the output for a part of the source.
 pub step_shows : (options : Options) (old : CursorState) (piece : List ℕ) (new : CursorState) (places : List ℕ)
     (step : Step) → IsStepOf options old piece new places step
     → ShowsOn options (chars old.text) (chars old.rest) piece
@@ -450,6 +451,7 @@ step_shows options old piece new places More goes cuts shown shows =
     inl (cuts ++ goes.adds.more, chars new.rest, goes.adds.goes_on cuts shown shows)
 step_shows options old piece new places End all cuts shown shows =
     part_of_all options (chars old.text) (shown ++ piece) (all.ends cuts shown shows)
-step_shows options old piece new places (Error place kind) (at, rest, adds, error, rest_place, is_place, unsaid) cuts shown
+step_shows options old piece new places (Error place kind) (at, rest, adds, error, rest_place, is_place, unsaid) cuts
+    shown
     shows =
     inl (cuts ++ adds.more, rest, adds.goes_on cuts shown shows)

@@ -1,4 +1,4 @@
--- A search by borders.
+-- Lemmas about the search by borders, of Knuth, Morris and Pratt.
 use Rattle.std.proofs.Common.{◌≡◌, ◌≢◌, ℕ, zero, suc, ◌+◌, ◌-◌, ◌<◌, ◌≤◌, ◌==◌, Bool, false, true, List, [], ◌∷◌, ◌++◌, length, length-append, get_or, take, drop, refl, sym, ap, subst, ◌∙◌, arith, inl, inr, ◌⊎◌}
 use Rattle.std.proofs.lemmas.Bool.{and_parts, and_from, eqb-true, eq-eqb, cases_lt}
 use Rattle.std.proofs.lemmas.Bool.{false≢true}
@@ -10,10 +10,10 @@ use Rattle.std.specs.declared.result.Result.TheVariants.{Err, Ok}
 use Rattle.std.specs.Char.{to_ascii_lowercase}
 use lib.Pointwise.{pointwise}
 use Rattle.rl_output.specs.declared.choice.Matching.{Matching}
-use Rattle.rl_sources.specs.Held.{FirstMatchAt, IsAsWanted, MatchesAt, MatchesFirst, MatchesFrom, StandsFrom, compared}
+use Rattle.rl_sources.specs.Held.{FirstMatchAt, IsWantedMatch, MatchesAt, MatchesFirst, MatchesFrom, OccursAt, compared}
 use Rattle.rl_sources.specs.Searches.{Agrees, AreBorders, IsLongestBorder, IsShift}
 
--- ---- what agrees
+-- ---- bytes that are equal
 
 fewer : (sought bytes : List ℕ) (at count less : ℕ) → less ≤ count → Agrees sought bytes at count
     → Agrees sought bytes at less
@@ -29,21 +29,21 @@ one_more sought bytes at count agrees same i low = go (cases_lt i count)
         let e : count ≡ i = omega arith in
         subst (λ (k : ℕ). get_or sought k 0 ≡ get_or bytes (at + k) 0) e same
 
--- a border of what agrees agrees further on
+-- If the first bytes are equal at an offset, a border of them is equal at a later offset.
 agree_twice : (sought bytes : List ℕ) (at held by kept : ℕ) → Agrees sought bytes at held
     → ((i : ℕ) → i < kept → by + i < held) → Agrees sought sought by kept → Agrees sought bytes (at + by) kept
 agree_twice sought bytes at held by kept agrees ends border i low =
     border i low ∙ agrees (by + i) (ends i low)
     ∙ ap (λ (k : ℕ). get_or bytes k 0) (let e : at + (by + i) ≡ at + by + i = omega arith in e)
 
--- where it agrees in two places, a beginning of it stands in it
+-- If the first bytes are equal at two offsets, a prefix of them occurs within them.
 agree_between : (sought bytes : List ℕ) (at held by more : ℕ) → Agrees sought bytes at held → by + more ≤ held
     → Agrees sought bytes (at + by) more → Agrees sought sought by more
 agree_between sought bytes at held by more agrees within later i low =
     later i low ∙ ap (λ (k : ℕ). get_or bytes k 0) (let e : at + by + i ≡ at + (by + i) = omega arith in e)
     ∙ sym (agrees (by + i) (omega arith))
 
--- ---- what stands somewhere agrees there
+-- ---- bytes that occur at an offset are equal there
 
 stands_there : (sought bytes : List ℕ) → pointwise ◌==◌ sought (take (length sought) bytes) ≡ true
     → (length sought ≤ length bytes) × ((i : ℕ) → i < length sought → get_or sought i 0 ≡ get_or bytes i 0)
@@ -68,7 +68,7 @@ there_stands (c ∷ cs) (b ∷ bs) fits same =
     and_from _ _ (eq-eqb c b (same 0 (omega arith))) (there_stands cs bs (omega arith)
     (λ i low. same (suc i) (omega arith)))
 
-pub stands_agrees : (sought bytes : List ℕ) (at : ℕ) → StandsFrom sought bytes at
+pub stands_agrees : (sought bytes : List ℕ) (at : ℕ) → OccursAt sought bytes at
     → (at + length sought ≤ length bytes) × Agrees sought bytes at (length sought)
 stands_agrees sought bytes at stands =
     let there = stands_there sought (drop at bytes) stands.1 in
@@ -76,7 +76,7 @@ stands_agrees sought bytes at stands =
     (omega (arith, length-drop at bytes, there.0), λ i low. there.1 i low ∙ get_or-drop at bytes i 0)
 
 pub agrees_stands : (sought bytes : List ℕ) (at : ℕ) → at + length sought ≤ length bytes
-    → Agrees sought bytes at (length sought) → StandsFrom sought bytes at
+    → Agrees sought bytes at (length sought) → OccursAt sought bytes at
 agrees_stands sought bytes at fits agrees = (
   omega arith,
   there_stands sought (drop at bytes) (omega (arith, length-drop at bytes))
@@ -94,7 +94,7 @@ border_of_one bytes = record {
   longest = λ at more low high ends same. absurd (omega arith);
 }
 
--- A border of the first `last` bytes: with the byte at `last` no longer one goes on.
+-- A border of the first `last` bytes. No longer border can be continued by the byte at `last`.
 pub record IsTriedBorder (bytes : List ℕ) (last count : ℕ) : Type 0 where
   pub from : ℕ
   pub later : 0 < from
@@ -144,7 +144,7 @@ next_tried bytes last count kept t differs b = record {
   none = tried_none bytes last count kept t differs b;
 }
 
--- the byte at `last` goes on with one
+-- The byte at `last` continues the border, which is then the longest one.
 pub border_goes_on : (bytes : List ℕ) (last count : ℕ) → IsTriedBorder bytes last count
     → get_or bytes count 0 ≡ get_or bytes last 0 → IsLongestBorder bytes (last + 1) (count + 1)
 border_goes_on bytes last count t same = record {
@@ -165,7 +165,7 @@ border_goes_on bytes last count t same = record {
         none at less low high less_ends (fewer bytes bytes at more less (omega arith) agrees)
         (agrees less (omega arith) ∙ ap (λ (k : ℕ). get_or bytes k 0) less_ends)
 
--- it goes on with none
+-- The byte at `last` continues no border, so the longest border is empty.
 pub no_border : (bytes : List ℕ) (last : ℕ) → IsTriedBorder bytes last 0 → get_or bytes 0 0 ≢ get_or bytes last 0
     → IsLongestBorder bytes (last + 1) 0
 no_border bytes last t differs = record {
@@ -195,14 +195,14 @@ no_border_at bytes last count none t differs =
     no_border bytes last (subst (λ (k : ℕ). IsTriedBorder bytes last k) none t)
     (λ same. differs (ap (λ (k : ℕ). get_or bytes k 0) none ∙ same))
 
--- the border of so many bytes, among those that are known
+-- The longest border of the first `count` bytes is in the list of the known ones.
 pub border_before : (bytes borders : List ℕ) (known count : ℕ) → AreBorders bytes known borders → 0 < count
     → count ≤ known → IsLongestBorder bytes count (get_or borders (count - 1) 0)
 border_before bytes borders known count are some within =
     let e : count - 1 + 1 ≡ count = omega arith in
     subst (λ (n : ℕ). IsLongestBorder bytes n (get_or borders (count - 1) 0)) e (are.1 (count - 1) (omega arith))
 
--- one more is known
+-- The list of known borders with one more border.
 pub borders_more : (bytes borders : List ℕ) (count border : ℕ) → AreBorders bytes count borders
     → IsLongestBorder bytes (count + 1) border → AreBorders bytes (count + 1) (borders ++ border ∷ [])
 borders_more bytes borders count border (long, are) is = (omega (arith, length-append borders (border ∷ []), long), at)
@@ -218,7 +218,7 @@ borders_more bytes borders count border (long, are) is = (omega (arith, length-a
             rw (get_or_at borders border [] 0 k long_is) (subst (λ (n : ℕ). IsLongestBorder bytes (n + 1) border)
             (sym same) is)
 
--- ---- how far to go on
+-- ---- the distance
 
 pub shift_of_none : (sought : List ℕ) → IsShift sought 0 1 0
 shift_of_none sought = record {
@@ -245,7 +245,7 @@ shift_by_border sought held kept b =
 
 -- ---- the search
 
--- What is looked for stands, as it is wanted, at no place before this one, where so many of its bytes agree.
+-- No match begins before the offset `at`, where the first `held` bytes of `sought` are equal.
 pub record IsSearchedTo (whole : Bool) (sought bytes : List ℕ) (at held : ℕ) : Type 0 where
   pub within : at ≤ length bytes
   pub held_within : held ≤ length sought
@@ -297,7 +297,7 @@ search_on whole sought bytes at held count by kept before fits short agrees no_m
                 (subst (λ (k : ℕ). Agrees sought bytes k more) (sym other_is)
                 (fewer sought bytes other (length sought) more (omega (arith, short)) all)))
 
--- fewer bytes agree than are looked for
+-- If not all bytes are equal at an offset, the search continues at the next possible offset.
 pub search_goes_on : (whole : Bool) (sought bytes : List ℕ) (at held count by kept : ℕ)
     → IsSearchedTo whole sought bytes at held → at + length sought ≤ length bytes → count < length sought
     → Agrees sought bytes at count → get_or sought count 0 ≢ get_or bytes (at + count) 0
@@ -306,10 +306,10 @@ search_goes_on whole sought bytes at held count by kept before fits short agrees
     search_on whole sought bytes at held count by kept before (omega (arith, shift.within)) (omega arith) agrees
     (λ matches. differs ((stands_agrees sought bytes at matches.0).1 count short)) shift
 
--- all agree, but not as they are wanted
+-- If all bytes are equal but aren't a whole word, the search continues at the next possible offset.
 pub search_passes : (whole : Bool) (sought bytes : List ℕ) (at held by kept : ℕ)
     → IsSearchedTo whole sought bytes at held → at + length sought ≤ length bytes
-    → Agrees sought bytes at (length sought) → (IsAsWanted whole sought bytes at → ⊥)
+    → Agrees sought bytes at (length sought) → (IsWantedMatch whole sought bytes at → ⊥)
     → IsShift sought (length sought) by kept → IsSearchedTo whole sought bytes (at + by) kept
 search_passes whole [] bytes at held by kept before fits agrees unwanted shift =
     absurd (unwanted (λ words some. absurd (some refl)))
@@ -318,7 +318,7 @@ search_passes whole (b ∷ bs) bytes at held by kept before fits agrees unwanted
     (omega (arith, fits, shift.within_some (omega arith))) (omega arith) agrees (λ matches. unwanted matches.1) shift
 
 pub search_finds : (whole : Bool) (sought bytes : List ℕ) (at held : ℕ) → IsSearchedTo whole sought bytes at held
-    → at + length sought ≤ length bytes → Agrees sought bytes at (length sought) → IsAsWanted whole sought bytes at
+    → at + length sought ≤ length bytes → Agrees sought bytes at (length sought) → IsWantedMatch whole sought bytes at
     → MatchesFirst whole sought bytes at
 search_finds whole sought bytes at held before fits agrees wanted =
     ((agrees_stands sought bytes at fits agrees, wanted), before.none)
@@ -336,13 +336,13 @@ pub longer_stands_nowhere : (whole : Bool) (sought bytes : List ℕ) → length 
 longer_stands_nowhere whole sought bytes longer at matches =
     absurd (omega (arith, (stands_agrees sought bytes at matches.0).0))
 
--- ---- bytes as they are compared
+-- ---- bytes with case ignored or not
 
 pub compared_length : (ignores_case : Bool) (bytes : List ℕ) → length (compared ignores_case bytes) ≡ length bytes
 compared_length false bytes = refl
 compared_length true bytes = length-map bytes to_ascii_lowercase
 
--- a match lies within the bytes
+-- A match ends within the bytes.
 pub match_fits : (matching : Matching) (sought bytes : List ℕ) (at : ℕ) → FirstMatchAt matching sought bytes at
     → at + length sought ≤ length bytes
 match_fits matching sought bytes at first = omega (
@@ -356,7 +356,7 @@ pub turned : (b r : Bool) → not b ≡ r → b ≡ not r
 turned false r is = ap not is
 turned true r is = ap not is
 
--- nothing matches, where nothing does among what is compared
+-- If nothing matches among the bytes in lower case, nothing matches with case ignored.
 pub none_compared : {E : Type 0} (matching : Matching) (sought bytes said among : List ℕ) (b : Bool)
     (r : Result (Option ℕ) E) → matching.ignores_case ≡ b → said ≡ compared b sought → among ≡ compared b bytes
     → IfOk r (λ found. IfNone found ((at : ℕ) → MatchesFrom matching.whole_words said among at → ⊥))

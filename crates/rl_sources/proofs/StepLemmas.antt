@@ -1,6 +1,6 @@
--- What is appended for one token.
-use Rattle.rl_reading.proofs.Names.{Float, HasNoReading, HasReading, Kind}
-use Rattle.rl_text.proofs.Common.{Bool, Bor, false, ◌==◌, IsUtf8, List, None, Option, Some, [], ap, append_assoc, arith, chars, chars-nil, inl, inr, nat_tests, refl, subst, sym, true, ℕ, ◌++◌, ◌&&◌, ◌∙◌, ◌∷◌, ◌≡◌, ◌⊎◌, IsCharBoundary, and_parts, codes, list_all, length, take, drop, ◌+◌, chars_from_encodes, encodes-append, encodes-chars, length-append, take-append_seam}
+-- Lemmas about the output for one token.
+use Rattle.rl_lenient.proofs.Names.{Float, HasNoReading, HasReading, Kind}
+use Rattle.rl_syntax.proofs.Common.{Bool, Bor, false, ◌==◌, IsUtf8, List, None, Option, Some, [], ap, append_assoc, arith, chars, chars-nil, inl, inr, nat_tests, refl, subst, sym, true, ℕ, ◌++◌, ◌&&◌, ◌∙◌, ◌∷◌, ◌≡◌, ◌⊎◌, IsCharBoundary, and_parts, codes, list_all, length, take, drop, ◌+◌, chars_from_encodes, encodes-append, encodes-chars, length-append, take-append_seam}
 use Rattle.std.proofs.lemmas.List.{append-nil}
 use Rattle.std.proofs.lemmas.Str.{IsCharBoundary-from_drop}
 use Rattle.std.specs.Prelude.{◌↔◌, IfNone, IfSome, MatchOption, IsTrue, is_some, encode_utf8_all}
@@ -11,11 +11,11 @@ use Rattle.rl_files.specs.Visible.{visible_lines, is_plain_byte}
 use Rattle.rl_files.proofs.VisibleLemmas.{plain_lines}
 use Rattle.rl_lexer.specs.Sources.{SourceKind, SourceBefore, BeginsNoSource}
 use Rattle.rl_lexer.specs.Cursors.{CursorState}
-use Rattle.rl_reading.specs.declared.found.Found.{Found}
-use Rattle.rl_reading.specs.Founds.{IsFound, suffix_in}
-use Rattle.rl_lines.specs.Bare.{IsBareString, is_bare, bare_line}
-use Rattle.rl_lines.specs.Lines.{label_of, IsLabelOf, IsLineOf, Appends}
-use Rattle.rl_reasons.specs.declared.flaws.Flaw.{Flaw}
+use Rattle.rl_lenient.specs.declared.found.Found.{Found}
+use Rattle.rl_lenient.specs.Founds.{IsFound, suffix_in}
+use Rattle.rl_program.specs.Bare.{IsBareString, is_bare, bare_line}
+use Rattle.rl_program.specs.Lines.{label_of, IsLabelOf, IsLineOf, Appends}
+use Rattle.rl_strict.specs.declared.flaws.Flaw.{Flaw}
 use Rattle.rl_sources.specs.declared.options.Options.{Options}
 use Rattle.rl_output.specs.declared.choice.Spelling.{Spelling}
 use Rattle.rl_output.specs.declared.choice.Spelling.TheVariants.{Value}
@@ -42,11 +42,11 @@ use Rattle.rl_sources.specs.declared.finding.Wrong.{Wrong}
 use Rattle.rl_sources.specs.declared.finding.Wrong.TheVariants as wrong
 use Rattle.rl_types.specs.declared.type_errors.TypeError.{TypeError}
 use Rattle.rl_types.proofs.Exclusions.{no_both}
-use Rattle.rl_reasons.specs.Limits.{IsFloatBySuffix}
-use Rattle.rl_file_reasons.proofs.FilePlaces.{signed_same}
-use Rattle.rl_reasons.proofs.LimitLemmas.{read_within}
+use Rattle.rl_strict.specs.Limits.{IsFloatBySuffix}
+use Rattle.rl_strict.proofs.FileStrings.{signed_same}
+use Rattle.rl_strict.proofs.LimitLemmas.{read_within}
 
--- The line that was appended begins where the text ended before.
+-- The text `now` is the text `old` and the line after it.
 pub record EndsInLine (old now line : List ℕ) : Type 0 where
   pub boundary : IsCharBoundary now (length old)
   pub front_is : take (length old) now ≡ old
@@ -69,7 +69,7 @@ ends_in_line old now line u v e =
       line_is = ap chars dropped ∙ sym (chars_from_encodes line (encode_utf8_all line) is_line refl);
     }
 
--- the line is as it is printed
+-- The appended line, with escapes for invisible characters, is the output for the literal.
 pub line_printed : (text old now new : List ℕ) → IsUtf8 old → IsUtf8 now
     → Appends (IsLineOf text) (chars old) (chars now)
     → chars new ≡ chars (take (length old) now) ++ visible_lines (chars (drop (length old) now))
@@ -83,7 +83,7 @@ line_printed text old now new u v (line, is_line, e) made =
           ends.front_is ∙ ap (λ z. chars old ++ visible_lines z) ends.line_is,
     )
 
--- bare bytes are printed as they are
+-- A byte that represents itself in a string literal needs no escape in a line.
 bare_plain : (c : ℕ) → is_bare c ≡ true → is_plain_byte c ≡ true
 bare_plain c h = grind (arith, nat_tests)
 
@@ -97,7 +97,7 @@ plain_then (c ∷ cs) end h k =
     let each = and_parts _ _ h in
     both_true (is_plain_byte c) _ (bare_plain c each.0) (plain_then cs end each.1 k)
 
--- so is the line of a string whose value it holds as it stands
+-- The line of a string literal whose value can be copied needs no escapes.
 bare_visible : (value : List ℕ) → list_all is_bare value ≡ true → bare_line value ≡ visible_lines (bare_line value)
 bare_visible value bare = sym (plain_lines (bare_line value) (plain_then value _ bare refl)).0
 
@@ -106,7 +106,7 @@ pub bare_printed : (text value old new : List ℕ) → IsLineOf text (bare_line 
 bare_printed text value old new is bare e =
     (bare_line value, (bare_line value, is, bare_visible value bare.1), e)
 
--- what stands before it, and the line
+-- The output for a literal at a position is the start of the line and its end.
 pub line_at : (options : Options) (text : List ℕ) (place : Place) (old mid new : List ℕ)
     → mid ≡ old ++ leveled_front Notice options.form options.path place
     → Appends (IsLineEnd options.form options.spelling text) mid new → Appends (IsLineAt options text place) old new
@@ -114,27 +114,27 @@ line_at options text place old mid new begun (shown, is, e) =
     let front = leveled_front Notice options.form options.path place in
     (front ++ shown, (shown, is, refl), e ∙ ap (λ z. z ++ shown) begun ∙ append_assoc old front shown)
 
--- the line, after its place
+-- The output for a literal at its position in the source.
 pub placed : (options : Options) (whole text : List ℕ) (lo hi : ℕ) (place : Place) (old new : List ℕ)
     → IsPlaceIn options whole lo hi place → Appends (IsLineAt options text place) old new
     → Appends (IsOwnLine options whole text lo hi) old new
 placed options whole text lo hi place old new is_place (shown, is, e) = (shown, (place, is_place, is), e)
 
--- and below it what is shown of the source
+-- A line and the lines of context below it.
 pub in_context : (IsLine : List ℕ → Type 0) (options : Options) (whole : List ℕ) (lo hi : ℕ) (old mid new : List ℕ)
     → Appends IsLine old mid → Appends (IsContextIn options whole lo hi) mid new
     → Appends (WithContext IsLine options whole lo hi) old new
 in_context IsLine options whole lo hi old mid new (line, is, e) (context, below, f) =
     (line ++ context, (line, context, is, below, refl), f ∙ ap (λ z. z ++ context) e ∙ append_assoc old line context)
 
--- lines that say why
+-- The lines that explain the errors of a literal are its output.
 pub explained : (options : Options) (whole text : List ℕ) (found : Option Found) (lo hi : ℕ) (old new : List ℕ)
     → IsFoundIn text found → IsTrue options.explains → Appends (AreReasonLines options whole text found lo) old new
     → Appends (IsLineIn options whole (chars text) lo hi) old new
 explained options whole text found lo hi old new read asked (shown, is, e) =
     (shown, (text, found, refl, read, inl (asked, is)), e)
 
--- a line that doesn't
+-- The line of a literal without an error, or without explanations, is its output.
 pub unexplained : (options : Options) (whole text : List ℕ) (found : Option Found) (lo hi : ℕ) (old new : List ℕ)
     → IsFoundIn text found → (IsTrue options.explains → IsRight options (bytes_before whole lo) text found)
     → Appends (IsPlacedLine options whole (chars text) lo hi) old new
@@ -142,14 +142,14 @@ pub unexplained : (options : Options) (whole text : List ℕ) (found : Option Fo
 unexplained options whole text found lo hi old new read passes (shown, is, e) =
     (shown, (text, found, refl, read, inr (passes, is)), e)
 
--- where lines say what is wrong, a literal without anything passes
+-- If errors are explained, a literal without a found error has none.
 pub passes_unasked : (options : Options) (before text : List ℕ) (found : Option Found) (bad : Option Wrong)
     → IfNone bad (LooksForFlaws options → IsRight options before text found) → (IsTrue options.explains → bad ≡ None)
     → IsTrue options.explains → IsRight options before text found
 passes_unasked options before text found (Some f) none asked is = absurd (none-some f (sym (asked is)))
 passes_unasked options before text found None none asked is = none (inl is)
 
--- that Rust has no type for what was found, or has one, as a minus before it was judged
+-- The result of the check for a type, for the text before the literal.
 pub error_after : (before text : List ℕ) (f : Found) (o : Option Found) (negated : Bool) (r : Option TypeError) → o
     ≡ Some f
     → negated ≡ may_negate before
@@ -176,10 +176,11 @@ type_alone before text f o alone is says yes_alone =
     let found : (f.kind ≡ Float → ⊥) × (suffix_in text f.body ≡ []) = says.0 yes_alone in
     subst (λ (z : Option Found). HasFoundType before text z) (sym is) (inl (found.0, found.1))
 
--- what is right isn't bad
-no_flaw_found : (text : List ℕ) (flaw : Flaw) → FindsNoFlaw text → FindsFlaw text flaw → ⊥
-no_flaw_found text flaw (token, reads) (inl e) = e.explains.no_token token
-no_flaw_found text flaw (token, reads) (inr (_, (signed, e, no_float))) = elim reads [
+-- No flaw is found in a literal without a flaw. `not_bad` says that a literal without an error isn't invalid.
+no_flaw_found : (any : Bool) (text : List ℕ) (flaw : Flaw) → FindsNoFlaw any text → FindsFlaw any text flaw → ⊥
+no_flaw_found true text flaw (token, value) e = e.explains.no_token token
+no_flaw_found false text flaw (token, reads) (inl e) = e.explains.no_token token
+no_flaw_found false text flaw (token, reads) (inr (_, (signed, e, no_float))) = elim reads [
   | inl r ↦ read_within text (subst HasReading (signed_same text signed) r) e.past
   | inr f ↦ no_float (subst IsFloatBySuffix (signed_same text signed) f)
 ]
@@ -193,14 +194,15 @@ no_error_found before text (Some f) error has is =
 not_bad : (options : Options) (before text : List ℕ) (found : Option Found) (bad : Wrong)
     → IsRight options before text found
     → IsWrong options before text found bad → ⊥
-not_bad options before text found (wrong.Flaw flaw) right is = no_flaw_found (chars text) flaw right.0 is
+not_bad options before text found (wrong.Flaw flaw) right is = no_flaw_found options.any_suffix (chars text) flaw
+    right.0 is
 not_bad options before text found wrong.Reserved right is = false≢true (sym right.1 ∙ is.1)
 not_bad options before text found (wrong.Type error) right is = elim right.2 [
   | inl t ↦ false≢true (sym is.2 ∙ t)
   | inr has ↦ no_error_found before text found error has is.3
 ]
 
--- what was looked for says whether a literal is picked
+-- The result of the check for errors tells whether the options select the literal.
 pub picks_found : (options : Options) (before text : List ℕ) (found : Option Found) (label : List ℕ)
     (bad : Option Wrong)
     (r b : Bool) → r ≡ is_some bad → IfSome bad (IsWrong options before text found)
@@ -226,19 +228,19 @@ picks_found options before text found label wrongs r b is some none picks = go o
         (λ t. both.0 (p.0 t), λ t. p.1 (both.1 t))
     go Hidden e p = p
 
--- the line where the contents hold one of the texts that are looked for
+-- The line of a literal whose value contains one of the sought texts.
 pub at_held : (soughts : List (List ℕ)) (options : Options) (whole text : List ℕ) (lo : ℕ) (range : ℕ × ℕ)
     (old new : List ℕ) → IsFirstHeld options.matching soughts text (Some range)
     → Appends (IsPlacedLine options whole text (lo + range.0) (lo + range.1)) old new
     → Appends (IsHeldLine soughts options whole text lo) old new
 at_held soughts options whole text lo range old new held (shown, is, e) = (shown, (Some range, held, is), e)
 
--- nothing of a literal whose contents hold none
+-- A literal has no output if its value doesn't contain any of the sought texts.
 pub not_held : (soughts : List (List ℕ)) (options : Options) (whole text : List ℕ) (lo : ℕ) (old : List ℕ)
     → IsFirstHeld options.matching soughts text None → Appends (IsHeldLine soughts options whole text lo) old old
 not_held soughts options whole text lo old none = ([], (None, none, refl), sym (append-nil old))
 
--- texts are looked for
+-- If there are texts to search for, the output is the line at the first match, if any.
 pub picked_held : (soughts : List (Bor (List ℕ))) (options : Options) (whole text : List ℕ) (lo hi : ℕ)
     (old new : List ℕ) → false ≡ (length soughts == 0) → Appends
     (IsHeldLine (borrowed_texts soughts) options whole text lo) old new
@@ -246,7 +248,7 @@ pub picked_held : (soughts : List (Bor (List ℕ))) (options : Options) (whole t
 picked_held [] options whole text lo hi old new some line = absurd (false≢true some)
 picked_held (s ∷ ss) options whole text lo hi old new some line = line
 
--- the word of a text's line, by what was found
+-- The label of a text's line is the kind of its parse result.
 pub found_label : (text label : List ℕ) (kind : Option Kind) (found : Option Found)
     → IfNone found (HasNoReading (chars text)) → IfSome found (IsFound text)
     → MatchOption found (kind ≡ None) (λ f. kind ≡ Some f.kind) → label ≡ label_of kind → IsLabelOf (chars text) label
@@ -257,7 +259,7 @@ found_label text label kind (Some f) none is k e = (
 )
 found_label text label kind None none is k e = (None, none, e ∙ ap label_of k)
 
--- the line of a text that is picked
+-- The output for a literal that the options select.
 pub picked_line : (options : Options) (whole text : List ℕ) (found : Option Found) (label : List ℕ) (lo hi : ℕ)
     (old new : List ℕ) → IsLabelOf (chars text) label → IsFoundIn text found
     → IsPicked options (bytes_before whole lo) text found label
@@ -266,7 +268,7 @@ pub picked_line : (options : Options) (whole text : List ℕ) (found : Option Fo
 picked_line options whole text found label lo hi old new is_label read picked (shown, is, e) =
     (shown, (label, text, found, is_label, refl, read, inl (picked, is)), e)
 
--- nothing of a text that isn't picked
+-- A literal that the options don't select has no output.
 pub not_picked : (options : Options) (whole text : List ℕ) (found : Option Found) (label : List ℕ) (lo hi : ℕ)
     (old : List ℕ)
     → IsLabelOf (chars text) label → IsFoundIn text found
@@ -275,14 +277,14 @@ pub not_picked : (options : Options) (whole text : List ℕ) (found : Option Fou
 not_picked options whole text found label lo hi old is_label read none =
     ([], (label, text, found, is_label, refl, read, inr (none, refl)), sym (append-nil old))
 
--- no token begins what is left, and no error stands there: it is the end
+-- If no token begins the rest of the source, and it has no error, it is empty.
 pub at_end : (old new : CursorState) → BeginsNoSource (chars old.rest) → new ≡ old → (new.rest ≡ [])
     ⊎ ((kind : SourceKind) × (after : List ℕ) × SourceBefore (chars new.rest) kind after) → old.rest ≡ []
 at_end old new none stays (inl ends) = ap (λ (s : CursorState). s.rest) (sym stays) ∙ ends
 at_end old new none stays (inr (kind, after, before)) = absurd
     (none kind after (subst (λ (s : CursorState). SourceBefore (chars s.rest) kind after) stays before))
 
--- the annotation of a literal
+-- The GitHub annotation for a literal has the first line of its output as its message.
 pub annotated : (spelling : Spelling) (text old printed new line : List ℕ)
     → Appends (IsPrintedAs spelling text) (chars []) (chars printed) → line ≡ first_line (chars printed)
     → new ≡ old ++ annotation_end (codes "literal") (message_text line (chars []))

@@ -1,7 +1,7 @@
--- What a scan has written after a step.
-use Rattle.rl_text.proofs.Common.{Bool, IsUtf8, List, Option, [], ap, chars, encodes-chars, false, length, not, refl, subst, sym, ℕ, ◌++◌, ◌==◌, ◌||◌, ◌∙◌, ◌≡◌}
+-- Lemmas about the bytes that a scan has written after a step.
+use Rattle.rl_syntax.proofs.Common.{Bool, IsUtf8, List, Option, [], ap, chars, encodes-chars, false, length, not, refl, subst, sym, ℕ, ◌++◌, ◌==◌, ◌||◌, ◌∙◌, ◌≡◌}
 use Rattle.std.specs.Io.KnownBytes.{Appends}
-use Rattle.rl_text.specs.Texts.{byte_len}
+use Rattle.rl_syntax.specs.Texts.{byte_len}
 use Rattle.rl_lexer.specs.Cursors.{CursorState}
 use Rattle.rl_lexer.specs.declared.lex_error.LexKind.{LexKind}
 use Rattle.rl_program.specs.Streams.{AppendsBeginning}
@@ -19,13 +19,13 @@ use Rattle.rl_sources.specs.Scans.{ScansHidden, ScansTokens, FailsHidden, FailsT
 use Rattle.rl_sources.specs.Steps.{Adds, Completes, IsStepOf}
 use Rattle.rl_sources.proofs.ScanLemmas.{HasWritten, ShowsOn, any_more, lines_written, written_more, written_beginning, step_shows}
 
--- the step's piece, with the text as the scan has it
+-- The part of the output that a step adds, for the text as the scan has it.
 of_text : (options : Options) (text : List ℕ) (old : CursorState) (rest piece : List ℕ) → old.text ≡ text
     → Adds options (chars old.text) (chars old.rest) rest piece → Adds options (chars text) (chars old.rest) rest piece
 of_text options text old rest piece same adds = subst (λ (t : List ℕ). Adds options (chars t) (chars old.rest) rest
     piece) same adds
 
--- the write of the lines failed
+-- The write of the step's lines failed.
 pub write_fails : {A : Type 0} (options : Options) (text lines : List ℕ) (old new : CursorState) (places : List ℕ)
     (step : Step) (any : Bool) (out mid after : Option (List ℕ)) (error : ProgramError A) → old.text ≡ text
     → HasWritten options (chars text) (chars old.rest) any out mid → IsStepOf options old (chars lines) new places step
@@ -37,7 +37,7 @@ write_fails {A = A} options text lines old new places step any out mid after err
     (subst (λ (t : List ℕ). ShowsOn options (chars t) (chars old.rest) (chars lines)) same
     (step_shows options old (chars lines) new places step is)) utf8 begins)
 
--- there is more
+-- The step's lines were written, and the source has more tokens.
 pub writes_on : (options : Options) (text lines : List ℕ) (old new : CursorState) (places : List ℕ) (any more : Bool)
     (out mid after : Option (List ℕ)) → old.text ≡ text → HasWritten options (chars text) (chars old.rest) any out mid
     → IsStepOf options old (chars lines) new places More → IsUtf8 lines → Appends mid after lines → more
@@ -46,7 +46,7 @@ writes_on options text lines old new places any more out mid after same has is u
     written_more options (chars text) (chars old.rest) (chars new.rest) lines any more out mid after has
     (of_text options text old (chars new.rest) (chars lines) same is.adds) utf8 appends more_is
 
--- the source ends
+-- The step's lines were written, and the source has ended.
 pub writes_all : (options : Options) (text lines : List ℕ) (old new : CursorState) (places : List ℕ) (any more : Bool)
     (out mid after : Option (List ℕ)) → old.text ≡ text → HasWritten options (chars text) (chars old.rest) any out mid
     → IsStepOf options old (chars lines) new places End → IsUtf8 lines → Appends mid after lines → more
@@ -60,7 +60,7 @@ writes_all options text lines old new places any more out mid after same has is 
       lines_written options (chars text) (chars old.rest) lines any out mid after has utf8 appends,
     )
 
--- the source has an error
+-- The step's lines were written, and the source has an error.
 pub writes_up_to : (A : Type 0) (options : Options) (text lines : List ℕ) (old new : CursorState) (places : List ℕ)
     (place : Place) (kind : LexKind) (any more : Bool) (out mid after : Option (List ℕ)) → old.text ≡ text
     → HasWritten options (chars text) (chars old.rest) any out mid
@@ -86,7 +86,7 @@ writes_up_to A options text lines old new places place kind any more out mid aft
       all.written,
     )
 
--- what turns or hides text was written
+-- The lines for the invisible and bidirectional characters were written.
 pub hidden_written : (options : Options) (text lines : List ℕ) (empty : Bool) (old new : Option (List ℕ))
     → IsUtf8 lines → ShowsHidden options text (chars lines) → empty ≡ (length lines == 0) → Appends old new lines
     → ScansHidden options text old new (not empty)
@@ -97,7 +97,7 @@ hidden_written options text lines empty old new utf8 shows empty_is appends = (
   subst (λ (z : List ℕ). Appends old new z) (sym (encodes-chars lines utf8)) appends,
 )
 
--- a write failed
+-- The write of the lines for invisible and bidirectional characters failed.
 pub hidden_unwritten : {A : Type 0} (options : Options) (text lines : List ℕ) (old new : Option (List ℕ))
     (error : ProgramError A) → IsUtf8 lines → ShowsHidden options text (chars lines)
     → (error ≡ Write) × AppendsBeginning old new lines → FailsHidden {A = A} options text old new (Program error)

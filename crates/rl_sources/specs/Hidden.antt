@@ -1,10 +1,10 @@
--- Characters of a source that turn or hide text, wherever they stand. Texts are lists of characters.
+-- Invisible and bidirectional characters of a source, wherever they are. Texts are lists of characters.
 use Rattle.std.specs.Prelude.{◌≡◌, ◌⊎◌, ℕ, ◌+◌, ◌-◌, ◌^◌, ◌==◌, Bool, true, false, cond, not, ◌||◌, ◌&&◌, List, [], ◌∷◌, ◌++◌, length, codes, encode_utf8}
 use Rattle.std.specs.Str.{chars}
 use Rattle.std.specs.Fmt.{digits, format_spec, padded_integral}
-use Rattle.rl_text.specs.Texts.{byte_len, begins_char}
+use Rattle.rl_syntax.specs.Texts.{byte_len, begins_char}
 use Rattle.rl_files.specs.Visible.{needs_escape}
-use Rattle.rl_lexer.specs.Sources.{without_mark}
+use Rattle.rl_lexer.specs.Sources.{without_byte_order_mark}
 use Rattle.rl_output.specs.declared.form.Form.{Form}
 use Rattle.rl_output.specs.declared.form.Form.TheVariants.{Plain, Colored, Json, Github}
 use Rattle.rl_sources.specs.declared.options.Options.{Options}
@@ -14,15 +14,15 @@ use Rattle.rl_output.specs.Github.{annotation_end}
 use Rattle.rl_output.specs.Members.{string_member}
 use Rattle.rl_sources.specs.Places.{IsContextIn, IsPlaceIn}
 
--- a control character of the layout: a tab, an LF, a form feed, and a CR before an LF
+-- `c` is a control character of the layout: a tab, an LF, a form feed, or a CR before an LF. `after` is the text after `c`.
 abbrev pub is_layout : ℕ → List ℕ → Bool
 is_layout c after = (c == 9) || (c == 10) || (c == 12) || ((c == 13) && begins_char 10 after)
 
--- the character, which stands before this, turns or hides text: what is printed as an escape, but for the layout
+-- `c` is invisible or bidirectional: displayed as an escape, and not part of the layout. `after` is the text after `c`.
 abbrev pub hides : ℕ → List ℕ → Bool
 hides c after = needs_escape c && not (is_layout c after)
 
--- what Unicode calls a character that turns the direction of text, after a space; of others nothing
+-- A space and Unicode's name of a character that changes the direction of text. It is empty for other characters.
 abbrev pub direction_name : ℕ → List ℕ
 direction_name c =
     cond (c == 0x61C) (codes " ARABIC LETTER MARK")
@@ -38,19 +38,19 @@ direction_name c =
     (cond (c == 0x2068) (codes " FIRST STRONG ISOLATE")
     (cond (c == 0x2069) (codes " POP DIRECTIONAL ISOLATE") [])))))))))))
 
--- a number in base sixteen, of four digits at least
+-- A number in base sixteen, with at least four digits.
 abbrev pub four_digits : ℕ → List ℕ
 four_digits n = padded_integral (format_spec 32 0 4 4 (2 ^ 64 - 1)) false [] (digits 16 true n)
 
--- the words of a character, in bytes: its number, as `U+202E`, and its name where it turns the direction of text
+-- The message for a character, in bytes: its number, as `U+202E`, and its name if it changes the direction of text.
 abbrev pub character_words : ℕ → List ℕ
 character_words c = codes "U+" ++ (four_digits c ++ direction_name c)
 
--- what it is, by a name that stays
+-- The identifier of a finding of an invisible or bidirectional character. It never changes.
 abbrev pub hidden_id : List ℕ
 hidden_id = codes "hidden"
 
--- what stands after the place in its line: the words, the members of its object, or the message of its annotation
+-- The output for an invisible or bidirectional character after its position: a message, JSON members, or an annotation's text.
 abbrev pub hidden_end : Form → ℕ → List ℕ
 hidden_end Plain c = chars (character_words c) ++ codes "\n"
 hidden_end Colored c = chars (character_words c) ++ codes "\n"
@@ -58,8 +58,8 @@ hidden_end Json c =
     string_member (codes "id") hidden_id ++ (string_member (codes "hidden") (chars (character_words c)) ++ codes "}\n")
 hidden_end Github c = annotation_end hidden_id (chars (character_words c))
 
--- The line of a character of the whole source, of which so much stands after it, and below it what is shown of the
--- source for it.
+-- The line for an invisible or bidirectional character `c` of the source `whole`, and the lines of context below it. `after` is the
+-- source after `c`.
 pub record IsHiddenLine (options : Options) (whole : List ℕ) (c : ℕ) (after line : List ℕ) : Type 0 where
   pub lo : ℕ
   pub lo_is : lo + byte_len (c ∷ after) ≡ byte_len whole
@@ -69,19 +69,21 @@ pub record IsHiddenLine (options : Options) (whole : List ℕ) (c : ℕ) (after 
   pub context_is : IsContextIn options whole lo (lo + length (encode_utf8 c)) context
   pub line_is : line ≡ line_front options.form options.path place ++ (hidden_end options.form c ++ context)
 
--- what is shown of a character of the whole source: where it turns or hides text its line, else nothing
+-- The output for a character `c` of the source `whole`: its line if it is invisible or bidirectional, else nothing. `after` is the
+-- source after `c`.
 abbrev pub IsShownCharacter : Options → List ℕ → ℕ → List ℕ → List ℕ → Type 0
 IsShownCharacter options whole c after line =
     ((hides c after ≡ true) × IsHiddenLine options whole c after line)
     ⊎ ((hides c after ≡ false) × (line ≡ []))
 
--- what is shown of what is left of the whole source: of each character, in order
+-- The output for the end of the source `whole`, character after character.
 abbrev pub AreHiddenLines : Options → List ℕ → List ℕ → List ℕ → Type 0
 AreHiddenLines options whole [] lines = lines ≡ []
 AreHiddenLines options whole (c ∷ after) lines =
     (line more : List ℕ) × IsShownCharacter options whole c after line
     × AreHiddenLines options whole after more × (lines ≡ line ++ more)
 
--- what is shown of the whole source; a byte order mark at its front marks only its encoding
+-- The output for the invisible and bidirectional characters of the source `whole`. A byte order mark at its start isn't one of
+-- them.
 abbrev pub ShowsHidden : Options → List ℕ → List ℕ → Type 0
-ShowsHidden options whole lines = AreHiddenLines options whole (without_mark whole) lines
+ShowsHidden options whole lines = AreHiddenLines options whole (without_byte_order_mark whole) lines

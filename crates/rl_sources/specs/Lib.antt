@@ -2,7 +2,6 @@ pub mod Options
 pub mod Hidden
 pub mod Places
 pub mod Prefixes
-pub mod InFile
 pub mod Findings
 pub mod Scans
 pub mod Steps

@@ -1,8 +1,9 @@
--- What stray characters are.
+-- The effect of stray characters, which no Rust token contains.
 use Rattle.std.specs.Prelude.{Bool, not, ◌&&◌}
 use Rattle.rl_sources.specs.declared.options.Options.{Options}
 
--- where stray characters are rejected, the first ends the source, but where lines say what is wrong: there each is a finding
+-- The first stray character ends the source: stray characters are rejected, and errors aren't explained. `finds_strays` says that
+-- each stray character is a finding: they are rejected, and errors are explained.
 abbrev pub ends_at_strays : Options → Bool
 ends_at_strays options = options.rejects_strays && not options.explains
 

@@ -1,23 +1,23 @@
--- What is shown of a source: a line for each of its literals, after its place, or where it is asked
--- for one that says why it is bad; or a line for each character that turns or hides text. Texts and what is shown are
--- lists of characters, what
--- is written lists of bytes.
-use Rattle.std.specs.Prelude.{◌∷◌, ◌≡◌, ◌≢◌, ◌⊎◌, ◌↔◌, ℕ, ◌+◌, Bool, false, true, List, [], ◌++◌, IsTrue, codes, encode_utf8_all, length, Option, Some, None}
+-- The output for a source: a line for each of its literals with its position, or, if errors are explained, lines for the literal's
+-- errors. On request it is a line for each invisible or bidirectional character instead. Texts and output are lists of characters.
+-- Written data are lists of bytes.
+use Rattle.std.specs.Prelude.{◌∷◌, ◌≡◌, ◌≢◌, ◌⊎◌, ◌↔◌, ℕ, ◌+◌, Bool, false, true, List, [], ◌++◌, IsFalse, IsTrue, codes, encode_utf8_all, length, Option, Some, None}
 use Rattle.std.specs.List.{All}
 use Rattle.std.specs.Io.KnownBytes.{Appends, Keeps}
-use Rattle.rl_text.specs.Texts.{byte_len}
+use Rattle.rl_syntax.specs.Texts.{byte_len}
 use Rattle.rl_lexer.specs.Lexemes.{LiteralForm, IdentifierForm}
-use Rattle.rl_forms.specs.Reading.{truth_text}
+use Rattle.rl_syntax.specs.Reading.{truth_text}
 use Rattle.rl_lexer.specs.Sources.{source_text, SourceKind, PlainKind, StrayKind, source_kind, CutSource, source_end, IsCutUpTo, SourceBefore, SourceErrorAt}
 use Rattle.rl_lexer.specs.declared.lex_error.LexKind.{LexKind}
 use Rattle.rl_lexer.specs.declared.lex_error.LexKind.TheVariants.{StrayCharacter}
-use Rattle.rl_reasons.specs.declared.flaws.Flaw.{Flaw}
-use Rattle.rl_reasons.specs.Limits.{ExplainsLimit}
+use Rattle.rl_strict.specs.declared.flaws.Flaw.{Flaw}
+use Rattle.rl_strict.specs.Limits.{ExplainsLimit}
 use Rattle.rl_flaws.specs.Flawed.{AreFlawsOf, FlawsState}
-use Rattle.rl_flaws.specs.declared.bad_piece.BadPiece.{BadPiece}
+use Rattle.rl_flaws.specs.declared.invalid_piece.InvalidPiece.{InvalidPiece}
 use Rattle.rl_strict.specs.StrictShapes.{IsToken}
-use Rattle.rl_file_reasons.specs.FileTexts.{lf_text}
-use Rattle.rl_lines.specs.Lines.{IsLineOf, IsLabelOf, Joins}
+use Rattle.rl_strict.specs.LineEnds.{lf_text}
+use Rattle.rl_strict.specs.declared.line_ends.LineEnds.TheVariants.{File}
+use Rattle.rl_program.specs.Lines.{IsLineOf, IsLabelOf, Joins}
 use Rattle.rl_files.specs.Visible.{visible, visible_lines}
 use Rattle.rl_program.specs.Streams.{AppendsBeginning}
 use Rattle.rl_program.specs.declared.program_error.ProgramError.TheVariants.{Write, Memory}
@@ -47,7 +47,7 @@ use Rattle.rl_sources.specs.declared.finding.Reason.TheVariants as reason
 use Rattle.rl_sources.specs.declared.finding.Wrong.TheVariants as wrong
 use Rattle.rl_sources.specs.Prefixes.{reserved_prefix}
 use Rattle.rl_types.specs.declared.type_errors.TypeError.{TypeError}
-use Rattle.rl_reading.specs.declared.found.Found.{Found}
+use Rattle.rl_lenient.specs.declared.found.Found.{Found}
 use Rattle.std.specs.Str.{chars}
 use Rattle.rl_files.specs.Globs.{borrowed_texts}
 use Rattle.rl_sources.specs.Held.{IsFirstHeld}
@@ -57,13 +57,13 @@ use Rattle.rl_output.specs.Choices.{Picks}
 use Rattle.rl_sources.specs.Options.{ends_at_strays, finds_strays}
 use Rattle.rl_sources.specs.Places.{IsPlaceIn, WithContext}
 
--- what is printed of a literal: the line of its text as a literal, or the text as it is written
+-- The output for a literal `text` without its position: the line with its value, or the text as written. Invisible and
+-- bidirectional characters are written as escapes.
 abbrev pub IsPrintedAs : Spelling → List ℕ → List ℕ → Type 0
 IsPrintedAs Value text shown = (line : List ℕ) × IsLineOf text line × (shown ≡ visible_lines line)
 IsPrintedAs Source text shown = shown ≡ visible text ++ codes "\n"
 
--- what stands after the place in the line of a literal: what is printed of it, the members of its
--- object, or the message of its annotation, which is what is printed of it
+-- The output for a literal after its position: its value or text, JSON members, or an annotation's text.
 abbrev pub IsLineEnd : Form → Spelling → List ℕ → List ℕ → Type 0
 IsLineEnd Plain spelling text shown = IsPrintedAs spelling text shown
 IsLineEnd Colored spelling text shown = IsPrintedAs spelling text shown
@@ -72,32 +72,32 @@ IsLineEnd Github spelling text shown =
     (printed : List ℕ) × IsPrintedAs spelling text printed
     × (shown ≡ annotation_end (codes "literal") (first_line printed))
 
--- the line of a literal, after this place
+-- The output for a literal at the position `place`.
 abbrev pub IsLineAt : Options → List ℕ → Place → List ℕ → Type 0
 IsLineAt options text place shown =
     (words : List ℕ) × IsLineEnd options.form options.spelling text words
     × (shown ≡ leveled_front Notice options.form options.path place ++ words)
 
--- the line of a literal, after its place in the whole source
+-- The output for the literal `text` at the range `lo..hi` of the source `whole`.
 abbrev pub IsOwnLine : Options → List ℕ → List ℕ → ℕ → ℕ → List ℕ → Type 0
 IsOwnLine options whole text lo hi shown =
     (place : Place) × IsPlaceIn options whole lo hi place × IsLineAt options text place shown
 
--- the same, and below it what is shown of the source for the place
+-- The output for the literal `text` at the range `lo..hi` of the source `whole`, and the lines of context below it.
 abbrev pub IsPlacedLine : Options → List ℕ → List ℕ → ℕ → ℕ → List ℕ → Type 0
 IsPlacedLine options whole text lo hi shown =
     WithContext (IsOwnLine options whole text lo hi) options whole lo hi shown
 
--- what is wrong: a message and, where there is one, a piece as it is printed
+-- `: `, the message of an error, and after another `: ` the invalid text `piece` if it isn't empty.
 abbrev pub error_reason : List ℕ → List ℕ → List ℕ
 error_reason message [] = codes ": " ++ (message ++ codes "\n")
 error_reason message piece = codes ": " ++ (message ++ (codes ": " ++ (visible piece ++ codes "\n")))
 
--- that it is wrong, and what is
+-- The word `error`, the message of an error, and the invalid text `piece` if it isn't empty.
 abbrev pub error_words : Form → List ℕ → List ℕ → List ℕ
 error_words form message piece = painted form paint.Error (codes "error") ++ error_reason message piece
 
--- what stands after the place in the line of a finding, and in that of a source's error
+-- `finding_end` is the output for an error of a literal after its position, and `error_end` that for another error of a source.
 abbrev pub finding_end : Form → List ℕ → Reason → List ℕ → List ℕ
 finding_end Plain text reason piece = error_words Plain (reason_message reason) piece
 finding_end Colored text reason piece = error_words Colored (reason_message reason) piece
@@ -110,54 +110,55 @@ error_end Colored kind piece = error_words Colored (lex_message kind) piece
 error_end Json kind piece = error_members kind piece
 error_end Github kind piece = annotation_end (error_id kind) (message_text (lex_message kind) piece)
 
--- the line of an error in these bytes of the whole source: its place, what is wrong, and the piece, where there is one
+-- The line for an error at the range `lo..hi` of the source `whole`: its position, the message, and the invalid text `piece` if it
+-- isn't empty.
 abbrev pub IsOwnErrorLine : Options → List ℕ → ℕ → ℕ → LexKind → List ℕ → List ℕ → Type 0
 IsOwnErrorLine options whole lo hi kind piece shown =
     (place : Place) × IsPlaceIn options whole lo hi place
     × (shown ≡ line_front options.form options.path place ++ error_end options.form kind piece)
 
--- the same, and below it what is shown of the source for the place
+-- The line for an error at the range `lo..hi` of the source `whole`, and the lines of context below it.
 abbrev pub IsErrorLine : Options → List ℕ → ℕ → ℕ → LexKind → List ℕ → List ℕ → Type 0
 IsErrorLine options whole lo hi kind piece shown =
     WithContext (IsOwnErrorLine options whole lo hi kind piece) options whole lo hi shown
 
--- the line of a finding in a text that begins at this byte of the whole source: its place, what is wrong, and the piece
+-- The line for an error of a literal: its position, the message, and the displayed text. The literal `text` begins at the byte
+-- offset `lo` of the source `whole`.
 abbrev pub IsOwnFindingLine : Options → List ℕ → List ℕ → ℕ → Finding → List ℕ → Type 0
 IsOwnFindingLine options whole text lo finding shown =
     (place : Place) × (piece : List ℕ) × IsPlaceIn options whole (lo + finding.lo) (lo + finding.hi) place
     × IsPieceOf text finding piece
     × (shown ≡ line_front options.form options.path place ++ finding_end options.form text finding.reason piece)
 
--- the same, and below it what is shown of the source for the place
+-- The line for an error of a literal, and the lines of context below it. The literal `text` begins at the byte offset `lo` of the
+-- source `whole`.
 abbrev pub IsFindingLine : Options → List ℕ → List ℕ → ℕ → Finding → List ℕ → Type 0
 IsFindingLine options whole text lo finding shown =
     WithContext (IsOwnFindingLine options whole text lo finding) options whole (lo + finding.lo) (lo + finding.hi) shown
 
--- the line of a flaw of a text as rustc reads it
-abbrev pub IsFlawLine : Options → List ℕ → List ℕ → ℕ → BadPiece → List ℕ → Type 0
+-- The line for a flaw of the literal `text`, which begins at the byte offset `lo` of the source `whole`.
+abbrev pub IsFlawLine : Options → List ℕ → List ℕ → ℕ → InvalidPiece → List ℕ → Type 0
 IsFlawLine options whole text lo read shown =
     (finding : Finding) × IsFlawFinding text read finding × IsFindingLine options whole text lo finding shown
 
--- the lines of flaws that a cursor gives from here on, in order
+-- The lines for the flaws that the cursor `start` over a literal's flaws still returns, in order.
 abbrev pub AreFlawLines : Options → List ℕ → List ℕ → ℕ → FlawsState → List ℕ → Type 0
 AreFlawLines options whole text lo start shown =
-    (flaws : List BadPiece) × AreFlawsLeft start flaws × Joins (IsFlawLine options whole text lo) flaws shown
+    (flaws : List InvalidPiece) × AreFlawsLeft start flaws × Joins (IsFlawLine options whole text lo) flaws shown
 
--- the lines of all flaws of a text that is no token as rustc reads it
+-- The lines for all flaws of the literal `text`, which isn't a token of Rust.
 abbrev pub AreAllFlawLines : Options → List ℕ → List ℕ → ℕ → List ℕ → Type 0
 AreAllFlawLines options whole text lo shown =
-    (IsToken (lf_text text) → ⊥) × ((start : FlawsState) × AreFlawsOf (encode_utf8_all (lf_text text)) start
+    (IsToken (lf_text text) → ⊥) × ((start : FlawsState) × AreFlawsOf File (encode_utf8_all text) start
     × AreFlawLines options whole text lo start shown)
 
--- the line of an integer past 128 bits
+-- The line for the integer `text`, which is above 128 bits, if only values within 128 bits are accepted.
 abbrev pub IsLimitLine : Options → List ℕ → List ℕ → ℕ → List ℕ → Type 0
 IsLimitLine options whole text lo shown =
-    IsToken (lf_text text) × ((flaw : Flaw) × (finding : Finding) × ExplainsLimit text flaw
+    IsFalse options.any_suffix × IsToken (lf_text text) × ((flaw : Flaw) × (finding : Finding) × ExplainsLimit text flaw
     × IsLimitFinding text flaw finding × IsFindingLine options whole text lo finding shown)
 
--- the line of a literal, its text in bytes, with the prefix right before it that is reserved: of both together, from
--- where the prefix
--- begins
+-- The line for the literal `text`, in bytes, and its reserved prefix. The range begins at the prefix.
 abbrev pub IsReservedLine : Options → List ℕ → List ℕ → Option Found → ℕ → List ℕ → Type 0
 IsReservedLine options whole text found lo shown =
     (prefix : List ℕ) × (start : ℕ) × (finding : Finding)
@@ -166,61 +167,60 @@ IsReservedLine options whole text found lo shown =
     × IsWholeFinding (prefix ++ chars text) reason.Reserved finding
     × IsFindingLine options whole (prefix ++ chars text) start finding shown
 
--- the line of a literal, its text in bytes, that Rust has no type for
+-- The line for the literal `text`, in bytes, which Rust has no type for.
 abbrev pub IsTypeLine : Options → List ℕ → List ℕ → Option Found → ℕ → List ℕ → Type 0
 IsTypeLine options whole text found lo shown =
     (error : TypeError) × (finding : Finding) × IsWrong options (bytes_before whole lo) text found (wrong.Type error)
     × IsWholeFinding (chars text) (reason.Type error) finding
     × IsFindingLine options whole (chars text) lo finding shown
 
--- the lines that say why a literal, its text in bytes, which begins at this byte of the whole source, is bad: one for
--- each of its
--- flaws, or the one of an integer past 128 bits, of a reserved prefix, or of a literal that Rust has no type for
+-- The lines that explain why the literal `text`, in bytes, is invalid: one for each flaw, or one for an integer above 128 bits, a
+-- reserved prefix or a missing type. The literal begins at the byte offset `lo` of the source `whole`.
 abbrev pub AreReasonLines : Options → List ℕ → List ℕ → Option Found → ℕ → List ℕ → Type 0
 AreReasonLines options whole text found lo shown =
     AreAllFlawLines options whole (chars text) lo shown ⊎ IsLimitLine options whole (chars text) lo shown
     ⊎ IsReservedLine options whole text found lo shown ⊎ IsTypeLine options whole text found lo shown
 
--- the lines of a literal, its text in bytes, of what was found: where it is asked for, and it is bad, those that say
--- why; else its
--- line as a literal
+-- The lines for the literal `text`, in bytes, whose parse result is `found`: those of its errors if errors are explained and it has
+-- any, else the line with its value or text.
 abbrev pub IsLineOfFound : Options → List ℕ → List ℕ → Option Found → ℕ → ℕ → List ℕ → Type 0
 IsLineOfFound options whole text found lo hi shown =
     (IsTrue options.explains × AreReasonLines options whole text found lo shown)
     ⊎ ((IsTrue options.explains → IsRight options (bytes_before whole lo) text found)
     × IsPlacedLine options whole (chars text) lo hi shown)
 
--- the same of a text, which is read
+-- The lines for the literal `text`, for a parse result of its bytes: those of its errors if errors are explained and it has any,
+-- else the line with its value or text.
 abbrev pub IsLineIn : Options → List ℕ → List ℕ → ℕ → ℕ → List ℕ → Type 0
 IsLineIn options whole text lo hi shown =
     (bytes : List ℕ) × (found : Option Found) × (chars bytes ≡ text) × IsFoundIn bytes found
     × IsLineOfFound options whole bytes found lo hi shown
 
--- a line at a range of a literal's bytes; nothing where there is none
+-- The line for the literal `text` at a byte range within it, or nothing without a range.
 abbrev pub IsLineAtRange : Option (ℕ × ℕ) → Options → List ℕ → List ℕ → ℕ → List ℕ → Type 0
 IsLineAtRange None options whole text lo shown = shown ≡ []
 IsLineAtRange (Some range) options whole text lo shown =
     IsPlacedLine options whole text (lo + range.0) (lo + range.1) shown
 
--- what is shown where these are looked for: where the contents of the literal hold one, the literal's line, at the
--- place of
--- what gives that which stands first; else nothing
+-- The line for the literal `text` at the first match of any of the `soughts` in its value, or nothing if there is no match.
 abbrev pub IsHeldLine : List (List ℕ) → Options → List ℕ → List ℕ → ℕ → List ℕ → Type 0
 IsHeldLine soughts options whole text lo shown =
     (first : Option (ℕ × ℕ)) × IsFirstHeld options.matching soughts text first
     × IsLineAtRange first options whole text lo shown
 
--- what is shown of a literal that is picked
+-- The lines for a literal that the options select. If there are texts to search for, it has a line only if its value contains one
+-- of them.
 abbrev pub IsPickedLine : List (List ℕ) → Options → List ℕ → List ℕ → ℕ → ℕ → List ℕ → Type 0
 IsPickedLine [] options whole text lo hi shown = IsLineIn options whole text lo hi shown
 IsPickedLine (sought ∷ soughts) options whole text lo hi shown =
     IsHeldLine (sought ∷ soughts) options whole text lo shown
 
--- the literal, its text in bytes, after these, of what was found, is picked, whose line begins with this word
+-- The options select the literal `text`, in bytes. `before` is the source before it, `found` its parse result, and `label` the
+-- first word of its line.
 abbrev pub IsPicked : Options → List ℕ → List ℕ → Option Found → List ℕ → Type 0
 IsPicked options before text found label = Picks options.shown label (IsBad options before text found)
 
--- what is shown of a literal: where it is picked, what is shown of it then, else nothing
+-- The output for the literal `text` at the range `lo..hi` of the source `whole`: its lines if the options select it, else nothing.
 abbrev pub IsShownLiteral : Options → List ℕ → List ℕ → ℕ → ℕ → List ℕ → Type 0
 IsShownLiteral options whole text lo hi shown =
     (label : List ℕ) × (bytes : List ℕ) × (found : Option Found) × IsLabelOf text label × (chars bytes ≡ text)
@@ -229,52 +229,54 @@ IsShownLiteral options whole text lo hi shown =
     × IsPickedLine (borrowed_texts options.finds.now) options whole text lo hi shown)
     ⊎ ((IsPicked options (bytes_before whole lo) bytes found label → ⊥) × (shown ≡ [])))
 
--- what is shown of a stray character: its line, where these are findings, else nothing
+-- The output for a stray character: its line if stray characters are findings, else nothing.
 abbrev pub IsShownStray : Bool → Options → List ℕ → List ℕ → ℕ → ℕ → List ℕ → Type 0
 IsShownStray true options whole text lo hi shown = IsErrorLine options whole lo hi StrayCharacter text shown
 IsShownStray false options whole text lo hi shown = shown ≡ []
 
--- what is shown of a token: of a literal, and of the words `true` and `false`, what is shown of
--- that literal; of a stray character what is shown of that; of anything else nothing
+-- The output for a token at the range `lo..hi` of the source `whole`. Literals, `true` and `false`, and stray characters have
+-- output. Other tokens have none.
 abbrev pub IsShownToken : Options → List ℕ → SourceKind → List ℕ → ℕ → ℕ → List ℕ → Type 0
 IsShownToken options whole (PlainKind LiteralForm) text lo hi shown =
     IsShownLiteral options whole text lo hi shown
 IsShownToken options whole (PlainKind IdentifierForm) text lo hi shown =
     ((b : Bool) × (text ≡ truth_text b) × IsShownLiteral options whole text lo hi shown)
     ⊎ (((b : Bool) → text ≢ truth_text b) × (shown ≡ []))
-IsShownToken options whole StrayKind text lo hi shown = IsShownStray (finds_strays options) options whole text lo hi shown
+IsShownToken options whole StrayKind text lo hi shown = IsShownStray (finds_strays options) options whole text lo hi
+    shown
 IsShownToken options whole _ text lo hi shown = shown ≡ []
 
 abbrev pub IsShown : Options → List ℕ → CutSource → List ℕ → Type 0
 IsShown options whole w shown =
     IsShownToken options whole (source_kind w.token) (source_text w.token) w.at (source_end w) shown
 
--- the token isn't a stray character
+-- The token isn't a stray character.
 abbrev pub IsNoStray : CutSource → Type 0
 IsNoStray w = source_kind w.token ≢ StrayKind
 
--- The source is cut into these tokens up to the rest, no stray among them where a stray ends the
--- source, and this is what is shown of them, in order.
+-- The source `whole` is lexed into the tokens `cuts` up to `rest`, and `shown` is their output, in order. If a stray character ends
+-- the source, no token is one.
 pub record ShowsUpTo (options : Options) (whole : List ℕ) (cuts : List CutSource) (rest shown : List ℕ)
     : Type 0 where
   pub are_cuts : IsCutUpTo whole cuts rest
   pub accepted : IsTrue (ends_at_strays options) → All IsNoStray cuts
   pub lines : Joins (IsShown options whole) cuts shown
 
--- this is what is shown of a front of the source
+-- `shown` is the output for a start of the source `whole`.
 abbrev pub ShowsFront : Options → List ℕ → List ℕ → Type 0
 ShowsFront options whole shown =
     (cuts : List CutSource) × (rest : List ℕ) × ShowsUpTo options whole cuts rest shown
 
--- an error of this kind begins the rest: no token begins it, or a stray where a stray ends the source
+-- The text `rest` begins with an error of the kind. It doesn't begin with a token, or it begins with a stray character and stray
+-- characters end the source.
 abbrev pub IsErrorAt : Bool → LexKind → List ℕ → Type 0
 IsErrorAt ends_at_strays kind rest =
     SourceErrorAt kind rest
     ⊎ (IsTrue ends_at_strays × (kind ≡ StrayCharacter)
     × ((after : List ℕ) × SourceBefore rest StrayKind after))
 
--- This is what is shown of the source up to its first error, which is of this kind and stands at
--- this byte.
+-- `shown` is the output for the source `whole` up to its first error. The error has the kind `kind`, and is at the byte offset
+-- `at`.
 pub record ShowsUpToError (options : Options) (whole shown : List ℕ) (at : ℕ) (kind : LexKind) : Type 0 where
   pub cuts : List CutSource
   pub rest : List ℕ
@@ -282,7 +284,7 @@ pub record ShowsUpToError (options : Options) (whole shown : List ℕ) (at : ℕ
   pub error : IsErrorAt (ends_at_strays options) kind rest
   pub rest_place : at + byte_len rest ≡ byte_len whole
 
--- The same, where lines don't say what is wrong; the error has this place.
+-- `shown` is the output for the source `whole` up to its first error, which has the position `place`. Errors aren't explained.
 pub record StopsAtError (options : Options) (whole shown : List ℕ) (place : Place) (kind : LexKind)
     : Type 0 where
   pub unsaid : options.explains ≡ false
@@ -290,7 +292,7 @@ pub record StopsAtError (options : Options) (whole shown : List ℕ) (place : Pl
   pub stops : ShowsUpToError options whole shown at kind
   pub place_is : IsPlaceIn options whole at at place
 
--- The same with the line of the error, where lines say what is wrong.
+-- `shown` is the output for the source `whole` up to its first error, and the line for that error. Errors are explained.
 pub record ShowsError (options : Options) (whole shown : List ℕ) : Type 0 where
   pub said : options.explains ≡ true
   pub before : List ℕ
@@ -301,29 +303,30 @@ pub record ShowsError (options : Options) (whole shown : List ℕ) : Type 0 wher
   pub line_is : IsErrorLine options whole at at kind [] line
   pub shown_is : shown ≡ before ++ line
 
--- this is what is shown of a part of the source: of a front of it, or up to its first error and that error's line
+-- `shown` is the output for a start of the source `whole`, or the output up to its first error with that error's line.
 abbrev pub ShowsPart : Options → List ℕ → List ℕ → Type 0
 ShowsPart options whole shown = ShowsFront options whole shown ⊎ ShowsError options whole shown
 
--- this is what is shown of the source: of all its tokens, or up to its first error and that error's line
+-- `shown` is the output for all tokens of the source `whole`, or the output up to its first error with that error's line.
 abbrev pub ShowsSource : Options → List ℕ → List ℕ → Type 0
 ShowsSource options whole shown =
     ((cuts : List CutSource) × ShowsUpTo options whole cuts [] shown) ⊎ ShowsError options whole shown
 
--- What was written is what is shown of the source, token after token, and it says whether that is
--- anything.
+-- A successful scan of tokens has written the output for the source `whole`. `any` is true if that output isn't empty.
 abbrev pub ScansTokens : Options → List ℕ → Option (List ℕ) → Option (List ℕ) → Bool → Type 0
 ScansTokens options whole old new any =
     (shown : List ℕ) × ShowsSource options whole shown
     × (IsTrue any ↔ (shown ≢ [])) × Appends old new (encode_utf8_all shown)
 
--- The same of what turns or hides text in it.
+-- A successful scan for invisible and bidirectional characters has written the output for the source `whole`. `any` is true if that
+-- output isn't empty.
 abbrev pub ScansHidden : Options → List ℕ → Option (List ℕ) → Option (List ℕ) → Bool → Type 0
 ScansHidden options whole old new any =
     (shown : List ℕ) × ShowsHidden options whole shown × (IsTrue any ↔ (shown ≢ []))
     × Appends old new (encode_utf8_all shown)
 
--- The same of what is asked for.
+-- A successful scan has written the output for the source `whole` that the options request. `any` is true if that output isn't
+-- empty.
 abbrev pub ScansFor : Shown → Options → List ℕ → Option (List ℕ) → Option (List ℕ) → Bool → Type 0
 ScansFor asked.All options whole old new any = ScansTokens options whole old new any
 ScansFor (asked.Only list) options whole old new any = ScansTokens options whole old new any
@@ -333,8 +336,9 @@ ScansFor asked.Hidden options whole old new any = ScansHidden options whole old 
 abbrev pub Scans : Options → List ℕ → Option (List ℕ) → Option (List ℕ) → Bool → Type 0
 Scans options whole old new any = ScansFor options.shown options whole old new any
 
--- What was written of the tokens before an error: what is shown of the source up to the place of the error; of a
--- front of it where an allocation failed; a beginning of that, or of what is shown of all of it, where a write failed.
+-- The written output after an error of a scan of tokens. After an error of the source it is the output up to that error. After a
+-- failed allocation it is the output for a start of the source. After a failed write it is a beginning of the output for a part of
+-- the source.
 abbrev pub FailsTokens : {A : Type 0} → Options → List ℕ → Option (List ℕ) → Option (List ℕ)
     → ScanError A → Type 0
 FailsTokens options whole old new (Source place kind) =
@@ -347,8 +351,8 @@ FailsTokens options whole old new (Program Write) =
     × AppendsBeginning old new (encode_utf8_all shown)
 FailsTokens options whole old new (Program _) = ⊥
 
--- What was written of what turns or hides text: nothing where an allocation failed; a beginning where a
--- write failed. It has no errors of the source.
+-- The written output after an error of a scan for invisible and bidirectional characters. After a failed allocation nothing is
+-- written. After a failed write it is a beginning of the output. The source has no errors here.
 abbrev pub FailsHidden : {A : Type 0} → Options → List ℕ → Option (List ℕ) → Option (List ℕ)
     → ScanError A → Type 0
 FailsHidden options whole old new (Source place kind) = ⊥
@@ -357,7 +361,7 @@ FailsHidden options whole old new (Program Write) =
     (shown : List ℕ) × ShowsHidden options whole shown × AppendsBeginning old new (encode_utf8_all shown)
 FailsHidden options whole old new (Program _) = ⊥
 
--- The same of what is asked for.
+-- The written output after an error of a scan, for the output that the options request.
 abbrev pub FailsFor : {A : Type 0} → Shown → Options → List ℕ → Option (List ℕ) → Option (List ℕ)
     → ScanError A → Type 0
 FailsFor asked.All options whole old new error = FailsTokens options whole old new error

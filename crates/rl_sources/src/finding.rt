@@ -1,39 +1,39 @@
-//! What is wrong with a literal, and where.
+//! The errors of literals in a Rust source, and their byte ranges.
 
 ghost use Rattle.std.specs.Prelude.{◌≡◌};
 ghost use Rattle.rl_sources.specs.Findings.{reason_id, reason_message};
 
-use rl_reasons::{Flaw, FlawKind};
+use rl_strict::{Flaw, FlawKind};
 use rl_types::TypeError;
 
-/// What is wrong with a literal.
+/// The reason why a literal is invalid.
 #[derive(Clone, Copy)]
 pub(crate) enum Reason {
-    /// It is no literal token, or an integer past 128 bits.
+    /// The text isn't a literal of Rust, or is an integer above 128 bits.
     Flaw(FlawKind),
-    /// What stands right before it is reserved.
+    /// The literal follows a reserved prefix without a space, as in `x"a"`.
     Reserved,
-    /// Rust has no type for it.
+    /// Rust has no type for the literal, as for `300u8`.
     Type(TypeError),
 }
 
-/// Something wrong with a literal, by places in its text, in bytes.
+/// An error of a literal. Its offsets are in bytes and count from the start of the literal.
 #[derive(Clone, Copy)]
 pub(crate) struct Finding {
-    /// What is wrong.
+    /// The reason why the literal is invalid.
     pub(crate) reason: Reason,
-    /// Where it is wrong.
+    /// The byte offset where the error begins.
     pub(crate) lo: usize,
-    /// The place after it.
+    /// The byte offset after the error.
     pub(crate) hi: usize,
-    /// Where the piece begins that is shown: the escape or the character, or the whole literal.
+    /// The byte offset where the displayed text begins. The displayed text is the invalid escape or character, or the whole
+    /// literal.
     pub(crate) from: usize,
-    /// The place after the piece.
+    /// The byte offset after the displayed text.
     pub(crate) to: usize,
 }
 
-/// What is wrong with a literal, as it was judged: its first flaw, that what stands right before it is
-/// reserved, or that Rust has no type for it.
+/// The error of a literal after its check: its first flaw, a reserved prefix right before it, or a missing type.
 #[derive(Clone, Copy)]
 pub(crate) enum Wrong {
     Flaw(Flaw),
@@ -42,18 +42,18 @@ pub(crate) enum Wrong {
 }
 
 impl Reason {
-    /// What is wrong, in words.
-    pub(crate) fn words(self) -> &'static str
+    /// Returns the message of the error.
+    pub(crate) fn message(self) -> &'static str
         ensures { result.now ≡ reason_message self }
     {
         match self {
-            Reason::Flaw(kind) => kind.words(),
+            Reason::Flaw(kind) => kind.message(),
             Reason::Reserved => "reserved prefix",
-            Reason::Type(error) => error.words(),
+            Reason::Type(error) => error.message(),
         }
     }
 
-    /// What is wrong, by a name that stays.
+    /// Returns the identifier of the error, which never changes.
     pub(crate) fn id(self) -> &'static str
         ensures { result.now ≡ reason_id self }
     {

@@ -1,130 +1,61 @@
-//! The lines of all that is wrong with a literal.
+//! Writes one line for each error of a literal.
 
-ghost use Rattle.std.specs.Prelude.{◌≡◌, ◌≢◌, ◌≤◌, ◌↔◌, IsFalse, IsTrue, OnOk, string_bytes};
+ghost use Rattle.std.specs.Prelude.{◌≡◌, ◌≢◌, ◌≤◌, ◌↔◌, IsTrue, OnOk, string_bytes};
 ghost use Rattle.std.specs.Str.{chars};
-ghost use Rattle.rl_text.specs.Texts.{byte_len};
-ghost use Rattle.rl_file_reasons.specs.FileTexts.{IsPlaceInFile, lf_text};
-ghost use Rattle.rl_flaws.specs.BadPieces.{is_of_unit};
-ghost use Rattle.rl_reasons.specs.declared.flaws.FlawKind.TheVariants.{TooLarge};
-ghost use Rattle.rl_lines.specs.Lines.{Appends};
+ghost use Rattle.rl_syntax.specs.Texts.{byte_len};
+ghost use Rattle.rl_strict.specs.declared.flaws.FlawKind.TheVariants.{TooLarge};
+ghost use Rattle.rl_program.specs.Lines.{Appends};
 ghost use Rattle.rl_sources.specs.Findings.{FindsFlaw, IsFlawFinding, IsLimitFinding, IsWholeFinding, IsWrong};
 ghost use Rattle.rl_output.specs.Spots.{bytes_before};
 ghost use Rattle.rl_sources.specs.Held.{IsCutAt};
-ghost use Rattle.rl_sources.specs.InFile.{AreCuts, IsFlawsOver, StandsInFile};
-ghost use Rattle.rl_sources.specs.Scans.{AreAllFlawLines, AreFlawLines, AreReasonLines, IsLimitLine, IsReservedLine, IsTypeLine};
+ghost use Rattle.rl_sources.specs.Scans.{AreAllFlawLines, AreReasonLines, IsLimitLine, IsReservedLine, IsTypeLine};
 ghost use Rattle.rl_sources.specs.Steps.{BeginsRest};
 
 use crate::finding::{Finding, Reason, Wrong};
-use crate::in_file::{ReadPlace, front_of, place_at, read_text};
 use crate::literal::Literal;
 use crate::options::Options;
 use crate::prefix::with_prefix;
 use crate::reason::push_finding;
-use rl_flaws::{BadPiece, Flaws, is_of_unit};
+use rl_flaws::{Flaws, InvalidPiece, is_flaw_of_unit};
 use rl_output::Places;
-use rl_reasons::{Flaw, FlawKind};
+use rl_strict::{Flaw, FlawKind, LineEnds};
 use rl_types::TypeError;
 use std::alloc::{AllocError, Allocator};
 
-/// A place in the file, in bytes of the text.
-fn in_text(text: &str, place: ReadPlace<'_>) -> usize
-    requires { StandsInFile text.now place }
-    ensures { IsPlaceInFile (chars text.now) place.entry.at result }
+/// Returns the finding of a flaw in the literal `text`. The displayed text is the invalid escape or character, or the whole literal
+/// if the flaw has another kind.
+fn finding_of(text: &str, bad: InvalidPiece) -> Finding
+    ensures { IsFlawFinding (chars text.now) bad result }
 {
-    text.len() - place.rest.len()
-}
-
-/// The finding of a bad escape or character, and where it ends.
-fn piece_finding<'t>(text: &'t str, from: ReadPlace<'t>, bad: BadPiece) -> (Finding, ReadPlace<'t>)
-    requires from { StandsInFile text.now from }
-    requires cuts { AreCuts (lf_text (chars text.now)) bad }
-    requires unit { IsTrue (is_of_unit bad.flaw.kind) }
-    ensures finding { IsFlawFinding (chars text.now) bad result.0 }
-    ensures stands { StandsInFile text.now result.1 }
-{
-    let piece = place_at(text, from, bad.flaw.from);
-    let lo = place_at(text, piece, bad.flaw.lo);
-    let hi = place_at(text, lo, bad.flaw.hi);
-    let end = place_at(text, lo, bad.end);
-    let finding = Finding {
-        reason: Reason::Flaw(bad.flaw.kind),
-        lo: in_text(text, lo),
-        hi: in_text(text, hi),
-        from: in_text(text, piece),
-        to: in_text(text, end),
-    };
-    (finding, end)
-}
-
-/// The finding of a flaw of the whole literal, and where it stands.
-fn whole_finding<'t>(text: &'t str, from: ReadPlace<'t>, bad: BadPiece) -> (Finding, ReadPlace<'t>)
-    requires from { StandsInFile text.now from }
-    requires cuts { AreCuts (lf_text (chars text.now)) bad }
-    requires whole { IsFalse (is_of_unit bad.flaw.kind) }
-    ensures finding { IsFlawFinding (chars text.now) bad result.0 }
-    ensures stands { StandsInFile text.now result.1 }
-{
-    let lo = place_at(text, from, bad.flaw.lo);
-    let hi = place_at(text, lo, bad.flaw.hi);
-    let finding = Finding {
-        reason: Reason::Flaw(bad.flaw.kind),
-        lo: in_text(text, lo),
-        hi: in_text(text, hi),
+    let reason = Reason::Flaw(bad.flaw.kind);
+    let lo = bad.flaw.lo;
+    let hi = bad.flaw.hi;
+    if is_flaw_of_unit(bad.flaw.kind) {
+        return Finding {
+            reason,
+            lo,
+            hi,
+            from: bad.flaw.from,
+            to: bad.end,
+        };
+    }
+    Finding {
+        reason,
+        lo,
+        hi,
         from: 0,
         to: text.len(),
-    };
-    (finding, lo)
-}
-
-/// The finding of a flaw, by its places in the file, and a place to go on from.
-fn finding_of<'t>(text: &'t str, from: ReadPlace<'t>, bad: BadPiece) -> (Finding, ReadPlace<'t>)
-    requires from { StandsInFile text.now from }
-    requires cuts { AreCuts (lf_text (chars text.now)) bad }
-    ensures finding { IsFlawFinding (chars text.now) bad result.0 }
-    ensures stands { StandsInFile text.now result.1 }
-{
-    if is_of_unit(bad.flaw.kind) {
-        piece_finding(text, from, bad)
-    } else {
-        whole_finding(text, from, bad)
     }
 }
 
-/// Appends a line for each flaw that is left.
-fn push_flaws_left<'t, A: Allocator>(
-    out: &mut String<A>,
-    options: &Options<'_>,
-    literal: &Literal<'_, 't>,
-    places: &mut Places<'t>,
-    all: Flaws<'_>,
-) -> Result<(), AllocError>
-    requires rest { BeginsRest literal.now.token.now places.old literal.now.rest.now }
-    requires over { IsFlawsOver (chars literal.now.token.now.text.now) all }
-    ensures shown { OnOk result (Appends
-        (AreFlawLines options.now (chars places.old) (chars literal.now.token.now.text.now)
-        literal.now.token.now.lo all.entry)
-        (chars (string_bytes out.old)) (chars (string_bytes out.new))) }
-    ensures same { places.new ≡ places.old }
-{
-    let text = literal.token.text;
-    let mut flaws = all;
-    let mut place = front_of(text);
-    while let Some(bad) = flaws.next() {
-        let (finding, next) = finding_of(text, place, bad);
-        push_finding(out, options, literal, places, finding)?;
-        place = next;
-    }
-    Ok(())
-}
-
-/// Whether a flaw is that of an integer past 128 bits.
+/// Whether a flaw is that of an integer above 128 bits.
 fn is_limit(flaw: Flaw) -> bool
     ensures { IsTrue result ↔ (flaw.kind ≡ TooLarge) }
 {
     matches!(flaw.kind, FlawKind::TooLarge)
 }
 
-/// The finding of an integer past 128 bits.
+/// Returns the finding of the integer `text`, which is above 128 bits. The displayed text is the whole literal.
 fn limit_finding(text: &str, flaw: Flaw) -> Finding
     ensures { IsLimitFinding (chars text.now) flaw result }
 {
@@ -137,7 +68,7 @@ fn limit_finding(text: &str, flaw: Flaw) -> Finding
     }
 }
 
-/// Appends the line of an integer past 128 bits.
+/// Appends the line for an integer above 128 bits, at its position in the source.
 fn push_limit<'t, A: Allocator>(
     out: &mut String<A>,
     options: &Options<'_>,
@@ -146,7 +77,7 @@ fn push_limit<'t, A: Allocator>(
     flaw: Flaw,
 ) -> Result<(), AllocError>
     requires rest { BeginsRest literal.now.token.now places.old literal.now.rest.now }
-    requires flaw { FindsFlaw (chars literal.now.token.now.text.now) flaw }
+    requires flaw { FindsFlaw options.now.any_suffix (chars literal.now.token.now.text.now) flaw }
     requires large { flaw.kind ≡ TooLarge }
     ensures shown { OnOk result (Appends
         (IsLimitLine options.now (chars places.old) (chars literal.now.token.now.text.now)
@@ -158,9 +89,8 @@ fn push_limit<'t, A: Allocator>(
     push_finding(out, options, literal, places, finding)
 }
 
-/// Appends the lines of the flaws of a literal that is no token.
+/// Appends a line for each flaw of an invalid literal, in order. Integers above 128 bits aren't among these literals.
 fn push_flaws<'t, A: Allocator>(
-    alloc: A,
     out: &mut String<A>,
     options: &Options<'_>,
     literal: &Literal<'_, 't>,
@@ -168,7 +98,7 @@ fn push_flaws<'t, A: Allocator>(
     flaw: Flaw,
 ) -> Result<(), AllocError>
     requires rest { BeginsRest literal.now.token.now places.old literal.now.rest.now }
-    requires flaw { FindsFlaw (chars literal.now.token.now.text.now) flaw }
+    requires flaw { FindsFlaw options.now.any_suffix (chars literal.now.token.now.text.now) flaw }
     requires other { flaw.kind ≢ TooLarge }
     ensures shown { OnOk result (Appends
         (AreAllFlawLines options.now (chars places.old) (chars literal.now.token.now.text.now)
@@ -176,13 +106,16 @@ fn push_flaws<'t, A: Allocator>(
         (chars (string_bytes out.old)) (chars (string_bytes out.new))) }
     ensures same { places.new ≡ places.old }
 {
-    let read = read_text(alloc, literal.token.text)?;
-    let flaws = Flaws::of(read.as_str());
-    push_flaws_left(out, options, literal, places, flaws)
+    let mut flaws = Flaws::of(literal.token.text, LineEnds::File);
+    while let Some(bad) = flaws.next() {
+        let finding = finding_of(literal.token.text, bad);
+        push_finding(out, options, literal, places, finding)?;
+    }
+    Ok(())
 }
 
-/// The finding of what is wrong with a literal as a whole.
-fn whole_of(text: &str, reason: Reason) -> Finding
+/// Returns a finding whose range and displayed text are the whole literal `text`.
+fn finding_of_whole(text: &str, reason: Reason) -> Finding
     ensures finding { IsWholeFinding (chars text.now) reason result }
     ensures cut { IsCutAt (chars text.now) result.lo }
     ensures within { result.hi ≤ byte_len (chars text.now) }
@@ -196,7 +129,7 @@ fn whole_of(text: &str, reason: Reason) -> Finding
     }
 }
 
-/// Appends the line of a literal right after what is reserved with it.
+/// Appends the line for a literal with a reserved prefix. The range begins at the prefix.
 fn push_reserved<'t, A: Allocator>(
     out: &mut String<A>,
     options: &Options<'_>,
@@ -219,11 +152,11 @@ fn push_reserved<'t, A: Allocator>(
         found: literal.found,
         wrong: literal.wrong,
     };
-    let finding = whole_of(token.text, Reason::Reserved);
+    let finding = finding_of_whole(token.text, Reason::Reserved);
     push_finding(out, options, &whole, places, finding)
 }
 
-/// Appends the line of a literal that Rust has no type for.
+/// Appends the line for a literal that Rust has no type for, at its position in the source.
 fn push_typeless<'t, A: Allocator>(
     out: &mut String<A>,
     options: &Options<'_>,
@@ -240,14 +173,14 @@ fn push_typeless<'t, A: Allocator>(
         (chars (string_bytes out.old)) (chars (string_bytes out.new))) }
     ensures same { places.new ≡ places.old }
 {
-    let finding = whole_of(literal.token.text, Reason::Type(error));
+    let finding = finding_of_whole(literal.token.text, Reason::Type(error));
     push_finding(out, options, literal, places, finding)
 }
 
-/// Appends the lines that say why a literal is bad: one for each of its flaws, or one.
+/// Appends the lines that explain why a literal is invalid: one for each flaw, or one for an integer above 128 bits, a reserved
+/// prefix or a missing type.
 #[inline(never)]
-pub(crate) fn push_wrong<'t, A: Allocator>(
-    alloc: A,
+pub(crate) fn push_error_lines<'t, A: Allocator>(
     out: &mut String<A>,
     options: &Options<'_>,
     literal: &Literal<'_, 't>,
@@ -265,7 +198,7 @@ pub(crate) fn push_wrong<'t, A: Allocator>(
 {
     match wrong {
         Wrong::Flaw(flaw) if is_limit(flaw) => push_limit(out, options, literal, places, flaw),
-        Wrong::Flaw(flaw) => push_flaws(alloc, out, options, literal, places, flaw),
+        Wrong::Flaw(flaw) => push_flaws(out, options, literal, places, flaw),
         Wrong::Reserved => push_reserved(out, options, literal, places),
         Wrong::Type(error) => push_typeless(out, options, literal, places, error),
     }

@@ -1,32 +1,33 @@
-//! Characters of a source that turn or hide text, wherever they stand.
+//! Invisible and bidirectional characters of a source, wherever they are.
 
 ghost use Rattle.std.specs.Prelude.{◌≡◌, ◌+◌, ◌++◌, ◌∷◌, IfOk, OnOk, codes, length, string_bytes};
 ghost use Rattle.std.specs.Str.{chars};
 ghost use Rattle.rl_lexer.specs.Cursors.{IsCursorState};
-ghost use Rattle.rl_lines.specs.Lines.{Appends};
+ghost use Rattle.rl_program.specs.Lines.{Appends};
 ghost use Rattle.rl_output.specs.Github.{annotation_end};
 ghost use Rattle.rl_output.specs.Members.{string_member};
 ghost use Rattle.rl_sources.specs.Hidden.{IsHiddenLine, IsShownCharacter, ShowsHidden, character_words, direction_name as name_of, hidden_end, hidden_id, hides as is_hider, is_layout as layout};
 
 use crate::options::Options;
-use crate::place::{place_of, push_context_of};
+use crate::place::{displayed_place, push_context_of};
 use rl_files::needs_escape;
-use rl_lexer::without_mark;
+use rl_lexer::without_byte_order_mark;
 use rl_output::{Form, Level, Places, push_annotation_end, push_ascii, push_front, push_member};
 use rl_tokens::text::{begins_with, split_char};
 use std::alloc::{AllocError, Allocator};
 
-/// What a character that turns or hides text is, by a name that stays.
+/// The identifier of a finding of an invisible or bidirectional character. It never changes.
 const HIDDEN_ID: &str = "hidden";
 
-/// Whether a character is a control character of the layout: a tab, an LF, a form feed, or a CR before an LF.
+/// Whether `c` is a control character of the layout: a tab, an LF, a form feed, or a CR before an LF. `after` is the text after
+/// `c`.
 fn is_layout(c: char, after: &str) -> bool
     ensures { result ≡ layout c (chars after.now) }
 {
     matches!(c, '\t' | '\n' | '\u{c}') || c == '\r' && begins_with(after, '\n')
 }
 
-/// Whether a character turns or hides text: one that is printed as an escape, but for the layout.
+/// Whether `c` is invisible or bidirectional: displayed as an escape, and not part of the layout. `after` is the text after `c`.
 #[tactic(auto, using(crate::proofs::HiddenLemmas::plain_hides))]
 #[inline(always)]
 fn hides(c: char, after: &str) -> bool
@@ -38,7 +39,7 @@ fn hides(c: char, after: &str) -> bool
     needs_escape(c) && !is_layout(c, after)
 }
 
-/// What Unicode calls a character that turns the direction of text, after a space; of others nothing.
+/// Returns a space and Unicode's name of a character that changes the direction of text. The result is empty for other characters.
 fn direction_name(c: char) -> &'static str
     ensures { result.now ≡ name_of c }
 {
@@ -59,7 +60,7 @@ fn direction_name(c: char) -> &'static str
     }
 }
 
-/// The words of a character: its number, and its name where it turns the direction of text.
+/// Returns the message for a character: its number, as in `U+202E`, and its name if it changes the direction of text.
 fn words_of<A: Allocator>(alloc: A, c: char) -> Result<String<A>, AllocError>
     ensures { IfOk result (λ words. string_bytes words ≡ character_words c) }
 {
@@ -68,7 +69,7 @@ fn words_of<A: Allocator>(alloc: A, c: char) -> Result<String<A>, AllocError>
     format!(in alloc; "U+{number:04X}{name}")
 }
 
-/// Appends the words of a character, and the line's end.
+/// Appends the message for an invisible or bidirectional character, and a line end.
 fn push_hidden_words<A: Allocator>(out: &mut String<A>, words: &str) -> Result<(), AllocError>
     ensures { OnOk result (chars (string_bytes out.new)
         ≡ chars (string_bytes out.old) ++ (chars words.now ++ codes "\n")) }
@@ -77,7 +78,8 @@ fn push_hidden_words<A: Allocator>(out: &mut String<A>, words: &str) -> Result<(
     push_ascii(out, "\n")
 }
 
-/// Appends the members of a character, and the object's end.
+/// Appends the JSON members `id` and `hidden` for an invisible or bidirectional character, `}` and a line end. `words` is the
+/// message for the character.
 fn push_hidden_member<A: Allocator>(out: &mut String<A>, words: &str) -> Result<(), AllocError>
     ensures { OnOk result (chars (string_bytes out.new)
         ≡ chars (string_bytes out.old) ++ (string_member (codes "id") hidden_id
@@ -88,7 +90,7 @@ fn push_hidden_member<A: Allocator>(out: &mut String<A>, words: &str) -> Result<
     push_ascii(out, "}\n")
 }
 
-/// Appends what stands after the place in the annotation of a character.
+/// Appends a GitHub annotation's text after its position. `words` is the message for an invisible or bidirectional character.
 fn push_hidden_annotation<A: Allocator>(out: &mut String<A>, words: &str) -> Result<(), AllocError>
     ensures { OnOk result (chars (string_bytes out.new)
         ≡ chars (string_bytes out.old) ++ annotation_end hidden_id (chars words.now)) }
@@ -96,7 +98,8 @@ fn push_hidden_annotation<A: Allocator>(out: &mut String<A>, words: &str) -> Res
     push_annotation_end(out, HIDDEN_ID, words, "")
 }
 
-/// Appends what stands after the place in the line of a character.
+/// Appends the output for the invisible or bidirectional character `c` after its position: the message, JSON members, or an
+/// annotation's text.
 fn push_hidden_end<A: Allocator>(
     alloc: A,
     out: &mut String<A>,
@@ -114,7 +117,9 @@ fn push_hidden_end<A: Allocator>(
     }
 }
 
-/// Appends the line of the character that begins a rest of the source, and after which so much is left.
+/// Appends the line for `c`, an invisible or bidirectional character at the start of `rest`, and the lines of context.
+///
+/// `rest` is the end of the source from `c`, and `after` the text after `c`.
 #[inline(never)]
 fn push_hidden_line<'t, A: Allocator>(
     alloc: A,
@@ -134,13 +139,15 @@ fn push_hidden_line<'t, A: Allocator>(
 {
     let lo = places.byte_of(rest);
     let hi = places.byte_of(after);
-    let place = place_of(options, places, rest, lo, hi);
+    let place = displayed_place(options, places, rest, lo, hi);
     push_front(out, Level::Error, options.form, options.path, &place)?;
     push_hidden_end(alloc, out, options.form, c)?;
     push_context_of(out, options, places, rest, lo, hi)
 }
 
-/// Appends what is shown of the character that begins a rest of the source, and after which so much is left.
+/// Appends the line for `c` if it is invisible or bidirectional.
+///
+/// `rest` is the end of the source from `c`, and `after` the text after `c`.
 #[inline(always)]
 fn push_character<'t, A: Allocator>(
     alloc: A,
@@ -164,12 +171,13 @@ fn push_character<'t, A: Allocator>(
     push_hidden_line(alloc, out, options, places, rest, c, after)
 }
 
-/// The lines of the characters of a source that turn or hide text, in order: the place of each, and after it its number,
-/// with its name where it turns the direction of text.
+/// Returns the lines for the invisible and bidirectional characters of the source `text`, in order.
+///
+/// A line has the position of the character, its number, and its name if it changes the direction of text.
 ///
 /// # Errors
 ///
-/// An allocation failure.
+/// Returns an error if an allocation fails.
 pub(crate) fn hidden_lines<A: Allocator + Copy>(
     alloc: A,
     options: &Options<'_>,
@@ -179,7 +187,7 @@ pub(crate) fn hidden_lines<A: Allocator + Copy>(
 {
     let mut lines = String::new(alloc);
     let mut places = Places::new(text);
-    let mut rest = without_mark(text);
+    let mut rest = without_byte_order_mark(text);
     while let Some((c, after)) = split_char(rest) {
         push_character(alloc, &mut lines, options, &mut places, rest, c, after)?;
         rest = after;

@@ -1,30 +1,30 @@
-//! What is printed of a source as JSON: an object a line.
+//! Writes the output for a source as JSON: one object a line.
 
 ghost use Rattle.std.specs.Prelude.{◌≡◌, ◌⊎◌, ◌++◌, true, OnOk, IfOk, IfNone, IfSome, string_bytes, codes};
 ghost use Rattle.std.specs.Char.{is_ascii};
 ghost use Rattle.std.specs.List.{list_all};
 ghost use Rattle.std.specs.Str.{chars};
-ghost use Rattle.rl_forms.specs.declared.kind.Kind.TheVariants.{Str, ByteStr, CStr, Byte, Char, Int, Float};
-ghost use Rattle.rl_forms.specs.Reading.{HasNoReading, truth_text};
-ghost use Rattle.rl_lines.specs.Lines.{Appends};
-ghost use Rattle.rl_reading.specs.Founds.{IsFound};
+ghost use Rattle.rl_syntax.specs.declared.kind.Kind.TheVariants.{Str, ByteStr, CStr, Byte, Char, Int, Float};
+ghost use Rattle.rl_syntax.specs.Reading.{HasNoReading, truth_text};
+ghost use Rattle.rl_program.specs.Lines.{Appends};
+ghost use Rattle.rl_lenient.specs.Founds.{IsFound};
 ghost use Rattle.rl_output.specs.Members.{string_member};
 ghost use Rattle.rl_sources.specs.Json.{more_numbers, number_array, IsJsonLiteral, IsJsonValueOf, finding_members, flawed_text_member, error_members, piece_member};
 
+use crate::find_match::{byte_contents, bytes_contents};
 use crate::finding::Reason;
-use crate::held::{byte_contents, bytes_contents};
-use rl_forms::Kind;
 use rl_fronts::{digits_of_found, str_of_body};
-use rl_lines::label_of;
+use rl_lenient::Found;
 use rl_output::{id_of, push_ascii, push_json_string, push_member};
-use rl_reading::Found;
+use rl_program::label_of;
+use rl_syntax::Kind;
 use rl_tokens::LexKind;
 use std::alloc::{AllocError, Allocator};
 
-/// The text of a literal in which something is wrong isn't printed where it has more bytes.
+/// The maximum length, in bytes, of an invalid literal's text in the JSON output. A longer text is `null`.
 const MOST_BYTES: usize = 1024;
 
-/// Appends numbers, each after a comma.
+/// Appends each number with a comma before it.
 fn push_more_numbers<A: Allocator>(out: &mut String<A>, numbers: &[u8]) -> Result<(), AllocError>
     ensures { OnOk result (chars (string_bytes out.new)
         ≡ chars (string_bytes out.old) ++ more_numbers numbers.now) }
@@ -35,7 +35,7 @@ fn push_more_numbers<A: Allocator>(out: &mut String<A>, numbers: &[u8]) -> Resul
     Ok(())
 }
 
-/// Appends an array of numbers.
+/// Appends the bytes as a JSON array of numbers.
 fn push_array<A: Allocator>(out: &mut String<A>, numbers: &[u8]) -> Result<(), AllocError>
     ensures { OnOk result (chars (string_bytes out.new)
         ≡ chars (string_bytes out.old) ++ number_array numbers.now) }
@@ -48,8 +48,9 @@ fn push_array<A: Allocator>(out: &mut String<A>, numbers: &[u8]) -> Result<(), A
     push_ascii(out, "]")
 }
 
-/// Appends the value of the string that was found in the text, which is copied only where it isn't what stands between
-/// the quotes.
+/// Appends the value of the string literal `text` as a JSON string, from its parse result `found`.
+///
+/// The value is copied only if it differs from the text between the quotes.
 fn push_string<A: Allocator>(
     alloc: A,
     out: &mut String<A>,
@@ -71,7 +72,7 @@ fn push_string<A: Allocator>(
     }
 }
 
-/// Appends the value of the byte string or the C string that was found in the text.
+/// Appends the value of the byte string or C string literal `text` as a JSON array of numbers, from its parse result `found`.
 fn push_bytes<A: Allocator>(
     alloc: A,
     out: &mut String<A>,
@@ -87,7 +88,7 @@ fn push_bytes<A: Allocator>(
     push_array(out, bytes.as_slice())
 }
 
-/// Appends the value of the byte that was found in the text.
+/// Appends the value of a byte literal as a JSON array of one number, from its parse result `found`.
 fn push_one_byte<A: Allocator>(
     alloc: A,
     out: &mut String<A>,
@@ -103,7 +104,7 @@ fn push_one_byte<A: Allocator>(
     push_array(out, bytes.as_slice())
 }
 
-/// Appends the value of the character that was found in the text.
+/// Appends the value of a character literal as a JSON string, from its parse result `found`.
 fn push_character<A: Allocator>(
     alloc: A,
     out: &mut String<A>,
@@ -120,8 +121,9 @@ fn push_character<A: Allocator>(
     push_json_string(out, value.as_str())
 }
 
-/// Appends the value of the number that was found in the text: its digits, which are copied only where they aren't all
-/// that stands before the suffix.
+/// Appends the digits of the number `text` as a JSON string, from its parse result `found`.
+///
+/// The digits are copied only if they differ from the text before the suffix.
 fn push_digits<A: Allocator>(
     alloc: A,
     out: &mut String<A>,
@@ -142,7 +144,7 @@ fn push_digits<A: Allocator>(
     }
 }
 
-/// Appends the word of a truth value.
+/// Appends the value of a `bool` literal: `true` or `false`.
 fn push_truth<A: Allocator>(out: &mut String<A>, value: bool) -> Result<(), AllocError>
     ensures { OnOk result
         (chars (string_bytes out.new) ≡ chars (string_bytes out.old) ++ truth_text value) }
@@ -154,7 +156,7 @@ fn push_truth<A: Allocator>(out: &mut String<A>, value: bool) -> Result<(), Allo
     }
 }
 
-/// Appends the value of the literal that was found in the text.
+/// Appends the value of the literal `text` as JSON, from its parse result `found`.
 fn push_value<A: Allocator>(
     alloc: A,
     out: &mut String<A>,
@@ -175,7 +177,7 @@ fn push_value<A: Allocator>(
     }
 }
 
-/// Appends the end of a literal's object: its suffix.
+/// Appends the member `suffix`, which is a literal's last one, `}` and a line end.
 fn push_suffix<A: Allocator>(out: &mut String<A>, suffix: &str) -> Result<(), AllocError>
     ensures { OnOk result (chars (string_bytes out.new) ≡ chars (string_bytes out.old)
         ++ (string_member (codes "suffix") (chars suffix.now) ++ codes "}\n")) }
@@ -184,7 +186,8 @@ fn push_suffix<A: Allocator>(out: &mut String<A>, suffix: &str) -> Result<(), Al
     push_ascii(out, "}\n")
 }
 
-/// Appends the members of the literal that was found in the text.
+/// Appends the JSON members for the literal `text`, `}` and a line end. The members are kind, text, value and suffix, and `found`
+/// is the parse result of `text`.
 fn push_found_members<A: Allocator>(
     alloc: A,
     out: &mut String<A>,
@@ -202,7 +205,7 @@ fn push_found_members<A: Allocator>(
     push_suffix(out, found.suffix_in(text))
 }
 
-/// Appends the members of a text that is no literal.
+/// Appends the JSON members for a text that isn't a literal, `}` and a line end.
 fn push_verbatim_members<A: Allocator>(out: &mut String<A>, text: &str) -> Result<(), AllocError>
     requires { HasNoReading (chars text.now) }
     ensures { OnOk result (Appends (IsJsonLiteral (chars text.now))
@@ -214,7 +217,8 @@ fn push_verbatim_members<A: Allocator>(out: &mut String<A>, text: &str) -> Resul
     push_suffix(out, "")
 }
 
-/// Appends the members of a text, of what `find` of `rl_grammar` returned for it, and the end of its object.
+/// Appends the JSON members for the token `text`, `}` and a line end. `found` is the parse result of `text`, or `None` if it isn't
+/// a literal.
 #[inline(never)]
 pub(crate) fn push_json_literal<A: Allocator>(
     alloc: A,
@@ -233,8 +237,9 @@ pub(crate) fn push_json_literal<A: Allocator>(
     }
 }
 
-/// Appends the member of the text of a literal in which something is wrong: `null`, where it is longer than this. So what is
-/// printed of a literal with many flaws doesn't grow as the square.
+/// Appends the member for the text of an invalid literal, or `null` if the text has more than 1,024 bytes.
+///
+/// Without that limit, the output for a literal with many flaws grows with the square of its length.
 fn push_flawed_text<A: Allocator>(out: &mut String<A>, text: &str) -> Result<(), AllocError>
     ensures { OnOk result (chars (string_bytes out.new)
         ≡ chars (string_bytes out.old) ++ flawed_text_member (chars text.now)) }
@@ -245,8 +250,8 @@ fn push_flawed_text<A: Allocator>(out: &mut String<A>, text: &str) -> Result<(),
     push_member(out, "text", text)
 }
 
-/// Appends the members of a finding: the literal's text, what is wrong, by a name that stays and in words, and the piece that is
-/// shown, and the end of its object.
+/// Appends the JSON members for an error of the literal `text`, `}` and a line end. The members are the text, the identifier and
+/// the message of `reason`, and the displayed text `piece`.
 pub(crate) fn push_json_finding<A: Allocator>(
     out: &mut String<A>,
     text: &str,
@@ -258,12 +263,12 @@ pub(crate) fn push_json_finding<A: Allocator>(
 {
     push_flawed_text(out, text)?;
     push_member(out, "id", reason.id())?;
-    push_member(out, "error", reason.words())?;
+    push_member(out, "error", reason.message())?;
     push_member(out, "piece", piece)?;
     push_ascii(out, "}\n")
 }
 
-/// Appends the member of a piece, where there is one.
+/// Appends the JSON member `piece`, if the text isn't empty.
 fn push_piece<A: Allocator>(out: &mut String<A>, piece: &str) -> Result<(), AllocError>
     ensures { OnOk result (chars (string_bytes out.new)
         ≡ chars (string_bytes out.old) ++ piece_member (chars piece.now)) }
@@ -274,8 +279,9 @@ fn push_piece<A: Allocator>(out: &mut String<A>, piece: &str) -> Result<(), Allo
     push_member(out, "piece", piece)
 }
 
-/// Appends the members of a source's error, by a name that stays and in words, with the piece where there is one, and the end of its
-/// object.
+/// Appends the JSON members for an error that isn't in a literal, as an unclosed comment, `}` and a line end.
+///
+/// The members are the identifier and the message of `kind`, and `piece` if it isn't empty.
 pub(crate) fn push_json_error<A: Allocator>(
     out: &mut String<A>,
     kind: LexKind,
@@ -285,7 +291,7 @@ pub(crate) fn push_json_error<A: Allocator>(
         ≡ chars (string_bytes out.old) ++ error_members kind (chars piece.now)) }
 {
     push_member(out, "id", id_of(kind))?;
-    push_member(out, "error", kind.words())?;
+    push_member(out, "error", kind.message())?;
     push_piece(out, piece)?;
     push_ascii(out, "}\n")
 }

@@ -1,14 +1,13 @@
-//! The literals of whole Rust sources as lines, each after its place: all of them, those that are bad, or whose contents
-//! hold a text; or what turns or hides text in them.
+//! Lists the literals of whole Rust sources, one a line, each with its position: all literals, only invalid literals, or only
+//! literals whose value contains a text. Lists the invisible and bidirectional characters of a source instead, on request.
 #![tactic(auto)]
 
+mod check;
+mod find_match;
 mod finding;
 mod flaw_lines;
-mod held;
 mod hidden;
-mod in_file;
 mod json;
-mod judge;
 mod literal;
 mod options;
 mod place;
@@ -20,7 +19,7 @@ mod search;
 mod step;
 
 pub use crate::options::Options;
-pub use crate::place::place_of;
+pub use crate::place::displayed_place;
 pub use crate::reason::push_source_error;
 pub use crate::scan_error::ScanError;
 pub use crate::scanner::scan;

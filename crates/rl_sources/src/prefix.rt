@@ -1,8 +1,8 @@
-//! What stands right before a literal and is reserved with it.
+//! The reserved prefix of a literal: a word or hashes right before it that the edition reserves.
 
 ghost use Rattle.std.specs.Prelude.{◌≡◌, ◌≤◌, ◌++◌, ◌+◌, drop, length};
 ghost use Rattle.std.specs.Str.{chars};
-ghost use Rattle.rl_text.specs.Classes.{is_hash};
+ghost use Rattle.rl_syntax.specs.Classes.{is_hash};
 ghost use Rattle.rl_output.specs.Spots.{bytes_before};
 ghost use Rattle.rl_sources.specs.Prefixes.{front_up_to, is_of_prefix, prefix_start, reserved_prefix};
 ghost use Rattle.rl_sources.specs.Steps.{BeginsRest};
@@ -11,7 +11,7 @@ use rl_output::Places;
 use rl_tokens::SourceToken;
 use rl_types::{Edition, reserved_from};
 
-/// The bytes without the hashes at their end.
+/// Returns the bytes without the `#` characters at their end.
 fn before_hashes(bytes: &[u8]) -> &[u8]
     ensures bytes { result.now ≡ front_up_to is_hash bytes.now }
     ensures within { length result.now ≤ length bytes.now }
@@ -23,7 +23,7 @@ fn before_hashes(bytes: &[u8]) -> &[u8]
     left
 }
 
-/// The bytes without the letters and digits of ASCII, and `_`, at their end.
+/// Returns the bytes without the ASCII letters, ASCII digits and `_` at their end.
 fn before_word(bytes: &[u8]) -> &[u8]
     ensures bytes { result.now ≡ front_up_to is_of_prefix bytes.now }
     ensures within { length result.now ≤ length bytes.now }
@@ -38,7 +38,8 @@ fn before_word(bytes: &[u8]) -> &[u8]
     left
 }
 
-/// Where that begins which is reserved with a literal, in the text before it.
+/// Returns the byte offset in `before` where the reserved prefix of the literal `text` begins. `before` is the source before the
+/// literal.
 fn start_of(before: &str, text: &str) -> usize
     ensures start { result ≡ prefix_start before.now text.now }
     ensures within { result ≤ length before.now }
@@ -50,7 +51,8 @@ fn start_of(before: &str, text: &str) -> usize
     }
 }
 
-/// A literal with what is reserved right before it, as one, and the rest of the source that begins with that.
+/// Returns a literal and its reserved prefix as one token, and the end of the source from the prefix. `rest` is the end of the
+/// source from `token`, the literal.
 pub(crate) fn with_prefix<'t>(
     token: SourceToken<'t>,
     rest: &'t str,

@@ -1,13 +1,13 @@
-//! Why a literal of a source is bad.
+//! Writes the lines that report an error of a source or of one of its literals.
 
 ghost use Rattle.std.specs.Prelude.{◌≡◌, ◌≤◌, ◌+◌, ◌++◌, ◌↔◌, [], true, IsTrue, OnOk, length, string_bytes};
 ghost use Rattle.std.specs.Char.{is_ascii};
 ghost use Rattle.std.specs.List.{list_all};
 ghost use Rattle.std.specs.Str.{chars};
-ghost use Rattle.rl_text.specs.Texts.{byte_len};
+ghost use Rattle.rl_syntax.specs.Texts.{byte_len};
 ghost use Rattle.rl_lexer.specs.Cursors.{IsCursorState};
 ghost use Rattle.rl_lexer.specs.LexErrors.{lex_message};
-ghost use Rattle.rl_lines.specs.Lines.{Appends};
+ghost use Rattle.rl_program.specs.Lines.{Appends};
 ghost use Rattle.rl_output.specs.ErrorIds.{error_id};
 ghost use Rattle.rl_output.specs.Fronts.{line_front};
 ghost use Rattle.rl_output.specs.Github.{annotation_end, message_text};
@@ -20,7 +20,7 @@ use crate::finding::{Finding, Reason};
 use crate::json::{push_json_error, push_json_finding};
 use crate::literal::Literal;
 use crate::options::Options;
-use crate::place::{place_inside, place_of, push_context_inside, push_context_of};
+use crate::place::{displayed_place, place_inside, push_context_inside, push_context_of};
 use rl_files::push_visible;
 use rl_output::{
     Form, Level, Place, Places, id_of, push_annotation_end, push_error_word, push_front,
@@ -28,14 +28,14 @@ use rl_output::{
 use rl_tokens::LexKind;
 use std::alloc::{AllocError, Allocator};
 
-/// Whether the bytes from `lo` to `hi` are a text.
+/// Whether `lo..hi` is a range of `text` that begins and ends between characters.
 fn is_slice(text: &str, lo: usize, hi: usize) -> bool
     ensures { IsTrue result ↔ IsSlice text.now lo hi }
 {
     lo <= hi && text.is_char_boundary(lo) && text.is_char_boundary(hi)
 }
 
-/// The piece of a text that is shown of a finding.
+/// Returns the part of the literal `text` that is displayed for a finding. It is empty if the offsets aren't between characters.
 fn piece_of(text: &str, finding: Finding) -> &str
     ensures { IsPieceOf (chars text.now) finding (chars result.now) }
 {
@@ -45,7 +45,7 @@ fn piece_of(text: &str, finding: Finding) -> &str
     ""
 }
 
-/// Appends what is wrong: a message, and a piece of the text where there is one.
+/// Appends `: `, a message, and after another `: ` the piece if it isn't empty. `piece` is the invalid part of the source.
 fn push_reason<A: Allocator>(
     out: &mut String<A>,
     words: &str,
@@ -64,7 +64,7 @@ fn push_reason<A: Allocator>(
     Ok(())
 }
 
-/// Appends that something is wrong, and what is.
+/// Appends `error`, the message `words`, and the piece if it isn't empty. `piece` is the invalid part of the source.
 fn push_error_words<A: Allocator>(
     out: &mut String<A>,
     form: Form,
@@ -79,7 +79,7 @@ fn push_error_words<A: Allocator>(
     push_reason(out, words, piece)
 }
 
-/// Appends what stands after the place in the annotation of a finding.
+/// Appends a GitHub annotation's text after its position, for an error of a literal. `piece` is the displayed part of the literal.
 fn push_finding_annotation<A: Allocator>(
     out: &mut String<A>,
     reason: Reason,
@@ -88,10 +88,10 @@ fn push_finding_annotation<A: Allocator>(
     ensures { OnOk result (chars (string_bytes out.new) ≡ chars (string_bytes out.old)
         ++ annotation_end (reason_id reason) (message_text (reason_message reason) (chars piece.now))) }
 {
-    push_annotation_end(out, reason.id(), reason.words(), piece)
+    push_annotation_end(out, reason.id(), reason.message(), piece)
 }
 
-/// Appends what stands after the place in the line of a finding.
+/// Appends the output for an error of the literal `text` after its position: a message, JSON members, or an annotation's text.
 fn push_finding_end<A: Allocator>(
     out: &mut String<A>,
     form: Form,
@@ -105,11 +105,11 @@ fn push_finding_end<A: Allocator>(
     match form {
         Form::Json => push_json_finding(out, text, reason, piece),
         Form::Github => push_finding_annotation(out, reason, piece),
-        Form::Plain | Form::Colored => push_error_words(out, form, reason.words(), piece),
+        Form::Plain | Form::Colored => push_error_words(out, form, reason.message(), piece),
     }
 }
 
-/// Appends the line of a finding in a literal, at its place, and what stands below it.
+/// Appends the line for an error of a literal, with its position in the source, and the lines of context.
 #[inline(never)]
 pub(crate) fn push_finding<'t, A: Allocator>(
     out: &mut String<A>,
@@ -143,7 +143,7 @@ pub(crate) fn push_finding<'t, A: Allocator>(
     )
 }
 
-/// Appends what stands after the place in the annotation of a source's error.
+/// Appends a GitHub annotation's text after its position, for an error that isn't in a literal, as an unclosed comment.
 fn push_error_annotation<A: Allocator>(
     out: &mut String<A>,
     kind: LexKind,
@@ -152,10 +152,10 @@ fn push_error_annotation<A: Allocator>(
     ensures { OnOk result (chars (string_bytes out.new) ≡ chars (string_bytes out.old)
         ++ annotation_end (error_id kind) (message_text (lex_message kind) (chars piece.now))) }
 {
-    push_annotation_end(out, id_of(kind), kind.words(), piece)
+    push_annotation_end(out, id_of(kind), kind.message(), piece)
 }
 
-/// Appends what stands after the place in the line of a source's error.
+/// Appends the output for an error that isn't in a literal after its position: a message, JSON members, or an annotation's text.
 fn push_error_end<A: Allocator>(
     out: &mut String<A>,
     form: Form,
@@ -168,15 +168,15 @@ fn push_error_end<A: Allocator>(
     match form {
         Form::Json => push_json_error(out, kind, piece),
         Form::Github => push_error_annotation(out, kind, piece),
-        Form::Plain | Form::Colored => push_error_words(out, form, kind.words(), piece),
+        Form::Plain | Form::Colored => push_error_words(out, form, kind.message(), piece),
     }
 }
 
-/// Appends the line of a source's error: the path where there is one, the place, and what is wrong.
+/// Appends the line for an error of a source: the path if there is one, the position, and the message.
 ///
 /// # Errors
 ///
-/// An allocation failure. A beginning of the line may have been appended then.
+/// Returns an error if an allocation fails. The start of the line may have been appended then.
 pub fn push_source_error<A: Allocator>(
     out: &mut String<A>,
     form: Form,
@@ -191,8 +191,10 @@ pub fn push_source_error<A: Allocator>(
     push_error_end(out, form, kind, "")
 }
 
-/// Appends the line of an error in these bytes of a source, with a piece of that where there is one, and what stands below it; the
-/// rest of the source begins with the bytes.
+/// Appends the line for an error in a byte range of a source, and the lines of context. The line ends with `piece` if it isn't
+/// empty.
+///
+/// `rest` is the end of the source from the start of `range`.
 #[inline(never)]
 pub(crate) fn push_error_line<'t, A: Allocator>(
     out: &mut String<A>,
@@ -211,7 +213,7 @@ pub(crate) fn push_error_line<'t, A: Allocator>(
     ensures same { places.new ≡ places.old }
 {
     let (lo, hi) = range;
-    let place = place_of(options, places, rest, lo, hi);
+    let place = displayed_place(options, places, rest, lo, hi);
     push_front(out, Level::Error, options.form, options.path, &place)?;
     push_error_end(out, options.form, kind, piece)?;
     push_context_of(out, options, places, rest, lo, hi)

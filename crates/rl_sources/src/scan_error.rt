@@ -1,4 +1,4 @@
-//! Why a scan ends before the end of the source.
+//! The reason why a scan ends before the end of the source.
 
 ghost use Rattle.std.specs.Prelude.{Some};
 ghost use Rattle.rl_sources.specs.ScanErrors.{scan_error_line};
@@ -9,17 +9,17 @@ use rl_tokens::LexKind;
 use std::alloc::{Allocator, Global};
 use std::fmt;
 
-/// Why a scan ended before the end of the source.
+/// The reason why a scan ended before the end of the source.
 #[derive(Drop)]
 pub enum ScanError<A: Allocator = Global> {
-    /// An allocation or a write failed; in a run also a read, or the input isn't UTF-8.
+    /// An allocation or a write failed. In a run of a program it may also be a failed read, or input that isn't UTF-8.
     Program(ProgramError<A>),
-    /// An error of the source, at a place: a quote or a comment that isn't closed, or a stray
-    /// character where one ends the source.
+    /// The source has an error: a quote or a comment that isn't closed, or a stray character if stray characters end the source.
+    /// The fields are the position and the kind of error.
     Source(Place, LexKind),
 }
 
-/// The status is that of the error, and 1 where it is one of the source.
+/// Defines the program's exit status: that of the program's error, and 1 for an error of the source.
 impl<A: Allocator> RunError for ScanError<A> {
     ghost use Rattle.rl_sources.specs.ScanErrors.{scan_status};
 
@@ -33,7 +33,7 @@ impl<A: Allocator> RunError for ScanError<A> {
     }
 }
 
-/// The line that a program reports the error by, with the place in the source.
+/// Writes the line by which a program reports the error, with the position in the source.
 impl<A: Allocator> fmt::Display for ScanError<A> {
     ghost output = { λ error. Some (scan_error_line error) };
 

@@ -1,4 +1,4 @@
-//! The lines of a whole source.
+//! Writes the lines for the literals or the invisible characters of a whole source.
 
 ghost use Rattle.std.specs.Prelude.{◌≡◌, ◌||◌, ◌==◌, not, length, IfOk, IfErr};
 ghost use Rattle.std.specs.Str.{chars};
@@ -14,14 +14,15 @@ use rl_tokens::Sources;
 use std::alloc::Allocator;
 use std::io::Write;
 
-/// Whether lines were written before, or are now.
+/// Whether any line has been written: `before` is true, or `lines` isn't empty.
 fn is_any(before: bool, lines: &[u8]) -> bool
     ensures { result ≡ (before || not (length lines.now == 0)) }
 {
     before || !lines.is_empty()
 }
 
-/// Writes what is shown of the tokens of a source.
+/// Writes the lines for the literals of the source `text`, and for its errors if `options` request them. Returns `true` if any line
+/// was written.
 fn scan_tokens<A: Allocator + Copy, W: Write>(
     alloc: A,
     options: Options<'_>,
@@ -55,7 +56,8 @@ fn scan_tokens<A: Allocator + Copy, W: Write>(
     }
 }
 
-/// Writes the lines of what turns or hides text in a source, all at once.
+/// Writes the lines for the invisible and bidirectional characters of the source `text`, all at once. Returns `true` if any line
+/// was written.
 fn scan_hidden<A: Allocator + Copy, W: Write>(
     alloc: A,
     options: Options<'_>,
@@ -77,22 +79,32 @@ fn scan_hidden<A: Allocator + Copy, W: Write>(
     }
 }
 
-/// Writes a line for each literal of a source, in order: its place, after the path where there is one, and what
-/// `rl_lines` prints of its text, with escapes for what turns or hides text; with `explains` the line of a literal that
-/// Rust rejects has the place and the reason of its flaw, as `rl_grammar` explains it. With `finds` only literals whose
-/// contents hold one of those texts have a line, with the place of what gives the one that stands first. With `Hidden` no literal has a
-/// line, but each character that turns or hides text, wherever it stands, with its number. In the form `Json` a line is an
-/// object: `path`, `lo`, `hi`, `line`, `column`, and of a literal `kind`, `text`, `value` and `suffix`, of a flaw `text`, `id`,
-/// `error` and `piece`, of such a character `id` and `hidden`. Tokens are cut by [`Sources`]; the words `true` and `false` are literals
-/// too. With `explains` the first error of the source has a line too, the last one, and with `rejects_strays` each stray character
-/// before it: as an object `id`, `error`, and of a stray character `piece`. Lines are written as they are made, 64 KB at once; with
-/// `Hidden` all at once. Returns whether any line was written.
+/// Writes a line for each literal of a source, in order. Returns `true` if any line was written.
+///
+/// A line has the position, after the path if there is one, and the line that `rl_program` writes for the literal's text. Invisible
+/// and bidirectional characters are written as escapes.
+///
+/// The options change the lines:
+///
+/// - With `explains` the line of a literal that Rust rejects has the position of its error and the reason.
+/// - With `finds` only literals whose value contains one of the `finds` have a line. Its position is that of the first match.
+/// - With `Hidden` literals have no line. Each invisible or bidirectional character of the source has one instead, with its number.
+/// - With `explains` the first error of the source has the last line. With `rejects_strays` each stray character before that error
+///   has a line too.
+///
+/// In the format `Json` a line is an object. All objects have `path` if there is a path, and the position as `lo`, `hi`, `line`,
+/// `column`, `end_line`, `end_column`, `byte_column` and `end_byte_column`. A literal also has `kind`, `text`, `value` and
+/// `suffix`. An error of a literal has `text`, `id`, `error` and `piece`. An invisible character has `id` and `hidden`. An error of
+/// the source has `id` and `error`, and a stray character also has `piece`.
+///
+/// Tokens are lexed by [`Sources`]. `true` and `false` are literals too. Lines are written in blocks of 64 KB as they are
+/// formatted. With `Hidden` all lines are written at once.
 ///
 /// # Errors
 ///
-/// `Source` at the first error of the source, after the lines of all literals before it; never with `Hidden` or `explains`. `Memory`
-/// where an allocation failed, after the lines of some of the first. `Write` where a write failed;
-/// a beginning of the lines may have been written then.
+/// Returns `Source` at the first error of the source, after the lines of all literals before it, but not with `Hidden` or
+/// `explains`. Returns `Memory` if an allocation fails, after the lines of some of the first literals. Returns `Write` if a write
+/// fails. Some of the first lines may have been written then.
 pub fn scan<A: Allocator + Copy, W: Write>(
     alloc: A,
     options: Options<'_>,

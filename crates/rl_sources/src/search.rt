@@ -1,14 +1,16 @@
-//! Where bytes stand first among others, in time that grows with both lengths, as Knuth, Morris and Pratt search.
+//! Searches for bytes in other bytes by the algorithm of Knuth, Morris and Pratt. The time grows linearly with both lengths.
 
 ghost use Rattle.std.specs.Prelude.{◌≡◌, ◌≢◌, ◌+◌, ◌<◌, ◌≤◌, ℕ, length, map, slice_index, IfNone, IfOk, IfSome, MatchBool};
 ghost use Rattle.std.specs.Char.{to_ascii_lowercase};
-ghost use Rattle.rl_sources.specs.Held.{is_word_part as word_part, is_bounded as bounded, FirstMatchAt, IsAsWanted, MatchesAt, MatchesFirst, MatchesFrom};
+ghost use Rattle.rl_sources.specs.Held.{is_word_part as word_part, is_bounded as bounded, FirstMatchAt, IsWantedMatch, MatchesAt, MatchesFirst, MatchesFrom};
 ghost use Rattle.rl_sources.specs.Searches.{Agrees, AreBorders, IsLongestBorder, IsShift};
 
 use rl_output::Matching;
 use std::alloc::{AllocError, Allocator};
 
-/// The longest border of the bytes up to the one at a place, by those of fewer bytes.
+/// Returns the length of the longest border of `bytes[..=last]`. A border is a proper prefix that is also the end.
+///
+/// `borders` has the lengths for the shorter prefixes.
 fn border_to(bytes: &[u8], borders: &[usize], last: usize) -> usize
     requires within { last < length bytes.now }
     requires borders { AreBorders bytes.now last borders.now }
@@ -27,7 +29,7 @@ fn border_to(bytes: &[u8], borders: &[usize], last: usize) -> usize
     count + 1
 }
 
-/// The longest border of each beginning of the bytes.
+/// Returns the length of the longest border of each prefix of the bytes. A border is a proper prefix that is also the end.
 fn borders_of<A: Allocator>(alloc: A, bytes: &[u8]) -> Result<Vec<usize, A>, AllocError>
     ensures { IfOk result (λ borders. AreBorders bytes.now (length bytes.now) borders.items) }
 {
@@ -39,8 +41,9 @@ fn borders_of<A: Allocator>(alloc: A, bytes: &[u8]) -> Result<Vec<usize, A>, All
     Ok(borders)
 }
 
-/// How many bytes of what is looked for stand among others from a byte on, where so many are known to.
-fn agreeing(bytes: &[u8], at: usize, sought: &[u8], held: usize) -> usize
+/// Returns the number of first bytes of `sought` that equal the bytes from the offset `at`. The first `held` bytes are known to be
+/// equal.
+fn agreeing_len(bytes: &[u8], at: usize, sought: &[u8], held: usize) -> usize
     requires fits { at + length sought.now ≤ length bytes.now }
     requires held { held ≤ length sought.now }
     requires known { Agrees sought.now bytes.now at held }
@@ -57,7 +60,8 @@ fn agreeing(bytes: &[u8], at: usize, sought: &[u8], held: usize) -> usize
     sought.len()
 }
 
-/// How far to go on where so many bytes agree, and how many agree there.
+/// Returns the distance to the next offset where `sought` may match, and the number of bytes that are known to be equal there. At
+/// the current offset `held` bytes are equal. `borders` has the length of the longest border of each prefix of `sought`.
 fn shift_of(sought: &[u8], borders: &[usize], held: usize) -> (usize, usize)
     requires within { held ≤ length sought.now }
     requires borders { AreBorders sought.now (length sought.now) borders.now }
@@ -70,14 +74,14 @@ fn shift_of(sought: &[u8], borders: &[usize], held: usize) -> (usize, usize)
     (held - kept, kept)
 }
 
-/// Whether a byte is one of a word: a letter or a digit of ASCII, `_`, or one past ASCII.
+/// Whether a byte is part of a word: an ASCII letter or digit, `_`, or a non-ASCII byte.
 fn is_word_part(byte: u8) -> bool
     ensures { result ≡ word_part byte }
 {
     byte.is_ascii_alphanumeric() || byte == b'_' || byte >= 128
 }
 
-/// Whether no byte of a word stands on either side of the bytes from one place to another.
+/// Whether neither the byte before the range `at..end` nor the byte after it is part of a word.
 fn is_bounded(bytes: &[u8], at: usize, end: usize) -> bool
     requires { at ≤ length bytes.now }
     ensures { result ≡ bounded bytes.now at end }
@@ -85,16 +89,17 @@ fn is_bounded(bytes: &[u8], at: usize, end: usize) -> bool
     (at == 0 || !is_word_part(bytes[at - 1])) && (end >= bytes.len() || !is_word_part(bytes[end]))
 }
 
-/// Whether what stands at a place is as it is wanted: where whole words are looked for, bounded.
-fn is_as_wanted(whole_words: bool, sought: &[u8], bytes: &[u8], at: usize) -> bool
+/// Whether a match of `sought` at the offset `at` counts: always, or with `whole_words` if it is a whole word.
+fn is_wanted_match(whole_words: bool, sought: &[u8], bytes: &[u8], at: usize) -> bool
     requires { at + length sought.now ≤ length bytes.now }
-    ensures { MatchBool result (IsAsWanted whole_words sought.now bytes.now at)
-        (IsAsWanted whole_words sought.now bytes.now at → ⊥) }
+    ensures { MatchBool result (IsWantedMatch whole_words sought.now bytes.now at)
+        (IsWantedMatch whole_words sought.now bytes.now at → ⊥) }
 {
     !whole_words || sought.is_empty() || is_bounded(bytes, at, at + sought.len())
 }
 
-/// Where bytes that are looked for, whose borders these are, stand first among others as they are wanted.
+/// Returns the offset of the first match of `sought` in `bytes`, or `None`. `borders` has the length of the longest border of each
+/// prefix of `sought`.
 fn first_by_borders(
     whole_words: bool,
     bytes: &[u8],
@@ -108,8 +113,8 @@ fn first_by_borders(
     let mut at = 0;
     let mut held = 0;
     while sought.len() <= bytes.len() - at {
-        let count = agreeing(bytes, at, sought, held);
-        if count == sought.len() && is_as_wanted(whole_words, sought, bytes, at) {
+        let count = agreeing_len(bytes, at, sought, held);
+        if count == sought.len() && is_wanted_match(whole_words, sought, bytes, at) {
             return Some(at);
         }
         let (by, kept) = shift_of(sought, borders, count);
@@ -119,7 +124,7 @@ fn first_by_borders(
     None
 }
 
-/// Where bytes that are looked for stand first among others as they are wanted; case counts.
+/// Returns the offset of the first match of `sought` in `bytes`, or `None`. Case counts.
 fn first_exactly<A: Allocator>(
     alloc: A,
     whole_words: bool,
@@ -137,7 +142,7 @@ fn first_exactly<A: Allocator>(
     Ok(first_by_borders(whole_words, bytes, sought, borders.as_slice()))
 }
 
-/// The bytes with small letters of ASCII in place of large ones.
+/// Returns a copy of the bytes with ASCII letters in lower case.
 fn lowered<A: Allocator>(alloc: A, bytes: &[u8]) -> Result<Vec<u8, A>, AllocError>
     ensures { IfOk result (λ copy. copy.items ≡ map to_ascii_lowercase bytes.now) }
 {
@@ -148,12 +153,12 @@ fn lowered<A: Allocator>(alloc: A, bytes: &[u8]) -> Result<Vec<u8, A>, AllocErro
     Ok(copy)
 }
 
-/// Where bytes that are looked for stand first among others.
+/// Returns the offset of the first match of `sought` in `bytes`, or `None`.
 ///
 /// # Errors
 ///
-/// An allocation failure: where what is looked for is no longer than the others, a number is kept for each of its bytes; where
-/// case doesn't count, both are copied.
+/// Returns an error if an allocation fails. One number is stored for each byte of `sought`, unless `sought` is longer than `bytes`.
+/// If case doesn't count, `sought` and `bytes` are copied.
 pub(crate) fn first_in<A: Allocator + Copy>(
     alloc: A,
     matching: Matching,

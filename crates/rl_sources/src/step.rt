@@ -1,13 +1,13 @@
-//! What is shown of the tokens of a source, one after another.
+//! Writes the lines for the tokens of a source, one token after another.
 
 ghost use Rattle.std.specs.Prelude.{◌≡◌, ◌↔◌, ◌+◌, ◌<◌, ◌≤◌, ◌++◌, [], length, codes, IsTrue, IfSome, IfOk, IfErr, OnOk, MatchOption, string_bytes};
 ghost use Rattle.std.specs.Str.{chars};
-ghost use Rattle.rl_text.specs.Texts.{byte_len};
+ghost use Rattle.rl_syntax.specs.Texts.{byte_len};
 ghost use Rattle.rl_lexer.specs.Cursors.{IsCursorState};
 ghost use Rattle.rl_lexer.specs.Sources.{StrayKind, TakesSource, source_view};
 ghost use Rattle.rl_files.specs.Globs.{borrowed_texts};
 ghost use Rattle.rl_files.specs.Visible.{visible};
-ghost use Rattle.rl_lines.specs.Lines.{Appends};
+ghost use Rattle.rl_program.specs.Lines.{Appends};
 ghost use Rattle.rl_sources.specs.Held.{IsCutAt};
 ghost use Rattle.rl_sources.specs.Scans.{IsErrorAt, IsHeldLine, IsLineAt, IsLineEnd, IsLineIn, IsPickedLine, IsPlacedLine, IsPrintedAs, IsShownLiteral, IsShownToken};
 ghost use Rattle.rl_output.specs.declared.form.Form.TheVariants.{Github};
@@ -15,28 +15,29 @@ ghost use Rattle.rl_output.specs.declared.choice.Spelling.TheVariants.{Value};
 ghost use Rattle.rl_sources.specs.Steps.{BeginsRest, EndsUnshown, IsAcceptedToken, IsCursorOver, IsLiteralOf, IsStepOf, IsStopAt, MayShow, StopsUnshown, TakesShown};
 ghost use Rattle.rl_sources.specs.Findings.{IsFoundIn};
 
-use crate::flaw_lines::push_wrong;
-use crate::held::first_held_at;
+use crate::check::{find_wrong, reason_of};
+use crate::find_match::first_match_range;
+use crate::flaw_lines::push_error_lines;
 use crate::json::push_json_literal;
-use crate::judge::{reason_of, wrong_in};
 use crate::literal::{Literal, kind_of};
 use crate::options::{Options, ends_at_strays, finds_strays};
-use crate::place::{place_inside, place_of, push_context_inside, push_context_of};
+use crate::place::{displayed_place, place_inside, push_context_inside, push_context_of};
 use crate::reason::push_error_line;
 use rl_files::{make_visible, push_visible};
-use rl_lines::{bare_value, label_of, push_bare, push_found};
+use rl_lenient::{Found, find};
 use rl_output::{
     Form, Level, Place, Places, Spelling, first_line, push_annotation_end, push_front,
 };
-use rl_reading::{Found, find};
+use rl_program::{label_of, push_found, push_unescaped, unescaped_value};
 use rl_tokens::{LexError, LexKind, SourceForm, SourceToken, Sources};
 use std::alloc::{AllocError, Allocator};
 
-/// How many bytes of lines are gathered before they are written.
+/// The number of bytes of lines to collect before they are written.
 const FULL: usize = 65_536;
 
-/// Appends the line of a text, of what reading it found, as it is printed: once it is made, it is gone over for what turns
-/// or hides text.
+/// Appends the line for the token `text`, with its value if it is a literal. `found` is its parse result.
+///
+/// Invisible and bidirectional characters of the appended line are then replaced by escapes.
 #[inline(never)]
 fn push_made_line<A: Allocator + Copy>(
     alloc: A,
@@ -53,8 +54,10 @@ fn push_made_line<A: Allocator + Copy>(
     make_visible(alloc, out, from)
 }
 
-/// Appends the line of a text, of what reading it found, as it is printed. A string's line that holds its value as it stands
-/// has nothing that turns or hides text.
+/// Appends the line for the token `text`, with its value if it is a literal. `found` is its parse result.
+///
+/// The line of a string whose value can be copied from the text has no invisible or bidirectional characters, and isn't searched
+/// for them.
 #[inline(always)]
 fn push_text_line<A: Allocator + Copy>(
     alloc: A,
@@ -66,13 +69,13 @@ fn push_text_line<A: Allocator + Copy>(
     ensures { OnOk result (Appends (IsPrintedAs Value (chars text.now))
         (chars (string_bytes out.old)) (chars (string_bytes out.new))) }
 {
-    match bare_value(text) {
-        Some(value) => push_bare(out, value),
+    match unescaped_value(text) {
+        Some(value) => push_unescaped(out, value),
         None => push_made_line(alloc, out, text, *found),
     }
 }
 
-/// Appends a literal as it is written.
+/// Appends the line for a literal as written, with escapes for invisible and bidirectional characters.
 #[inline(never)]
 fn push_source<A: Allocator>(out: &mut String<A>, text: &str) -> Result<(), AllocError>
     ensures { OnOk result (chars (string_bytes out.new)
@@ -83,7 +86,7 @@ fn push_source<A: Allocator>(out: &mut String<A>, text: &str) -> Result<(), Allo
     Ok(())
 }
 
-/// Appends what is printed of a literal.
+/// Appends the line for a literal, by its value or as written.
 #[inline(always)]
 fn push_printed<A: Allocator + Copy>(
     alloc: A,
@@ -101,7 +104,7 @@ fn push_printed<A: Allocator + Copy>(
     }
 }
 
-/// Appends what stands after the place in the annotation of a literal: what is printed of it.
+/// Appends a GitHub annotation's text after its position, for a literal. The message is the first line for the literal.
 #[inline(never)]
 fn push_literal_annotation<A: Allocator + Copy>(
     alloc: A,
@@ -118,8 +121,7 @@ fn push_literal_annotation<A: Allocator + Copy>(
     push_annotation_end(out, "literal", first_line(printed.as_str()), "")
 }
 
-/// Appends what stands after the place in the line of a literal: what is printed of it, the members of its object,
-/// or the message of its annotation.
+/// Appends the output for a literal after its position: its value or text, JSON members, or an annotation's text.
 #[inline(always)]
 fn push_line_end<A: Allocator + Copy>(
     alloc: A,
@@ -139,7 +141,7 @@ fn push_line_end<A: Allocator + Copy>(
     }
 }
 
-/// Appends the line of a literal, after this place.
+/// Appends the output for a literal at the position `place`.
 #[inline(always)]
 fn push_line_at<A: Allocator + Copy>(
     alloc: A,
@@ -156,7 +158,7 @@ fn push_line_at<A: Allocator + Copy>(
     push_line_end(alloc, out, options, literal)
 }
 
-/// Appends the line of a literal, after its place, and what stands below it.
+/// Appends the line for a literal at its position, and the lines of context.
 #[inline(always)]
 fn push_placed<'t, A: Allocator + Copy>(
     alloc: A,
@@ -173,12 +175,12 @@ fn push_placed<'t, A: Allocator + Copy>(
     ensures same { places.new ≡ places.old }
 {
     let token = literal.token;
-    let place = place_of(options, places, literal.rest, token.lo, token.hi);
+    let place = displayed_place(options, places, literal.rest, token.lo, token.hi);
     push_line_at(alloc, out, options, literal, place)?;
     push_context_of(out, options, places, literal.rest, token.lo, token.hi)
 }
 
-/// Appends the line of a literal, after the place of these bytes of its text, and what stands below it.
+/// Appends the line for a literal at the position of `range`, a byte range of the literal's text, and the lines of context.
 #[inline(never)]
 fn push_inside<'t, A: Allocator + Copy>(
     alloc: A,
@@ -203,7 +205,7 @@ fn push_inside<'t, A: Allocator + Copy>(
     push_context_inside(out, options, places, token, literal.rest, range.0, range.1)
 }
 
-/// Appends the lines of a literal: its own, or where lines report what is wrong and something is, those that say so.
+/// Appends the lines for a literal: one for each error if errors are explained and it has any, else one with its value or text.
 #[inline(always)]
 fn push_line_in<'t, A: Allocator + Copy>(
     alloc: A,
@@ -220,14 +222,14 @@ fn push_line_in<'t, A: Allocator + Copy>(
     ensures same { places.new ≡ places.old }
 {
     match reason_of(options.explains, literal.wrong) {
-        Some(wrong) => push_wrong(alloc, out, options, literal, places, wrong),
+        Some(wrong) => push_error_lines(out, options, literal, places, wrong),
         None => push_placed(alloc, out, options, literal, places),
     }
 }
 
-/// Appends the line of a literal whose contents hold one of the texts that are looked for, at the place of the first.
+/// Appends the line for a literal if its value contains one of the texts `soughts`. The position is that of the first match.
 #[inline(never)]
-fn push_held_line<'t, A: Allocator + Copy>(
+fn push_match_line<'t, A: Allocator + Copy>(
     alloc: A,
     out: &mut String<A>,
     options: &Options<'_>,
@@ -242,7 +244,7 @@ fn push_held_line<'t, A: Allocator + Copy>(
         (chars (string_bytes out.old)) (chars (string_bytes out.new))) }
     ensures same { places.new ≡ places.old }
 {
-    let Some(range) = first_held_at(
+    let Some(range) = first_match_range(
         alloc,
         literal.token.text,
         *literal.found,
@@ -255,7 +257,8 @@ fn push_held_line<'t, A: Allocator + Copy>(
     push_inside(alloc, out, options, literal, places, range)
 }
 
-/// Appends what is shown of a literal that is picked: where texts are looked for, its line where its contents hold one.
+/// Appends the lines for a literal that the options select. If `options` have texts to search for, only a literal whose value
+/// contains one of these texts has a line.
 #[inline(always)]
 fn push_picked<'t, A: Allocator + Copy>(
     alloc: A,
@@ -274,10 +277,10 @@ fn push_picked<'t, A: Allocator + Copy>(
     if options.finds.is_empty() {
         return push_line_in(alloc, out, options, literal, places);
     }
-    push_held_line(alloc, out, options, literal, places, options.finds)
+    push_match_line(alloc, out, options, literal, places, options.finds)
 }
 
-/// Appends what is shown of a literal, where it is picked.
+/// Appends the lines for a literal if the options select it, else nothing. `rest` is the end of the source from the literal.
 #[inline(never)]
 fn push_literal_token<'t, A: Allocator + Copy>(
     alloc: A,
@@ -296,7 +299,7 @@ fn push_literal_token<'t, A: Allocator + Copy>(
 {
     let found = find(token.text);
     let before = places.before(token.lo);
-    let wrong = wrong_in(options, before, token.text, &found);
+    let wrong = find_wrong(options, before, token.text, &found);
     let label = label_of(kind_of(&found));
     if !options.shown.picks(label, wrong.is_some()) {
         return Ok(());
@@ -317,7 +320,7 @@ fn is_stray(token: &SourceToken<'_>) -> bool
     matches!(token.form, SourceForm::Stray)
 }
 
-/// Appends what is shown of a literal, or of a stray character where these are findings.
+/// Appends the lines for a literal, or the line of a stray character. `rest` is the end of the source from the token.
 #[inline(always)]
 fn push_token<'t, A: Allocator + Copy>(
     alloc: A,
@@ -343,7 +346,9 @@ fn push_token<'t, A: Allocator + Copy>(
     push_literal_token(alloc, out, options, token, rest, places)
 }
 
-/// Cuts off the next token: `None` at the end of the source.
+/// Lexes the next token, or returns `None` at the end of the source.
+///
+/// With `ends_at_strays` a stray character is an error.
 #[inline(always)]
 fn next_token<'t>(
     ends_at_strays: bool,
@@ -370,15 +375,16 @@ fn next_token<'t>(
     }
 }
 
-/// Whether something may be shown of a token: of a literal, and of a stray character where these are findings.
+/// Whether a token may have a line in the output: literals may, and stray characters if they are findings.
 fn may_show(options: &Options<'_>, token: &SourceToken<'_>) -> bool
     ensures { IsTrue result ↔ MayShow options.now (source_view token.now.form) (chars token.now.text.now) }
 {
     token.is_literal() || finds_strays(options) && is_stray(token)
 }
 
-/// Cuts off the tokens up to the next literal and that one, where a stray character is an error or a finding, and then up to
-/// that too: `None` where the source ends before one comes.
+/// Lexes tokens up to the next literal and returns that literal, or `None` at the end of the source.
+///
+/// A stray character is an error, or is returned like a literal if stray characters are findings.
 fn next_strictly<'t>(
     options: Options<'_>,
     tokens: &mut Sources<'t>,
@@ -404,7 +410,8 @@ fn next_strictly<'t>(
     }
 }
 
-/// Cuts off the tokens up to the next one of which something may be shown: `None` where the source ends before one comes.
+/// Lexes tokens up to the next one that may have a line in the output, and returns that token. The result is `None` at the end of
+/// the source.
 #[inline(always)]
 fn next_literal<'t>(
     options: Options<'_>,
@@ -429,19 +436,20 @@ fn next_literal<'t>(
     }
 }
 
-/// What comes after the lines that were gathered.
+/// The state of a scan after some lines have been collected.
 #[derive(Clone, Copy)]
 pub(crate) enum Step {
-    /// More tokens.
+    /// The source has more tokens.
     More,
-    /// The end of the source.
+    /// The source has ended.
     End,
-    /// An error, at a place.
+    /// The source has an error. The fields are its position and its kind.
     Error(Place, LexKind),
 }
 
-/// What comes after an error of the source, whose rest begins with it: the end, once its line was appended, where lines say what
-/// is wrong; else the error.
+/// Returns the state of a scan at an error of the source. `rest` is the end of the source from the error.
+///
+/// If errors are explained, the line for the error is appended, and the source has ended. Else the result is the error.
 fn stop_at<'t, A: Allocator>(
     out: &mut String<A>,
     options: &Options<'_>,
@@ -459,11 +467,11 @@ fn stop_at<'t, A: Allocator>(
         push_error_line(out, options, places, rest, range, error.kind, "")?;
         return Ok(Step::End);
     }
-    let place = place_of(options, places, rest, error.at, error.at);
+    let place = displayed_place(options, places, rest, error.at, error.at);
     Ok(Step::Error(place, error.kind))
 }
 
-/// Gathers the lines of literals, as many as are to be written at once.
+/// Collects the lines for the next tokens, up to about 64 KB, and returns the state of the scan.
 pub(crate) fn gather<'t, A: Allocator + Copy>(
     alloc: A,
     options: Options<'_>,

@@ -1,13 +1,14 @@
--- Numbers in base ten of any size: the text spells the number, by digits alone, with no zero in front but of 0 itself.
-use Rattle.rl_text.proofs.Common.{◌≡◌, ℕ, suc, zero, ◌+◌, ◌*◌, ◌<◌, ◌≤◌, ◌^◌, Bool, true, false, eqb, ◌==◌, cond, List, [], ◌∷◌, length, refl, sym, ap, ◌∙◌, arith, eqb-true, ne_eqb, nat_tests, digit_value, is_ascii_digit, list_all}
-use Rattle.rl_reading.proofs.Names.{first_passes}
+-- The decimal text of an integer of any size: it represents the integer, contains only digits, and has no leading zero unless
+-- the integer is 0.
+use Rattle.rl_syntax.proofs.Common.{◌≡◌, ℕ, suc, zero, ◌+◌, ◌*◌, ◌<◌, ◌≤◌, ◌^◌, Bool, true, false, eqb, ◌==◌, cond, List, [], ◌∷◌, length, refl, sym, ap, ◌∙◌, arith, eqb-true, ne_eqb, nat_tests, digit_value, is_ascii_digit, list_all}
+use Rattle.rl_lenient.proofs.Names.{first_passes}
 use Rattle.std.proofs.Common.{◌/◌, ◌%◌}
 use Rattle.std.proofs.lemmas.Bool.{agree_below_at}
 use Rattle.std.proofs.Math.Nat.{pow-succ'}
 use Rattle.std.specs.Fmt.{digits_onto, digit_glyph}
-use Rattle.rl_forms.specs.Strict.{dec}
-use Rattle.rl_reading.proofs.PlainNumberLemmas.{onto_digits}
-use Rattle.rl_forms.specs.Spelling.{place_value}
+use Rattle.rl_syntax.specs.Strict.{dec}
+use Rattle.rl_lenient.proofs.PlainNumberLemmas.{onto_digits}
+use Rattle.rl_syntax.specs.Spelling.{place_value}
 
 -- ---- one digit
 
@@ -17,7 +18,7 @@ glyph_value d h = eqb-true _ _ (agree_below_at (λ d. eqb (digit_value (digit_gl
 glyph_zero : (d : ℕ) → d < 10 → eqb (digit_glyph false d) 48 ≡ eqb d 0
 glyph_zero d h = agree_below_at (λ d. eqb (digit_glyph false d) 48) (λ d. eqb d 0) 10 d refl h
 
--- ---- what is spelled
+-- ---- the number that the digits represent
 
 push_value : (d : ℕ) (ds : List ℕ) → d < 10 → place_value 10 (digit_glyph false d ∷ ds)
     ≡ d * 10 ^ length ds + place_value 10 ds
@@ -63,13 +64,13 @@ pub dec_spells : (n : ℕ) → place_value 10 (dec n) ≡ n
 unfolding dec
 dec_spells n = let e = onto_value n n [] (omega arith) in omega arith
 
--- ---- digits alone
+-- ---- the text contains only digits
 
 pub dec_digits : (n : ℕ) → list_all is_ascii_digit (dec n) ≡ true
 unfolding dec
 dec_digits n = onto_digits (suc n) n [] refl
 
--- ---- no zero in front
+-- ---- the text has no leading zero
 
 zero_step : (n : ℕ) (ds more : List ℕ) (b : Bool) → 0 < n → (n / 10 == 0) ≡ b
     → ((n / 10 == 0) ≡ false → first_passes (λ c. c == 48) more ≡ false)

@@ -1,11 +1,11 @@
--- What a raw C string may hold, by a run of bytes.
-use Rattle.rl_text.proofs.Common.{◌≡◌, ℕ, ◌==◌, ◌&&◌, ◌||◌, Bool, true, false, not, List, [], ◌∷◌, nat_lt, refl, sym, ap, ◌∙◌, and_from, and_parts, list_all}
-use Rattle.rl_reading.proofs.Names.{ByteStr, Marks, is_ascii_other}
+-- The content of a raw C string, as a sequence of bytes.
+use Rattle.rl_syntax.proofs.Common.{◌≡◌, ℕ, ◌==◌, ◌&&◌, ◌||◌, Bool, true, false, not, List, [], ◌∷◌, nat_lt, refl, sym, ap, ◌∙◌, and_from, and_parts, list_all}
+use Rattle.rl_lenient.proofs.Names.{ByteStr, Marks, is_ascii_other}
 use Rattle.rl_strict.specs.Mirrors.StrictAt.{is_inside}
 
--- ---- what raw byte strings hold
+-- ---- the content of a raw byte string
 
--- ASCII up to a quote or a CR
+-- The bytes are ASCII, up to a quote or a CR.
 inside_one : (c : ℕ) → is_ascii_other (record { first = 34; second = 13; third = 13; fourth = 13 }) c ≡ true
     → is_inside ByteStr c ≡ true
 inside_one c h = go (nat_lt c 128) (c == 34) (c == 13) h

@@ -1,32 +1,32 @@
--- A strict token is a quoted form after its opener, a number, or a truth value.
-use Rattle.rl_text.proofs.Common.{◌≡◌, ℕ, ◌⊎◌, ◌||◌, Bool, true, false, ◌==◌, List, [], ◌∷◌, ◌++◌, Some, None, refl, sym, ap, subst, ◌∙◌, inl, inr, append_assoc, is_ascii_digit, flat_map, IsTrue}
-use Rattle.rl_reading.proofs.Names.{◌↔◌, Kind, Str, ByteStr, CStr, Byte, Char, Int, Float, BoolKind, NoSign, opener, raw_opener, Contents, Truth, truth_text, strict_text, strict_contents, strict_content_of}
+-- A literal token is a number, `true` or `false`, or a quoted literal: an opening delimiter and the text after it.
+use Rattle.rl_syntax.proofs.Common.{◌≡◌, ℕ, ◌⊎◌, ◌||◌, Bool, true, false, ◌==◌, List, [], ◌∷◌, ◌++◌, Some, None, refl, sym, ap, subst, ◌∙◌, inl, inr, append_assoc, is_ascii_digit, flat_map, IsTrue}
+use Rattle.rl_lenient.proofs.Names.{◌↔◌, Kind, Str, ByteStr, CStr, Byte, Char, Int, Float, BoolKind, NoSign, opener, raw_opener, Contents, Truth, truth_text, strict_text, strict_contents, strict_content_of}
 use Rattle.std.specs.Prelude.{replicate, codes, if◌then◌else◌}
-use Rattle.rl_forms.specs.Strict.{StrictCooked, StrictRaw, StrictInt, StrictFloat, Strict, strict_opener, strict_raw_opener, strict_closer}
-use Rattle.rl_text.proofs.Basics.{apart}
-use Rattle.rl_forms.proofs.OneNumber.{begins_number, float_front, int_front}
-use Rattle.rl_forms.proofs.StrictNumbers.{strict_int, float_strict_reads}
-use Rattle.rl_forms.proofs.StrictQuoted.{between}
-use Rattle.rl_reading.specs.declared.quoted_forms.QuotedForm.{QuotedForm}
-use Rattle.rl_reading.specs.declared.quoted_forms.QuotedForm.TheVariants.{Cooked as CookedForm, Raw as RawForm, Single as SingleForm}
-use Rattle.rl_reading.specs.Forms.{has_form, form_opener}
-use Rattle.rl_reading.specs.Mirrors.OpenerAt.{opener_at}
+use Rattle.rl_syntax.specs.Strict.{StrictCooked, StrictRaw, StrictInt, StrictFloat, Strict, strict_opener, strict_raw_opener, strict_closer}
+use Rattle.rl_syntax.proofs.Basics.{apart}
+use Rattle.rl_syntax.proofs.OneNumber.{begins_number, float_front, int_front}
+use Rattle.rl_syntax.proofs.StrictNumbers.{strict_int, float_strict_reads}
+use Rattle.rl_syntax.proofs.StrictQuoted.{between}
+use Rattle.rl_lenient.specs.declared.quoted_forms.QuotedForm.{QuotedForm}
+use Rattle.rl_lenient.specs.declared.quoted_forms.QuotedForm.TheVariants.{Cooked as CookedForm, Raw as RawForm, Single as SingleForm}
+use Rattle.rl_lenient.specs.Forms.{has_form, form_opener}
+use Rattle.rl_lenient.specs.Mirrors.OpenerAt.{opener_at}
 use Rattle.rl_strict.specs.StrictShapes.{IsToken, ClosesUnits, ClosesRaw, ClosesForm}
-use Rattle.rl_reading.proofs.FormLemmas.{front_complete, front_sound}
-use Rattle.rl_reading.proofs.StrictBackLemmas.{HasStrictUnits}
+use Rattle.rl_lenient.proofs.FormLemmas.{front_complete, front_sound}
+use Rattle.rl_lenient.proofs.StrictBackLemmas.{HasStrictUnits}
 use Rattle.rl_strict.proofs.StrictRowLemmas.{quoted_string, quoted_single}
-use Rattle.rl_reading.proofs.OpenerLemmas.{word_has_none}
-use Rattle.rl_forms.specs.Reading.{quoted_contents}
+use Rattle.rl_lenient.proofs.OpenerLemmas.{word_has_none}
+use Rattle.rl_syntax.specs.Reading.{quoted_contents}
 
--- a strict number
+-- The text is a number of Rust's grammar.
 abbrev pub IsStrictNumber : List ℕ → Type 0
 IsStrictNumber text =
     (contents : Contents) × (suffix : List ℕ)
     × (StrictInt text contents suffix ⊎ StrictFloat text contents suffix)
 
--- ---- both grammars open their forms alike
+-- ---- the opening delimiters are equal in both grammars
 
--- the quotes
+-- The opening quotes are equal in both grammars.
 opener_is : (k : Kind) → opener k ≡ strict_opener k
 opener_is Str = refl
 opener_is ByteStr = refl
@@ -37,7 +37,7 @@ opener_is Int = refl
 opener_is Float = refl
 opener_is BoolKind = refl
 
--- the letters of raw forms
+-- The prefixes of raw strings are equal in both grammars.
 raw_opener_is : (k : Kind) → raw_opener k ≡ strict_raw_opener k
 raw_opener_is Str = refl
 raw_opener_is ByteStr = refl
@@ -48,9 +48,9 @@ raw_opener_is Int = refl
 raw_opener_is Float = refl
 raw_opener_is BoolKind = refl
 
--- ---- what is closed is a token
+-- ---- a quoted literal that is closed is a literal token
 
--- a quoted form is strict in its kind
+-- A quoted literal is a literal token of its kind.
 quoted_strict : (t : List ℕ) (k : Kind) (v : Contents) (x : List ℕ) → HasStrictUnits k → StrictCooked t k v x
     ⊎ StrictRaw t k v x → Strict t k v x
 quoted_strict t Str v x q s = s
@@ -60,7 +60,7 @@ quoted_strict t Byte v x q s = s
 quoted_strict t Char v x q s = s
 quoted_strict t kind v x q s = absurd q
 
--- units, a quote and a suffix after an opener
+-- An opening delimiter, characters and escapes, a closing quote and a suffix are a literal token.
 units_token : (k : Kind) (t inside : List ℕ) → HasStrictUnits k → t ≡ opener k ++ inside → ClosesUnits k inside
     → IsToken t
 units_token k t inside q text c =
@@ -81,11 +81,11 @@ units_token k t inside q text c =
       }));
     }
 
--- the parts of a raw form, joined from the right
+-- The parts of a raw string, concatenated from the right.
 raw_text : (o h i x : List ℕ) → ((((o ++ h) ++ (34 ∷ i)) ++ (34 ∷ h)) ++ x) ≡ o ++ (h ++ (34 ∷ (i ++ (34 ∷ (h ++ x)))))
 raw_text o h i x = simp append_assoc
 
--- hashes and what ends them after an opener
+-- An opening delimiter, hashes, the content, the closing delimiter and a suffix are a literal token.
 raw_token : (k : Kind) (t inside : List ℕ) → HasStrictUnits k → t ≡ raw_opener k ++ inside → ClosesRaw k inside
     → IsToken t
 raw_token k t inside q text c =
@@ -110,16 +110,16 @@ raw_token k t inside q text c =
       }));
     }
 
--- any form after its opener
+-- The opening delimiter of any form and the text that ends the literal are a literal token.
 pub close_token : (form : QuotedForm) (k : Kind) (t inside : List ℕ) → has_form form k ≡ true → t ≡ form_opener form k
     ++ inside → ClosesForm form k inside → IsToken t
 close_token CookedForm k t inside h text c = units_token k t inside (quoted_string k h) text c
 close_token SingleForm k t inside h text c = units_token k t inside (quoted_single k h) text c
 close_token RawForm k t inside h text c = raw_token k t inside (quoted_string k h) text c
 
--- ---- what a token is
+-- ---- the cases of a literal token
 
--- a quoted form, after its opener
+-- A quoted literal: its opening delimiter, and the text after it.
 pub record Opened (t : List ℕ) : Type 0 where
   pub form : QuotedForm
   pub kind : Kind
@@ -128,32 +128,32 @@ pub record Opened (t : List ℕ) : Type 0 where
   pub text_is : t ≡ form_opener form kind ++ inside
   pub closes : ClosesForm form kind inside
 
--- a quoted form, a number or a truth value
+-- The text is a quoted literal, a number, `true` or `false`.
 abbrev pub Seen : List ℕ → Type 0
 Seen t = Opened t ⊎ (IsStrictNumber t ⊎ ((b : Bool) × (t ≡ truth_text b)))
 
--- what stands after the opener of a form with escapes
+-- The text after the opening quote of a literal with escapes.
 units_closed : (k : Kind) (t : List ℕ) (v : Contents) (x : List ℕ) (s : StrictCooked t k v x)
     → ClosesUnits k (flat_map strict_text s.units ++ (strict_closer k ++ x))
 units_closed k t v x s = record { units = s.units; suffix = x; count = s.count; each = s.each; blanks_end = s.blanks_end; is_suffix = s.suffix; text_is = refl }
 
--- and the opener before it
+-- The opening quote of a literal with escapes, and the text after it.
 units_text : (k : Kind) (t : List ℕ) (v : Contents) (x : List ℕ) (s : StrictCooked t k v x) → t ≡ opener k
     ++ (flat_map strict_text s.units ++ (strict_closer k ++ x))
 units_text k t v x s = s.text ∙ between (strict_opener k) (flat_map strict_text s.units) (strict_closer k) x
     ∙ ap (λ z. z ++ (flat_map strict_text s.units ++ (strict_closer k ++ x))) (sym (opener_is k))
 
--- a string with escapes
+-- A string with escapes.
 string_seen : (k : Kind) (t : List ℕ) (v : Contents) (x : List ℕ) → has_form CookedForm k ≡ true → StrictCooked t k v x
     → Seen t
 string_seen k t v x h s = inl (record { form = CookedForm; kind = k; inside = flat_map strict_text s.units ++ (strict_closer k ++ x); has = h; text_is = units_text k t v x s; closes = units_closed k t v x s })
 
--- a character or a byte
+-- A character or byte literal.
 single_seen : (k : Kind) (t : List ℕ) (v : Contents) (x : List ℕ) → has_form SingleForm k ≡ true → StrictCooked t k v x
     → Seen t
 single_seen k t v x h s = inl (record { form = SingleForm; kind = k; inside = flat_map strict_text s.units ++ (strict_closer k ++ x); has = h; text_is = units_text k t v x s; closes = units_closed k t v x s })
 
--- a raw string
+-- A raw string.
 raw_seen : (k : Kind) (t : List ℕ) (v : Contents) (x : List ℕ) → has_form RawForm k ≡ true → StrictRaw t k v x → Seen t
 raw_seen k t v x has s =
     let h : List ℕ = replicate s.hashes 35 in
@@ -182,12 +182,12 @@ raw_seen k t v x has s =
       };
     })
 
--- both spellings of the two words are one
+-- The words `true` and `false` are equal in both definitions.
 truth_words : (b : Bool) → (if b then codes "true" else codes "false") ≡ truth_text b
 truth_words true = refl
 truth_words false = refl
 
--- each token is one of the three
+-- Each literal token is a quoted literal, a number, `true` or `false`.
 pub seen : (t : List ℕ) (k : Kind) (v : Contents) (x : List ℕ) → Strict t k v x → Seen t
 seen t Str v x (inl s) = string_seen Str t v x refl s
 seen t Str v x (inr s) = raw_seen Str t v x refl s
@@ -203,9 +203,9 @@ seen t Int v x s = inr (inl (v, x, inl s))
 seen t Float v x s = inr (inl (v, x, inr s))
 seen t BoolKind v x s = inr (inr (s.truth, s.text ∙ truth_words s.truth))
 
--- ---- what the front tells
+-- ---- the beginning of a text identifies the case
 
--- no quoted form begins like a number
+-- A quoted literal doesn't begin as a number.
 number_front : (t : List ℕ) → begins_number t ≡ true → opener_at t ≡ None
 unfolding opener_at
 number_front [] h = absurd (cc)
@@ -218,12 +218,12 @@ number_front (c ∷ cs) h =
     let f = apart test c 114 h refl in
     rw (a, b, d, e, f) refl
 
--- so none begins a number
+-- A number doesn't begin with an opening delimiter.
 number_none : (t : List ℕ) → IsStrictNumber t → opener_at t ≡ None
 number_none t (v, x, inl s) = let i = strict_int t x v s in number_front t (int_front t x NoSign i.magnitude i.reads)
 number_none t (v, x, inr s) = let f = float_strict_reads t x v s in number_front t (float_front t f.numeral x f.reads)
 
--- a quoted form is what its front tells
+-- A quoted literal has the form that its opening delimiter identifies.
 opened_told : (t : List ℕ) (p : QuotedForm × Kind × List ℕ) (o : Opened t) → opener_at t ≡ Some p
     → ClosesForm p.0 p.1 p.2
 opened_told t p o h =
@@ -232,7 +232,7 @@ opened_told t p o h =
     let same : (o.form, o.kind, o.inside) ≡ p = cc in
     subst (λ (q : QuotedForm × Kind × List ℕ). ClosesForm q.0 q.1 q.2) same o.closes
 
--- where a front tells a form, the text is a token exactly where the form is closed
+-- If a text begins with an opening delimiter, it is a literal token if and only if the literal is closed.
 pub told_token : (t : List ℕ) (p : QuotedForm × Kind × List ℕ) (b : Bool) → Some p ≡ opener_at t
     → IsTrue b ↔ ClosesForm p.0 p.1 p.2 → IsTrue b ↔ IsToken t
 told_token t p b h same =
@@ -248,11 +248,11 @@ told_token t p b h same =
       ],
     )
 
--- a number is a token
+-- A number is a literal token.
 pub number_token : (t : List ℕ) → IsStrictNumber t → IsToken t
 number_token t (v, x, inl s) = record { kind = Int; contents = v; suffix = x; strict = s }
 number_token t (v, x, inr s) = record { kind = Float; contents = v; suffix = x; strict = s }
 
--- a truth value is a token
+-- `true` and `false` are literal tokens.
 pub truth_token : (t : List ℕ) (b : Bool) → t ≡ truth_text b → IsToken t
 truth_token t b e = record { kind = BoolKind; contents = Truth b; suffix = []; strict = record { truth = b; text = e ∙ sym (truth_words b); contents = refl; suffix = refl } }

@@ -1,22 +1,22 @@
--- Strict raw forms: hashes, contents up to the first closer, and the suffix after it.
-use Rattle.rl_text.proofs.Common.{◌≡◌, ◌≢◌, ℕ, zero, suc, ◌⊎◌, ◌&&◌, ◌||◌, Bool, true, false, not, ◌==◌, cond, List, [], ◌∷◌, ◌++◌, length, drop, replicate, refl, sym, ap, subst, ◌∙◌, inl, inr, nat_lt, and_from, and_parts, both_ways, cases_Bool, eqb-true, list_all, IsTrue}
-use Rattle.rl_reading.proofs.Names.{false_from_ne_true, drop-append_seam, ◌↔◌, Kind, Str, ByteStr, CStr, is_string, IsStrictSuffix, Marks, first_passes, is_other, after_run, is_hash}
-use Rattle.rl_text.specs.Texts.{begins}
-use Rattle.rl_forms.specs.Strict.{IsRawInside}
-use Rattle.rl_forms.proofs.StrictNumbers.{begins_front}
+-- Raw strings of Rust's grammar: hashes, the content up to the first closing delimiter, and the suffix.
+use Rattle.rl_syntax.proofs.Common.{◌≡◌, ◌≢◌, ℕ, zero, suc, ◌⊎◌, ◌&&◌, ◌||◌, Bool, true, false, not, ◌==◌, cond, List, [], ◌∷◌, ◌++◌, length, drop, replicate, refl, sym, ap, subst, ◌∙◌, inl, inr, nat_lt, and_from, and_parts, both_ways, cases_Bool, eqb-true, list_all, IsTrue}
+use Rattle.rl_lenient.proofs.Names.{false_from_ne_true, drop-append_seam, ◌↔◌, Kind, Str, ByteStr, CStr, is_string, IsStrictSuffix, Marks, first_passes, is_other, after_run, is_hash}
+use Rattle.rl_syntax.specs.Texts.{begins}
+use Rattle.rl_syntax.specs.Strict.{IsRawInside}
+use Rattle.rl_syntax.proofs.StrictNumbers.{begins_front}
 use Rattle.rl_lexer.proofs.HashLemmas.{hashes_past}
 use Rattle.rl_strict.specs.Mirrors.StrictAt.{ends_raw, is_inside, is_raw_character, is_strict_suffix}
 use Rattle.rl_strict.specs.StrictShapes.{ClosesInside, ClosesRaw}
-use Rattle.rl_reading.proofs.IntegerLemmas.{begins_is}
+use Rattle.rl_lenient.proofs.IntegerLemmas.{begins_is}
 use Rattle.rl_strict.proofs.StrictWordLemmas.{all_both, all_apart, strict_suffix_complete, strict_suffix_sound}
 
--- ---- what a raw form holds
+-- ---- the content of a raw string
 
--- no carriage return
+-- The character isn't a CR.
 abbrev no_return : ℕ → Bool
 no_return c = not (c == 13)
 
--- what the kind allows passes the test
+-- Characters that the kind allows pass the code's test.
 pub inside_allowed : (k : Kind) (cs : List ℕ) → IsRawInside k cs → list_all no_return cs ≡ true
     → list_all (is_raw_character k) cs ≡ true
 inside_allowed Str cs a n = n
@@ -24,7 +24,7 @@ inside_allowed ByteStr cs a n = all_both (λ c. nat_lt c 128) no_return cs a n
 inside_allowed CStr cs a n = all_both (λ c. not (c == 0)) no_return cs a n
 inside_allowed kind cs a n = absurd a
 
--- and the other way about
+-- Characters that pass the code's test are allowed in the kind.
 pub inside_sound : (k : Kind) (cs : List ℕ) → is_string k ≡ true → list_all (is_raw_character k) cs ≡ true
     → IsRawInside k cs × (list_all no_return cs ≡ true)
 inside_sound Str cs s h = (tt, h)
@@ -32,9 +32,9 @@ inside_sound ByteStr cs s h = all_apart (λ c. nat_lt c 128) no_return cs h
 inside_sound CStr cs s h = all_apart (λ c. not (c == 0)) no_return cs h
 inside_sound kind cs s h = absurd (cc)
 
--- ---- the first closer
+-- ---- the first closing delimiter
 
--- hashes that begin a text are those of its front, where no hash follows that
+-- Hashes at the beginning of a text are those of its first part, if no hash follows this part.
 hashes_in_front : (n : ℕ) (a z : List ℕ) → first_passes is_hash z ≡ false → begins (replicate n 35) (a ++ z) ≡ true
     → begins (replicate n 35) a ≡ true
 hashes_in_front zero a z no_hash h = refl
@@ -45,7 +45,7 @@ hashes_in_front (suc n) (c ∷ cs) z no_hash h =
     let p = and_parts (c == 35) (begins (replicate n 35) (cs ++ z)) h in
     and_from (c == 35) (begins (replicate n 35) cs) p.0 (hashes_in_front n cs z no_hash p.1)
 
--- what begins a text begins it whatever follows
+-- A prefix of a text is a prefix of each longer text too.
 begins_more : (p a b : List ℕ) → begins p a ≡ true → begins p (a ++ b) ≡ true
 begins_more [] a b h = refl
 begins_more (k ∷ p) [] b h = absurd (cc)
@@ -53,14 +53,14 @@ begins_more (k ∷ p) (c ∷ cs) b h =
     let q = and_parts (c == k) (begins p cs) h in
     and_from (c == k) (begins p (cs ++ b)) q.0 (begins_more p cs b q.1)
 
--- one turn of the loop, at no closer
+-- One iteration of the loop, at a character that begins no closing delimiter.
 pub raw_on : (k : Kind) (hashes : List ℕ) (c : ℕ) (cs : List ℕ) → (c == 34 && begins hashes cs) ≡ false
     → ends_raw k hashes (c ∷ cs) ≡ (is_raw_character k c && ends_raw k hashes cs)
 unfolding ends_raw
 raw_on k hashes c cs h = ap (λ b. cond b (is_strict_suffix (drop (length hashes) cs))
     (is_raw_character k c && ends_raw k hashes cs)) h
 
--- what stops at these marks stands inside
+-- Characters other than `"` and CR are allowed in a raw string.
 str_inside : (a b : Bool) → not (a || b || b || b) ≡ true → (not a && not b) ≡ true
 str_inside true b h = absurd (cc)
 str_inside false true h = absurd (cc)
@@ -93,7 +93,7 @@ c_run (c ∷ cs) h =
     and_from (is_inside CStr c) (list_all (is_inside CStr) cs) (c_inside (c == 34) (c == 13) (c == 0) b.0)
     (c_run cs b.1)
 
--- and at the closer
+-- One iteration of the loop, at the closing delimiter.
 pub raw_close : (k : Kind) (hashes x : List ℕ) → ends_raw k hashes (34 ∷ (hashes ++ x)) ≡ is_strict_suffix x
 unfolding ends_raw
 raw_close k hashes x =
@@ -101,11 +101,11 @@ raw_close k hashes x =
     (is_raw_character k 34 && ends_raw k hashes (hashes ++ x))) (begins_front hashes x)
     ∙ ap is_strict_suffix (drop-append_seam hashes x)
 
--- no closer stands in the contents
+-- The content contains no closing delimiter.
 abbrev pub NoCloser : List ℕ → List ℕ → Type 0
 NoCloser hashes inside = (front rest : List ℕ) → inside ≢ front ++ (34 ∷ (hashes ++ rest))
 
--- so none begins before what follows
+-- No closing delimiter begins inside the content.
 pub no_closer_at : (n : ℕ) (c : ℕ) (cs z : List ℕ) → first_passes is_hash z ≡ false → NoCloser (replicate n 35) (c ∷ cs)
     → (c == 34 && begins (replicate n 35) (cs ++ z)) ≡ false
 no_closer_at n c cs z no_hash none = false_from_ne_true (c == 34 && begins (replicate n 35) (cs ++ z)) (λ h.
@@ -113,7 +113,7 @@ no_closer_at n c cs z no_hash none = false_from_ne_true (c == 34 && begins (repl
     let b = begins_is (replicate n 35) cs (hashes_in_front n cs z no_hash p.1) in
     none [] b.0 (ap (λ q. q ∷ cs) (eqb-true c 34 p.0) ∙ ap (λ q. 34 ∷ q) b.1))
 
--- the loop goes past contents at once
+-- The loop skips the content at once.
 pub past_body : (k : Kind) (n : ℕ) (body z : List ℕ) → list_all (is_raw_character k) body ≡ true
     → NoCloser (replicate n 35) body → first_passes is_hash z ≡ false → ends_raw k (replicate n 35) (body ++ z)
     ≡ ends_raw k (replicate n 35) z
@@ -124,7 +124,7 @@ past_body k n (c ∷ cs) z each none no_hash =
     ∙ ap (λ b. b && ends_raw k (replicate n 35) (cs ++ z)) p.0
     ∙ past_body k n cs z p.1 (λ f r e. none (c ∷ f) r (ap (λ q. c ∷ q) e)) no_hash
 
--- what closes a raw form passes
+-- The end of a raw string passes the test.
 pub raw_complete : (k : Kind) (n : ℕ) (t : List ℕ) → ClosesInside k (replicate n 35) t → ends_raw k (replicate n 35) t
     ≡ true
 raw_complete k n t c =
@@ -133,7 +133,7 @@ raw_complete k n t c =
     (inside_allowed k c.inside c.allowed c.no_carriage_return) c.first_close refl
     ∙ raw_close k (replicate n 35) c.suffix ∙ strict_suffix_complete c.suffix c.is_suffix
 
--- contents, closer and suffix, in the text
+-- The content, the closing delimiter and the suffix of a raw string, as parts of the text.
 record RawParts (k : Kind) (hashes t : List ℕ) : Type 0 where
   inside : List ℕ
   suffix : List ℕ
@@ -142,12 +142,12 @@ record RawParts (k : Kind) (hashes t : List ℕ) : Type 0 where
   is_suffix : IsStrictSuffix suffix
   text_is : t ≡ inside ++ (34 ∷ (hashes ++ suffix))
 
--- no contents hold nothing
+-- An empty content contains no quote.
 pub nothing_inside : (f z : List ℕ) → [] ≡ f ++ (34 ∷ z) → ⊥
 nothing_inside [] z e = absurd (cc)
 nothing_inside (c ∷ f) z e = absurd (cc)
 
--- a closer further on is none of the contents that end before it
+-- If the first character begins no closing delimiter and the text after it contains none, the content contains none.
 pub none_before : (hashes : List ℕ) (c : ℕ) (cs z : List ℕ) → (c == 34 && begins hashes (cs ++ z)) ≡ false
     → NoCloser hashes cs → NoCloser hashes (c ∷ cs)
 none_before hashes c cs z h none [] rest e =
@@ -159,7 +159,7 @@ none_before hashes c cs z h none (f ∷ front) rest e =
     let tail : cs ≡ front ++ (34 ∷ (hashes ++ rest)) = cc in
     none front rest tail
 
--- what passes has these parts
+-- A text that passes the test has a content, a closing delimiter and a suffix.
 raw_parts : (k : Kind) (hashes t : List ℕ) → ends_raw k hashes t ≡ true → RawParts k hashes t
 unfolding ends_raw
 raw_parts k hashes [] h = absurd (cc)
@@ -198,7 +198,7 @@ raw_parts k hashes (c ∷ cs) h = go (λ e. raw_parts k hashes cs e) (cases_Bool
           text_is = ap (λ z. c ∷ z) r.text_is;
         }
 
--- what passes closes a raw form
+-- A text that passes the test ends a raw string.
 pub raw_sound : (k : Kind) (hashes t : List ℕ) → is_string k ≡ true → ends_raw k hashes t ≡ true
     → ClosesInside k hashes t
 raw_sound k hashes t s h =
@@ -206,9 +206,9 @@ raw_sound k hashes t s h =
     let a = inside_sound k r.inside s r.each in
     record { inside = r.inside; suffix = r.suffix; allowed = a.0; no_carriage_return = a.1; first_close = r.none; is_suffix = r.is_suffix; text_is = r.text_is }
 
--- ---- turns of the loop
+-- ---- iterations of the loop
 
--- a quote without the hashes after it is no closer
+-- A quote without the hashes after it isn't a closing delimiter.
 pub quote_without_hashes : (hashes : List ℕ) (c : ℕ) (cs : List ℕ) → ((x : List ℕ) → cs ≢ hashes ++ x)
     → (c == 34 && begins hashes cs) ≡ false
 quote_without_hashes hashes c cs none = false_from_ne_true (c == 34 && begins hashes cs)
@@ -216,7 +216,7 @@ quote_without_hashes hashes c cs none = false_from_ne_true (c == 34 && begins ha
 
 -- ---- the hashes
 
--- no quote after the hashes
+-- No quote follows the hashes.
 pub raw_unquoted : (k : Kind) (t r : List ℕ) → r ≡ (after_run is_hash) t → ((y : List ℕ) → r ≢ 34 ∷ y)
     → IsTrue false ↔ ClosesRaw k t
 raw_unquoted k t r rest n = (

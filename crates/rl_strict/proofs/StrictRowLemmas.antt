@@ -1,50 +1,50 @@
--- Strict units up to a quote, and the suffix after it.
-use Rattle.rl_text.proofs.Common.{◌≡◌, ℕ, Bool, true, false, cond, ◌==◌, List, [], ◌∷◌, ◌++◌, length, Some, None, refl, sym, ap, subst, ◌∙◌, arith, append_assoc, append-nil, and_from, and_parts, both_ways, eqb-true, list_all, flat_map, IsTrue}
-use Rattle.rl_reading.proofs.Names.{◌↔◌, Kind, Str, ByteStr, CStr, Byte, Char, first_passes, is_plain, is_single, is_string, StrictUnit, Itself, QuoteEscape, PlainEscape, AsciiEscape, ByteEscape, UnicodeEscape, LineBreak, strict_text, is_dropped_blank, is_strict_unit, IsStrictSuffix}
-use Rattle.rl_text.proofs.Basics.{apart}
-use Rattle.rl_forms.specs.Strict.{BlanksEnd, HasUnits, strict_closer}
+-- The characters and escapes of a quoted literal up to its closing quote, and the suffix after it.
+use Rattle.rl_syntax.proofs.Common.{◌≡◌, ℕ, Bool, true, false, cond, ◌==◌, List, [], ◌∷◌, ◌++◌, length, Some, None, refl, sym, ap, subst, ◌∙◌, arith, append_assoc, append-nil, and_from, and_parts, both_ways, eqb-true, list_all, flat_map, IsTrue}
+use Rattle.rl_lenient.proofs.Names.{◌↔◌, Kind, Str, ByteStr, CStr, Byte, Char, first_passes, is_plain, is_single, is_string, StrictUnit, Itself, QuoteEscape, PlainEscape, AsciiEscape, ByteEscape, UnicodeEscape, LineBreak, strict_text, is_dropped_blank, is_strict_unit, IsStrictSuffix}
+use Rattle.rl_syntax.proofs.Basics.{apart}
+use Rattle.rl_syntax.specs.Strict.{BlanksEnd, HasUnits, strict_closer}
 use Rattle.rl_strict.specs.Mirrors.StrictAt.{ends_quoted, escape_rest, is_strict_suffix, unit_rest}
 use Rattle.rl_strict.specs.StrictShapes.{ClosesUnits}
-use Rattle.rl_reading.proofs.StrictBackLemmas.{HasStrictUnits, plain_is_bare}
+use Rattle.rl_lenient.proofs.StrictBackLemmas.{HasStrictUnits, plain_is_bare}
 use Rattle.rl_strict.proofs.StrictUnitLemmas.{MayEnd, StrictFront, unit_rest_sound, unit_rest_complete}
 use Rattle.rl_strict.proofs.StrictWordLemmas.{strict_suffix_complete, strict_suffix_sound}
-use Rattle.rl_reading.proofs.StrictBytesLemmas.{blanks_cons}
+use Rattle.rl_lenient.proofs.StrictBytesLemmas.{blanks_cons}
 
--- ---- what the kinds have
+-- ---- the content of each kind of literal
 
--- a string ends with its quote
+-- A string ends with its quote.
 string_ends : (k : Kind) → is_string k ≡ true → strict_closer k ≡ 34 ∷ []
 string_ends Str h = refl
 string_ends ByteStr h = refl
 string_ends CStr h = refl
 string_ends kind h = absurd (cc)
 
--- a string has any number of units
+-- A string may contain any number of characters and escapes.
 string_count : (k : Kind) (us : List StrictUnit) → is_string k ≡ true → HasUnits k us
 string_count Str us h = tt
 string_count ByteStr us h = tt
 string_count CStr us h = tt
 string_count kind us h = absurd (cc)
 
--- a character or a byte ends with its quote
+-- A character or byte literal ends with its quote.
 single_ends : (k : Kind) → is_single k ≡ true → strict_closer k ≡ 39 ∷ []
 single_ends Byte h = refl
 single_ends Char h = refl
 single_ends kind h = absurd (cc)
 
--- one unit is the right number for a character or a byte
+-- One character or escape is the right number for a character or byte literal.
 single_count : (k : Kind) (u : StrictUnit) → is_single k ≡ true → HasUnits k (u ∷ [])
 single_count Byte u h = refl
 single_count Char u h = refl
 single_count kind u h = absurd (cc)
 
--- and the only one
+-- A character or byte literal contains only one character or escape.
 single_length : (k : Kind) (us : List StrictUnit) → is_single k ≡ true → HasUnits k us → length us ≡ 1
 single_length Byte us h c = c
 single_length Char us h c = c
 single_length kind us h c = absurd (cc)
 
--- no string kind takes a quote as it is
+-- A string can't contain its closing quote unescaped.
 pub quote_stops : (k : Kind) (x : List ℕ) → is_string k ≡ true → unit_rest k (34 ∷ x) ≡ None
 unfolding unit_rest
 quote_stops Str x h = refl
@@ -52,20 +52,20 @@ quote_stops ByteStr x h = refl
 quote_stops CStr x h = refl
 quote_stops kind x h = absurd (cc)
 
--- ---- the blanks of a line break
+-- ---- the white space of an escaped line end
 
--- the front of a text passes where the text does
+-- If the first character of a text fails a test, so does that of its prefix.
 passes_front : (test : ℕ → Bool) (a b : List ℕ) → first_passes test (a ++ b) ≡ false → first_passes test a ≡ false
 passes_front test [] b h = refl
 passes_front test (c ∷ cs) b h = h
 
--- and the text where the front does, if what follows does
+-- If the first character of each of two texts fails a test, so does that of the concatenated text.
 passes_seam : (test : ℕ → Bool) (a b : List ℕ) → first_passes test a ≡ false → first_passes test b ≡ false
     → first_passes test (a ++ b) ≡ false
 passes_seam test [] b h k = k
 passes_seam test (c ∷ cs) b h k = h
 
--- a line break ends before units where it ends before the whole text
+-- An escaped line end that ends before the whole text also ends before a part of the text.
 may_end_front : (u : StrictUnit) (a b : List ℕ) → MayEnd u (a ++ b) → MayEnd u a
 may_end_front (LineBreak blanks) a b m = passes_front is_dropped_blank a b m
 may_end_front (Itself c) a b m = tt
@@ -75,7 +75,7 @@ may_end_front (AsciiEscape high low) a b m = tt
 may_end_front (ByteEscape high low) a b m = tt
 may_end_front (UnicodeEscape digits) a b m = tt
 
--- it ends before units and a quote
+-- An escaped line end that ends before characters and escapes also ends before these and a quote.
 may_end_seam : (u : StrictUnit) (us : List StrictUnit) (b : List ℕ) → first_passes is_dropped_blank b ≡ false
     → BlanksEnd (u ∷ us) → MayEnd u (flat_map strict_text us ++ b)
 may_end_seam (LineBreak blanks) us b n m = passes_seam is_dropped_blank (flat_map strict_text us) b m.0 n
@@ -86,7 +86,7 @@ may_end_seam (AsciiEscape high low) us b n m = tt
 may_end_seam (ByteEscape high low) us b n m = tt
 may_end_seam (UnicodeEscape digits) us b n m = tt
 
--- one unit less in front
+-- The white space of escaped line ends, after the first character or escape is removed.
 blanks_after : (u : StrictUnit) (us : List StrictUnit) → BlanksEnd (u ∷ us) → BlanksEnd us
 blanks_after (LineBreak blanks) us b = b.1
 blanks_after (Itself c) us b = b
@@ -96,23 +96,23 @@ blanks_after (AsciiEscape high low) us b = b
 blanks_after (ByteEscape high low) us b = b
 blanks_after (UnicodeEscape digits) us b = b
 
--- ---- a quote and a suffix
+-- ---- the closing quote and the suffix
 
--- a quote and a suffix pass
+-- A closing quote and a suffix pass the code's test.
 quote_complete : (quote : ℕ) (x : List ℕ) → (quote == quote) ≡ true → IsStrictSuffix x → ends_quoted quote (quote ∷ x)
     ≡ true
 quote_complete quote x e s = and_from (quote == quote) (is_strict_suffix x) e (strict_suffix_complete x s)
 
--- what passes is a quote and a suffix
+-- A text that passes the code's test is a closing quote and a suffix.
 quote_sound : (quote : ℕ) (t : List ℕ) → ends_quoted quote t ≡ true → (x : List ℕ) × IsStrictSuffix x × (t ≡ quote ∷ x)
 quote_sound quote [] h = absurd (cc)
 quote_sound quote (c ∷ cs) h =
     let p = and_parts (c == quote) (is_strict_suffix cs) h in
     (cs, strict_suffix_sound cs p.1, ap (λ z. z ∷ cs) (eqb-true c quote p.0))
 
--- ---- units in a row
+-- ---- sequences of characters and escapes
 
--- what stands after the first of several units
+-- The text after the first of several characters and escapes.
 row_after : (k : Kind) (u : StrictUnit) (us : List StrictUnit) (q : ℕ) (x t : List ℕ)
     → list_all (is_strict_unit k) (u ∷ us) ≡ true → BlanksEnd (u ∷ us) → is_dropped_blank q ≡ false → t
     ≡ flat_map strict_text (u ∷ us) ++ (q ∷ x) → unit_rest k t ≡ Some (flat_map strict_text us ++ (q ∷ x))
@@ -121,12 +121,12 @@ row_after k u us q x t each b n text =
     ap (unit_rest k) (text ∙ append_assoc (strict_text u) (flat_map strict_text us) (q ∷ x))
     ∙ unit_rest_complete k u (flat_map strict_text us ++ (q ∷ x)) p.0 (may_end_seam u us (q ∷ x) n b)
 
--- the row with its quote written out
+-- The characters and escapes of a string, with the closing quote.
 string_text : (k : Kind) (t x : List ℕ) (us : List StrictUnit) → is_string k ≡ true → t ≡ flat_map strict_text us
     ++ (strict_closer k ++ x) → t ≡ flat_map strict_text us ++ (34 ∷ x)
 string_text k t x us s e = e ∙ ap (λ z. flat_map strict_text us ++ (z ++ x)) (string_ends k s)
 
--- after the first unit the same end follows
+-- After the first character or escape, the text ends as before.
 row_down : (k : Kind) (t r x : List ℕ) (us : List StrictUnit) → is_string k ≡ true → unit_rest k t ≡ Some r
     → list_all (is_strict_unit k) us ≡ true → BlanksEnd us → IsStrictSuffix x → t ≡ flat_map strict_text us ++ (34 ∷ x)
     → ClosesUnits k r
@@ -145,7 +145,7 @@ row_down k t r x (u ∷ us) s h each b i e =
           ∙ ap (λ z. flat_map strict_text us ++ (z ++ x)) (sym (string_ends k s));
     }
 
--- before the end one more unit may stand
+-- If a text ends a string, a character or escape followed by this text ends a string too.
 row_up : (k : Kind) (t r : List ℕ) → is_string k ≡ true → StrictFront k t r → ClosesUnits k r → ClosesUnits k t
 row_up k t r s f c =
     let rest : List ℕ = strict_closer k ++ c.suffix in
@@ -163,11 +163,11 @@ row_up k t r s f c =
           ∙ sym (append_assoc (strict_text f.unit) (flat_map strict_text us) rest);
     }
 
--- strings are quoted
+-- Strings are quoted literals.
 pub quoted_string : (k : Kind) → is_string k ≡ true → HasStrictUnits k
 quoted_string k h = string_count k (Itself 0 ∷ []) h
 
--- one turn of the loop over units
+-- One iteration of the loop over characters and escapes.
 pub units_step : (k : Kind) (t r s : List ℕ) → is_string k ≡ true → unit_rest k t ≡ Some r
     → (ClosesUnits k t ↔ ClosesUnits k s) → ClosesUnits k r ↔ ClosesUnits k s
 units_step k t r s h e same = (
@@ -176,7 +176,7 @@ units_step k t r s h e same = (
       (string_text k t d.suffix d.units h d.text_is),
 )
 
--- ---- runs of characters that stand for themselves
+-- ---- sequences of unescaped characters
 
 abbrev pub is_bare : Kind → ℕ → Bool
 is_bare k c = is_strict_unit k (Itself c)
@@ -194,7 +194,7 @@ bare_unit k c cs s h =
     (apart (is_bare k) c 92 h (bare_backslash k s))
     ∙ ap (λ z. cond z (Some cs) None) h
 
--- the loop goes past a run at once
+-- The loop skips a sequence of unescaped characters at once.
 pub units_run : (k : Kind) (run rest s : List ℕ) → is_string k ≡ true → list_all (is_bare k) run ≡ true
     → (ClosesUnits k (run ++ rest) ↔ ClosesUnits k s) → ClosesUnits k rest ↔ ClosesUnits k s
 units_run k [] rest s h each same = same
@@ -208,7 +208,7 @@ pub units_past : (k : Kind) (t x s : List ℕ) (run : List ℕ) → is_string k 
 units_past k t x s run h e each same = units_run k run x s h each
     (subst (λ z. ClosesUnits k z ↔ ClosesUnits k s) e same)
 
--- what the lenient reading of a string takes as it is, the strict one does
+-- An unescaped character of a string by `syn`'s grammar is one by Rust's grammar.
 no_char : (k : Kind) → is_string k ≡ true → k ≡ Char → ⊥
 no_char k h e = both_ways (is_string k) (ap is_string e) h
 
@@ -224,7 +224,7 @@ pub bare_stops : (k : Kind) (t : List ℕ) → is_string k ≡ true → first_pa
 bare_stops k [] h stops = refl
 bare_stops k (c ∷ cs) h stops = sym (plain_is_bare k c (no_char k h)) ∙ stops
 
--- where no unit stands, the end stands
+-- If the text begins with no character or escape, it begins with the literal's end.
 stuck_down : (k : Kind) (t x : List ℕ) (us : List StrictUnit) → is_string k ≡ true → unit_rest k t ≡ None
     → list_all (is_strict_unit k) us ≡ true → BlanksEnd us → IsStrictSuffix x → t ≡ flat_map strict_text us ++ (34 ∷ x)
     → ends_quoted 34 t ≡ true
@@ -232,7 +232,7 @@ stuck_down k t x [] s h each b i e = ap (ends_quoted 34) e ∙ quote_complete 34
 stuck_down k t x (u ∷ us) s h each b i e = absurd (let n : None ≡ Some (flat_map strict_text us ++ (34 ∷ x)) = sym h
     ∙ row_after k u us 34 x t each b refl e in (cc))
 
--- where no more unit stands, a quote and a suffix have to
+-- If no further character or escape follows, a quote and a suffix must follow.
 pub units_end : (k : Kind) (b : Bool) (t s : List ℕ) → is_string k ≡ true → unit_rest k t ≡ None
     → (ClosesUnits k t ↔ ClosesUnits k s) → b ≡ ends_quoted 34 t → IsTrue b ↔ ClosesUnits k s
 units_end k b t s h e same is = (
@@ -249,15 +249,15 @@ units_end k b t s h e same is = (
       (string_text k t d.suffix d.units h d.text_is),
 )
 
--- ---- one unit
+-- ---- one character or escape
 
--- one unit alone
+-- The content is exactly one character or escape.
 one_unit : (us : List StrictUnit) → length us ≡ 1 → (u : StrictUnit) × (us ≡ u ∷ [])
 one_unit [] h = absurd (omega arith)
 one_unit (u ∷ []) h = (u, refl)
 one_unit (u ∷ w ∷ us) h = absurd (omega arith)
 
--- what stands after the one unit of a character or a byte
+-- The text after the one character or escape of a character or byte literal.
 one_after : (k : Kind) (t : List ℕ) (c : ClosesUnits k t) → is_single k ≡ true → unit_rest k t ≡ Some (39 ∷ c.suffix)
 one_after k t c s =
     let o = one_unit c.units (single_length k c.units s c.count) in
@@ -267,11 +267,11 @@ one_after k t c s =
     (c.text_is ∙ ap (λ z. flat_map strict_text c.units ++ (z ++ c.suffix)) (single_ends k s)
     ∙ ap (λ us. flat_map strict_text us ++ (39 ∷ c.suffix)) o.1)
 
--- characters and bytes are quoted
+-- Character and byte literals are quoted literals.
 pub quoted_single : (k : Kind) → is_single k ≡ true → HasStrictUnits k
 quoted_single k h = single_count k (Itself 0) h
 
--- a unit, a quote and a suffix
+-- One character or escape, a quote and a suffix end a character or byte literal.
 one_closes : (k : Kind) (t r x : List ℕ) → is_single k ≡ true → StrictFront k t r → IsStrictSuffix x → r ≡ 39 ∷ x
     → ClosesUnits k t
 one_closes k t r x s f i e = record {
@@ -285,7 +285,7 @@ one_closes k t r x s f i e = record {
       ∙ ap (λ z. z ++ (strict_closer k ++ x)) (sym (append-nil (strict_text f.unit)));
 }
 
--- where a unit stands, a quote and a suffix have to follow
+-- After a character or escape, a quote and a suffix must follow.
 pub one_end : (k : Kind) (b : Bool) (t r : List ℕ) → is_single k ≡ true → unit_rest k t ≡ Some r → b ≡ ends_quoted 39 r
     → IsTrue b ↔ ClosesUnits k t
 one_end k b t r s e is = (
@@ -297,7 +297,7 @@ one_end k b t r s e is = (
       is ∙ ap (ends_quoted 39) rest ∙ quote_complete 39 c.suffix refl c.is_suffix,
 )
 
--- where no unit stands, no character and no byte is closed
+-- If the text begins with no character or escape, it doesn't end a character or byte literal.
 pub one_none : (k : Kind) (t : List ℕ) → is_single k ≡ true → unit_rest k t ≡ None → IsTrue false ↔ ClosesUnits k t
 one_none k t s e = (
   λ y. absurd (both_ways true (sym y) refl),

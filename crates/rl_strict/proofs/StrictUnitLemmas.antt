@@ -1,42 +1,42 @@
--- A strict unit stands at the front of a text exactly where `unit_rest` gives what is left.
-use Rattle.rl_text.proofs.Common.{◌≡◌, ℕ, ◌||◌, Bool, true, false, not, ◌==◌, cond, List, [], ◌∷◌, ◌++◌, Option, Some, None, refl, sym, ap, subst, ◌∙◌, inl, inr, and_parts, both_ways, cases_Bool, eqb-true, or_from, list_all}
-use Rattle.rl_reading.proofs.Names.{Kind, Str, ByteStr, CStr, Byte, Char, Int, Float, BoolKind, first_passes, QuotedUnit, Plain, CrLf, Named, Hex, Unicode, Continuation, unit_text, is_line_end, is_plain, is_string, IsUnit, StrictUnit, Itself, QuoteEscape, PlainEscape, AsciiEscape, ByteEscape, UnicodeEscape, LineBreak, strict_text, is_dropped_blank, is_strict_unit, after_run}
+-- A text begins with a character or escape of Rust's grammar if and only if `unit_rest` returns the text after it.
+use Rattle.rl_syntax.proofs.Common.{◌≡◌, ℕ, ◌||◌, Bool, true, false, not, ◌==◌, cond, List, [], ◌∷◌, ◌++◌, Option, Some, None, refl, sym, ap, subst, ◌∙◌, inl, inr, and_parts, both_ways, cases_Bool, eqb-true, or_from, list_all}
+use Rattle.rl_lenient.proofs.Names.{Kind, Str, ByteStr, CStr, Byte, Char, Int, Float, BoolKind, first_passes, QuotedUnit, Plain, CrLf, Named, Hex, Unicode, Continuation, unit_text, is_line_end, is_plain, is_string, IsUnit, StrictUnit, Itself, QuoteEscape, PlainEscape, AsciiEscape, ByteEscape, UnicodeEscape, LineBreak, strict_text, is_dropped_blank, is_strict_unit, after_run}
 use Rattle.std.proofs.Common.{option_map}
-use Rattle.rl_forms.specs.Strict.{is_plain_letter}
-use Rattle.rl_text.proofs.Basics.{apart}
-use Rattle.rl_forms.proofs.StrictQuoted.{MayFollow, stands}
-pub use Rattle.rl_reading.specs.StrictUnits.{BreakEnds as MayEnd}
-use Rattle.rl_reading.specs.Mirrors.NumberAt.{run}
-use Rattle.rl_reading.specs.Mirrors.UnitAt.{unit_at}
+use Rattle.rl_syntax.specs.Strict.{is_plain_letter}
+use Rattle.rl_syntax.proofs.Basics.{apart}
+use Rattle.rl_syntax.proofs.StrictQuoted.{MayFollow, stands}
+pub use Rattle.rl_lenient.specs.StrictUnits.{BreakEnds as MayEnd}
+use Rattle.rl_lenient.specs.Mirrors.NumberAt.{run}
+use Rattle.rl_lenient.specs.Mirrors.UnitAt.{unit_at}
 use Rattle.rl_strict.specs.Mirrors.StrictAt.{escape_rest, unit_rest}
-use Rattle.rl_reading.proofs.IntegerLemmas.{chosen_some}
-use Rattle.rl_reading.proofs.RunLemmas.{run_all, run_ends, run_join, run_past}
-use Rattle.rl_reading.proofs.StrictBackLemmas.{Back, HasStrictUnits, named_escape, hex_escape, unicode_escape}
-use Rattle.rl_reading.proofs.UnitLemmas.{unit_complete, unit_sound, backslash_not_plain}
-use Rattle.rl_reading.proofs.StrictBytesLemmas.{no_break_ends, line_allowed}
+use Rattle.rl_lenient.proofs.IntegerLemmas.{chosen_some}
+use Rattle.rl_lenient.proofs.RunLemmas.{run_all, run_ends, run_join, run_past}
+use Rattle.rl_lenient.proofs.StrictBackLemmas.{Back, HasStrictUnits, named_escape, hex_escape, unicode_escape}
+use Rattle.rl_lenient.proofs.UnitLemmas.{unit_complete, unit_sound, backslash_not_plain}
+use Rattle.rl_lenient.proofs.StrictBytesLemmas.{no_break_ends, line_allowed}
 
--- a unit of the kind stands at the front, and the rest is left
+-- The text begins with a character or escape of the kind, and the rest follows it.
 pub record StrictFront (k : Kind) (t r : List ℕ) : Type 0 where
   pub unit : StrictUnit
   pub is_unit : is_strict_unit k unit ≡ true
   pub may_end : MayEnd unit r
   pub text_is : t ≡ strict_text unit ++ r
 
--- an escape at the front
+-- An escape at the beginning of the text.
 escape_front : (k : Kind) (t : List ℕ) (u : QuotedUnit) (r : List ℕ) → Back k u → t ≡ unit_text u ++ r
     → StrictFront k t r
 escape_front k t u r e h = record { unit = e.unit; is_unit = e.is_unit; may_end = no_break_ends e.unit r e.no_break; text_is = h ∙ ap (λ z. z ++ r) e.text_is }
 
--- a backslash
+-- The character is a backslash.
 abbrev is_backslash : ℕ → Bool
 is_backslash c = c == 92
 
--- what stands after the first character
+-- The text after its first character.
 abbrev following : List ℕ → List ℕ
 following [] = []
 following (c ∷ cs) = cs
 
--- a lenient escape that is no line break is strict
+-- An escape of `syn`'s grammar other than an escaped line end is one of Rust's grammar.
 lenient_front : (k : Kind) (u : QuotedUnit) (c : ℕ) (cs r : List ℕ) → HasStrictUnits k → (c == 10) ≡ false → (c == 13)
     ≡ false → IsUnit k u → 92 ∷ c ∷ cs ≡ unit_text u ++ r → StrictFront k (92 ∷ c ∷ cs) r
 lenient_front k (Plain d) c cs r q n m u e =
@@ -53,7 +53,7 @@ lenient_front k (Continuation d run) c cs r q n m u e =
     absurd (both_ways (is_line_end c) (or_from (c == 10) (c == 13) n m)
     (ap (λ z. first_passes is_line_end (following z)) e ∙ u.1))
 
--- a line break at the front
+-- An escaped line end at the beginning of the text.
 line_front : (k : Kind) (cs r : List ℕ) → cond (is_string k) (Some (after_run is_dropped_blank cs)) None ≡ Some r
     → StrictFront k (92 ∷ 10 ∷ cs) r
 line_front k cs r h =
@@ -66,13 +66,13 @@ line_front k cs r h =
       text_is = ap (λ z. 92 ∷ 10 ∷ z) (run_join is_dropped_blank cs ∙ ap (λ z. run is_dropped_blank cs ++ z) p.1);
     }
 
--- what an option was before it was mapped
+-- An optional value before a function was applied to it.
 mapped_some : (o : Option (List ℕ × List ℕ)) (r : List ℕ) → option_map (λ p. p.1) o ≡ Some r → (p : List ℕ × List ℕ)
     × (o ≡ Some p) × (p.1 ≡ r)
 mapped_some None r h = absurd (cc)
 mapped_some (Some p) r h = (p, refl, cc)
 
--- any escape at the front
+-- Any escape at the beginning of the text.
 after_backslash : (k : Kind) (cs r : List ℕ) → HasStrictUnits k → escape_rest k cs ≡ Some r → StrictFront k (92 ∷ cs) r
 after_backslash k [] r q h = absurd (cc)
 after_backslash k (c ∷ cs) r q h =
@@ -92,7 +92,7 @@ after_backslash k (c ∷ cs) r q h =
           ]
     ]
 
--- what is left stands after a strict unit
+-- The text that `unit_rest` returns follows a character or escape of Rust's grammar.
 pub unit_rest_sound : (k : Kind) (t r : List ℕ) → HasStrictUnits k → unit_rest k t ≡ Some r → StrictFront k t r
 unfolding unit_rest
 unit_rest_sound k [] r q h = absurd (cc)
@@ -107,9 +107,9 @@ unit_rest_sound k (c ∷ cs) r q h =
           record { unit = Itself c; is_unit = p.0; may_end = tt; text_is = ap (λ z. c ∷ z) p.1 }
     ]
 
--- ---- what stands after a unit is left
+-- ---- `unit_rest` returns the text after a character or escape
 
--- no kind takes a backslash as it is, strictly neither
+-- A literal with escapes can't contain an unescaped backslash.
 bare_backslash : (k : Kind) → is_strict_unit k (Itself 92) ≡ false
 bare_backslash Str = refl
 bare_backslash ByteStr = refl
@@ -120,7 +120,7 @@ bare_backslash Int = refl
 bare_backslash Float = refl
 bare_backslash BoolKind = refl
 
--- a character that stands for itself is taken off
+-- An unescaped character is skipped.
 pub itself_past : (k : Kind) (c : ℕ) (r : List ℕ) → is_strict_unit k (Itself c) ≡ true → unit_rest k (c ∷ r) ≡ Some r
 unfolding unit_rest
 itself_past k c r h =
@@ -128,7 +128,7 @@ itself_past k c r h =
     ap (λ b. cond b (escape_rest k r) (cond (is_strict_unit k (Itself c)) (Some r) None)) n
     ∙ ap (λ b. cond b (Some r) None) h
 
--- an escape that is no line break is read as the lenient one
+-- An escape other than an escaped line end is parsed as in `syn`'s grammar.
 escape_past : (k : Kind) (s : StrictUnit) (c : ℕ) (cs r : List ℕ) → is_strict_unit k s ≡ true → MayFollow s r
     → strict_text s ≡ 92 ∷ c ∷ cs → (c == 10) ≡ false → (c == 13) ≡ false → unit_rest k (strict_text s ++ r) ≡ Some r
 unfolding unit_rest
@@ -143,20 +143,20 @@ escape_past k s c cs r h f e n m =
     ∙ ap (λ b. cond b None other) m
     ∙ ap (option_map (λ p. p.1)) at
 
--- the letters of the plain escapes end no line
+-- The letters of escapes such as `\n` aren't line ends.
 letter_no_line : (c : ℕ) → is_plain_letter c ≡ true → ((c == 10) ≡ false) × ((c == 13) ≡ false)
 letter_no_line c h = (apart is_plain_letter c 10 h refl, apart is_plain_letter c 13 h refl)
 
--- the letter of a plain escape
+-- The letter of an escape such as `\n`.
 plain_letter : (k : Kind) (c : ℕ) → is_strict_unit k (PlainEscape c) ≡ true → is_plain_letter c ≡ true
 plain_letter CStr c h = (and_parts (is_plain_letter c) (not (c == 48)) h).0
 plain_letter _ c h = h
 
--- either quote
+-- The character is a single or a double quote.
 abbrev is_quote : ℕ → Bool
 is_quote c = c == 39 || c == 34
 
--- only strings have line breaks
+-- Only strings may contain an escaped line end.
 line_of : (k : Kind) (blanks : List ℕ) → is_strict_unit k (LineBreak blanks) ≡ true → (is_string k ≡ true)
     × (list_all is_dropped_blank blanks ≡ true)
 line_of Str blanks h = (refl, h)
@@ -164,7 +164,7 @@ line_of ByteStr blanks h = (refl, h)
 line_of CStr blanks h = (refl, h)
 line_of kind blanks h = absurd (cc)
 
--- a line break is taken off with its blanks
+-- An escaped line end is skipped with the white space after it.
 line_past : (k : Kind) (blanks r : List ℕ) → is_strict_unit k (LineBreak blanks) ≡ true
     → first_passes is_dropped_blank r ≡ false → unit_rest k (92 ∷ 10 ∷ (blanks ++ r)) ≡ Some r
 unfolding unit_rest
@@ -173,7 +173,7 @@ line_past k blanks r h n =
     ap (λ b. cond b (Some (after_run is_dropped_blank (blanks ++ r))) None) p.0
     ∙ ap Some (run_past is_dropped_blank blanks r p.1 n).1
 
--- each strict unit is taken off
+-- Each character or escape of Rust's grammar is skipped.
 pub unit_rest_complete : (k : Kind) (u : StrictUnit) (r : List ℕ) → is_strict_unit k u ≡ true → MayEnd u r
     → unit_rest k (strict_text u ++ r) ≡ Some r
 unit_rest_complete k (Itself c) r h m = itself_past k c r h

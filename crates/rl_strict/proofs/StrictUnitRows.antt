@@ -1,14 +1,14 @@
--- Rows of strict units at the front of a text.
-use Rattle.rl_text.proofs.Common.{◌≡◌, ℕ, Bool, true, false, List, [], ◌∷◌, ◌++◌, refl, sym, ap, subst, ◌∙◌, append-nil, append_assoc, and_from, and_parts, flat_map, list_all, list_all-append}
-use Rattle.rl_reading.proofs.Names.{flat_map-append, ◌↔◌, Kind, first_passes, is_string, StrictUnit, Itself, QuoteEscape, PlainEscape, AsciiEscape, ByteEscape, UnicodeEscape, LineBreak, strict_text, is_dropped_blank, is_strict_unit}
-use Rattle.rl_reading.specs.StrictUnits.{BeginsStrictUnits, BreakEnds, BreaksEnd}
+-- Sequences of characters and escapes at the beginning of a text.
+use Rattle.rl_syntax.proofs.Common.{◌≡◌, ℕ, Bool, true, false, List, [], ◌∷◌, ◌++◌, refl, sym, ap, subst, ◌∙◌, append-nil, append_assoc, and_from, and_parts, flat_map, list_all, list_all-append}
+use Rattle.rl_lenient.proofs.Names.{flat_map-append, ◌↔◌, Kind, first_passes, is_string, StrictUnit, Itself, QuoteEscape, PlainEscape, AsciiEscape, ByteEscape, UnicodeEscape, LineBreak, strict_text, is_dropped_blank, is_strict_unit}
+use Rattle.rl_lenient.specs.StrictUnits.{BeginsStrictUnits, BreakEnds, BreaksEnd}
 use Rattle.rl_strict.specs.StrictShapes.{ClosesUnits}
 use Rattle.rl_strict.proofs.StrictRowLemmas.{units_step}
 use Rattle.rl_strict.proofs.StrictUnitLemmas.{StrictFront, unit_rest_complete}
 
--- ---- line breaks before other texts
+-- ---- escaped line ends before other texts
 
--- before a text that goes on with blanks only if the other does
+-- A test of the first character that fails for one text fails for another one, also with equal text before both.
 seam : (test : ℕ → Bool) (xs a b : List ℕ) → (first_passes test a ≡ false → first_passes test b ≡ false)
     → first_passes test (xs ++ a) ≡ false → first_passes test (xs ++ b) ≡ false
 seam test [] a b f h = f h
@@ -29,7 +29,7 @@ pub breaks_to : (us : List StrictUnit) (a b : List ℕ) → (first_passes is_dro
 breaks_to [] a b f h = tt
 breaks_to (u ∷ us) a b f h = (break_to u (flat_map strict_text us) a b f h.0, breaks_to us a b f h.1)
 
--- ---- runs made longer
+-- ---- sequences made longer
 
 breaks_join : (us vs : List StrictUnit) (b c : List ℕ) → b ≡ flat_map strict_text vs ++ c → BreaksEnd us b
     → BreaksEnd vs c → BreaksEnd (us ++ vs) c
@@ -55,7 +55,7 @@ row_join k a b c r s = record {
       ∙ ap (λ z. z ++ c) (sym (flat_map-append strict_text r.units s.units));
 }
 
--- by one unit
+-- A sequence with one more character or escape.
 pub row_unit : (k : Kind) (a b c : List ℕ) → BeginsStrictUnits k a b → StrictFront k b c → BeginsStrictUnits k a c
 row_unit k a b c r f = row_join k a b c r (record {
   units = f.unit ∷ [];
@@ -64,7 +64,7 @@ row_unit k a b c r f = row_join k a b c r (record {
   text_is = f.text_is ∙ ap (λ z. z ++ c) (sym (append-nil (strict_text f.unit)));
 })
 
--- by a run of characters that stand for themselves
+-- A sequence with unescaped characters appended.
 itself_row : (k : Kind) (run c : List ℕ) → list_all (λ z. is_strict_unit k (Itself z)) run ≡ true
     → BeginsStrictUnits k (run ++ c) c
 itself_row k [] c h = row_none k c
@@ -83,7 +83,7 @@ pub row_run : (k : Kind) (a b c : List ℕ) (run : List ℕ) → BeginsStrictUni
 row_run k a b c run r e h = row_join k a b c r
     (subst (λ z. BeginsStrictUnits k z c) (sym e) (itself_row k run c h))
 
--- ---- what follows a row closes the string where the whole does
+-- ---- the text after a sequence ends the string if and only if the whole text does
 
 pub row_closes : (k : Kind) (us : List StrictUnit) (z : List ℕ) → is_string k ≡ true → list_all (is_strict_unit k) us
     ≡ true → BreaksEnd us z → ClosesUnits k z ↔ ClosesUnits k (flat_map strict_text us ++ z)

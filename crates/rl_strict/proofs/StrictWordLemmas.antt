@@ -1,12 +1,12 @@
--- The suffixes of strict texts are what their tests pass.
-use Rattle.rl_text.proofs.Common.{◌≡◌, ◌≢◌, ℕ, ◌||◌, ◌&&◌, Bool, true, not, ◌==◌, cond, List, [], ◌∷◌, refl, ap, subst, sym, ◌∙◌, inl, inr, and_from, and_parts, both_ways, cases_Bool, eqb-true, not-true, not_from_false, list_all, is_xid_start, is_xid_continue}
-use Rattle.rl_reading.proofs.Names.{is_underscore, first_passes, IsSuffix, IsStrictSuffix}
-use Rattle.rl_text.specs.Texts.{IsWord, is_white, is_continue, is_start}
-use Rattle.rl_forms.specs.Strict.{IsNumberSuffix}
+-- The suffixes of literals in Rust's grammar are the texts that pass the code's tests.
+use Rattle.rl_syntax.proofs.Common.{◌≡◌, ◌≢◌, ℕ, ◌||◌, ◌&&◌, Bool, true, not, ◌==◌, cond, List, [], ◌∷◌, refl, ap, subst, sym, ◌∙◌, inl, inr, and_from, and_parts, both_ways, cases_Bool, eqb-true, not-true, not_from_false, list_all, is_xid_start, is_xid_continue}
+use Rattle.rl_lenient.proofs.Names.{is_underscore, first_passes, IsSuffix, IsStrictSuffix}
+use Rattle.rl_syntax.specs.Texts.{IsWord, is_white, is_continue, is_start}
+use Rattle.rl_syntax.specs.Strict.{IsNumberSuffix}
 use Rattle.rl_strict.specs.Mirrors.StrictAt.{is_number_suffix, is_strict_suffix}
-use Rattle.rl_reading.specs.Mirrors.PlainAt.{is_some_text}
+use Rattle.rl_lenient.specs.Mirrors.PlainAt.{is_some_text}
 
--- what passes two tests passes both at once
+-- Characters that pass each of two tests pass both tests at once.
 pub all_both : (f g : ℕ → Bool) (cs : List ℕ) → list_all f cs ≡ true → list_all g cs ≡ true
     → list_all (λ c. f c && g c) cs ≡ true
 all_both f g [] h k = refl
@@ -15,7 +15,7 @@ all_both f g (c ∷ cs) h k =
     let q = and_parts (g c) (list_all g cs) k in
     and_from (f c && g c) (list_all (λ c. f c && g c) cs) (and_from (f c) (g c) p.0 q.0) (all_both f g cs p.1 q.1)
 
--- and the other way about
+-- Characters that pass two tests at once pass each of them.
 pub all_apart : (f g : ℕ → Bool) (cs : List ℕ) → list_all (λ c. f c && g c) cs ≡ true → (list_all f cs ≡ true)
     × (list_all g cs ≡ true)
 all_apart f g [] h = (refl, refl)
@@ -25,7 +25,7 @@ all_apart f g (c ∷ cs) h =
     let r = all_apart f g cs p.1 in
     (and_from (f c) (list_all f cs) q.0 r.0, and_from (g c) (list_all g cs) q.1 r.1)
 
--- how a word begins
+-- The first character of an identifier.
 word_front : (c : ℕ) (cs : List ℕ) → is_start c ≡ true → c ∷ cs ≢ 95 ∷ []
     → cond (c == 95) (is_some_text cs) (is_start c) ≡ true
 word_front c cs s n = elim (cases_Bool (c == 95)) [
@@ -39,7 +39,7 @@ word_front c cs s n = elim (cases_Bool (c == 95)) [
     more [] n = absurd (n refl)
     more (d ∷ ds) n = refl
 
--- a suffix passes the test
+-- A suffix of a quoted literal passes the code's test of suffixes.
 pub strict_suffix_complete : (x : List ℕ) → IsStrictSuffix x → is_strict_suffix x ≡ true
 unfolding is_strict_suffix
 strict_suffix_complete [] h = refl
@@ -51,12 +51,12 @@ strict_suffix_complete (c ∷ cs) (inr w) =
     (word_front c cs (and_from (c == 95 || is_xid_start c) (not (is_white c)) p.0 q.0) w.not_underscore)
     (all_both is_xid_continue (λ c. not (is_white c)) cs p.1 q.1)
 
--- what stands after the first character
+-- The text after its first character.
 abbrev following : List ℕ → List ℕ
 following [] = []
 following (c ∷ cs) = cs
 
--- a word, from its parts
+-- An identifier, from its first character and the other characters.
 word_of : (c : ℕ) (cs : List ℕ) → is_start c ≡ true → list_all is_continue cs ≡ true → c ∷ cs ≢ 95 ∷ []
     → IsWord (c ∷ cs)
 word_of c cs s h n =
@@ -68,7 +68,7 @@ word_of c cs s h n =
       no_white = and_from (not (is_white c)) (list_all (λ c. not (is_white c)) cs) p.1 q.1;
     }
 
--- what passes the test is a suffix
+-- A text that passes the code's test of suffixes is a suffix of a quoted literal.
 pub strict_suffix_sound : (x : List ℕ) → is_strict_suffix x ≡ true → IsStrictSuffix x
 unfolding is_strict_suffix
 strict_suffix_sound [] h = inl refl
@@ -85,18 +85,18 @@ strict_suffix_sound (c ∷ cs) h =
           inr (word_of c cs start p.1 (λ e. both_ways (c == 95) a (ap (λ z. first_passes is_underscore z) e)))
     ]
 
--- the same of a number's suffix
+-- A suffix of a number passes the code's test of number suffixes.
 pub number_suffix_complete : (x : List ℕ) → IsNumberSuffix x → is_number_suffix x ≡ true
 number_suffix_complete x s = and_from (not (first_passes is_underscore x)) (is_strict_suffix x)
     (not_from_false (first_passes is_underscore x) s.1) (strict_suffix_complete x s.0)
 
--- and the other way about
+-- A text that passes the code's test of number suffixes is a suffix of a number.
 pub number_suffix_sound : (x : List ℕ) → is_number_suffix x ≡ true → IsNumberSuffix x
 number_suffix_sound x h =
     let p = and_parts (not (first_passes is_underscore x)) (is_strict_suffix x) h in
     (strict_suffix_sound x p.1, not-true (first_passes is_underscore x) p.0)
 
--- a strict number's suffix is a lenient one's
+-- A number's suffix in Rust's grammar is one in `syn`'s grammar.
 pub lenient_suffix : (x : List ℕ) → IsNumberSuffix x → IsSuffix x
 lenient_suffix x (inl e, u) = (inl e, u)
 lenient_suffix x (inr w, u) = (inr w.identifier, u)

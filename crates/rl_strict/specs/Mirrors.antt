@@ -1,4 +1,8 @@
--- Mirrors of the code: programs on lists of characters that code is proved equal to. No public
--- clause cites one.
+-- Mirrors of the code: functions on lists of characters, which the code is proved equal to. No public contract mentions one.
 
 pub mod StrictAt
+pub mod StrictFlawAt
+pub mod UnitFlawAt
+pub mod WordFlawAt
+pub mod NumberRead
+pub mod SuffixRead

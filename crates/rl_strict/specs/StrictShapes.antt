@@ -1,21 +1,21 @@
--- What the calls on strict texts say.
+-- The shapes of literal tokens of Rust's grammar.
 use Rattle.std.specs.Prelude.{◌≡◌, ◌≢◌, ℕ, ◌<◌, not, ◌==◌, List, ◌∷◌, ◌++◌, replicate, IsTrue}
 use Rattle.std.specs.List.{list_all, flat_map}
 use Prim.Native.Char.{code}
-use Rattle.rl_forms.specs.declared.kind.Kind.{Kind}
-use Rattle.rl_forms.specs.Reading.{Contents}
-use Rattle.rl_forms.specs.Strict.{StrictUnit, strict_text, is_strict_unit, BlanksEnd, HasUnits, strict_closer, IsRawInside, IsStrictSuffix, Strict}
-use Rattle.rl_reading.specs.declared.quoted_forms.QuotedForm.{QuotedForm}
-use Rattle.rl_reading.specs.declared.quoted_forms.QuotedForm.TheVariants.{Cooked as CookedForm, Raw as RawForm, Single as SingleForm}
+use Rattle.rl_syntax.specs.declared.kind.Kind.{Kind}
+use Rattle.rl_syntax.specs.Reading.{Contents}
+use Rattle.rl_syntax.specs.Strict.{StrictUnit, strict_text, is_strict_unit, BlanksEnd, HasUnits, strict_closer, IsRawInside, IsStrictSuffix, Strict}
+use Rattle.rl_lenient.specs.declared.quoted_forms.QuotedForm.{QuotedForm}
+use Rattle.rl_lenient.specs.declared.quoted_forms.QuotedForm.TheVariants.{Cooked as CookedForm, Raw as RawForm, Single as SingleForm}
 
--- The text is a strict token, of some kind, with some contents and suffix.
+-- The text is a literal token of Rust's grammar, of some kind, with some value and some suffix.
 pub record IsToken (text : List ℕ) : Type 0 where
   pub kind : Kind
   pub contents : Contents
   pub suffix : List ℕ
   pub strict : Strict text kind contents suffix
 
--- what stands after the opener of a strict form with escapes: units, the quote, and a suffix
+-- The text after the opening quote of a literal with escapes: characters and escapes, the closing quote, and a suffix.
 pub record ClosesUnits (kind : Kind) (text : List ℕ) : Type 0 where
   pub units : List StrictUnit
   pub suffix : List ℕ
@@ -25,7 +25,7 @@ pub record ClosesUnits (kind : Kind) (text : List ℕ) : Type 0 where
   pub is_suffix : IsStrictSuffix suffix
   pub text_is : text ≡ flat_map strict_text units ++ (strict_closer kind ++ suffix)
 
--- what stands after the hashes and the quote of a strict raw form
+-- The text after the opening quote of a raw string: its content, its closing delimiter, and a suffix.
 pub record ClosesInside (kind : Kind) (hashes text : List ℕ) : Type 0 where
   pub inside : List ℕ
   pub suffix : List ℕ
@@ -35,7 +35,8 @@ pub record ClosesInside (kind : Kind) (hashes text : List ℕ) : Type 0 where
   pub is_suffix : IsStrictSuffix suffix
   pub text_is : text ≡ inside ++ (code "\"" ∷ (hashes ++ suffix))
 
--- what stands after the opener of a strict raw form: hashes, a quote, and what ends it
+-- The text after the prefix of a raw string: at most 255 hashes, the opening quote, the content, the closing delimiter, and a
+-- suffix.
 pub record ClosesRaw (kind : Kind) (text : List ℕ) : Type 0 where
   pub hashes : ℕ
   pub few : hashes < 256
@@ -43,7 +44,7 @@ pub record ClosesRaw (kind : Kind) (text : List ℕ) : Type 0 where
   pub closes : ClosesInside kind (replicate hashes (code "#")) rest
   pub text_is : text ≡ replicate hashes (code "#") ++ (code "\"" ∷ rest)
 
--- what stands after the opener of a strict form
+-- The text after the opening delimiter of a quoted literal of the form and the kind, up to the literal's end.
 abbrev pub ClosesForm : QuotedForm → Kind → List ℕ → Type 0
 ClosesForm CookedForm kind text = ClosesUnits kind text
 ClosesForm SingleForm kind text = ClosesUnits kind text

@@ -1,15 +1,15 @@
--- Letters in another case.
-use Rattle.rl_text.proofs.Common.{◌≡◌, ℕ, ◌+◌, ◌-◌, ◌<◌, ◌≤◌, ◌&&◌, ◌||◌, Bool, true, false, not, ◌==◌, cond, nat_le, nat_lt, List, [], ◌∷◌, ◌++◌, Some, None, length, map, refl, sym, ap, ◌∙◌, inl, inr, arith, eqb-true, cases_lt, agree_below_at, digit_value, list_all, list_any, and_from, and_parts, scalar, encode_utf8, encode_utf8_all, encodes-append, append-nil, append_assoc, map-append}
+-- Letters in lower or upper case.
+use Rattle.rl_syntax.proofs.Common.{◌≡◌, ℕ, ◌+◌, ◌-◌, ◌<◌, ◌≤◌, ◌&&◌, ◌||◌, Bool, true, false, not, ◌==◌, cond, nat_le, nat_lt, List, [], ◌∷◌, ◌++◌, Some, None, length, map, refl, sym, ap, ◌∙◌, inl, inr, arith, eqb-true, cases_lt, agree_below_at, digit_value, list_all, list_any, and_from, and_parts, scalar, encode_utf8, encode_utf8_all, encodes-append, append-nil, append_assoc, map-append}
 use Rattle.std.specs.Prelude.{Option}
 use Rattle.std.proofs.Math.Utf8.{scalars}
 use Rattle.std.proofs.lemmas.Bool.{lt-leb}
-use Rattle.rl_text.specs.Texts.{is_run_part}
-use Rattle.rl_forms.specs.Spelling.{place_value, without_underscores}
+use Rattle.rl_syntax.specs.Texts.{is_run_part}
+use Rattle.rl_syntax.specs.Spelling.{place_value, without_underscores}
 use Rattle.rl_style.specs.declared.style.Case.{Case}
 use Rattle.rl_style.specs.declared.style.Case.TheVariants.{Lower, Upper}
 use Rattle.rl_style.specs.Cases.{cased, lower_case, upper_case}
 
--- ---- past ASCII nothing changes
+-- ---- non-ASCII characters don't change
 
 pub none_right : (b : Bool) → (b && false) ≡ false
 none_right true = refl
@@ -23,7 +23,7 @@ cased_past None c h = refl
 cased_past (Some Upper) c h = ap (λ b. cond b (c - 32) c) (outside 97 102 c (omega arith))
 cased_past (Some Lower) c h = ap (λ b. cond b (c + 32) c) (outside 65 70 c (omega arith))
 
--- ---- what a letter stands for stays
+-- ---- a letter has an equal value in each case
 
 pub cased_value : (case : Option Case) (c : ℕ) → digit_value (cased case c) ≡ digit_value c
 cased_value case c =
@@ -37,7 +37,7 @@ cased_value case c =
     low (Some Upper) c a = agree_below_at (λ c. digit_value (upper_case c) == digit_value c) (λ c. true) 128 c refl a
     low (Some Lower) c a = agree_below_at (λ c. digit_value (lower_case c) == digit_value c) (λ c. true) 128 c refl a
 
--- and underscores are what they were
+-- An underscore isn't changed by a change of case.
 pub cased_underscore : (case : Option Case) (c : ℕ) → (cased case c == 95) ≡ (c == 95)
 cased_underscore case c =
     elim (cases_lt c 128) [
@@ -50,7 +50,7 @@ cased_underscore case c =
     low (Some Upper) c a = agree_below_at (λ c. upper_case c == 95) (λ c. c == 95) 128 c refl a
     low (Some Lower) c a = agree_below_at (λ c. lower_case c == 95) (λ c. c == 95) 128 c refl a
 
--- ---- runs
+-- ---- sequences of digits
 
 part_same : (case : Option Case) (base c : ℕ) → is_run_part (λ c. nat_lt (digit_value c) base) (cased case c)
     ≡ is_run_part (λ c. nat_lt (digit_value c) base) c
@@ -104,7 +104,7 @@ pub number_cased : (case : Option Case) (base : ℕ) (run : List ℕ) → place_
 number_cased case base run = ap (place_value base) (bare_cased case run)
     ∙ spelled_cased case base (without_underscores run)
 
--- ---- once is enough
+-- ---- a change of case twice is equal to one change
 
 pub twice_cased : (case : Option Case) (c : ℕ) → cased case (cased case c) ≡ cased case c
 twice_cased case c =
@@ -123,7 +123,7 @@ twice_row case [] = refl
 twice_row case (c ∷ cs) = ap (λ z. z ∷ map (cased case) (map (cased case) cs)) (twice_cased case c)
     ∙ ap (λ z. cased case c ∷ z) (twice_row case cs)
 
--- ---- what was written
+-- ---- the written text
 
 pub cased_scalar : (case : Option Case) (c : ℕ) → scalar c ≡ true → scalar (cased case c) ≡ true
 cased_scalar case c h =
@@ -144,7 +144,7 @@ scalars_cased case (c ∷ cs) h =
     and_from (scalar (cased case c)) (scalars (map (cased case) cs)) (cased_scalar case c p.0)
     (scalars_cased case cs p.1)
 
--- one character more
+-- One more character is written in the given case.
 pub cased_more : (case : Option Case) (p a b xs : List ℕ) (c : ℕ) → a ≡ p ++ encode_utf8_all (map (cased case) xs) → b
     ≡ a ++ encode_utf8 (cased case c) → b ≡ p ++ encode_utf8_all (map (cased case) (xs ++ (c ∷ [])))
 cased_more case p a b xs c e h =

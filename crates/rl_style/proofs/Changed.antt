@@ -1,16 +1,16 @@
--- Whether a literal in a style is another text, by its bytes.
-use Rattle.rl_text.proofs.Common.{◌≡◌, ℕ, List, Bool, true, false, not, IsTrue, IsUtf8, refl, sym, ◌∙◌, ap, chars, encode_utf8_all, encodes-chars}
+-- The test whether a style changes the text of a literal, by the bytes of the new text.
+use Rattle.rl_syntax.proofs.Common.{◌≡◌, ℕ, List, Bool, true, false, not, IsTrue, IsUtf8, refl, sym, ◌∙◌, ap, chars, encode_utf8_all, encodes-chars}
 use Rattle.std.specs.Prelude.{◌↔◌}
 use Rattle.rl_style.specs.Rewriting.{Rewrites}
 use Rattle.rl_style.specs.Rules.{Changes}
 use Rattle.rl_style.specs.declared.style.Style.{Style}
 use Rattle.rl_style.proofs.OneAnswer.{one_answer}
 
--- texts of the same characters are of the same bytes
+-- Texts with equal characters have equal bytes.
 same_bytes : (x y : List ℕ) → IsUtf8 x → IsUtf8 y → chars x ≡ chars y → x ≡ y
 same_bytes x y u v e = sym (encodes-chars x u) ∙ ap encode_utf8_all e ∙ encodes-chars y v
 
--- a style changes a literal where what it writes has other bytes
+-- A style changes a literal if and only if the new text has other bytes.
 pub changed : (style : Style) (front written text : List ℕ) (same : Bool)
     → Rewrites style front (chars text) (chars written) → IsUtf8 written → IsUtf8 text
     → (IsTrue same ↔ (written ≡ text)) → IsTrue (not same) ↔ Changes style front (chars text)

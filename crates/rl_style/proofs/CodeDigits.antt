@@ -1,12 +1,12 @@
--- The digits of `\u{..}` without underscores, and without the zeros in front of the others, spell the same number.
-use Rattle.rl_text.proofs.Common.{◌≡◌, ℕ, zero, suc, ◌<◌, ◌≤◌, ◌+◌, ◌*◌, ◌^◌, ◌||◌, ◌&&◌, Bool, true, false, not, ◌==◌, cond, nat_le, List, [], ◌∷◌, ◌++◌, length, map, replicate, refl, sym, ap, ◌∙◌, inl, inr, arith, append_assoc, append-nil, encode_utf8, encode_utf8_all, and_from, and_parts, or_from, eqb-true, cases_lt, agree_below_at, is_ascii_hexdigit, all_scalars, list_all, flat_map, Some, None}
+-- The digits of `\u{..}` without underscores and leading zeros represent the old number.
+use Rattle.rl_syntax.proofs.Common.{◌≡◌, ℕ, zero, suc, ◌<◌, ◌≤◌, ◌+◌, ◌*◌, ◌^◌, ◌||◌, ◌&&◌, Bool, true, false, not, ◌==◌, cond, nat_le, List, [], ◌∷◌, ◌++◌, length, map, replicate, refl, sym, ap, ◌∙◌, inl, inr, arith, append_assoc, append-nil, encode_utf8, encode_utf8_all, and_from, and_parts, or_from, eqb-true, cases_lt, agree_below_at, is_ascii_hexdigit, all_scalars, list_all, flat_map, Some, None}
 use Rattle.std.specs.Prelude.{Option}
 use Rattle.std.proofs.lemmas.Bool.{le-leb, leb-true}
 use Rattle.std.proofs.lemmas.List.Elements.{filter-append}
-use Rattle.rl_text.specs.Classes.{after_run}
+use Rattle.rl_syntax.specs.Classes.{after_run}
 use Rattle.rl_lexer.proofs.LexemeRows.{not_among}
-use Rattle.rl_forms.specs.Spelling.{place_value, without_underscores}
-use Rattle.rl_forms.specs.Strict.{is_unicode_escape, spaced_digit, spaced_value}
+use Rattle.rl_syntax.specs.Spelling.{place_value, without_underscores}
+use Rattle.rl_syntax.specs.Strict.{is_unicode_escape, spaced_digit, spaced_value}
 use Rattle.rl_style.specs.declared.style.Case.{Case}
 use Rattle.rl_style.specs.declared.style.Case.TheVariants.{Lower, Upper}
 use Rattle.rl_style.specs.declared.style.Style.{Style}
@@ -18,7 +18,7 @@ use Rattle.rl_style.proofs.CaseLemmas.{cased_more, cased_past, twice_cased}
 abbrev pub hex_of : ℕ × ℕ → Bool
 hex_of d = is_ascii_hexdigit d.0
 
--- ---- the number
+-- ---- the number that the digits represent
 
 firsts_bare : (ds : List (ℕ × ℕ)) → map (λ d. d.0) (map bare_digit ds) ≡ map (λ d. d.0) ds
 firsts_bare [] = refl
@@ -41,7 +41,7 @@ fewest_value (d ∷ e ∷ ds) = go (d.0 == 48) refl (fewest_value (e ∷ ds))
         ∙ ap (λ c. place_value 16 (c ∷ run)) (sym (eqb-true d.0 48 z))
     go false z more = ap (place_value 16) (firsts_bare (d ∷ e ∷ ds))
 
--- ---- how many, and which
+-- ---- the number of digits, and the digits
 
 length_bare : (ds : List (ℕ × ℕ)) → length (map bare_digit ds) ≡ length ds
 length_bare [] = refl
@@ -100,7 +100,7 @@ fewest_unicode ds h =
     (and_from (nat_le 1 (length new)) (nat_le (length new) 6) (le-leb 1 (length new) some) (le-leb (length new) 6 few))
     (fewest_hex ds q.1)) (ap (λ n. all_scalars (n ∷ [])) (fewest_value ds) ∙ p.1)
 
--- ---- once is enough
+-- ---- the digits are rewritten twice as once
 
 pub twice_digits : (case : Option Case) (ds : List (ℕ × ℕ)) → map (cased_digit case) (map (cased_digit case) ds)
     ≡ map (cased_digit case) ds
@@ -175,7 +175,7 @@ code_twice style ds = go style.code_digits
         ∙ twice_digits style.escape_digits (fewest_digits (fewest_digits ds)) ∙ ap to (fewest_twice ds)
     go false = twice_digits style.escape_digits ds
 
--- ---- their text
+-- ---- the text of the digits
 
 under_gone : (n : ℕ) (t : List ℕ) → after_run is_padding (replicate n 95 ++ t) ≡ after_run is_padding t
 under_gone zero t = refl
@@ -185,7 +185,7 @@ under_bare : (n : ℕ) (t : List ℕ) → without_underscores (replicate n 95 ++
 under_bare zero t = refl
 under_bare (suc n) t = under_bare n t
 
--- what a text of digits is, past the first
+-- The text of the digits after the first one, with the closing brace.
 abbrev closed : List (ℕ × ℕ) → List ℕ
 closed ds = flat_map spaced_digit ds ++ (125 ∷ [])
 
@@ -205,7 +205,7 @@ bare_text (d ∷ ds) h =
     ∙ ap (λ b. cond (not b) (d.0 ∷ without_underscores rest) (without_underscores rest)) (not_code d.0 95 p.0 refl)
     ∙ ap (λ z. d.0 ∷ z) (under_bare d.1 (closed ds) ∙ bare_text ds p.1)
 
--- digits whose first is no zero
+-- Digits whose first one isn't zero are written as they are.
 other_text : (d : ℕ × ℕ) (ds : List (ℕ × ℕ)) → (d.0 == 48) ≡ false → list_all hex_of (d ∷ ds) ≡ true
     → fewest_digits (d ∷ ds) ≡ map bare_digit (d ∷ ds)
 other_text d [] z h = refl
@@ -217,7 +217,7 @@ is_other c z h = or_from (c == 48) (c == 95) z (not_code c 95 h refl)
 is_pad : (c : ℕ) → (c == 48) ≡ true → is_padding c ≡ true
 is_pad c z = ap (λ b. b || c == 95) z
 
--- after a zero
+-- The text of the digits after a leading zero.
 zero_text : (d : ℕ × ℕ) (ds : List (ℕ × ℕ)) → (d.0 == 48) ≡ true → list_all hex_of ds ≡ true
     → without_underscores (zero_closed (after_run is_padding (closed ds))) ≡ closed (fewest_digits (d ∷ ds))
 zero_text d [] z h = ap (λ c. c ∷ 125 ∷ []) (sym (eqb-true d.0 48 z))
@@ -267,9 +267,9 @@ fewest_is (d ∷ ds) h = go (d.0 == 48) refl
         ∙ ap without_underscores (sym (closed_more d ds)) ∙ bare_text (d ∷ ds) h
         ∙ ap closed (sym (other_text d ds z h))
 
--- ---- the code
+-- ---- the loop of the code
 
--- one character more
+-- One more character is written, unless it is an underscore.
 pub bare_more : (case : Option Case) (p a b xs : List ℕ) (c : ℕ) → a
     ≡ p ++ encode_utf8_all (map (cased case) (without_underscores xs)) → (c == 95) ≡ false
     → b ≡ a ++ encode_utf8 (cased case c)

@@ -1,7 +1,7 @@
--- A decimal with the parts of the old one is a lexeme where that was.
-use Rattle.rl_text.proofs.Common.{◌≡◌, ℕ, ◌<◌, inl, inr, Bool, true, false, not, ◌&&◌, ◌||◌, ◌==◌, List, [], ◌∷◌, ◌++◌, replicate, refl, sym, ◌∙◌, ap, subst, arith, nat_tests, lit<, append_assoc, and_parts, list_all, is_ascii_alphabetic, is_ascii_digit}
-use Rattle.rl_text.proofs.Basics.{false_unless}
-use Rattle.rl_text.specs.Texts.{is_white, first_passes, is_run_part, is_start}
+-- A decimal number with the parts of the old number is a token where the old number is one.
+use Rattle.rl_syntax.proofs.Common.{◌≡◌, ℕ, ◌<◌, inl, inr, Bool, true, false, not, ◌&&◌, ◌||◌, ◌==◌, List, [], ◌∷◌, ◌++◌, replicate, refl, sym, ◌∙◌, ap, subst, arith, nat_tests, lit<, append_assoc, and_parts, list_all, is_ascii_alphabetic, is_ascii_digit}
+use Rattle.rl_syntax.proofs.Basics.{false_unless}
+use Rattle.rl_syntax.specs.Texts.{is_white, first_passes, is_run_part, is_start}
 use Rattle.rl_lexer.specs.Lexemes.{begins_dot, is_base_letter, LexedFraction, NoLexedFraction, LexedDot, lexed_fraction_text, LexedSign, LexedExponent, NoLexedExponent, LexedPower, lexed_exponent_text, lexed_sign_text, IsRun, IsLexedSuffix, IsLexedFraction, IsLexedExponent, DecimalLexeme, IsLexeme}
 use Rattle.rl_lexer.proofs.Pieces.{is_equal}
 use Rattle.rl_lexer.proofs.LexemeFronts.{start_ascii}
@@ -32,7 +32,7 @@ no_start_no_base [] h = refl
 no_start_no_base (c ∷ t) h = false_unless (is_base_letter c) (λ is. let q : true ≡ false = sym (base_start c is) ∙ h in
     absurd (cc))
 
--- what ends the last run of the old one
+-- The text after the number's last sequence of digits doesn't continue it.
 tail_ends : (f : LexedFraction) (e : LexedExponent) (more u : List ℕ)
     → IsRun is_part more (lexed_fraction_text f ++ (lexed_exponent_text e ++ u))
     → IsLexedFraction f (lexed_exponent_text e ++ u) → IsLexedExponent e u → first_passes is_part u ≡ false
@@ -40,7 +40,7 @@ tail_ends NoLexedFraction NoLexedExponent more u run fraction power = run.ends
 tail_ends (LexedDot ds) NoLexedExponent more u run (begins, digits) power = digits.ends
 tail_ends f (LexedPower letter s n d ds) more u run fraction (il, id, digits) = digits.ends
 
--- a test that no exponent's letter passes
+-- A test that rejects the letters of exponents.
 power_first : (test : ℕ → Bool) (e p : LexedExponent) (u : List ℕ) → SamePower e p → test 101 ≡ false → test 69 ≡ false
     → first_passes test u ≡ false → first_passes test (lexed_exponent_text p ++ u) ≡ false
 power_first test NoLexedExponent NoLexedExponent u same a b h = h

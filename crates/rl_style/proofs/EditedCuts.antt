@@ -1,7 +1,7 @@
--- A source in which any literals are written anew in a style is cut as before.
-use Rattle.rl_text.proofs.Common.{◌≡◌, ℕ, ◌+◌, inl, List, [], ◌∷◌, ◌++◌, Option, Some, None, refl, sym, ◌∙◌, ap, subst, arith, append_assoc, AllByRecursion}
-use Rattle.rl_text.specs.Texts.{byte_len}
-use Rattle.rl_forms.proofs.OneQuoted.{same_tail}
+-- A source with any literals rewritten in a style is lexed as before.
+use Rattle.rl_syntax.proofs.Common.{◌≡◌, ℕ, ◌+◌, inl, List, [], ◌∷◌, ◌++◌, Option, Some, None, refl, sym, ◌∙◌, ap, subst, arith, append_assoc, AllByRecursion}
+use Rattle.rl_syntax.specs.Texts.{byte_len}
+use Rattle.rl_syntax.proofs.OneQuoted.{same_tail}
 use Rattle.rl_lexer.specs.Lexemes.{IsLexeme, Lexeme, lexeme_text}
 use Rattle.rl_lexer.specs.Skipping.{Skipped}
 use Rattle.rl_lexer.specs.Sources.{CutSource, IsCutUpTo, IsProper, IsSource, IsWithoutPreamble, PlainKind, PlainToken, SourceLexeme, SourcesUpTo, source_end, source_kind, source_text}
@@ -9,16 +9,16 @@ use Rattle.rl_lexer.proofs.CutLemmas.{byte_len-append}
 use Rattle.rl_lexer.proofs.SourceFronts.{proper_source}
 use Rattle.rl_style.specs.declared.style.Style.{Style}
 use Rattle.rl_style.specs.Recut.{IsSound, IsSoundToken}
-use Rattle.rl_style.specs.Restyled.{AreInStyle, AreTokensOf, IsEdited, IsEditedSource, IsInStyle, IsTokenOf, KeepsTheEditedCut, KeepsTheEditedSource, edited_text}
+use Rattle.rl_style.specs.Restyled.{AreInStyle, AreTokensOf, IsEdited, IsEditedSource, IsInStyle, IsTokenOf, KeepsTheTokensOfEdits, KeepsTheEditedSource, edited_text}
 use Rattle.rl_style.specs.Rewriting.{Rewrites}
 use Rattle.rl_style.proofs.Places.{same_place}
-use Rattle.rl_style.proofs.Recut.{Alike, alike_more, alike_stays, place_of, skips_to, sound_proper, token_full, token_piece}
+use Rattle.rl_style.proofs.Recut.{Alike, alike_more, alike_stays, offset_of_rest, skips_to, sound_proper, token_full, token_piece}
 use Rattle.rl_style.proofs.RestyledCuts.{NewToken, new_token}
 use Rattle.rl_style.proofs.WholeSource.{Preamble, preamble}
 
--- ---- one token after another
+-- ---- one token after the other
 
--- the new cut, and that no token in front tells the texts apart; both follow the lead
+-- The new tokens of a text. No token before can distinguish the old and the new text, which both follow the text `lead`.
 record Made (lead : List ℕ) (at : ℕ) (old new : List ℕ) (cuts : List CutSource) (edits : List (Option (List ℕ)))
     (r : List ℕ) : Type 0 where
   tokens : List CutSource
@@ -26,7 +26,7 @@ record Made (lead : List ℕ) (at : ℕ) (old new : List ℕ) (cuts : List CutSo
   are_cuts : SourcesUpTo at new tokens r
   alike : Alike lead old new
 
--- the token that stands in the place of the old one
+-- The new token in place of the old one.
 record Put (lead : List ℕ) (e : Option (List ℕ)) (token : SourceLexeme) (after new_after : List ℕ) : Type 0 where
   new : SourceLexeme
   is_token : IsTokenOf e token new
@@ -34,7 +34,7 @@ record Put (lead : List ℕ) (e : Option (List ℕ)) (token : SourceLexeme) (aft
   proper : IsProper new new_after
   alike : Alike lead (source_text token ++ after) (source_text new ++ new_after)
 
--- what is written in the place of a token after this text
+-- The new text of a token that follows this text.
 abbrev IsWritten : Style → List ℕ → SourceLexeme → Option (List ℕ) → Type 0
 IsWritten style lead token None = Unit {0}
 IsWritten style lead token (Some written) =
@@ -93,7 +93,7 @@ one_more lead e es at w ws front old new after new_after inner r old_is new_is p
           (alike_more lead front (source_text w.token ++ after) (s ++ new_after) p.alike));
     }
 
--- what is in the style by its place in the whole text is so where it stands
+-- The new text of a token at its offset in the whole text is that at its position in the rest of the text.
 is_written : (style : Style) (from : ℕ) (whole front rest : List ℕ) (w : CutSource) (e : Option (List ℕ))
     → whole ≡ front ++ (source_text w.token ++ rest) → w.at ≡ from + byte_len front → IsInStyle style from whole w e
     → IsWritten style front w.token e
@@ -123,7 +123,7 @@ made style lead from at start whole old (w ∷ ws) (e ∷ es) new r whole_is at_
     (first, sound) (gap, tail, new_after, old_is, gap_is, new_is, edited) (one, styled) =
     let s : List ℕ = source_text w.token in
     let (front, text_is, to) = skips_to old (s ++ after) (token_full w.token after first) skipped in
-    let here : w.at ≡ at + byte_len front = place_of at w.at old front (s ++ after) text_is place in
+    let here : w.at ≡ at + byte_len front = offset_of_rest at w.at old front (s ++ after) text_is place in
     let same = same_place gap front (s ++ tail) (s ++ after) (sym old_is ∙ text_is) (omega (arith, here, gap_is)) in
     let tail_is : tail ≡ after = same_tail s tail after same.1 in
     let rest : IsEdited (source_end w) after ws es new_after = subst
@@ -146,8 +146,8 @@ made style lead from at start whole old (w ∷ ws) (e ∷ es) new r whole_is at_
     (to (source_text p.new ++ new_after) (token_piece p.new new_after p.proper))
     (subst (λ (z : List ℕ). Made inner (start + byte_len front + byte_len z) after new_after ws es r) (sym p.text_is) m)
 
-pub keeps_the_edited_cut : KeepsTheEditedCut
-keeps_the_edited_cut style at old cuts edits new r cut sound edited styled =
+pub keeps_the_tokens_of_edits : KeepsTheTokensOfEdits
+keeps_the_tokens_of_edits style at old cuts edits new r cut sound edited styled =
     let m : Made [] at old new cuts edits r = made style [] at at at old old cuts edits new r refl (omega arith) cut
     sound edited styled in
     record { tokens = m.tokens; are_tokens = m.are_tokens; are_cuts = m.are_cuts }
@@ -163,7 +163,7 @@ source_more style old w ws e es new r cut p (first, sound) (gap, tail, new_after
     (after, skipped, is, place, more) =
     let s : List ℕ = source_text w.token in
     let (front, body_is, to) = skips_to cut.body (s ++ after) (token_full w.token after first) skipped in
-    let here : w.at ≡ cut.at + byte_len front = place_of cut.at w.at cut.body front (s ++ after) body_is place in
+    let here : w.at ≡ cut.at + byte_len front = offset_of_rest cut.at w.at cut.body front (s ++ after) body_is place in
     let whole : old ≡ (p.mark ++ front) ++ (s ++ after) = p.text_is ∙ ap (λ z. p.mark ++ z) body_is
     ∙ sym (append_assoc p.mark front (s ++ after)) in
     let same = same_place gap (p.mark ++ front) (s ++ tail) (s ++ after) (sym old_is ∙ whole) (omega (

@@ -1,20 +1,20 @@
--- The forms of floats, their characters written anew and their digits in groups.
-use Rattle.rl_text.proofs.Common.{◌≡◌, ℕ, ◌⊎◌, ◌||◌, Bool, true, false, ◌==◌, cond, List, [], ◌∷◌, ◌++◌, refl, sym, ap, subst, ◌∙◌, inl, inr, append_assoc, append-nil, and_parts, list_all, or_from, or_cases, eqb-true, is_ascii_digit, flat_map, Some, None}
+-- The forms of floats, with rewritten characters and with their digits in groups.
+use Rattle.rl_syntax.proofs.Common.{◌≡◌, ℕ, ◌⊎◌, ◌||◌, Bool, true, false, ◌==◌, cond, List, [], ◌∷◌, ◌++◌, refl, sym, ap, subst, ◌∙◌, inl, inr, append_assoc, append-nil, and_parts, list_all, or_from, or_cases, eqb-true, is_ascii_digit, flat_map, Some, None}
 use Rattle.std.specs.Prelude.{Option}
-use Rattle.rl_text.specs.Texts.{first_passes, is_run_part}
-use Rattle.rl_text.proofs.Basics.{apart}
-use Rattle.rl_reading.proofs.Names.{flat_map-append}
-use Rattle.rl_forms.specs.Strict.{IsDigits, IsDotAlone, IsPointed, IsScientific, IsStrictExponent}
+use Rattle.rl_syntax.specs.Texts.{first_passes, is_run_part}
+use Rattle.rl_syntax.proofs.Basics.{apart}
+use Rattle.rl_lenient.proofs.Names.{flat_map-append}
+use Rattle.rl_syntax.specs.Strict.{IsDigits, IsDotAlone, IsPointed, IsScientific, IsStrictExponent}
 use Rattle.rl_lexer.specs.Lexemes.{is_base_letter}
 use Rattle.rl_style.specs.declared.style.Case.{Case}
 use Rattle.rl_style.specs.declared.style.Case.TheVariants.{Lower, Upper}
-use Rattle.rl_text.specs.Classes.{after_run}
+use Rattle.rl_syntax.specs.Classes.{after_run}
 use Rattle.rl_style.specs.Groups.{after_dot, digit_run, fraction_in_groups, float_in_groups, regrouped}
 use Rattle.rl_style.proofs.Decimals.{letter_out}
 use Rattle.rl_style.proofs.Regrouped.{grouped_digits}
 use Rattle.rl_style.proofs.NumberCharacters.{becomes, digits_each, digits_some, digits_stay, row_stays, stays}
 
--- ---- runs
+-- ---- sequences of digits
 
 digits_are : (drops plus : Bool) (digits letter : Option Case) (d : List ℕ) → IsDigits d
     → IsDigits (flat_map (becomes drops false plus digits letter) d)
@@ -23,7 +23,7 @@ digits_are drops plus digits letter d h = digits_stay (becomes drops false plus 
 
 -- ---- exponents
 
--- a letter of an exponent becomes one
+-- A rewritten letter of an exponent is the letter of an exponent.
 pub record Letter (drops plus : Bool) (digits letter : Option Case) (c : ℕ) : Type 0 where
   pub new : ℕ
   pub is : becomes drops false plus digits letter c ≡ new ∷ []
@@ -131,7 +131,7 @@ exponent_is drops plus digits letter e s =
       };
     }
 
--- after the whole part stands a dot, or the letter of an exponent
+-- A text that begins with the letter of an exponent doesn't begin with the letter of a base.
 letter_follows : (z x : List ℕ) (d : ℕ) (ds : List ℕ) → z ≡ d ∷ ds → (d == 101 || d == 69) ≡ true
     → first_passes is_base_letter (z ++ x) ≡ false
 letter_follows z x d ds e h =
@@ -140,12 +140,12 @@ letter_follows z x d ds e h =
     ∙ or_from (d == 120 || d == 111) (d == 98) (or_from (d == 120) (d == 111) (apart test d 120 h refl)
     (apart test d 111 h refl)) (apart test d 98 h refl)
 
--- ---- the forms
+-- ---- the forms of floats
 
 abbrev pub FloatForm : List ℕ → List ℕ → Type 0
 FloatForm numeral x = IsDotAlone numeral x ⊎ (IsPointed numeral x ⊎ IsScientific numeral x)
 
--- with a dot alone, with digits after it, or with an exponent
+-- The form of a float: it ends with its dot, has digits after its dot, or has an exponent.
 pub data FloatShape : Type 0 where
   DotShape : FloatShape
   PointShape : FloatShape
@@ -161,7 +161,7 @@ shape_of numeral x (inr (inr a)) = PowerShape
 abbrev pub Groups : ℕ → ℕ → Bool → List ℕ → List ℕ
 Groups size least from_first run = regrouped from_first size least run
 
--- digits at the front
+-- The digits at the start of a text.
 digits_past : (run x : List ℕ) → list_all (is_run_part is_ascii_digit) run ≡ true
     → first_passes (is_run_part is_ascii_digit) x ≡ false
     → (digit_run (run ++ x) ≡ run) × (after_run (is_run_part is_ascii_digit) (run ++ x) ≡ x)
@@ -177,7 +177,7 @@ digits_past (d ∷ run) x h n =
       ap (λ b. cond b (after_run (is_run_part is_ascii_digit) (run ++ x)) (d ∷ (run ++ x))) p.0 ∙ more.1,
     )
 
--- a whole part, and what follows it
+-- The whole part of a float, and the text after it.
 numeral_at : (f : ℕ → List ℕ) (closes : Bool) (size least : ℕ) (numeral d z : List ℕ) → IsDigits d
     → first_passes (is_run_part is_ascii_digit) z ≡ false → numeral ≡ d ++ z
     → float_in_groups closes f (Groups size least) numeral
@@ -189,7 +189,7 @@ numeral_at f closes size least numeral d z h n e =
     ++ fraction_in_groups closes f (Groups size least true) (after_run (is_run_part is_ascii_digit) (d ++ z))) p.0
     ∙ ap (λ y. Groups size least false (flat_map f d) ++ fraction_in_groups closes f (Groups size least true) y) p.1
 
--- a zero, or nothing
+-- The text that is added to a float which ends with its dot: a zero, or nothing.
 abbrev pub Closing : Bool → List ℕ
 Closing closes = cond closes (48 ∷ []) []
 
@@ -199,7 +199,7 @@ pub at_dot : (f : ℕ → List ℕ) (closes : Bool) (size least : ℕ) (numeral 
     ≡ Groups size least false (flat_map f d) ++ (46 ∷ Closing closes)
 at_dot f closes size least numeral d h e = numeral_at f closes size least numeral d (46 ∷ []) h refl e
 
--- where digits follow a dot, there is no zero to be put
+-- If digits follow the dot, no zero is added.
 dot_some : (f : ℕ → List ℕ) (closes : Bool) (g : List ℕ → List ℕ) (z e : List ℕ) → IsDigits z
     → after_dot closes f g (z ++ e)
     ≡ g (flat_map f (digit_run (z ++ e))) ++ flat_map f (after_run (is_run_part is_ascii_digit) (z ++ e))
@@ -226,7 +226,7 @@ at_point f closes size least numeral d z h k e =
     ∙ ap (λ y. whole ++ (46 ∷ after_dot closes f g y)) (sym (append-nil z))
     ∙ ap (λ y. whole ++ (46 ∷ y)) (dot_digits f closes g z [] k refl ∙ append-nil (g (flat_map f z)))
 
--- no digit begins an exponent, nor does a dot
+-- An exponent begins with neither a digit nor a dot.
 exponent_begins : (e : List ℕ) → IsStrictExponent e → first_passes (is_run_part is_ascii_digit) e ≡ false
 exponent_begins e s = ap (first_passes (is_run_part is_ascii_digit)) s.text
     ∙ or_from (is_ascii_digit s.letter) (s.letter == 95)
@@ -257,14 +257,14 @@ at_point_power f closes size least numeral d z e h k s n =
     ∙ ap (λ y. Groups size least false (flat_map f d) ++ (46 ∷ y))
     (dot_digits f closes (Groups size least true) z e k (exponent_begins e s))
 
--- a dot alone becomes a dot and a zero
+-- The form of a float after a zero is added to a final dot.
 abbrev pub closed_shape : FloatShape → Bool → FloatShape
 closed_shape DotShape true = PointShape
 closed_shape DotShape false = DotShape
 closed_shape PointShape closes = PointShape
 closed_shape PowerShape closes = PowerShape
 
--- the numeral, by its whole part and what follows
+-- A float's text before its suffix, by its whole part and the text after it.
 pub record Numeral (numeral x : List ℕ) (shape : FloatShape) : Type 0 where
   pub whole : List ℕ
   pub new : List ℕ
@@ -274,7 +274,7 @@ pub record Numeral (numeral x : List ℕ) (shape : FloatShape) : Type 0 where
   pub form : FloatForm numeral x
   pub same_shape : shape_of numeral x form ≡ shape
 
--- digits written anew, in groups
+-- The digits, rewritten and in groups.
 pub row_is : (drops plus : Bool) (digits letter : Option Case) (from_first : Bool) (size least : ℕ) (d : List ℕ)
     → IsDigits d
     → IsDigits (Groups size least from_first (flat_map (becomes drops false plus digits letter) d))

@@ -1,7 +1,7 @@
--- What a text ends with, by its last byte.
-use Rattle.rl_text.proofs.Common.{◌≡◌, ℕ, suc, ◌<◌, ◌≤◌, ◌-◌, ◌||◌, Bool, true, false, not, ◌==◌, List, [], ◌∷◌, ◌++◌, length, get_or, refl, sym, ap, ◌∙◌, inl, inr, arith, nat_tests, append-nil, cases_lt, encode_utf8, encode_utf8_all, encodes-chars, encode_ascii, IsUtf8}
+-- The last character of a text, by its last byte.
+use Rattle.rl_syntax.proofs.Common.{◌≡◌, ℕ, suc, ◌<◌, ◌≤◌, ◌-◌, ◌||◌, Bool, true, false, not, ◌==◌, List, [], ◌∷◌, ◌++◌, length, get_or, refl, sym, ap, ◌∙◌, inl, inr, arith, nat_tests, append-nil, cases_lt, encode_utf8, encode_utf8_all, encodes-chars, encode_ascii, IsUtf8}
 use Rattle.std.specs.Str.{chars}
-use Rattle.rl_text.proofs.LowBytes.{AllHigh, encode_is_high}
+use Rattle.rl_syntax.proofs.LowBytes.{AllHigh, encode_is_high}
 use Rattle.rl_style.specs.Around.{may_precede_quote}
 
 abbrev is_end : ℕ → Bool
@@ -25,7 +25,7 @@ last_join [] y ys = refl
 last_join (x ∷ []) y ys = refl
 last_join (x ∷ z ∷ xs) y ys = last_join (z ∷ xs) y ys
 
--- a character's bytes, of which the last is itself or no end
+-- The bytes of a character. The last byte passes the test `is_end` if and only if the character does.
 record Bytes (c : ℕ) : Type 0 where
   first : ℕ
   more : List ℕ
@@ -60,7 +60,7 @@ ends_so c (d ∷ cs) =
     ∙ sym (ap (λ z. last_byte (encode_utf8 c ++ z)) rest ∙ last_join (encode_utf8 c) b.first (b.more
     ++ encode_utf8_all cs)))
 
--- a text that has a last byte
+-- A nonempty text, and its last byte.
 pub ends_by_byte : (t : List ℕ) → IsUtf8 t → 1 ≤ length t
     → may_precede_quote (chars t) ≡ not (is_end (get_or t (length t - 1) 0))
 ends_by_byte t u some = go (chars t) (encodes-chars t u)
@@ -69,7 +69,7 @@ ends_by_byte t u some = go (chars t) (encodes-chars t u)
     go [] e = let n : 0 ≡ length t = ap length e in absurd (omega (arith, n, some))
     go (c ∷ cs) e = ends_so c cs ∙ ap (λ z. not (is_end z)) (ap last_byte e ∙ sym (last_is t))
 
--- one that has none
+-- An empty text may precede a quote.
 pub empty_ends : (t : List ℕ) → length t < 1 → true ≡ may_precede_quote (chars t)
 unfolding chars
 empty_ends [] h = refl

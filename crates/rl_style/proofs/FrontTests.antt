@@ -1,7 +1,7 @@
--- Two texts that begin alike up to a literal's first character pass the same tests.
-use Rattle.rl_text.proofs.Common.{◌≡◌, ℕ, ◌<◌, Bool, true, false, not, ◌&&◌, ◌||◌, ◌==◌, cond, List, [], ◌∷◌, ◌++◌, drop, refl, sym, ◌∙◌, ap, subst, inl, inr, append_assoc, arith, nat_tests, or_from, codes, agree_below_at, is_ascii_digit, is_ascii_alphanumeric, is_xid_continue-ascii}
-use Rattle.rl_text.specs.Texts.{is_underscore, is_white, is_among, first_passes, begins, is_run_part, is_start, is_continue, begins_char}
-use Rattle.rl_text.specs.Classes.{is_hash, after_run}
+-- Two texts that begin alike up to a literal's first character give equal results in the lexer's tests.
+use Rattle.rl_syntax.proofs.Common.{◌≡◌, ℕ, ◌<◌, Bool, true, false, not, ◌&&◌, ◌||◌, ◌==◌, cond, List, [], ◌∷◌, ◌++◌, drop, refl, sym, ◌∙◌, ap, subst, inl, inr, append_assoc, arith, nat_tests, or_from, codes, agree_below_at, is_ascii_digit, is_ascii_alphanumeric, is_xid_continue-ascii}
+use Rattle.rl_syntax.specs.Texts.{is_underscore, is_white, is_among, first_passes, begins, is_run_part, is_start, is_continue, begins_char}
+use Rattle.rl_syntax.specs.Classes.{is_hash, after_run}
 use Rattle.rl_lexer.specs.Lexemes.{BeginsHashedQuote, begins_dot, begins_raw_identifier, is_base_letter}
 use Rattle.rl_lexer.specs.Mirrors.LexemeAt.{begins_hashed_quote, begins_exponent, after_sign, begins_otherwise}
 use Rattle.rl_lexer.specs.Sources.{is_in_line}
@@ -17,7 +17,7 @@ hashed_here t b = ap begins_hashed_quote b.text_is ∙ raw_opens_here b.hashes b
 other_head : (h k : ℕ) → is_head h ≡ true → is_head k ≡ false → (h == k) ≡ false
 other_head h k is other = not_among h k is_head is other
 
--- ---- tests that tell no digits apart
+-- ---- tests with equal results for all digits
 
 abbrev pub OnDigits : (ℕ → Bool) → Type 0
 OnDigits test = (h k : ℕ) → is_ascii_digit h ≡ true → is_ascii_digit k ≡ true → test h ≡ test k
@@ -67,7 +67,7 @@ digit_continues c h =
 pub continue_on : OnDigits is_continue
 continue_on h k a b = digit_continues h a ∙ sym (digit_continues k b)
 
--- ---- two heads
+-- ---- the first characters of two literals
 
 head_agrees : (test : ℕ → Bool) → OnDigits test → (h k : ℕ) → SameHead h k → test h ≡ test k
 head_agrees test on h k (inl e) = ap test e
@@ -81,7 +81,7 @@ new_is_head h k (inr (a, b)) is = ap (λ z. is_among (codes "\"'rbc") k || z) b 
     or_true true = refl
     or_true false = refl
 
--- more in front of both
+-- Equal text before two texts that begin alike.
 pub front_more : (s a b : List ℕ) → SameFront a b → SameFront (s ++ a) (s ++ b)
 front_more s a b f = record {
   front = s ++ f.front;
@@ -96,18 +96,18 @@ front_more s a b f = record {
   new_is = ap (λ z. s ++ z) f.new_is ∙ sym (append_assoc s f.front (f.new_head ∷ f.new_rest));
 }
 
--- a literal's first character on both sides, and what follows it
+-- The first character of the old and of the new literal, and the text after each.
 record Heads (h k : ℕ) (x y : List ℕ) : Type 0 where
   same : SameHead h k
   old_is : is_head h ≡ true
   new_is : is_head k ≡ true
   raw : (h == 114) ≡ true → begins_hashed_quote x ≡ begins_hashed_quote y
 
--- it is none of these
+-- A character that can't begin a literal is the first character of neither literal.
 other_heads : (h k n : ℕ) (x y : List ℕ) → Heads h k x y → is_head n ≡ false → ((h == n) ≡ false) × ((k == n) ≡ false)
 other_heads h k n x y s other = (other_head h n s.old_is other, other_head k n s.new_is other)
 
--- a test of a text that tells the same of both
+-- A test of texts has equal results for two texts that begin alike.
 abbrev Agrees : (List ℕ → Bool) → Type 0
 Agrees f = (front : List ℕ) (h k : ℕ) (x y : List ℕ) → Heads h k x y → f (front ++ (h ∷ x)) ≡ f (front ++ (k ∷ y))
 
@@ -134,7 +134,7 @@ pub same_first : (test : ℕ → Bool) → OnDigits test → (a b : List ℕ) �
     → first_passes test a ≡ first_passes test b
 same_first test on a b s = both (first_passes test) (first_agrees test on) a b s
 
--- ---- what follows a run
+-- ---- the text after a sequence of characters
 
 run_agrees : (run test : ℕ → Bool) (front : List ℕ) (h k : ℕ) (x y : List ℕ) → run h ≡ false → run k ≡ false
     → test h ≡ test k
@@ -156,7 +156,7 @@ hashed_agrees f h k x y s =
     let n = other_heads h k 35 x y s refl in
     run_agrees is_hash (λ c. c == 34) f h k x y n.0 n.1 (head_agrees (λ c. c == 34) (code_on 34 refl) h k s.same)
 
--- ---- dots
+-- ---- texts that begin with a dot
 
 dot_agrees : Agrees begins_dot
 dot_agrees [] h k x y s =
@@ -169,7 +169,7 @@ dot_agrees (c ∷ f) h k x y s =
 pub same_dot : (a b : List ℕ) → SameFront a b → begins_dot a ≡ begins_dot b
 same_dot a b s = both begins_dot dot_agrees a b s
 
--- ---- exponents
+-- ---- texts that begin with an exponent
 
 abbrev powers : List ℕ → Bool
 powers t = first_passes is_ascii_digit (after_run is_underscore t)
@@ -179,7 +179,7 @@ powers_agree f h k x y s =
     let n = other_heads h k 95 x y s refl in
     run_agrees is_underscore is_ascii_digit f h k x y n.0 n.1 (head_agrees is_ascii_digit digit_on h k s.same)
 
--- what begins with no sign
+-- A text that doesn't begin with a sign.
 no_sign : (h : ℕ) (x : List ℕ) → (h == 43) ≡ false → (h == 45) ≡ false → powers (after_sign (h ∷ x)) ≡ powers (h ∷ x)
 no_sign h x a b = ap (λ z. powers (cond (z || h == 45) x (h ∷ x))) a ∙ ap (λ z. powers (cond z x (h ∷ x))) b
 
@@ -195,7 +195,7 @@ signed_agree (c ∷ f) h k x y s = go (c == 43 || c == 45)
     go true = powers_agree f h k x y s
     go false = powers_agree (c ∷ f) h k x y s
 
--- what begins with no letter of an exponent
+-- A text that doesn't begin with the letter of an exponent.
 no_letter : (h : ℕ) (x : List ℕ) → (h == 101) ≡ false → (h == 69) ≡ false → begins_exponent (h ∷ x) ≡ false
 no_letter h x a b = ap (λ z. (z || h == 69) && powers (after_sign x)) a ∙ ap (λ z. z && powers (after_sign x)) b
 
@@ -209,7 +209,7 @@ exponent_agrees (c ∷ f) h k x y s = ap (λ b. (c == 101 || c == 69) && b) (sig
 pub same_exponent : (a b : List ℕ) → SameFront a b → begins_exponent a ≡ begins_exponent b
 same_exponent a b s = both begins_exponent exponent_agrees a b s
 
--- ---- words
+-- ---- texts that begin with an identifier or a prefix
 
 abbrev raw_second : List ℕ → Bool
 raw_second t = begins_char 114 t && begins_hashed_quote (drop 1 t)
@@ -270,7 +270,7 @@ pub same_identifier : (c : ℕ) (a b : List ℕ) → SameFront a b → begins_ra
     ≡ begins_raw_identifier (c ∷ b)
 same_identifier c a b s = both (λ t. begins_raw_identifier (c ∷ t)) (identifier_agrees c) a b s
 
--- ---- the front of a whole source
+-- ---- the start of a whole source
 
 script_agrees : Agrees (begins (codes "#!"))
 script_agrees [] h k x y s =

@@ -1,14 +1,14 @@
--- Digits in groups, and the underscores at a run's end.
-use Rattle.rl_text.proofs.Common.{◌≡◌, ℕ, ◌||◌, ◌&&◌, Bool, true, false, not, ◌==◌, cond, List, [], ◌∷◌, ◌++◌, length, refl, sym, ap, ◌∙◌, append-nil, and_from, and_parts, eqb-true, is_ascii_digit, list_all, list_any, list_all-append}
+-- Digits in groups, and the underscores at the end of a sequence.
+use Rattle.rl_syntax.proofs.Common.{◌≡◌, ℕ, ◌||◌, ◌&&◌, Bool, true, false, not, ◌==◌, cond, List, [], ◌∷◌, ◌++◌, length, refl, sym, ap, ◌∙◌, append-nil, and_from, and_parts, eqb-true, is_ascii_digit, list_all, list_any, list_all-append}
 use Rattle.std.proofs.lemmas.List.Elements.{filter-append}
-use Rattle.rl_text.proofs.Basics.{apart}
-use Rattle.rl_text.specs.Texts.{first_passes, is_run_part, is_underscore}
+use Rattle.rl_syntax.proofs.Basics.{apart}
+use Rattle.rl_syntax.specs.Texts.{first_passes, is_run_part, is_underscore}
 use Rattle.rl_lexer.proofs.LexemeRows.{not_among}
-use Rattle.rl_forms.specs.Spelling.{without_underscores}
-use Rattle.rl_forms.specs.Strict.{IsDigits}
+use Rattle.rl_syntax.specs.Spelling.{without_underscores}
+use Rattle.rl_syntax.specs.Strict.{IsDigits}
 use Rattle.rl_style.specs.Cases.{trimmed}
 use Rattle.rl_style.specs.Groups.{ending, spaced}
-use Rattle.rl_style.proofs.Trimmed.{IsTrim, any_left, kept_of, none_of, none_trim, only, trim_tail, trimmed_join}
+use Rattle.rl_style.proofs.Trimmed.{IsTrim, any_left, kept_permissions, none_of, none_trim, only, trim_tail, trimmed_join}
 
 pub not_false : (b : Bool) → not b ≡ true → b ≡ false
 not_false true h = absurd (cc)
@@ -20,7 +20,7 @@ other c = not (c == 95)
 abbrev pub mark : Bool → List ℕ
 mark b = cond b (95 ∷ []) []
 
--- what no plus passes
+-- A sequence without a plus, if its characters pass a test that a plus fails.
 pub plus_free : (test : ℕ → Bool) (cs : List ℕ) → test 43 ≡ false → list_all test cs ≡ true
     → list_all (λ c. not (c == 43)) cs ≡ true
 plus_free test [] n h = refl
@@ -29,7 +29,7 @@ plus_free test (c ∷ cs) n h =
     and_from (not (c == 43)) (list_all (λ c. not (c == 43)) cs) (ap not (apart test c 43 p.0 n))
     (plus_free test cs n p.1)
 
--- ---- digits
+-- ---- digits without underscores
 
 pub bare_other : (cs : List ℕ) → list_all other (without_underscores cs) ≡ true
 bare_other [] = refl
@@ -51,7 +51,7 @@ bare_all test (c ∷ cs) h =
     go true k more = and_from (test c) (list_all test (without_underscores cs)) k more
     go false k more = more
 
--- an underscore passes no such test
+-- A character that is an underscore fails each test that underscores fail.
 under_fails : (test : ℕ → Bool) (c : ℕ) → test 95 ≡ false → other c ≡ false → test c ≡ false
 under_fails test c n h = ap test (eq h) ∙ n
   where
@@ -65,15 +65,15 @@ under_fails test c n h = ap test (eq h) ∙ n
         is_under : (c : ℕ) → (c == 95) ≡ true → c ≡ 95
         is_under c k = eqb-true c 95 k
 
-pub bare_kept : (test : ℕ → Bool) (cs : List ℕ) → test 95 ≡ false → kept_of test (without_underscores cs) ≡ kept_of test
+pub bare_kept : (test : ℕ → Bool) (cs : List ℕ) → test 95 ≡ false → kept_permissions test (without_underscores cs) ≡ kept_permissions test
     cs
 bare_kept test [] n = refl
 bare_kept test (c ∷ cs) n = go (other c) refl (bare_kept test cs n)
   where
-    go : (b : Bool) → other c ≡ b → kept_of test (without_underscores cs) ≡ kept_of test cs
-        → kept_of test (cond b (c ∷ without_underscores cs) (without_underscores cs)) ≡ kept_of test (c ∷ cs)
+    go : (b : Bool) → other c ≡ b → kept_permissions test (without_underscores cs) ≡ kept_permissions test cs
+        → kept_permissions test (cond b (c ∷ without_underscores cs) (without_underscores cs)) ≡ kept_permissions test (c ∷ cs)
     go true h more = ap (λ z. cond (test c) (c ∷ z) z) more
-    go false h more = more ∙ ap (λ b. cond b (c ∷ kept_of test cs) (kept_of test cs)) (sym (under_fails test c n h))
+    go false h more = more ∙ ap (λ b. cond b (c ∷ kept_permissions test cs) (kept_permissions test cs)) (sym (under_fails test c n h))
 
 bare_any : (test : ℕ → Bool) (cs : List ℕ) → test 95 ≡ false → list_any test (without_underscores cs) ≡ list_any test
     cs
@@ -85,7 +85,7 @@ bare_any test (c ∷ cs) n = go (other c) refl (bare_any test cs n)
     go true h more = ap (λ b. test c || b) more
     go false h more = more ∙ ap (λ b. b || list_any test cs) (sym (under_fails test c n h))
 
--- ---- with underscores between them
+-- ---- digits with underscores between them
 
 spaced_all : (p test : ℕ → Bool) (ds : List ℕ) → p 95 ≡ true → list_all p ds ≡ true → list_all p (spaced test ds)
     ≡ true
@@ -98,12 +98,12 @@ spaced_all p test (d ∷ ds) m h =
     go true k = and_from (p 95) (list_all p (spaced test ds)) m k
     go false k = k
 
-spaced_kept : (p test : ℕ → Bool) (ds : List ℕ) → p 95 ≡ false → kept_of p (spaced test ds) ≡ kept_of p ds
+spaced_kept : (p test : ℕ → Bool) (ds : List ℕ) → p 95 ≡ false → kept_permissions p (spaced test ds) ≡ kept_permissions p ds
 spaced_kept p test [] n = refl
 spaced_kept p test (d ∷ ds) n = ap (λ z. cond (p d) (d ∷ z) z) (go (test (length ds)) ∙ spaced_kept p test ds n)
   where
-    go : (b : Bool) → kept_of p (mark b ++ spaced test ds) ≡ kept_of p (spaced test ds)
-    go true = ap (λ b. cond b (95 ∷ kept_of p (spaced test ds)) (kept_of p (spaced test ds))) n
+    go : (b : Bool) → kept_permissions p (mark b ++ spaced test ds) ≡ kept_permissions p (spaced test ds)
+    go true = ap (λ b. cond b (95 ∷ kept_permissions p (spaced test ds)) (kept_permissions p (spaced test ds))) n
     go false = refl
 
 spaced_any : (p test : ℕ → Bool) (ds : List ℕ) → p 95 ≡ false → list_any p (spaced test ds) ≡ list_any p ds
@@ -129,7 +129,7 @@ spaced_trim test (d ∷ e ∷ ds) z h =
     trimmed_join (d ∷ mark (test (length (e ∷ ds)))) rest some
     ∙ ap (λ y. (d ∷ mark (test (length (e ∷ ds)))) ++ y) (spaced_trim test (e ∷ ds) z p.1)
 
--- ---- the underscores at the end
+-- ---- the underscores at the end of a sequence
 
 pub ending_only : (cs : List ℕ) → only (ending cs) ≡ true
 ending_only [] = refl
@@ -159,7 +159,7 @@ ending_join (c ∷ a) u h k =
     ∙ ap (λ b. b && only u) (none_trim c a h) in
     ap (λ b. cond b (c ∷ (a ++ u)) (ending (a ++ u))) some ∙ ending_join a u (trim_tail c a h) k
 
--- a run without underscores has none at its end
+-- A sequence without underscores has none at its end.
 pub clear_ending : (cs : List ℕ) → list_all other cs ≡ true → ending cs ≡ []
 clear_ending [] h = refl
 clear_ending (c ∷ cs) h =
@@ -170,7 +170,7 @@ pub only_ending : (cs : List ℕ) → only cs ≡ true → ending cs ≡ cs
 only_ending [] h = refl
 only_ending (c ∷ cs) h = ap (λ b. cond b (c ∷ cs) (ending cs)) h
 
--- ---- both
+-- ---- digits in groups, and the underscores at the end of the sequence
 
 abbrev pub row_spaced : (ℕ → Bool) → List ℕ → List ℕ
 row_spaced test run = spaced test (without_underscores run) ++ ending run
@@ -181,11 +181,11 @@ row_all p test run m h =
     list_all-append p (spaced test (without_underscores run)) (ending run)
     ∙ and_from _ _ (spaced_all p test (without_underscores run) m (bare_all p run h)) (ending_all p run h)
 
-pub row_kept : (p test : ℕ → Bool) (run : List ℕ) → p 95 ≡ false → kept_of p (row_spaced test run) ≡ kept_of p run
+pub row_kept : (p test : ℕ → Bool) (run : List ℕ) → p 95 ≡ false → kept_permissions p (row_spaced test run) ≡ kept_permissions p run
 row_kept p test run n =
     filter-append p (spaced test (without_underscores run)) (ending run)
-    ∙ ap (λ z. kept_of p (spaced test (without_underscores run)) ++ z) (none_of p (ending run) n (ending_only run))
-    ∙ append-nil (kept_of p (spaced test (without_underscores run)))
+    ∙ ap (λ z. kept_permissions p (spaced test (without_underscores run)) ++ z) (none_of p (ending run) n (ending_only run))
+    ∙ append-nil (kept_permissions p (spaced test (without_underscores run)))
     ∙ spaced_kept p test (without_underscores run) n ∙ bare_kept p run n
 
 pub row_some : (p test : ℕ → Bool) (run : List ℕ) → p 95 ≡ false → list_any p run ≡ true
@@ -193,7 +193,7 @@ pub row_some : (p test : ℕ → Bool) (run : List ℕ) → p 95 ≡ false → l
 row_some p test run n h = any_left p (spaced test (without_underscores run)) (ending run)
     (spaced_any p test (without_underscores run) n ∙ bare_any p run n ∙ h)
 
--- what is no underscore stays in front
+-- A first character other than an underscore stays the first one.
 pub row_first : (test : ℕ → Bool) (c : ℕ) (cs : List ℕ) → (c == 95) ≡ false
     → row_spaced test (c ∷ cs)
     ≡ c ∷ ((mark (test (length (without_underscores cs))) ++ spaced test (without_underscores cs)) ++ ending cs)

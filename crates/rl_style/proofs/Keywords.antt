@@ -1,5 +1,5 @@
--- Words that are keywords, and others.
-use Rattle.rl_text.proofs.Common.{◌≡◌, ◌≢◌, ◌||◌, ℕ, Bool, true, false, List, [], ◌∷◌, refl, sym, ◌∙◌, ap, AllByRecursion, list_any}
+-- The keywords of Rust, and other identifiers.
+use Rattle.rl_syntax.proofs.Common.{◌≡◌, ◌≢◌, ◌||◌, ℕ, Bool, true, false, List, [], ◌∷◌, refl, sym, ◌∙◌, ap, AllByRecursion, list_any}
 use Rattle.std.specs.Str.{bytes_eq}
 use Rattle.std.proofs.lemmas.Slice.Eq.{bytes_eq-Decides}
 use Rattle.rl_style.specs.Calls.{is_keyword, keywords}
@@ -8,7 +8,7 @@ pub keyword : (word known : List ℕ) → word ≡ known → list_any (bytes_eq 
 unfolding is_keyword
 keyword word known same h = sym (ap (λ z. list_any (bytes_eq z) keywords) same ∙ h)
 
--- none of these
+-- The identifier isn't one of the known words.
 none_of : (word : List ℕ) (known : List (List ℕ)) → AllByRecursion (λ w. word ≢ w) known
     → list_any (bytes_eq word) known ≡ false
 none_of word [] all = refl

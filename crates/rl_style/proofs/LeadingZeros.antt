@@ -1,15 +1,15 @@
--- Digits without the zeros in front spell the same number.
-use Rattle.rl_text.proofs.Common.{◌≡◌, ℕ, ◌≤◌, ◌+◌, ◌*◌, ◌^◌, ◌⊎◌, Bool, true, false, ◌==◌, cond, List, [], ◌∷◌, ◌++◌, length, refl, sym, ap, subst, ◌∙◌, inl, inr, arith, and_from, and_parts, both_ways, cases_Bool, eqb-true, or_cases, or_left, or_parts, is_ascii_digit, list_all, list_any, flat_map}
+-- The digits without leading zeros represent the old number.
+use Rattle.rl_syntax.proofs.Common.{◌≡◌, ℕ, ◌≤◌, ◌+◌, ◌*◌, ◌^◌, ◌⊎◌, Bool, true, false, ◌==◌, cond, List, [], ◌∷◌, ◌++◌, length, refl, sym, ap, subst, ◌∙◌, inl, inr, arith, and_from, and_parts, both_ways, cases_Bool, eqb-true, or_cases, or_left, or_parts, is_ascii_digit, list_all, list_any, flat_map}
 use Rattle.std.specs.Str.{chars}
 use Rattle.rl_writing.proofs.AsciiLemmas.{low_chars}
-use Rattle.rl_text.specs.Classes.{after_run}
-use Rattle.rl_text.specs.Texts.{first_passes, is_run_part}
-use Rattle.rl_forms.specs.Spelling.{place_value, without_underscores}
-use Rattle.rl_forms.specs.Strict.{IsDigits}
+use Rattle.rl_syntax.specs.Classes.{after_run}
+use Rattle.rl_syntax.specs.Texts.{first_passes, is_run_part}
+use Rattle.rl_syntax.specs.Spelling.{place_value, without_underscores}
+use Rattle.rl_syntax.specs.Strict.{IsDigits}
 use Rattle.rl_style.specs.Cases.{is_padding, or_zero, significant}
 use Rattle.rl_style.proofs.NumberCharacters.{RowStays, Stays}
 
--- what is left begins with no padding
+-- The digits without leading zeros don't begin with a zero or an underscore.
 pub record Left (run : List ℕ) : Type 0 where
   pub first : ℕ
   pub rest : List ℕ
@@ -30,7 +30,7 @@ left (c ∷ cs) =
       | inr a ↦ inr (record { first = c; rest = cs; is = ap (λ b. cond b (after_run is_padding cs) (c ∷ cs)) a; other = a })
     ]
 
--- what a test says of all, it says of what is left
+-- If all characters of a sequence pass a test, so do those without its leading zeros.
 after_all : (test : ℕ → Bool) (run : List ℕ) → list_all test run ≡ true → list_all test (after_run is_padding run)
     ≡ true
 after_all test [] h = refl
@@ -57,7 +57,7 @@ significant_all test run z h =
       | inr l ↦ ap (list_all test) (significant_left run l ∙ sym l.is) ∙ after_all test run h
     ]
 
--- it begins with a digit
+-- The sequence without its leading zeros begins with a digit.
 first_digit : (test : ℕ → Bool) (c : ℕ) → is_run_part test c ≡ true → is_padding c ≡ false → test c ≡ true
 first_digit test c h n =
     elim (or_cases (test c) (c == 95) h) [
@@ -111,7 +111,7 @@ significant_number (c ∷ cs) =
         ∙ ap (λ d. place_value 10 (without_underscores (d ∷ cs))) (sym (eqb-true c 48 z))
     padded (inr u) = ap (λ d. place_value 10 (without_underscores (d ∷ cs))) (sym (eqb-true c 95 u))
 
--- written anew, they stay so
+-- Digits without leading zeros have none after they are rewritten.
 pub significant_again : (f : ℕ → List ℕ) (run : List ℕ) → f 48 ≡ 48 ∷ [] → RowStays f run
     → significant (flat_map f (significant run)) ≡ flat_map f (significant run)
 significant_again f run z k =
@@ -147,7 +147,7 @@ significant_again f run z k =
           | inr a ↦ a
         ]
 
--- ---- the code
+-- ---- the results of the code
 
 pub none_left : (digits rest : List ℕ) → chars rest ≡ after_run is_padding (chars digits) → chars rest ≡ []
     → chars (48 ∷ []) ≡ significant (chars digits)

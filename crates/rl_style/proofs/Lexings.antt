@@ -1,19 +1,20 @@
--- How far the lexer goes into a strict literal, by what follows it.
-use Rattle.rl_text.proofs.Common.{◌≡◌, ℕ, ◌<◌, ◌≤◌, suc, ◌⊎◌, inl, inr, Bool, true, false, not, ◌&&◌, ◌||◌, ◌==◌, cond, List, [], ◌∷◌, ◌++◌, length, Option, Some, None, drop, replicate, refl, sym, ◌∙◌, ap, subst, arith, append_assoc, lit<, and_parts, and_from, or_cases, eqb-true, ltb-true, lt-ltb, agree_below_at, nat_tests, nat_lt, digit_value, list_all, list_any, is_ascii_digit, is_ascii_hexdigit, is_ascii_alphanumeric, is_xid_continue, is_xid_continue-ascii, option_map}
-use Rattle.rl_text.specs.Texts.{is_underscore, is_white, first_passes, is_run_part, is_start, is_continue, begins_char}
-use Rattle.rl_text.specs.Classes.{after_run}
-use Rattle.rl_text.proofs.Basics.{all_weaker, false_unless, hex_is_sixteen, word_continues}
-use Rattle.rl_forms.specs.Strict.{IsDecimalText, IsDigits, IsStrictExponent, IsStrictSuffix}
+-- The end of a literal token in the lexer, by the text after the token.
+use Rattle.rl_syntax.proofs.Common.{◌≡◌, ℕ, ◌<◌, ◌≤◌, suc, ◌⊎◌, inl, inr, Bool, true, false, not, ◌&&◌, ◌||◌, ◌==◌, cond, List, [], ◌∷◌, ◌++◌, length, Option, Some, None, drop, replicate, refl, sym, ◌∙◌, ap, subst, arith, append_assoc, lit<, and_parts, and_from, or_cases, eqb-true, nat_lt, digit_value, list_all, list_any, is_ascii_digit, is_xid_continue, option_map}
+use Rattle.rl_syntax.specs.Texts.{is_underscore, is_white, first_passes, is_run_part, is_start, is_continue, begins_char}
+use Rattle.rl_syntax.specs.Classes.{after_run}
+use Rattle.rl_syntax.proofs.Basics.{all_weaker, false_unless, word_continues}
+use Rattle.rl_syntax.specs.Strict.{IsDecimalText, IsDigits, IsStrictExponent, IsStrictSuffix}
 use Rattle.rl_lexer.specs.Lexemes.{is_base_letter, begins_dot, BodyPart, body_text, IsBody, CharacterBody, character_body_text, IsCharacterBody, IsRawBody, LiteralPrefix, NoPrefix, BytePrefix, CPrefix, LexemeForm, LiteralForm, lexeme_text, QuotedLexeme, RawLexeme, CharacterLexeme}
 use Rattle.rl_lexer.specs.Mirrors.LexemeAt.{after_suffix, after_decimal, after_digit, after_lexed_exponent, after_lexed_fraction, after_raw, after_sign, lexeme_at, literal_at, quoted_at, raw_at, single_at, word_at, LetterBHead, LetterCHead, LetterRHead, QuoteHead, ApostropheHead, DigitHead, begins_hashed_quote}
-use Rattle.rl_text.specs.Classes.{is_hash}
+use Rattle.rl_syntax.specs.Classes.{is_hash}
+use Rattle.rl_lexer.proofs.Continues.{row_continues}
 use Rattle.rl_lexer.proofs.HashLemmas.{hashes_count, hashes_past}
 use Rattle.rl_lexer.proofs.LexemeFronts.{at_class, class34, class39, class98, class99, class114, class_digit, digit_not_start, raw_text, same_pair, start_ascii}
 use Rattle.rl_lexer.proofs.LexemeOpeners.{raw_opens_here}
 use Rattle.rl_lexer.proofs.LexemeRows.{not_among, quote_past, raw_past, run_past, single_past}
 use Rattle.rl_lexer.proofs.Pieces.{is_equal}
 
--- ---- runs
+-- ---- sequences of characters
 
 pub run_through : (test : ℕ → Bool) (row y : List ℕ) → list_all test row ≡ true → after_run test (row ++ y)
     ≡ after_run test y
@@ -30,7 +31,7 @@ run_shorter test (c ∷ t) = go (test c) (run_shorter test t)
     go true h = omega (arith, h)
     go false h = omega arith
 
--- what follows a run isn't longer than what it stands in
+-- The text after a sequence isn't longer than the text with the sequence.
 no_longer : (test : ℕ → Bool) (c : ℕ) (t : List ℕ) → after_run test t ≡ c ∷ t → ⊥
 no_longer test c t e =
     let same : length (after_run test t) ≡ suc (length t) = ap length e in
@@ -95,7 +96,7 @@ raw_goes p n body x y is = go p
     go CPrefix = ap (λ s. lexeme_at (99 ∷ 114 ∷ s)) (raw_text n body x y) ∙ at_class 99 (114 ∷ u) LetterCHead class99
         ∙ raw_chosen u (word_at (114 ∷ u)) (after_suffix (x ++ y)) (raw_opens_here n v) at
 
--- ---- numbers with a base's prefix
+-- ---- numbers with a base prefix
 
 pub based_goes : (letter : ℕ) (digits y : List ℕ) → is_base_letter letter ≡ true → list_all is_continue digits ≡ true
     → lexeme_at (48 ∷ letter ∷ digits ++ y) ≡ Some (LiteralForm, after_run is_continue y)
@@ -105,9 +106,9 @@ based_goes letter digits y is each =
     is
     ∙ ap (λ s. Some (LiteralForm, s)) (run_through is_continue digits y each)
 
--- ---- decimals
+-- ---- decimal numbers
 
--- The text is a decimal form: a digit, and more.
+-- The text is a decimal number: a digit, and more text.
 pub record DecimalForm (t : List ℕ) : Type 0 where
   pub digit : ℕ
   pub more : List ℕ
@@ -131,11 +132,11 @@ not_based d (c ∷ u) h = go (d == 48) (c == 98) (c == 111) (c == 120) h
     go true false true r h = absurd (cc)
     go true false false true h = absurd (cc)
 
--- no suffix goes on where nothing is taken
+-- A text at which the lexer consumes nothing begins with no suffix.
 letter_taken : (k : ℕ) (t : List ℕ) → is_start k ≡ true → after_suffix (k ∷ t) ≡ k ∷ t → ⊥
 letter_taken k t is h = no_longer is_continue k t (sym (ap (λ b. cond b (after_run is_continue t) (k ∷ t)) is) ∙ h)
 
--- nor does a base's letter follow where a decimal ends
+-- A text at which a decimal number ends doesn't begin with the letter of a base.
 base_taken : (c : ℕ) (t : List ℕ) → is_base_letter c ≡ true → after_decimal (c ∷ t) ≡ c ∷ t → ⊥
 base_taken c t is h = go (c == 120) (c == 111) refl refl is
   where
@@ -151,7 +152,7 @@ no_base_after : (y : List ℕ) → after_decimal y ≡ y → first_passes is_bas
 no_base_after [] h = refl
 no_base_after (c ∷ t) h = false_unless (is_base_letter c) (λ is. base_taken c t is h)
 
--- whether the number goes on as one of another base
+-- Whether the number would continue with a base prefix.
 abbrev turns : ℕ → List ℕ → Bool
 turns d u = d == 48 && first_passes is_base_letter u
 
@@ -177,7 +178,7 @@ at_digit : (t y : List ℕ) (s : DecimalForm t) → lexeme_at (t ++ y)
 at_digit t y s = ap (λ z. lexeme_at (z ++ y)) s.text_is ∙ at_class s.digit (s.more ++ y) DigitHead
     (class_digit s.digit s.is_digit)
 
--- where the lexer ends the old one, and so the new one
+-- If the lexer reads the text before `y` as one token, its parser of decimal numbers ends at `y`.
 pub decimal_ends : (t y : List ℕ) (f : LexemeForm) (s : DecimalForm t) → lexeme_at (t ++ y) ≡ Some (f, y)
     → (f ≡ LiteralForm) × (after_decimal (s.more ++ y) ≡ y)
 decimal_ends t y f s h =
@@ -191,12 +192,12 @@ decimal_goes t y f s e h =
     ∙ ap (λ z. Some (LiteralForm, z)) (chosen s.digit (s.more ++ y) (no_turn_new s.digit s.more y s.is_decimal h) ∙ h)
     ∙ ap (λ z. Some (z, y)) (sym e)
 
--- ---- the parts of a decimal
+-- ---- the parts of a decimal number
 
 abbrev is_part : ℕ → Bool
 is_part c = is_run_part is_ascii_digit c
 
--- after digits, and whatever stands there
+-- The lexer consumes the digits, whatever text follows.
 pub digits_gone : (more z : List ℕ) → list_all is_part more ≡ true → after_decimal (more ++ z) ≡ after_decimal z
 digits_gone more z h = ap (λ s. after_suffix (after_lexed_exponent (after_lexed_fraction s)))
     (run_through is_part more z h)
@@ -204,7 +205,7 @@ digits_gone more z h = ap (λ s. after_suffix (after_lexed_exponent (after_lexed
 stands : (test : ℕ → Bool) (t : List ℕ) → first_passes test t ≡ false → after_run test t ≡ t
 stands test t h = run_past test [] t (record { each = refl; ends = h })
 
--- a dot and digits
+-- The lexer consumes a dot and the digits after it.
 pub fraction_gone : (f z : List ℕ) → IsDigits f → after_decimal (46 ∷ f ++ z) ≡ after_suffix (after_lexed_exponent
     (after_run is_part z))
 fraction_gone [] z (first, each) = absurd (cc)
@@ -222,7 +223,7 @@ letter_fails test c lower upper h =
       | inr a ↦ subst (λ (x : ℕ). test x ≡ false) (sym (eqb-true c 69 a)) upper
     ]
 
--- a row with a digit begins, after its underscores, with one
+-- A sequence with a digit begins with a digit after its leading underscores.
 row_digit : (row w : List ℕ) → list_all is_part row ≡ true → list_any is_ascii_digit row ≡ true
     → first_passes is_ascii_digit (after_run is_underscore (row ++ w)) ≡ true
 row_digit [] w each some = absurd (cc)
@@ -240,7 +241,7 @@ row_digit (c ∷ row) w each some =
         let e : (c == 95) ≡ true = ap (λ b. b || c == 95) (sym digit) ∙ here in
         ap (λ b. first_passes is_ascii_digit (cond b (after_run is_underscore (row ++ w)) (c ∷ row ++ w))) e ∙ rest more
 
--- and with no sign
+-- A sequence with a digit doesn't begin with a sign.
 row_unsigned : (row w : List ℕ) → list_all is_part row ≡ true → list_any is_ascii_digit row ≡ true
     → after_sign (row ++ w) ≡ row ++ w
 row_unsigned [] w each some = absurd (cc)
@@ -255,7 +256,7 @@ sign_gone sign row w (inl e) each some = ap (λ z. after_sign (z ++ (row ++ w)))
 sign_gone sign row w (inr (inl e)) each some = ap (λ z. after_sign (z ++ (row ++ w))) e
 sign_gone sign row w (inr (inr e)) each some = ap (λ z. after_sign (z ++ (row ++ w))) e
 
--- the letter, and what stands after the sign
+-- The lexer consumes the letter of an exponent, its sign and its digits.
 power_gone : (letter : ℕ) (u row w : List ℕ) → (letter == 101 || letter == 69) ≡ true → after_sign u ≡ row ++ w
     → list_all is_part row ≡ true → list_any is_ascii_digit row ≡ true
     → after_lexed_exponent (letter ∷ u) ≡ after_run is_part w
@@ -267,7 +268,7 @@ power_gone letter u row w is e each some =
     ∙ ap (λ b. cond b (after_run is_part (after_sign u)) (letter ∷ u)) digit
     ∙ ap (after_run is_part) e ∙ run_through is_part row w each
 
--- an exponent, where its letter is the next to be read
+-- The lexer consumes an exponent whose letter is the next character.
 exponent_gone : (e w : List ℕ) → IsStrictExponent e → after_lexed_exponent (e ++ w) ≡ after_run is_part w
 exponent_gone e w s =
     ap (λ z. after_lexed_exponent (z ++ w)) s.text
@@ -275,7 +276,7 @@ exponent_gone e w s =
     ∙ power_gone s.letter (s.sign ++ (s.run ++ w)) s.run w s.is_letter
     (sign_gone s.sign s.run w s.is_sign s.each s.some) s.each s.some
 
--- no row and no dot goes on with an exponent
+-- A test that fails for the letters of exponents fails for the first character of an exponent.
 exponent_stands : (test : ℕ → Bool) (e w : List ℕ) → IsStrictExponent e → test 101 ≡ false → test 69 ≡ false
     → first_passes test (e ++ w) ≡ false
 exponent_stands test e w s a b = ap (λ z. first_passes test (z ++ w)) s.text
@@ -285,7 +286,7 @@ no_dot : (s : List ℕ) → first_passes (λ c. c == 46) s ≡ false → begins_
 no_dot [] h = refl
 no_dot (c ∷ t) h = ap (λ b. b && not (first_passes (λ d. d == 46 || is_start d) t)) h
 
--- digits and an exponent
+-- The lexer consumes digits and an exponent.
 pub power_ends : (more e w : List ℕ) → list_all is_part more ≡ true → IsStrictExponent e
     → after_decimal (more ++ (e ++ w)) ≡ after_suffix (after_run is_part w)
 power_ends more e w each s =
@@ -296,7 +297,7 @@ power_ends more e w each s =
     (no_dot (e ++ w) (exponent_stands (λ c. c == 46) e w s refl refl))
     ∙ ap after_suffix (exponent_gone e w s)
 
--- digits, a dot, digits and an exponent
+-- The lexer consumes digits, a dot, digits and an exponent.
 pub pointed_power_ends : (more f e w : List ℕ) → list_all is_part more ≡ true → IsDigits f → IsStrictExponent e
     → after_decimal (more ++ (46 ∷ f ++ (e ++ w))) ≡ after_suffix (after_run is_part w)
 pointed_power_ends more f e w each digits s =
@@ -305,31 +306,7 @@ pointed_power_ends more f e w each digits s =
     (stands is_part (e ++ w) (exponent_stands is_part e w s refl refl))
     ∙ ap after_suffix (exponent_gone e w s)
 
--- ---- runs and suffixes go on with an identifier
-
-hex_low : (c : ℕ) → is_ascii_hexdigit c ≡ true → c < 128
-hex_low c h = grind (arith, nat_tests)
-
-continue_ascii : (c : ℕ) → c < 128 → is_continue c ≡ ((is_ascii_alphanumeric c || (c == 95)) && not (is_white c))
-continue_ascii c low = ap (λ b. b && not (is_white c)) (is_xid_continue-ascii c low)
-
-hex_continues : (c : ℕ) → is_ascii_hexdigit c ≡ true → is_continue c ≡ true
-hex_continues c h =
-    let low : c < 128 = hex_low c h in
-    let same : (not (is_ascii_hexdigit c) || ((is_ascii_alphanumeric c || (c == 95)) && not (is_white c))) ≡ true =
-    agree_below_at (λ c. not (is_ascii_hexdigit c) || ((is_ascii_alphanumeric c || (c == 95)) && not (is_white c)))
-    (λ c. true) 128 c refl low in
-    continue_ascii c low ∙ ap (λ b. not b || ((is_ascii_alphanumeric c || (c == 95)) && not (is_white c))) (sym h)
-    ∙ same
-
-row_continues : (n c : ℕ) → n ≤ 16 → is_run_part (λ d. nat_lt (digit_value d) n) c ≡ true → is_continue c ≡ true
-row_continues n c few h =
-    elim (or_cases (nat_lt (digit_value c) n) (c == 95) h) [
-      | inl a ↦
-          let less : digit_value c < n = ltb-true (digit_value c) n a in
-          hex_continues c (hex_is_sixteen c ∙ lt-ltb (digit_value c) 16 (omega arith))
-      | inr a ↦ subst (λ (x : ℕ). is_continue x ≡ true) (sym (eqb-true c 95 a)) (continue_ascii 95 (lit< tt))
-    ]
+-- ---- digits and suffixes continue as an identifier does
 
 pub row_goes_on : (n : ℕ) (row : List ℕ) → n ≤ 16 → list_all (is_run_part (λ d. nat_lt (digit_value d) n)) row ≡ true
     → list_all is_continue row ≡ true

@@ -32,7 +32,6 @@ pub mod UnrawCuts
 pub mod OneAnswer
 pub mod Changed
 pub mod NoRule
-pub mod QuotedLexemes
 pub mod Lexings
 pub mod Restyled
 pub mod Places

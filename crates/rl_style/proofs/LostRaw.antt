@@ -1,8 +1,8 @@
--- A raw literal that becomes one with escapes is the same literal.
-use Rattle.rl_text.proofs.Common.{◌≡◌, ℕ, ◌||◌, ◌&&◌, Bool, true, false, not, ◌==◌, cond, nat_lt, List, [], ◌∷◌, ◌++◌, map, refl, sym, ap, ◌∙◌, arith, and_from, and_parts, eqb-true, list_all, flat_map, encodes-append, is_ascii_digit, encode_utf8_all}
-use Rattle.rl_reading.proofs.Names.{Kind, Str, ByteStr, CStr, Byte, Char, Int, Float, BoolKind, Contents, StrictUnit, Itself, QuoteEscape, PlainEscape, is_string, strict_contents, strict_content_of, is_strict_unit, strict_text, quoted_contents}
-use Rattle.rl_forms.specs.Strict.{BlanksEnd, HasUnits, IsRawInside, StrictCooked, StrictRaw, is_bare_in_string, is_plain_letter, plain_escapes, plain_value_in, strict_closer, strict_opener}
-use Rattle.rl_forms.proofs.StrictQuoted.{between}
+-- A raw string that becomes a string with escapes is equal to the old one.
+use Rattle.rl_syntax.proofs.Common.{◌≡◌, ℕ, ◌||◌, ◌&&◌, Bool, true, false, not, ◌==◌, cond, nat_lt, List, [], ◌∷◌, ◌++◌, map, refl, sym, ap, ◌∙◌, arith, and_from, and_parts, eqb-true, list_all, flat_map, encodes-append, is_ascii_digit, encode_utf8_all}
+use Rattle.rl_lenient.proofs.Names.{Kind, Str, ByteStr, CStr, Byte, Char, Int, Float, BoolKind, Contents, StrictUnit, Itself, QuoteEscape, PlainEscape, is_string, strict_contents, strict_content_of, is_strict_unit, strict_text, quoted_contents}
+use Rattle.rl_syntax.specs.Strict.{BlanksEnd, HasUnits, IsRawInside, StrictCooked, StrictRaw, is_bare_in_string, is_plain_letter, plain_escapes, plain_value_in, strict_closer, strict_opener}
+use Rattle.rl_syntax.proofs.StrictQuoted.{between}
 use Rattle.rl_style.specs.declared.style.Style.{Style}
 use Rattle.rl_style.specs.Mirrors.{itself_text, raw_character, raw_inside}
 use Rattle.rl_style.specs.Rewriting.{LosesRaw, RewritesCooked, SameLiteral, digit_follows, raw_unit, restyled, restyled_inside}
@@ -13,14 +13,14 @@ use Rattle.rl_style.proofs.SameUnits.{cooked_strict, cooked_stays}
 use Rattle.rl_style.proofs.SameUnits as units
 use Rattle.rl_style.proofs.UnitTexts.{itself_restyled}
 use Rattle.rl_style.proofs.UnitRows.{digit_ascii, digit_bytes}
-use Rattle.rl_text.specs.Texts.{first_passes}
+use Rattle.rl_syntax.specs.Texts.{first_passes}
 
--- ---- one character
+-- ---- one character of a raw string
 
 abbrev unit_by : Bool → Bool → ℕ → StrictUnit
 unit_by a b c = cond a (QuoteEscape c) (cond b (PlainEscape c) (Itself c))
 
--- what holds of each of the three, holds of the character's unit
+-- A property of each of the three new forms of a character holds for its new form.
 raw_any : (P : StrictUnit → Type 0) (c : ℕ) → ((c == 34) ≡ true → P (QuoteEscape c))
     → ((c == 92) ≡ true → P (PlainEscape c)) → ((c == 34) ≡ false → (c == 92) ≡ false → P (Itself c)) → P (raw_unit c)
 raw_any P c quote backslash other = go (c == 34) (c == 92) refl refl
@@ -52,7 +52,7 @@ c_unit c some h = raw_any (λ u. is_strict_unit CStr u ≡ true) c (quote_is c)
     (λ e. ap (λ z. is_plain_letter z && not (z == 48)) (eqb-true c 92 e))
     (λ a b. and_from (is_bare_in_string c) (not (c == 0)) (bare_is c a b h) some)
 
--- ---- a text
+-- ---- the content of a raw string
 
 no_return : (c : ℕ) (cs : List ℕ) → list_all (λ c. not (c == 13)) (c ∷ cs) ≡ true
     → (not (c == 13) ≡ true) × (list_all (λ c. not (c == 13)) cs ≡ true)
@@ -114,7 +114,7 @@ raw_contents k (c ∷ cs) =
     ap (λ z. z ++ flat_map (strict_contents (strict_content_of k)) (map raw_unit cs)) (one_content k c)
     ∙ ap (λ z. strict_content_of k (c ∷ []) ++ z) (raw_contents k cs) ∙ joined_content k c cs
 
--- ---- the literal with escapes
+-- ---- the string with escapes
 
 abbrev pub escaped_text : Kind → List ℕ → List ℕ → List ℕ
 escaped_text k inside x = strict_opener k ++ (flat_map strict_text (map raw_unit inside) ++ (strict_closer k ++ x))
@@ -160,9 +160,9 @@ lost_stays style front t u c = cooked_stays style (escaped_text c.kind c.raw.ins
   new_is = c.new_is;
 })
 
--- ---- what is put
+-- ---- the text that the code writes
 
--- the quote that closes a string keeps its backslash
+-- The quote that would close the string keeps its backslash.
 quote_kept : (style : Style) (k : Kind) (z : Bool) (c : ℕ) → is_string k ≡ true → (c == 34) ≡ true
     → 92 ∷ c ∷ [] ≡ strict_text (restyled style k z (QuoteEscape c))
 quote_kept style k z c s e = go k s
@@ -187,7 +187,7 @@ one_text style k z c s = go (c == 34) (c == 92) refl refl
     go false true e f = refl
     go false false e f = itself_restyled style k z z c refl
 
--- what follows stands for a digit, where it begins with one
+-- The value of a character begins with a digit if and only if the character is one.
 digit_content : (k : Kind) (c : ℕ) → first_passes is_ascii_digit (strict_content_of k (c ∷ [])) ≡ is_ascii_digit c
 digit_content CStr c = digit_ascii (encode_utf8_all (c ∷ [])) ∙ sym (digit_bytes c)
 digit_content Str c = refl

@@ -1,23 +1,23 @@
--- A style without rules changes nothing.
-use Rattle.rl_text.proofs.Common.{◌≡◌, ℕ, ◌&&◌, ◌||◌, Bool, true, false, not, ◌==◌, cond, List, [], ◌∷◌, ◌++◌, map, None, refl, sym, ap, subst, ◌∙◌, inl, inr, flat_map, list_all, list_any, both_ways, append_assoc, is_ascii_digit}
-use Rattle.rl_reading.proofs.Names.{Kind, StrictUnit, Itself, QuoteEscape, PlainEscape, AsciiEscape, ByteEscape, UnicodeEscape, LineBreak, strict_text}
-use Rattle.rl_forms.specs.Written.{closer}
-use Rattle.rl_forms.specs.Spelling.{place_value}
-use Rattle.rl_forms.specs.Strict.{spaced_value, strict_closer, strict_opener}
-use Rattle.rl_forms.proofs.StrictQuoted.{between}
+-- A style in which no rule is set changes nothing.
+use Rattle.rl_syntax.proofs.Common.{◌≡◌, ℕ, ◌&&◌, ◌||◌, Bool, true, false, not, ◌==◌, cond, List, [], ◌∷◌, ◌++◌, map, None, refl, sym, ap, subst, ◌∙◌, inl, inr, flat_map, list_all, list_any, both_ways, append_assoc, is_ascii_digit}
+use Rattle.rl_lenient.proofs.Names.{Kind, StrictUnit, Itself, QuoteEscape, PlainEscape, AsciiEscape, ByteEscape, UnicodeEscape, LineBreak, strict_text}
+use Rattle.rl_syntax.specs.Written.{closer}
+use Rattle.rl_syntax.specs.Spelling.{place_value}
+use Rattle.rl_syntax.specs.Strict.{spaced_value, strict_closer, strict_opener}
+use Rattle.rl_syntax.proofs.StrictQuoted.{between}
 use Rattle.rl_writing.specs.RawStrings.{raw_text}
 use Rattle.rl_style.specs.declared.style.Style.{Style}
 use Rattle.rl_style.specs.Cases.{cased, drops_underscores, exponent_letter, kept_digits, kept_run, number_character, separator, separator_by, significant, trimmed, trims_by}
 use Rattle.rl_style.specs.Rewriting.{HasHashes, HasNoRule, Rewrites, RewritesCooked, RewritesFloat, RewritesInt, RewritesRaw, cased_digit, styled_digits, fewest_digits, needs_number, is_visible, letter_of, loses_raw, may_lose_r, needs_backslash, number_escape, reescaped, respelled, restyled, visible_unit, styled_numeral, styled_run, gets_letter, restyled_units, digit_follows}
-use Rattle.rl_text.specs.Texts.{first_passes, is_run_part}
+use Rattle.rl_syntax.specs.Texts.{first_passes, is_run_part}
 use Rattle.rl_style.specs.Groups.{after_dot, digit_run, fraction_in_groups, grouped_run, least_by, regrouped, size_by}
-use Rattle.rl_text.specs.Classes.{after_run}
+use Rattle.rl_syntax.specs.Classes.{after_run}
 use Rattle.rl_lexer.specs.Lexemes.{is_base_letter}
 use Rattle.rl_style.proofs.CaseLemmas.{none_right}
 use Rattle.rl_style.proofs.SameFloats.{run_joined}
 use Rattle.rl_style.proofs.SameRaw.{raw_followed, raw_string}
 
--- ---- numbers
+-- ---- numbers without a rule
 
 character_kept : (style : Style) (drops hex : Bool) (c : ℕ) → HasNoRule style → drops ≡ false
     → number_character style drops hex c ≡ c ∷ []
@@ -114,7 +114,7 @@ float_kept style t u n c =
     c.new_is ∙ ap (λ z. z ++ (separator style x ++ x)) (numeral_same style x c.float.numeral n)
     ∙ ap (λ z. c.float.numeral ++ (z ++ x)) (unseparated style x n) ∙ sym c.float.text
 
--- ---- quoted literals
+-- ---- quoted literals without a rule
 
 raw_kept : (style : Style) (front t u : List ℕ) → HasNoRule style → RewritesRaw style front t u → u ≡ t
 raw_kept style front t u n (inl c) =
@@ -136,7 +136,7 @@ codes_kept : (ds : List (ℕ × ℕ)) → map (cased_digit None) ds ≡ ds
 codes_kept [] = refl
 codes_kept ((a, b) ∷ ds) = ap (λ z. (a, b) ∷ z) (codes_kept ds)
 
--- no escape by number becomes shorter
+-- Without a rule, a numeric escape is unchanged.
 escape_kept : (style : Style) (k : Kind) (z : Bool) (n : ℕ) (escape : StrictUnit) → HasNoRule style
     → respelled style k z n escape ≡ escape
 escape_kept style k z n escape r =

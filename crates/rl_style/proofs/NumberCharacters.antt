@@ -1,24 +1,25 @@
--- What characters of numbers become, by the rules.
-use Rattle.rl_text.proofs.Common.{◌≡◌, ℕ, ◌⊎◌, ◌||◌, ◌&&◌, Bool, true, false, not, ◌==◌, cond, nat_lt, List, [], ◌∷◌, ◌++◌, length, Some, None, refl, sym, ap, ap₂, subst, ◌∙◌, inl, inr, arith, and_from, and_parts, cases_Bool, eqb-true, or_parts, digit_value, is_ascii_digit, list_all, list_any, flat_map, ⊤}
+-- The new characters of numbers, according to the style's rules.
+use Rattle.rl_syntax.proofs.Common.{◌≡◌, ℕ, ◌⊎◌, ◌||◌, ◌&&◌, Bool, true, false, not, ◌==◌, cond, nat_lt, List, [], ◌∷◌, ◌++◌, length, Some, None, refl, sym, ap, ap₂, subst, ◌∙◌, inl, inr, arith, and_from, and_parts, cases_Bool, eqb-true, or_parts, digit_value, is_ascii_digit, list_all, list_any, flat_map, ⊤}
 use Rattle.std.specs.Prelude.{Option}
-use Rattle.rl_text.specs.Texts.{first_passes, is_run_part}
-use Rattle.rl_text.proofs.Basics.{apart}
-use Rattle.rl_reading.proofs.Names.{flat_map-append}
-use Rattle.rl_forms.specs.Spelling.{place_value, without_underscores}
-use Rattle.rl_forms.specs.Strict.{IsDecimalText, IsDigits}
+use Rattle.rl_syntax.specs.Texts.{first_passes, is_run_part}
+use Rattle.rl_syntax.proofs.Basics.{apart}
+use Rattle.rl_lenient.proofs.Names.{flat_map-append}
+use Rattle.rl_syntax.specs.Spelling.{place_value, without_underscores}
+use Rattle.rl_syntax.specs.Strict.{IsDecimalText, IsDigits}
 use Rattle.rl_lexer.specs.Lexemes.{is_base_letter}
 use Rattle.rl_style.specs.declared.style.Case.{Case}
 use Rattle.rl_style.specs.declared.style.Case.TheVariants.{Lower, Upper}
 use Rattle.rl_style.specs.Cases.{cased, exponent_letter}
 use Rattle.rl_style.proofs.CaseLemmas.{cased_underscore, cased_value, none_right, twice_cased}
 
--- what a character becomes: whether underscores and a plus are dropped, whether the base is 16, and the two cases
+-- The new characters for a character. The flags are true if underscores are dropped, if the number is hexadecimal, and if a
+-- plus is dropped. The case of the digits and that of an exponent's letter are the next arguments.
 abbrev pub becomes : Bool → Bool → Bool → Option Case → Option Case → ℕ → List ℕ
 becomes drops hex plus digits letter c =
     cond ((drops && c == 95) || ((not hex && plus) && c == 43)) []
     (cond hex (cased digits c) (exponent_letter letter c) ∷ [])
 
--- ---- of base 16
+-- ---- hexadecimal numbers
 
 hex_dropped : (b plus : Bool) (digits letter : Option Case) (c : ℕ) → b ≡ true
     → cond (b || ((not true && plus) && c == 43)) [] (cond true (cased digits c) (exponent_letter letter c) ∷ []) ≡ []
@@ -31,7 +32,7 @@ hex_kept : (b plus : Bool) (digits letter : Option Case) (c : ℕ) → b ≡ fal
 hex_kept true plus digits letter c h = absurd (cc)
 hex_kept false plus digits letter c h = refl
 
--- ---- of another base
+-- ---- numbers of another base
 
 letter_stays : (letter : Option Case) (c : ℕ) → (c == 69) ≡ false → (c == 101) ≡ false → exponent_letter letter c ≡ c
 letter_stays None c a b = refl
@@ -53,15 +54,15 @@ other_dropped : (b plus : Bool) (digits letter : Option Case) (c : ℕ) → b �
 other_dropped true plus digits letter c h = refl
 other_dropped false plus digits letter c h = absurd (cc)
 
--- what is none of the four characters stays
+-- A character other than an underscore, a plus, `e` and `E` is unchanged.
 pub stays : (drops plus : Bool) (digits letter : Option Case) (c : ℕ) → (c == 95) ≡ false → (c == 43) ≡ false
     → (c == 69) ≡ false → (c == 101) ≡ false → becomes drops false plus digits letter c ≡ c ∷ []
 stays drops plus digits letter c n p l u = other_kept (drops && c == 95) plus digits letter c
     (ap (λ z. drops && z) n ∙ none_right drops) p l u
 
--- ---- runs
+-- ---- sequences of characters
 
--- a character stands for the same, or is an underscore and dropped
+-- A character becomes one with an equal value, or is an underscore that is dropped.
 abbrev pub Keeps : (ℕ → List ℕ) → ℕ → Type 0
 Keeps f c =
     ((f c ≡ []) × ((c == 95) ≡ true))
@@ -89,7 +90,7 @@ hex_keeps drops plus digits letter (c ∷ cs) = (
       cased_underscore digits c,
     )
 
--- a character is itself, or an underscore and dropped
+-- A character is unchanged, or is an underscore that is dropped.
 abbrev pub Stays : (ℕ → List ℕ) → ℕ → Type 0
 Stays f c = ((f c ≡ []) × ((c == 95) ≡ true)) ⊎ (f c ≡ c ∷ [])
 
@@ -120,7 +121,7 @@ keeps_of f (c ∷ cs) h = (one h.0, keeps_of f cs h.1)
     one (inl a) = inl a
     one (inr a) = inr (c, a, refl, refl)
 
--- ---- what a run keeps
+-- ---- properties of a sequence that rewriting doesn't change
 
 abbrev pub of_base : ℕ → ℕ → Bool
 of_base base c = nat_lt (digit_value c) base
@@ -150,7 +151,7 @@ some_kept f base (c ∷ cs) k n =
           ∙ ap₂ (λ v b. nat_lt v base || b) a.2 more
     ]
 
--- digits that stand for the same, one by one
+-- Two sequences of digits with equal values, one by one.
 abbrev Alike : List ℕ → List ℕ → Type 0
 Alike [] [] = ⊤
 Alike (x ∷ xs) (y ∷ ys) = (digit_value x ≡ digit_value y) × Alike xs ys
@@ -194,7 +195,7 @@ pub number_kept : (f : ℕ → List ℕ) (base : ℕ) (run : List ℕ) → RowKe
     → place_value base (without_underscores (flat_map f run)) ≡ place_value base (without_underscores run)
 number_kept f base run k = (alike_value base _ _ (bare_alike f run k)).1
 
--- ---- digits of base ten
+-- ---- decimal digits
 
 pub digits_each : (f : ℕ → List ℕ) (run : List ℕ) → RowStays f run → list_all (is_run_part is_ascii_digit) run ≡ true
     → list_all (is_run_part is_ascii_digit) (flat_map f run) ≡ true
@@ -227,7 +228,7 @@ digits_stay f (c ∷ cs) k h = (first k.0, digits_each f (c ∷ cs) k h.1)
     first (inl a) = absurd (let e : false ≡ true = sym (ap is_ascii_digit (eqb-true c 95 a.1)) ∙ h.0 in cc)
     first (inr a) = ap (λ z. first_passes is_ascii_digit (z ++ flat_map f cs)) a ∙ h.0
 
--- where no underscore is dropped, none is
+-- If no underscore is dropped, all characters are unchanged.
 pub row_kept : (test : ℕ → Bool) (plus : Bool) (digits letter : Option Case) (run : List ℕ) → test 43 ≡ false
     → test 69 ≡ false → test 101 ≡ false → list_all test run ≡ true
     → flat_map (becomes false false plus digits letter) run ≡ run
@@ -238,7 +239,7 @@ row_kept test plus digits letter (c ∷ cs) p l u h =
     (apart test c 43 q.0 p) (apart test c 69 q.0 l) (apart test c 101 q.0 u))
     ∙ ap (λ z. c ∷ z) (row_kept test plus digits letter cs p l u q.1)
 
--- ---- a decimal form begins as no other base
+-- ---- a decimal number doesn't begin with a base prefix
 
 second_off : (a b : Bool) → b ≡ false → (a && (b && true)) ≡ false
 second_off a b h = ap (λ z. a && (z && true)) h ∙ none_right a
@@ -255,7 +256,7 @@ alone c =
     ap (λ z. z || (c == 48 && false) || (c == 48 && false)) (none_right (c == 48))
     ∙ ap (λ z. z || (c == 48 && false)) (none_right (c == 48)) ∙ none_right (c == 48)
 
--- after digits, and before what isn't a base's letter
+-- The form of a decimal number, after its digits and before text that doesn't begin with the letter of a base.
 pub decimal_by : (d z : List ℕ) → IsDigits d → first_passes is_base_letter z ≡ false → IsDecimalText (d ++ z)
 decimal_by [] z h n = absurd (let e : false ≡ true = h.0 in cc)
 decimal_by (c ∷ []) [] h n = alone c
@@ -269,7 +270,7 @@ decimal_by (c ∷ b ∷ ds) z h n =
     let q = and_parts (test b) (list_all test ds) p.1 in
     second_tells c b (ds ++ z) (apart test b 98 q.0 refl) (apart test b 111 q.0 refl) (apart test b 120 q.0 refl)
 
--- ---- once is enough
+-- ---- characters are rewritten twice as once
 
 again_hex : (drops plus : Bool) (digits letter : Option Case) (c : ℕ)
     → flat_map (becomes drops true plus digits letter) (becomes drops true plus digits letter c)
@@ -294,7 +295,7 @@ again_hex drops plus digits letter c = go (cases_Bool (drops && c == 95))
         ∙ ap (λ z. z ∷ []) (twice_cased digits c))
         ∙ sym e
 
--- a character by which of the four it is, if any
+-- A property of a character, by cases: an underscore, a plus, `e`, `E` or another character.
 pub by_character : (P : ℕ → Type 0) (c : ℕ) → P 95 → P 43 → P 69 → P 101
     → ((c == 95) ≡ false → (c == 43) ≡ false → (c == 69) ≡ false → (c == 101) ≡ false → P c) → P c
 by_character P c under plus upper lower other =

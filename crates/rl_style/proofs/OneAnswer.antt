@@ -1,12 +1,12 @@
--- A literal is one text in a style, and the same text in a style without rules.
-use Rattle.rl_text.proofs.Common.{◌≡◌, ℕ, Bool, true, false, ◌==◌, cond, List, [], ◌∷◌, ◌++◌, length, replicate, refl, sym, ap, subst, ◌∙◌, inl, inr, arith, append_cancel_right, both_ways, cases_lt, flat_map}
-use Rattle.rl_text.proofs.Basics.{hashes_all}
-use Rattle.rl_reading.proofs.Names.{Kind, Str, ByteStr, CStr, Byte, Char, Int, Float, BoolKind, Contents, StrictUnit, is_string, strict_text}
-use Rattle.rl_forms.specs.Strict.{Strict, StrictCooked, StrictInt, StrictRaw, strict_closer, strict_opener, strict_raw_opener, HasUnits}
-use Rattle.rl_forms.proofs.OneQuoted.{same_tail}
-use Rattle.rl_forms.proofs.OneReading.{one_strict}
-use Rattle.rl_forms.proofs.StrictNumbers.{same_run}
-use Rattle.rl_forms.proofs.StrictQuoted.{between}
+-- A literal has exactly one new text in a style, and its own text in a style without rules.
+use Rattle.rl_syntax.proofs.Common.{◌≡◌, ℕ, Bool, true, false, ◌==◌, cond, List, [], ◌∷◌, ◌++◌, length, replicate, refl, sym, ap, subst, ◌∙◌, inl, inr, arith, append_cancel_right, both_ways, cases_lt, flat_map}
+use Rattle.rl_syntax.proofs.Basics.{hashes_all}
+use Rattle.rl_lenient.proofs.Names.{Kind, Str, ByteStr, CStr, Byte, Char, Int, Float, BoolKind, Contents, StrictUnit, is_string, strict_text}
+use Rattle.rl_syntax.specs.Strict.{Strict, StrictCooked, StrictInt, StrictRaw, strict_closer, strict_opener, strict_raw_opener, HasUnits}
+use Rattle.rl_syntax.proofs.OneQuoted.{same_tail}
+use Rattle.rl_syntax.proofs.OneReading.{one_strict}
+use Rattle.rl_syntax.proofs.StrictNumbers.{same_run}
+use Rattle.rl_syntax.proofs.StrictQuoted.{between}
 use Rattle.rl_writing.specs.RawStrings.{HasFewestHashes, raw_contents, raw_text}
 use Rattle.rl_style.specs.declared.style.Style.{Style}
 use Rattle.rl_style.specs.Cases.{separator}
@@ -18,7 +18,7 @@ use Rattle.rl_style.proofs.WrittenNumbers.{base_found}
 
 -- ---- numbers
 
--- a base's prefix
+-- The prefix of a base, for example `0x`.
 abbrev prefix_of : ℕ → List ℕ
 prefix_of base = cond (base == 2) (48 ∷ 98 ∷ []) (cond (base == 8) (48 ∷ 111 ∷ [])
     (cond (base == 16) (48 ∷ 120 ∷ []) []))
@@ -70,7 +70,7 @@ float_once style t u w a b =
     ∙ ap (λ z. float_of style z a.suffix) numeral ∙ ap (float_of style b.float.numeral) suffix
     ∙ sym b.new_is
 
--- ---- raw literals
+-- ---- raw strings
 
 fewest_once : (k : Kind) (inside : List ℕ) (n m : ℕ) → HasFewestHashes k inside n → HasFewestHashes k inside m → n ≡ m
 fewest_once k inside n m a b =
@@ -87,7 +87,7 @@ hashes_once : (rule : Bool) (k : Kind) (inside : List ℕ) (old n m : ℕ) → H
 hashes_once true k inside old n m a b = fewest_once k inside n m a b
 hashes_once false k inside old n m a b = a ∙ sym b
 
--- the parts of one raw text
+-- The parts of a raw string are determined by its text.
 raw_parts_once : (t : List ℕ) (k : Kind) (v w : Contents) (x : List ℕ) → (a : StrictRaw t k v x)
     → (b : StrictRaw t k w x)
     → (a.hashes ≡ b.hashes) × (a.inside ≡ b.inside)
@@ -106,7 +106,7 @@ raw_parts_once t k v w x a b =
           ∙ ap (λ z. b.inside ++ (34 ∷ (replicate z 35 ++ x))) (sym count)),
     )
 
--- the other answer, as one of the same kind and with the same suffix
+-- The other result is that of a raw string with the old kind and suffix.
 abbrev StaysAs : Style → List ℕ → List ℕ → List ℕ → Contents → ℕ → Kind → List ℕ → Type 0
 StaysAs style front t w v n k x =
     (s : StrictRaw t k v x) × HasHashes style.raw_hashes k s.inside s.hashes n × (w ≡ raw_text k n s.inside ++ x)
@@ -152,7 +152,7 @@ loses_once style front t u w a b =
     let parts = raw_parts_once t a.kind a.contents b.contents a.suffix a.raw s in
     a.new_is ∙ ap (λ i. unraw_text style a.kind i a.suffix) parts.1 ∙ sym new_is
 
--- none both stays and loses its `r`
+-- A raw string doesn't both stay raw and lose its `r`.
 never_both : (style : Style) (front t u w : List ℕ) → StaysRaw style front t u → LosesRaw style front t w → ⊥
 never_both style front t u w a b =
     let (s, new_is, loses) = loses_as style front t w a.kind a.contents a.suffix
@@ -167,7 +167,7 @@ raw_once style front t u w (inl a) (inr b) = absurd (never_both style front t u 
 raw_once style front t u w (inr a) (inl b) = absurd (never_both style front t w u b a)
 raw_once style front t u w (inr a) (inr b) = loses_once style front t u w a b
 
--- the raw literal that it was
+-- The old text is a raw string.
 record WasRaw (t : List ℕ) : Type 0 where
   kind : Kind
   contents : Contents
@@ -178,7 +178,7 @@ was_raw : (style : Style) (front t u : List ℕ) → RewritesRaw style front t u
 was_raw style front t u (inl a) = record { kind = a.kind; contents = a.contents; suffix = a.suffix; raw = a.raw }
 was_raw style front t u (inr a) = record { kind = a.kind; contents = a.contents; suffix = a.suffix; raw = a.raw }
 
--- ---- literals with escapes
+-- ---- quoted literals with escapes
 
 abbrev CookedAs : Style → List ℕ → List ℕ → Contents → Kind → List ℕ → Type 0
 CookedAs style t w v k x =
@@ -206,7 +206,7 @@ cooked_once style t u w a b =
     (record { each = s.each; blanks_end = s.blanks_end; inside_is = refl }) in
     a.new_is ∙ ap (λ z. strict_opener k ++ (z ++ end)) same ∙ sym other.1
 
--- ---- no literal is of two kinds
+-- ---- a literal has exactly one kind
 
 int_float : Int ≡ Float → ⊥
 int_float e = absurd (cc)
@@ -231,7 +231,7 @@ raw_quoted ByteStr h = (λ e. absurd (cc), λ e. absurd (cc), λ e. absurd (cc))
 raw_quoted CStr h = (λ e. absurd (cc), λ e. absurd (cc), λ e. absurd (cc))
 raw_quoted kind h = absurd (cc)
 
--- ---- nor both raw and with escapes
+-- ---- a literal isn't both raw and one with escapes
 
 raw_not_cooked : (k : Kind) (y z : List ℕ) → is_string k ≡ true → strict_raw_opener k ++ y ≡ strict_opener k ++ z → ⊥
 raw_not_cooked Str y z s e = both_ways false refl (ap first_quote e)
@@ -254,7 +254,7 @@ raw_apart style t w a b =
     ∙ ap (λ k. strict_opener k ++ (flat_map strict_text b.cooked.units ++ (strict_closer b.kind ++ b.suffix)))
     (sym one.0))
 
--- ---- so one answer
+-- ---- a literal has exactly one new text
 
 clash : (t : List ℕ) (k l : Kind) (v w : Contents) (x y : List ℕ) → Strict t k v x → Strict t l w y → (k ≡ l → ⊥) → ⊥
 clash t k l v w x y a b n = n (one_strict t k l v w x y a b).0

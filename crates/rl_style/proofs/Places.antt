@@ -1,10 +1,10 @@
--- One place of a text.
-use Rattle.rl_text.proofs.Common.{◌≡◌, ℕ, List, [], ◌∷◌, ◌++◌, length, refl, sym, ◌∙◌, ap, arith, encode_utf8, encode_utf8_all, len_utf8_bounds, length-encode}
+-- A byte offset is at one position of a text.
+use Rattle.rl_syntax.proofs.Common.{◌≡◌, ℕ, List, [], ◌∷◌, ◌++◌, length, refl, sym, ◌∙◌, ap, arith, encode_utf8, encode_utf8_all, len_utf8_bounds, length-encode}
 use Rattle.std.proofs.Common.{length-append}
-use Rattle.rl_text.specs.Texts.{byte_len}
+use Rattle.rl_syntax.specs.Texts.{byte_len}
 use Rattle.rl_lexer.proofs.CutLemmas.{byte_len-append}
 
--- a character takes some bytes
+-- A character has at least one byte.
 some_bytes : (c : ℕ) (cs : List ℕ) → byte_len (c ∷ cs) ≡ 0 → ⊥
 some_bytes c cs e =
     let whole : length (encode_utf8 c ++ encode_utf8_all cs) ≡ 0 = e in

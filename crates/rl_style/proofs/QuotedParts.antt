@@ -1,35 +1,35 @@
--- The parts of a quoted token are those of its one tree.
-use Rattle.rl_text.proofs.Common.{◌≡◌, ◌≢◌, ℕ, ◌<◌, ◌||◌, Bool, true, false, not, ◌==◌, List, [], ◌∷◌, ◌++◌, length, replicate, Some, None, refl, sym, ap, subst, ◌∙◌, inl, inr, append_assoc, append_cancel_right, both_ways, or_left, or_right, is_ascii_digit, flat_map, list_all}
+-- The parts of a quoted literal token are those of its parse result.
+use Rattle.rl_syntax.proofs.Common.{◌≡◌, ◌≢◌, ℕ, ◌<◌, ◌||◌, Bool, true, false, not, ◌==◌, List, [], ◌∷◌, ◌++◌, length, replicate, Some, None, refl, sym, ap, subst, ◌∙◌, inl, inr, append_assoc, append_cancel_right, both_ways, or_left, or_right, is_ascii_digit, flat_map, list_all}
 use Rattle.std.specs.Str.{chars}
-use Rattle.rl_text.proofs.Basics.{apart, hashes_all}
-use Rattle.rl_reading.proofs.Names.{Kind, Str, ByteStr, CStr, Byte, Char, Int, Float, BoolKind, NoSign, Contents, Reads, ReadsQuoted, Truth, first_passes, is_single, is_string, opener, quoted_contents, raw_opener, strict_content_of, strict_contents, strict_text, truth_text}
-use Rattle.rl_forms.specs.Strict.{IsRawInside, IsStrictSuffix, StrictCooked, StrictRaw, strict_closer, strict_opener, strict_raw_opener}
-use Rattle.rl_forms.proofs.OneNumber.{begins_number, float_front, int_front}
-use Rattle.rl_forms.proofs.OneReading.{one_reading}
-use Rattle.rl_forms.proofs.StrictNumbers.{digit_front, float_strict_reads, same_run, strict_float, strict_int}
-use Rattle.rl_forms.specs.Numbers.{exponent_text, fraction_text}
-use Rattle.rl_forms.proofs.StrictQuoted.{between, quoted_strict_reads}
-use Rattle.rl_reading.specs.declared.found.Body.{Body}
-use Rattle.rl_reading.specs.declared.quoted_forms.QuotedForm.{QuotedForm}
-use Rattle.rl_reading.specs.declared.quoted_forms.QuotedForm.TheVariants.{Cooked as CookedForm, Raw as RawForm, Single as SingleForm}
-use Rattle.rl_reading.specs.Forms.{PartsAre, form_opener, has_form}
-use Rattle.rl_reading.specs.Founds.{IsFound, IsQuotedAt, body_in, is_quoted, suffix_in}
-use Rattle.rl_reading.specs.Mirrors.OpenerAt.{found_opener, opener_at}
-use Rattle.rl_reading.proofs.FormLemmas.{front_complete, front_sound, parts_read}
-use Rattle.rl_reading.proofs.TestLemmas.{passes_more}
+use Rattle.rl_syntax.proofs.Basics.{apart, hashes_all}
+use Rattle.rl_lenient.proofs.Names.{Kind, Str, ByteStr, CStr, Byte, Char, Int, Float, BoolKind, NoSign, Contents, Reads, ReadsQuoted, Truth, first_passes, is_single, is_string, opener, quoted_contents, raw_opener, strict_content_of, strict_contents, strict_text, truth_text}
+use Rattle.rl_syntax.specs.Strict.{IsRawInside, IsStrictSuffix, StrictCooked, StrictRaw, strict_closer, strict_opener, strict_raw_opener}
+use Rattle.rl_syntax.proofs.OneNumber.{begins_number, float_front, int_front}
+use Rattle.rl_syntax.proofs.OneReading.{one_reading}
+use Rattle.rl_syntax.proofs.StrictNumbers.{digit_front, float_strict_reads, same_run, strict_float, strict_int}
+use Rattle.rl_syntax.specs.Numbers.{exponent_text, fraction_text}
+use Rattle.rl_syntax.proofs.StrictQuoted.{between, quoted_strict_reads}
+use Rattle.rl_lenient.specs.declared.found.Body.{Body}
+use Rattle.rl_lenient.specs.declared.quoted_forms.QuotedForm.{QuotedForm}
+use Rattle.rl_lenient.specs.declared.quoted_forms.QuotedForm.TheVariants.{Cooked as CookedForm, Raw as RawForm, Single as SingleForm}
+use Rattle.rl_lenient.specs.Forms.{PartsAre, form_opener, has_form}
+use Rattle.rl_lenient.specs.Founds.{IsFound, IsQuotedAt, body_in, is_quoted, suffix_in}
+use Rattle.rl_lenient.specs.Mirrors.OpenerAt.{found_opener, opener_at}
+use Rattle.rl_lenient.proofs.FormLemmas.{front_complete, front_sound, parts_read}
+use Rattle.rl_lenient.proofs.TestLemmas.{passes_more}
 use Rattle.std.specs.Prelude.{codes, if◌then◌else◌}
-use Rattle.rl_reading.proofs.OpenerLemmas.{word_has_none}
+use Rattle.rl_lenient.proofs.OpenerLemmas.{word_has_none}
 use Rattle.rl_strict.specs.StrictShapes.{ClosesForm, ClosesRaw, ClosesUnits, IsToken}
-use Rattle.rl_reading.specs.declared.found.Found.{Found}
-use Rattle.rl_reasons.specs.declared.strict_reading.Reading.{Reading}
-use Rattle.rl_reasons.specs.declared.strict_reading.Reading.TheVariants.{Text, Unit, Integer, Float as FloatRead, Truth as TruthRead}
-use Rattle.rl_reasons.specs.StrictRead.{IsStrictReading}
+use Rattle.rl_lenient.specs.declared.found.Found.{Found}
+use Rattle.rl_strict.specs.declared.strict_reading.Reading.{Reading}
+use Rattle.rl_strict.specs.declared.strict_reading.Reading.TheVariants.{Text, Unit, Integer, Float as FloatRead, Truth as TruthRead}
+use Rattle.rl_strict.specs.StrictRead.{IsStrictReading}
 use Rattle.rl_strict.proofs.StrictLemmas.{IsStrictNumber, Opened, seen}
 use Rattle.rl_style.specs.Mirrors.{OpensAs, CookedParts, RawParts}
 use Rattle.rl_style.specs.Rewriting.{KeepsTruth}
 use Rattle.rl_style.proofs.SameRaw.{length_hashes, raw_joined}
 
--- ---- a token closes the form that its front tells
+-- ---- a token has the form that its opening delimiter identifies
 
 number_front : (t : List ℕ) → begins_number t ≡ true → opener_at t ≡ None
 unfolding opener_at
@@ -73,7 +73,7 @@ form_same f g k l a b e =
     let same : ◌≡◌ {A = QuotedForm × Kind × List ℕ} (f, k, a) (g, l, b) = cc in
     ap (λ (p : QuotedForm × Kind × List ℕ). p.0) same
 
--- ---- kinds
+-- ---- the kinds of quoted literals
 
 opener_same : (k : Kind) → opener k ≡ strict_opener k
 opener_same Str = refl
@@ -115,7 +115,7 @@ as_reads t Byte v x h r = r
 as_reads t Char v x h r = r
 as_reads t kind v x h r = absurd (cc)
 
--- ---- with escapes
+-- ---- literals with escapes
 
 units_tree : (k : Kind) (t r : List ℕ) → t ≡ strict_opener k ++ r → (c : ClosesUnits k r)
     → StrictCooked t k (quoted_contents k (flat_map (strict_contents (strict_content_of k)) c.units)) c.suffix
@@ -146,7 +146,7 @@ cooked_from k t b x v e c reads =
       text_is = e;
     }
 
--- ---- raw
+-- ---- raw strings
 
 inside_tree : (k : Kind) (t r : List ℕ) → t ≡ strict_raw_opener k ++ r → (c : ClosesRaw k r)
     → StrictRaw t k (quoted_contents k (strict_content_of k c.closes.inside)) c.closes.suffix
@@ -196,7 +196,7 @@ raw_from k t b x h v e c reads =
       text_is = e;
     }
 
--- ---- what closes reads
+-- ---- a literal that is closed has a parse result
 
 form_quoted : (form : QuotedForm) (k : Kind) → has_form form k ≡ true → is_quoted k ≡ true
 form_quoted CookedForm k h = or_left (is_string k) (is_single k) h
@@ -216,7 +216,7 @@ inside k t r e c = let tree = inside_tree k t r e c in (
       (inr tree),
 )
 
--- ---- by the form
+-- ---- the parts by the form
 
 record Told (form : QuotedForm) (kind : Kind) (t r : List ℕ) : Type 0 where
   has : has_form form kind ≡ true
@@ -289,7 +289,7 @@ raw_by RawForm kind t v b x token p is =
     (as_reads t kind (quoted_contents kind v) x (or_left (is_string kind) (is_single kind) o.has)
     (parts_read RawForm kind t v b x p))
 
--- the parts tell how the text begins
+-- The parts of a literal determine how its text begins.
 parts_begin : (form : QuotedForm) (kind : Kind) (t v b x : List ℕ) → PartsAre form kind t v b x → OpensAs form kind t
 parts_begin CookedForm kind t v b x p = (_, told_front CookedForm kind t _ (cooked_told kind t v b x p))
 parts_begin SingleForm kind t v b x p = (_, told_front SingleForm kind t _ (single_told kind t v b x p))
@@ -320,9 +320,9 @@ raw_parts form kind t inside suffix body token begins q is b x =
     (raw_by q.form kind (chars t) q.value (chars (body_in t body)) (chars (suffix_in t body)) token q.parts
     (sym same ∙ is)))
 
--- ---- what is read is the literal of that kind
+-- ---- the parse result is the literal of this kind
 
--- a token reads as the kind that its front tells
+-- A token parses as a literal of the kind that its opening delimiter identifies.
 token_reads : (form : QuotedForm) (kind : Kind) (t r : List ℕ) → opener_at t ≡ found_opener form kind r → IsToken t
     → (v : Contents) × (x : List ℕ) × Reads t kind v x
 token_reads form kind t r h token =
@@ -365,7 +365,7 @@ no_word : (form : QuotedForm) (kind : Kind) (t : List ℕ) (b : Bool) → OpensA
 no_word form kind t b begins e =
     let none : None ≡ found_opener form kind begins.0 = sym (ap opener_at e ∙ word_has_none b) ∙ begins.1 in absurd (cc)
 
--- a quoted literal has no other reading
+-- A quoted literal has no other parse result.
 pub no_other : (form : QuotedForm) (kind : Kind) (t : List ℕ) (r : Reading) → OpensAs form kind (chars t)
     → IsStrictReading t r → ((k : Kind) (body : Body) → r ≡ Text k body → ⊥)
     → ((k : Kind) (body : Body) (n : ℕ) → r ≡ Unit k body n → ⊥) → ⊥
@@ -377,7 +377,7 @@ no_other form kind t (FloatRead at) (rest, h) (place, (v, s)) a b = no_number fo
     (_, _, inr s)
 no_other form kind t (TruthRead truth) begins reads a b = no_word form kind (chars t) truth begins reads
 
--- ---- words
+-- ---- `true` and `false`
 
 number_digit : (t : List ℕ) → IsStrictNumber t → first_passes is_ascii_digit t ≡ true
 number_digit t (v, x, inl s) =

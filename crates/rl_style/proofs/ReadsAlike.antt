@@ -1,16 +1,16 @@
--- The same literal reads as the same.
-use Rattle.rl_text.proofs.Common.{◌≡◌, ℕ, ◌≤◌, List, refl, subst, sym, ◌∙◌, ap}
-use Rattle.rl_forms.specs.declared.kind.Kind.{Kind}
-use Rattle.rl_forms.specs.declared.kind.Kind.TheVariants.{Str, ByteStr, CStr, Byte, Char, Int, Float, Bool as BoolKind}
-use Rattle.rl_forms.specs.Numbers.{limit, IntReads}
-use Rattle.rl_forms.specs.Reading.{Contents, Digits, Reads}
-use Rattle.rl_forms.specs.Spelling.{place_value}
-use Rattle.rl_forms.specs.Strict.{Strict, StrictInt, dec}
-use Rattle.rl_forms.specs.Agreeing.{IsWithinLimit}
-use Rattle.rl_forms.proofs.Agreeing.{strict_reads}
-use Rattle.rl_forms.proofs.OneNumber.{int_once}
-use Rattle.rl_forms.proofs.OneReading.{one_strict, read_and_strict}
-use Rattle.rl_forms.proofs.StrictNumbers.{strict_int}
+-- Equal literals have equal parse results.
+use Rattle.rl_syntax.proofs.Common.{◌≡◌, ℕ, ◌≤◌, List, refl, subst, sym, ◌∙◌, ap}
+use Rattle.rl_syntax.specs.declared.kind.Kind.{Kind}
+use Rattle.rl_syntax.specs.declared.kind.Kind.TheVariants.{Str, ByteStr, CStr, Byte, Char, Int, Float, Bool as BoolKind}
+use Rattle.rl_syntax.specs.Numbers.{limit, IntReads}
+use Rattle.rl_syntax.specs.Reading.{Contents, Digits, Reads}
+use Rattle.rl_syntax.specs.Spelling.{place_value}
+use Rattle.rl_syntax.specs.Strict.{Strict, StrictInt, dec}
+use Rattle.rl_syntax.specs.Agreeing.{IsWithinLimit}
+use Rattle.rl_syntax.proofs.Agreeing.{strict_reads}
+use Rattle.rl_syntax.proofs.OneNumber.{int_once}
+use Rattle.rl_syntax.proofs.OneReading.{one_strict, read_and_strict}
+use Rattle.rl_syntax.proofs.StrictNumbers.{strict_int}
 use Rattle.rl_strict.proofs.DecLemmas.{dec_spells}
 use Rattle.rl_style.specs.Rewriting.{SameLiteral}
 use Rattle.rl_style.specs.Laws.{ReadsAlike, StrictAlike}
@@ -20,7 +20,7 @@ same_dec m n e =
     let d : dec m ≡ dec n = cc in
     sym (dec_spells m) ∙ ap (place_value 10) d ∙ dec_spells n
 
--- an integer of the same contents is within the limit too
+-- An integer that is equal to one within 128 bits is within 128 bits too.
 within : (t u : List ℕ) (k : Kind) (v : Contents) (x : List ℕ) → Reads t k v x → Strict t k v x → Strict u k v x
     → IsWithinLimit k u
 within t u Int v x r s w = λ sign m y h.

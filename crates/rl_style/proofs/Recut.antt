@@ -1,9 +1,9 @@
--- A text in which one literal is written anew is cut as before everywhere else.
-use Rattle.rl_text.proofs.Common.{◌≡◌, ℕ, ◌≤◌, ◌+◌, ◌-◌, ◌⊎◌, inl, inr, Bool, true, false, not, ◌||◌, ◌==◌, cond, List, [], ◌∷◌, ◌++◌, append-nil, Option, Some, None, refl, sym, ◌∙◌, ap, subst, arith, nat_tests, append_assoc, lit<, and_parts, list_all, is_ascii_digit, is_xid_start, AllByRecursion}
-use Rattle.rl_text.proofs.Basics.{false_unless}
-use Rattle.rl_text.proofs.ScanLemmas.{not_false}
-use Rattle.rl_text.specs.Texts.{is_white, is_among, first_passes, byte_len, is_start}
-use Rattle.rl_forms.specs.Trivia.{inside_text, is_comment_line, is_comment_block}
+-- If one literal of a text is rewritten, all other tokens are lexed as before.
+use Rattle.rl_syntax.proofs.Common.{◌≡◌, ℕ, ◌≤◌, ◌+◌, ◌-◌, ◌⊎◌, inl, inr, Bool, true, false, not, ◌||◌, ◌==◌, cond, List, [], ◌∷◌, ◌++◌, append-nil, Option, Some, None, refl, sym, ◌∙◌, ap, subst, arith, nat_tests, append_assoc, lit<, and_parts, list_all, is_ascii_digit, is_xid_start, AllByRecursion}
+use Rattle.rl_syntax.proofs.Basics.{false_unless}
+use Rattle.rl_syntax.proofs.ScanLemmas.{not_false}
+use Rattle.rl_syntax.specs.Texts.{is_white, is_among, first_passes, byte_len, is_start}
+use Rattle.rl_syntax.specs.Trivia.{inside_text, is_comment_line, is_comment_block}
 use Rattle.rl_lexer.specs.Skipping.{Skipped}
 use Rattle.rl_lexer.specs.Lexemes.{delimiters, marks, lexed_fraction_text, lexed_exponent_text, NoPrefix, BytePrefix, CPrefix, Lexeme, QuotedLexeme, RawLexeme, CharacterLexeme, BasedLexeme, DecimalLexeme, IdentifierLexeme, DelimiterLexeme, MarkLexeme, lexeme_text, IsLexeme}
 use Rattle.rl_lexer.specs.Mirrors.SkippedAt.{after_block, after_line, after_comment, after_piece}
@@ -15,13 +15,13 @@ use Rattle.rl_lexer.proofs.LexemeRows.{not_true, not_among, neither_true}
 use Rattle.rl_lexer.proofs.Pieces.{is_equal, stops-from_none}
 use Rattle.rl_lexer.proofs.SourceFronts.{proper_source}
 use Rattle.rl_style.specs.Around.{SameFront, SameEnds, may_precede_quote}
-use Rattle.rl_style.specs.Recut.{moved, IsSoundToken, IsSound, placed_literal, KeepsTheCut}
+use Rattle.rl_style.specs.Recut.{moved, IsSoundToken, IsSound, placed_literal, KeepsTheTokens}
 use Rattle.rl_style.proofs.FrontTests.{front_more}
 use Rattle.rl_style.proofs.Stays.{stays_around}
 use Rattle.rl_style.proofs.Ends.{keeps_its_ends}
 use Rattle.rl_style.proofs.Unraws.{unraws_around}
 
--- ---- nothing is skipped at a token
+-- ---- a token begins with no white space and no comment
 
 solid_piece : (c : ℕ) (t : List ℕ) → (c == 47) ≡ false → is_white c ≡ false → after_piece (c ∷ t) ≡ None
 solid_piece c t slash white =
@@ -99,7 +99,7 @@ token_piece (DocBlockToken i) t (is, doc) =
 token_piece (BadQuoteToken q) t is = absurd is
 token_piece (StrayToken c) t is = absurd is
 
--- ---- the trivia in front of it
+-- ---- the white space and comments before a token
 
 abbrev pub IsFull : List ℕ → Type 0
 IsFull [] = ⊥
@@ -130,7 +130,7 @@ token_full (DocBlockToken i) t is = tt
 token_full (BadQuoteToken q) t is = absurd is
 token_full (StrayToken c) t is = absurd is
 
--- what was skipped is skipped before any text at which nothing is
+-- White space and comments are skipped before any text that begins with neither.
 abbrev pub SkipsTo : List ℕ → List ℕ → Type 0
 SkipsTo t u = (front : List ℕ) × (t ≡ front ++ u) × ((v : List ℕ) → after_piece v ≡ None → Skipped (front ++ v) v)
 
@@ -142,11 +142,11 @@ skips_to t u full (inl s) = (
 )
 skips_to t u full (inr s) = absurd (subst IsFull s.nothing full)
 
--- ---- the tokens after
+-- ---- the tokens after the literal
 
--- where a token begins
-pub place_of : (at k : ℕ) (t f u : List ℕ) → t ≡ f ++ u → k + byte_len u ≡ at + byte_len t → k ≡ at + byte_len f
-place_of at k t f u e place = omega (arith, place, ap byte_len e, byte_len-append f u)
+-- The byte offset at which a token begins.
+pub offset_of_rest : (at k : ℕ) (t f u : List ℕ) → t ≡ f ++ u → k + byte_len u ≡ at + byte_len t → k ≡ at + byte_len f
+offset_of_rest at k t f u e place = omega (arith, place, ap byte_len e, byte_len-append f u)
 
 less : (t u : List ℕ) → Skipped t u → byte_len u ≤ byte_len t
 less t u (inl s) = let e = ap byte_len s.text in let k = byte_len-append s.front u in omega (arith, e, k)
@@ -170,17 +170,17 @@ shifted at from to t (w ∷ ws) r low (after, skipped, is, place, more) =
           (shifted (source_end w) from to after ws r end more),
     )
 
--- ---- the whole cut
+-- ---- the whole text
 
--- what ends with neither a hash nor a dot, ends so without its front
+-- If a text ends with neither a hash nor a dot, neither does its second part.
 may_drop : (a b : List ℕ) → may_precede_quote (a ++ b) ≡ true → may_precede_quote b ≡ true
 may_drop [] b h = h
 may_drop (c ∷ []) [] h = refl
 may_drop (c ∷ []) (d ∷ b) h = h
 may_drop (c ∷ e ∷ a) b h = may_drop (e ∷ a) b h
 
--- Both begin alike, up to the `r` of a raw string and the quote of one with escapes, which neither a hash nor a dot
--- stands before where both follow this text.
+-- Two texts begin alike, up to the `r` of a raw string in the old text and the quote of a string with escapes in the new one.
+-- If both follow the text `lead`, neither a hash nor a dot precedes the string.
 pub record Unquoted (lead old new : List ℕ) : Type 0 where
   pub front : List ℕ
   pub raw : List ℕ
@@ -189,7 +189,7 @@ pub record Unquoted (lead old new : List ℕ) : Type 0 where
   pub old_is : old ≡ front ++ (114 ∷ raw)
   pub new_is : new ≡ front ++ (34 ∷ quoted)
 
--- no token in front tells the texts apart, where both follow this text
+-- If the old and the new text follow `lead`, no token before can distinguish them.
 abbrev pub Begun : List ℕ → List ℕ → List ℕ → Type 0
 Begun lead a b = SameFront a b ⊎ Unquoted lead a b
 
@@ -216,7 +216,7 @@ alike_stays lead w a b (inr (inr u)) is =
     subst (λ (z : List ℕ). IsProper w z) (sym u.new_is)
     (unraws_around w u.front u.raw u.quoted (may_drop lead u.front u.may) old)
 
--- the same, and what the tokens in front need to know of it; the text follows the lead
+-- The new tokens, and the properties that the tokens before them need. The text follows the text `lead`.
 pub record Recut (lead : List ℕ) (at : ℕ) (t : List ℕ) (before after : List CutSource) (old new : Lexeme) (place : ℕ)
     (r : List ℕ) : Type 0 where
   pub front : List ℕ
@@ -227,7 +227,7 @@ pub record Recut (lead : List ℕ) (at : ℕ) (t : List ℕ) (before after : Lis
   pub cuts : SourcesUpTo at (front ++ (lexeme_text new ++ rest)) (before ++ (placed_literal new place
       ∷ moved (place + byte_len (lexeme_text old)) (place + byte_len (lexeme_text new)) after)) r
 
--- what follows the literal in a cut, before which it is a token
+-- The text after the literal, before which the literal is a token.
 abbrev pub literal_rest : (at : ℕ) (t : List ℕ) (before after : List CutSource) (old : Lexeme) (place : ℕ) (r : List ℕ)
     → SourcesUpTo at t (before ++ (placed_literal old place ∷ after)) r → List ℕ
 literal_rest at t [] after old place r (rest, skipped, is, place_is, more) = rest
@@ -241,7 +241,7 @@ literal_is at t [] after old place r (rest, skipped, is, place_is, more) = is
 literal_is at t (d ∷ before) after old place r (u, skipped, is, place_is, more) = literal_is (source_end d) u before
     after old place r more
 
--- The new literal is a token where the old one was, and no token in front tells.
+-- The new literal is a token where the old one is, and no token before can distinguish them.
 abbrev pub Follows : List ℕ → ℕ → List ℕ → Lexeme → Lexeme → ℕ → List ℕ → Type 0
 Follows lead at t old new place rest =
     IsLexeme new rest
@@ -255,7 +255,7 @@ at_literal : (lead : List ℕ) (at : ℕ) (t : List ℕ) (after : List CutSource
     → Recut lead at t [] after old new place r
 at_literal lead at t after old new place r rest skipped place_is more (new_is, same) =
     let (front, text_is, to) = skips_to t (lexeme_text old ++ rest) (lexeme_full old rest) skipped in
-    let here : place ≡ at + byte_len front = place_of at place t front (lexeme_text old ++ rest) text_is place_is in
+    let here : place ≡ at + byte_len front = offset_of_rest at place t front (lexeme_text old ++ rest) text_is place_is in
     let e : ℕ = place + byte_len (lexeme_text old) in
     let f : ℕ = place + byte_len (lexeme_text new) in
     let there : place + byte_len (lexeme_text new ++ rest) ≡ at + byte_len (front ++ (lexeme_text new ++ rest)) = omega
@@ -336,7 +336,7 @@ one_more lead at t d before after old new place r u front sound is text_is here 
       cuts = subst (λ (z : List ℕ). SourcesUpTo at z (d ∷ cuts) r) (sym whole) all;
     }
 
--- what follows in the whole text follows in what is left after a token
+-- The text after the literal in the whole text is equal to that in the rest after a token.
 follows_inner : (lead : List ℕ) (at : ℕ) (t : List ℕ) (d : CutSource) (old new : Lexeme) (place : ℕ)
     (u rest front : List ℕ) → t ≡ front ++ (source_text d.token ++ u) → d.at ≡ at + byte_len front
     → Follows lead at t old new place rest
@@ -368,7 +368,7 @@ recut lead at t [] after old new place r (rest, skipped, is, place_is, more) sou
 recut lead at t (d ∷ before) after old new place r (u, skipped, is, place_is, more) (first, sound) follows =
     let s : List ℕ = source_text d.token in
     let (front, text_is, to) = skips_to t (s ++ u) (token_full d.token u first) skipped in
-    let here : d.at ≡ at + byte_len front = place_of at d.at t front (s ++ u) text_is place_is in
+    let here : d.at ≡ at + byte_len front = offset_of_rest at d.at t front (s ++ u) text_is place_is in
     one_more lead at t d before after old new place r u front first is text_is here
     (λ v p. to (s ++ v) (token_piece d.token v p))
     (recut (lead ++ (front ++ s)) (source_end d) u before after old new place r more sound
@@ -380,7 +380,7 @@ ends_follow : (lead : List ℕ) (at : ℕ) (t : List ℕ) (old new : Lexeme) (pl
 ends_follow lead at t old new place rest ends is =
     let (new_is, same) = keeps_its_ends old new rest ends is in (new_is, λ f e k. inr (inl same))
 
--- a literal with the same ends is one
+-- A new literal with the form, prefix and suffix of the old one is a token.
 pub recut_ends : (lead : List ℕ) (at : ℕ) (t : List ℕ) (before after : List CutSource) (old new : Lexeme) (place : ℕ)
     (r : List ℕ)
     → SourcesUpTo at t (before ++ (placed_literal old place ∷ after)) r → AllByRecursion IsSound before
@@ -390,7 +390,7 @@ recut_ends lead at t before after old new place r cut sound ends = recut lead at
     (ends_follow lead at t old new place (literal_rest at t before after old place r cut) ends
     (literal_is at t before after old place r cut))
 
-pub keeps_the_cut : KeepsTheCut
-keeps_the_cut at t before after old new place r cut sound ends =
+pub keeps_the_tokens : KeepsTheTokens
+keeps_the_tokens at t before after old new place r cut sound ends =
     let m = recut_ends [] at t before after old new place r cut sound ends in
     record { front = m.front; rest = m.rest; text_is = m.text_is; place_is = m.place_is; cuts = m.cuts }

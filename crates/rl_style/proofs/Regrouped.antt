@@ -1,9 +1,9 @@
--- Rows whose characters are written anew, and then their digits in groups.
-use Rattle.rl_text.proofs.Common.{◌≡◌, ℕ, ◌⊎◌, ◌||◌, ◌&&◌, Bool, true, false, not, ◌==◌, ◌+◌, ◌%◌, arith, cond, List, [], ◌∷◌, ◌++◌, length, Some, None, refl, sym, ap, ◌∙◌, inl, inr, append_assoc, and_from, and_parts, cases_Bool, eqb-true, list_all, list_any, list_all-append, flat_map, nat_lt, ⊤}
+-- Sequences of digits whose characters are rewritten, and which are then divided into groups.
+use Rattle.rl_syntax.proofs.Common.{◌≡◌, ℕ, ◌⊎◌, ◌||◌, ◌&&◌, Bool, true, false, not, ◌==◌, ◌+◌, ◌%◌, arith, cond, List, [], ◌∷◌, ◌++◌, length, Some, None, refl, sym, ap, ◌∙◌, inl, inr, append_assoc, and_from, and_parts, cases_Bool, eqb-true, list_all, list_any, list_all-append, flat_map, nat_lt, ⊤}
 use Rattle.std.specs.Prelude.{Option}
 use Rattle.std.proofs.lemmas.List.Elements.{filter-append}
-use Rattle.rl_forms.specs.Spelling.{without_underscores}
-use Rattle.rl_forms.specs.Strict.{IsDigits}
+use Rattle.rl_syntax.specs.Spelling.{without_underscores}
+use Rattle.rl_syntax.specs.Strict.{IsDigits}
 use Rattle.rl_writing.specs.Integers.{group_size}
 use Rattle.rl_style.specs.declared.style.Case.{Case}
 use Rattle.rl_style.specs.declared.style.Case.TheVariants.{Lower, Upper}
@@ -13,15 +13,15 @@ use Rattle.rl_style.specs.Mirrors.{run_placed}
 use Rattle.rl_style.proofs.CaseLemmas.{cased_underscore, none_right}
 use Rattle.rl_style.proofs.GroupRows.{clear_ending, mark, not_false, only_ending, other, row_all, row_digits, row_ending, row_first, row_kept, row_some, row_spaced, row_trim}
 use Rattle.rl_style.proofs.NumberCharacters.{Keeps, RowKeeps, becomes}
-use Rattle.rl_style.proofs.Trimmed.{IsTrim, kept_of, none_of, only}
+use Rattle.rl_style.proofs.Trimmed.{IsTrim, kept_permissions, none_of, only}
 
--- ---- a run in groups, or as it is
+-- ---- a sequence in groups, or unchanged
 
 pub ends_none : (from_first : Bool) (size count : ℕ) → ends from_first size count 0 ≡ false
 ends_none false size count = ap (λ b. b && 0 % size == 0) (none_right (nat_lt 0 size))
 ends_none true size count = refl
 
--- so many digits, and after which of them an underscore stands
+-- The test whether an underscore follows a digit, by the number of digits after it.
 abbrev pub tests : Bool → ℕ → ℕ → ℕ → ℕ → Bool
 tests from_first size least count = ends from_first (group_size size least count) count
 
@@ -40,8 +40,8 @@ grouped_all p from_first size least run m h = either (λ z. list_all p z ≡ tru
     (row_all p (tests from_first size least (length (without_underscores run))) run m h)
 
 pub grouped_kept : (p : ℕ → Bool) (from_first : Bool) (size least : ℕ) (run : List ℕ) → p 95 ≡ false
-    → kept_of p (regrouped from_first size least run) ≡ kept_of p run
-grouped_kept p from_first size least run n = either (λ z. kept_of p z ≡ kept_of p run) from_first size least run refl
+    → kept_permissions p (regrouped from_first size least run) ≡ kept_permissions p run
+grouped_kept p from_first size least run n = either (λ z. kept_permissions p z ≡ kept_permissions p run) from_first size least run refl
     (row_kept p (tests from_first size least (length (without_underscores run))) run n)
 
 pub grouped_some : (p : ℕ → Bool) (from_first : Bool) (size least : ℕ) (run : List ℕ) → p 95 ≡ false
@@ -59,7 +59,7 @@ pub grouped_trim : (from_first : Bool) (size least : ℕ) (run : List ℕ) → I
 grouped_trim from_first size least run h = either IsTrim from_first size least run h
     (row_trim (tests from_first size least (length (without_underscores run))) run (ends_none from_first _ _) h)
 
--- its first character stays, where that is no underscore
+-- A first character other than an underscore stays the first one.
 pub record Begins (c : ℕ) (run : List ℕ) : Type 0 where
   pub rest : List ℕ
   pub is : run ≡ c ∷ rest
@@ -70,7 +70,7 @@ grouped_first from_first size least c cs h = either (Begins c) from_first size l
     (record { rest = cs; is = refl })
     (record { rest = _; is = row_first (tests from_first size least (length (without_underscores (c ∷ cs)))) c cs h })
 
--- one character stays as it is
+-- A sequence of one digit is unchanged when it is divided into groups.
 pub grouped_one : (from_first : Bool) (size least c : ℕ) → (c == 95) ≡ false
     → regrouped from_first size least (c ∷ []) ≡ c ∷ []
 grouped_one from_first size least c h =
@@ -83,7 +83,7 @@ pub ungrouped : (from_first : Bool) (size least : ℕ) (run : List ℕ) → size
     → regrouped from_first size least run ≡ run
 ungrouped from_first size least run e = ap (λ z. regrouped from_first z least run) e
 
--- ---- characters that become one, or underscores that are dropped
+-- ---- characters that become one character, or underscores that are dropped
 
 abbrev pub Plain : (ℕ → List ℕ) → ℕ → Type 0
 Plain f c =
@@ -117,7 +117,7 @@ new_under false digits (Some Upper) c = go (c == 101) refl
     go true e = ap (λ z. z == 95) (sym (eqb-true c 101 e))
     go false e = refl
 
--- a plus aside
+-- A character other than a plus becomes one character, or is an underscore that is dropped.
 plain_character : (drops hex plus : Bool) (digits letter : Option Case) (c : ℕ) → (c == 43) ≡ false
     → Plain (becomes drops hex plus digits letter) c
 plain_character drops hex plus digits letter c h =
@@ -145,7 +145,7 @@ row_plain drops hex plus digits letter (c ∷ cs) h =
       row_plain drops hex plus digits letter cs p.1,
     )
 
--- what an underscore becomes
+-- If underscores aren't dropped, an underscore is unchanged.
 pub keeps_under : (hex plus : Bool) (digits letter : Option Case) → becomes false hex plus digits letter 95 ≡ 95 ∷ []
 keeps_under true plus None letter = refl
 keeps_under true plus (Some Lower) letter = refl
@@ -157,7 +157,7 @@ keeps_under false false digits None = refl
 keeps_under false false digits (Some Lower) = refl
 keeps_under false false digits (Some Upper) = refl
 
--- where they are dropped, none is left
+-- If underscores are dropped, the new sequence contains none.
 drops_all : (hex plus : Bool) (digits letter : Option Case) (cs : List ℕ)
     → list_all other (flat_map (becomes true hex plus digits letter) cs) ≡ true
 drops_all hex plus digits letter [] = refl
@@ -174,7 +174,7 @@ drops_all hex plus digits letter (c ∷ cs) =
     one false true e = refl
     one false false e = ap (λ z. not z && true) (new_under hex digits letter c ∙ e)
 
--- ---- underscores are left out before or after
+-- ---- underscores are dropped before or after the other characters are rewritten
 
 bare_character : (drops hex plus : Bool) (digits letter : Option Case) (c : ℕ)
     → without_underscores (becomes drops hex plus digits letter c)
@@ -206,7 +206,7 @@ bare_flat drops hex plus digits letter (c ∷ cs) =
     go true = refl
     go false = refl
 
--- ---- the underscores at the end
+-- ---- the underscores at the end of a sequence
 
 only_flat : (f : ℕ → List ℕ) (run : List ℕ) → f 95 ≡ 95 ∷ [] → RowPlain f run → only (flat_map f run) ≡ only run
 only_flat f [] u k = refl
@@ -241,7 +241,7 @@ ending_flat f (c ∷ cs) u k =
       ]
     ]
 
--- ---- once is enough
+-- ---- a sequence is rewritten twice as once
 
 pub again_grouped : (drops hex plus : Bool) (digits letter : Option Case) (from_first : Bool) (size least : ℕ)
     (run : List ℕ) → flat_map (becomes drops hex plus digits letter) run ≡ run
@@ -264,7 +264,7 @@ again_grouped drops hex plus digits letter from_first size least run same plain 
         ∙ ap (flat_map f) (row_kept other test run refl)
         ∙ sym (bare_flat drops hex plus digits letter run) ∙ ap without_underscores same
 
-    -- whether they are dropped or not
+    -- The sequence after it is rewritten twice, whether or not underscores are dropped.
     last : (drops : Bool) → flat_map (becomes drops hex plus digits letter) run ≡ run
         → RowPlain (becomes drops hex plus digits letter) new
         → ending (flat_map (becomes drops hex plus digits letter) new) ≡ ending run
@@ -285,7 +285,7 @@ again_grouped drops hex plus digits letter from_first size least run same plain 
         ap (λ z. in_groups from_first size least z ++ ending (flat_map f new)) bare
         ∙ ap (λ z. in_groups from_first size least (without_underscores run) ++ z) (last drops same p)
 
--- ---- as the code puts them
+-- ---- the digits as the code writes them
 
 count_same : (f : ℕ → List ℕ) (run : List ℕ) → RowPlain f run
     → length (without_underscores (flat_map f run)) ≡ length (without_underscores run)
@@ -305,7 +305,7 @@ count_same f (c ∷ cs) k =
     go true d e = e
     go false d e = omega (arith, e)
 
--- a run of underscores alone has no digits
+-- A sequence of underscores only has no digits.
 only_bare : (cs : List ℕ) → only cs ≡ true → without_underscores cs ≡ []
 only_bare cs h = none_of other cs refl h
 

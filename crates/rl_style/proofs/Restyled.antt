@@ -1,11 +1,11 @@
--- A literal written anew is a token where the old one was, and begins so that no token in front can tell.
-use Rattle.rl_text.proofs.Common.{◌≡◌, ℕ, ◌≤◌, ◌⊎◌, nat_lt, digit_value, ◌||◌, inl, inr, Bool, true, false, not, ◌==◌, cond, length, lit<, List, [], ◌∷◌, ◌++◌, Some, refl, sym, ◌∙◌, ap, subst, arith, append_assoc, and_from, and_parts, codes, list_all, list_all-append, is_ascii_digit}
-use Rattle.rl_text.specs.Texts.{first_passes, is_among, is_continue, is_run_part, is_start}
-use Rattle.rl_text.specs.Classes.{after_run}
-use Rattle.rl_forms.specs.declared.kind.Kind.{Kind}
-use Rattle.rl_forms.specs.declared.kind.Kind.TheVariants.{Str, ByteStr, CStr, Byte, Char, Int, Float, Bool as BoolKind}
-use Rattle.rl_forms.specs.Reading.{Contents}
-use Rattle.rl_forms.specs.Strict.{BasedPrefix, IsDecimalText, IsDigits, StrictCooked, StrictFloat, StrictInt, StrictRaw}
+-- A rewritten literal is one token if the old literal is one, and no token before it can distinguish the two.
+use Rattle.rl_syntax.proofs.Common.{◌≡◌, ℕ, ◌≤◌, ◌⊎◌, nat_lt, digit_value, ◌||◌, inl, inr, Bool, true, false, not, ◌==◌, cond, length, lit<, List, [], ◌∷◌, ◌++◌, Some, refl, sym, ◌∙◌, ap, subst, arith, append_assoc, and_from, and_parts, codes, list_all, list_all-append, is_ascii_digit}
+use Rattle.rl_syntax.specs.Texts.{first_passes, is_among, is_continue, is_run_part, is_start}
+use Rattle.rl_syntax.specs.Classes.{after_run}
+use Rattle.rl_syntax.specs.declared.kind.Kind.{Kind}
+use Rattle.rl_syntax.specs.declared.kind.Kind.TheVariants.{Str, ByteStr, CStr, Byte, Char, Int, Float, Bool as BoolKind}
+use Rattle.rl_syntax.specs.Reading.{Contents}
+use Rattle.rl_syntax.specs.Strict.{BasedPrefix, IsDecimalText, IsDigits, StrictCooked, StrictFloat, StrictInt, StrictRaw}
 use Rattle.rl_lexer.specs.Lexemes.{LexemeForm, LiteralPrefix, NoPrefix, BytePrefix, CPrefix, QuotedLexeme, RawLexeme, CharacterLexeme, is_base_letter, lexeme_text}
 use Rattle.rl_lexer.specs.Mirrors.LexemeAt.{after_decimal, after_lexed_exponent, after_suffix, lexeme_at}
 use Rattle.rl_style.specs.declared.style.Style.{Style}
@@ -17,7 +17,7 @@ use Rattle.rl_style.proofs.Recut.{Begun}
 use Rattle.rl_style.proofs.UnrawCuts.{unquoted}
 use Rattle.rl_lexer.proofs.LexemeFronts.{start_ascii}
 use Rattle.rl_style.proofs.Lexings.{DecimalForm, based_goes, character_goes, decimal_ends, decimal_goes, digits_gone, fraction_gone, pointed_power_ends, power_ends, quoted_goes, raw_goes, row_goes_on, suffix_goes_on}
-use Rattle.rl_style.proofs.QuotedLexemes.{SingleKind, StringKind, StringParts, byte_kind, byte_string_kind, c_string_kind, character_kind, raw_body, single_parts, string_kind, string_parts}
+use Rattle.rl_lexer.proofs.QuotedLexemes.{SingleKind, StringKind, StringParts, byte_kind, byte_string_kind, c_string_kind, character_kind, raw_body, single_parts, string_kind, string_parts}
 use Rattle.rl_style.proofs.SameFloats.{same_shape}
 use Rattle.rl_style.proofs.FloatForms.{DotShape, FloatForm, FloatShape, PointShape, PowerShape, closed_shape, shape_of}
 use Rattle.rl_style.proofs.SameFloats as floats
@@ -25,14 +25,14 @@ use Rattle.rl_style.proofs.SameIntegers as integers
 use Rattle.rl_style.proofs.SameRaw as raws
 use Rattle.rl_style.proofs.SameUnits as units
 
--- Where the old text is a token, the new one is; and both begin so that no token in front can tell.
+-- If the old text is a token, the new text is one too. Both texts begin so that no token before can distinguish them.
 pub record Replaces (t u y : List ℕ) : Type 0 where
   pub goes : (f : LexemeForm) → lexeme_at (t ++ y) ≡ Some (f, y) → lexeme_at (u ++ y) ≡ Some (f, y)
   pub front : (z : List ℕ) → SameFront (t ++ y) (u ++ z)
 
 -- ---- quoted literals
 
--- both are strings of one prefix
+-- The old and the new literal are strings with one prefix.
 strings_replace : (k : Kind) (t u x y : List ℕ) (v w : Contents) → StringKind k → StrictCooked t k v x
     → StrictCooked u k w x → Replaces t u y
 strings_replace k t u x y v w f a b =
@@ -100,7 +100,7 @@ raw_replace BoolKind t u x y v w a b = absurd a.allowed
 
 -- ---- numbers
 
--- both begin with a digit
+-- The old and the new number begin with a digit.
 digits_front : (t u y z : List ℕ) (c d : ℕ) (m n : List ℕ) → t ≡ c ∷ m → u ≡ d ∷ n → is_ascii_digit c ≡ true
     → is_ascii_digit d ≡ true → SameFront (t ++ y) (u ++ z)
 digits_front t u y z c d m n e g a b = record {
@@ -120,7 +120,7 @@ digits_front t u y z c d m n e g a b = record {
     or_true true = refl
     or_true false = refl
 
--- decimals that end alike
+-- The old and the new decimal number end alike.
 decimals_replace : (t u y : List ℕ) (s : DecimalForm t) (r : DecimalForm u)
     → (after_decimal (s.more ++ y) ≡ y → after_decimal (r.more ++ y) ≡ y) → Replaces t u y
 decimals_replace t u y s r same = record {
@@ -128,7 +128,7 @@ decimals_replace t u y s r same = record {
   front = λ z. digits_front t u y z s.digit r.digit s.more r.more s.text_is r.text_is s.is_digit r.is_digit;
 }
 
--- digits, and what follows them
+-- A sequence of digits, and the text after it.
 record DigitsThen (run z t : List ℕ) : Type 0 where
   form : DecimalForm t
   rest : List ℕ
@@ -144,7 +144,7 @@ digits_then (d ∷ run) z t (first, each) is e = record {
   more_is = refl;
 }
 
--- integers of base ten
+-- Decimal integers.
 ten_then : (t x : List ℕ) (v : Contents) (s : StrictInt t v x) → s.prefix ≡ [] → IsDigits s.run → IsDecimalText t
     → DigitsThen s.run x t
 ten_then t x v s none digits is = digits_then s.run x t digits is (s.text ∙ ap (λ z. (z ++ s.run) ++ x) none)
@@ -153,7 +153,7 @@ ten_end : (run x t y : List ℕ) → (d : DigitsThen run x t) → after_decimal 
 ten_end run x t y d = ap (λ z. after_decimal (z ++ y)) d.more_is ∙ ap after_decimal (append_assoc d.rest x y)
     ∙ digits_gone d.rest (x ++ y) d.each
 
--- integers with a prefix
+-- Integers with a base prefix.
 record Based (t x : List ℕ) (prefix : List ℕ) : Type 0 where
   letter : ℕ
   digits : List ℕ
@@ -210,7 +210,7 @@ integers_replace t u x y v w a b same = go a.is_front b.is_front
     go (inl f) (inr g) = absurd (not_ten b.prefix b.base g (same ∙ f.1))
     go (inr f) (inl g) = absurd (not_ten a.prefix a.base f (sym same ∙ g.1))
 
--- floats: where the lexer goes on after the numeral, by its shape
+-- The text after a float, as the lexer splits it, by the form of the float.
 abbrev shape_end : FloatShape → List ℕ → List ℕ
 shape_end DotShape z = after_decimal (46 ∷ z)
 shape_end PointShape z = after_suffix (after_lexed_exponent (after_run (is_run_part is_ascii_digit) z))
@@ -258,7 +258,7 @@ float_parts t x v s (inr (inr (d, p, h, k, inr (f, g, e)))) =
     grouped : (r f p x y : List ℕ) → (r ++ (46 ∷ f ++ (p ++ x))) ++ y ≡ r ++ (46 ∷ f ++ (p ++ (x ++ y)))
     grouped r f p x y = simp append_assoc
 
--- where a dot alone ends a number, a dot and a zero do
+-- If a dot alone ends a number, a dot and a zero end it too.
 dot_closes : (y : List ℕ) → after_decimal (46 ∷ y) ≡ y → shape_end PointShape y ≡ y
 dot_closes y h = go (first_passes (λ d. d == 46 || is_start d) y) h
   where
@@ -290,9 +290,9 @@ floats_replace closes t u x y v w a b same =
     decimals_replace t u y d.form e.form (λ h. e.ends y ∙ ap (λ z. shape_end z (x ++ y)) same
     ∙ float_closes closes a.numeral x y a.form (sym (d.ends y) ∙ h))
 
--- ---- raw literals that become ones with escapes
+-- ---- raw strings that become strings with escapes
 
--- the same, where the text stands after this front
+-- No token before can distinguish the old and the new text if both follow the text `lead`.
 pub record ReplacesAfter (lead t u y : List ℕ) : Type 0 where
   pub goes : (f : LexemeForm) → lexeme_at (t ++ y) ≡ Some (f, y) → lexeme_at (u ++ y) ≡ Some (f, y)
   pub front : (z : List ℕ) → Begun lead (t ++ y) (u ++ z)
@@ -347,7 +347,7 @@ lost_replace lead Int t u x y v w a b may = absurd a.allowed
 lost_replace lead Float t u x y v w a b may = absurd a.allowed
 lost_replace lead BoolKind t u x y v w a b may = absurd a.allowed
 
--- ---- any literal but a word
+-- ---- any literal except `true` and `false`
 
 abbrev pub RewritesForm : Style → List ℕ → List ℕ → List ℕ → Type 0
 RewritesForm style front t u =

@@ -1,6 +1,6 @@
--- A source in which a literal is written anew in a style is cut as before everywhere else.
-use Rattle.rl_text.proofs.Common.{◌≡◌, ℕ, ◌+◌, ◌⊎◌, inl, inr, List, [], ◌∷◌, ◌++◌, refl, sym, ◌∙◌, ap, subst, arith, append_assoc, append_cancel_right, AllByRecursion}
-use Rattle.rl_text.specs.Texts.{byte_len}
+-- If a literal of a source is rewritten in a style, all other tokens are lexed as before.
+use Rattle.rl_syntax.proofs.Common.{◌≡◌, ℕ, ◌+◌, ◌⊎◌, inl, inr, List, [], ◌∷◌, ◌++◌, refl, sym, ◌∙◌, ap, subst, arith, append_assoc, append_cancel_right, AllByRecursion}
+use Rattle.rl_syntax.specs.Texts.{byte_len}
 use Rattle.rl_lexer.specs.Lexemes.{Lexeme, IsLexeme, form_of, lexeme_text}
 use Rattle.rl_lexer.specs.Sources.{CutSource, SourcesUpTo}
 use Rattle.rl_lexer.proofs.CutLemmas.{byte_len-append}
@@ -8,14 +8,14 @@ use Rattle.rl_lexer.proofs.LexemeAnswers.{form_before}
 use Rattle.rl_lexer.proofs.LexemeFronts.{lexeme_at-past}
 use Rattle.rl_style.specs.declared.style.Style.{Style}
 use Rattle.rl_style.specs.Recut.{IsSound, placed_literal}
-use Rattle.rl_style.specs.Restyled.{KeepsTheRestyledCut, KeepsTheRestyledSource, StandsAfter}
+use Rattle.rl_style.specs.Restyled.{KeepsTheTokensOfAStyle, KeepsTheRestyledSource, FollowsFront}
 use Rattle.rl_style.specs.Rewriting.{Rewrites}
 use Rattle.rl_style.proofs.Places.{same_place}
 use Rattle.rl_style.proofs.Recut.{Alike, Begun, Recut, alike_more, literal_is, literal_rest, recut}
 use Rattle.rl_style.proofs.Restyled.{RewritesForm, replaces, word_or_form}
 use Rattle.rl_style.proofs.WholeSource.{Preamble, preamble, source_recut}
 
--- the token that was written, where the old one stood after this text
+-- The new token. The old token follows the text `lead`.
 pub record NewToken (lead : List ℕ) (old : Lexeme) (u rest : List ℕ) : Type 0 where
   pub new : Lexeme
   pub text_is : lexeme_text new ≡ u
@@ -48,7 +48,7 @@ new_token style lead old u rest is w = go (word_or_form style lead (lexeme_text 
           alike = λ z a. inr (subst (λ s. Begun lead (lexeme_text old ++ rest) (s ++ z)) text (made.front z));
         }
 
--- the cut with it, where the text follows the mark
+-- The new tokens of a text that follows the byte order mark.
 record NewCut (lead : List ℕ) (at : ℕ) (t : List ℕ) (before after : List CutSource) (old : Lexeme) (u : List ℕ)
     (place : ℕ)
     (r : List ℕ) : Type 0 where
@@ -61,7 +61,7 @@ new_cut : (style : Style) (lead : List ℕ) (at from : ℕ) (whole t : List ℕ)
     (old : Lexeme) (front u : List ℕ)
     (place : ℕ) (r : List ℕ) → whole ≡ lead ++ t → at ≡ from + byte_len lead
     → SourcesUpTo at t (before ++ (placed_literal old place ∷ after)) r → AllByRecursion IsSound before
-    → StandsAfter from whole old place front
+    → FollowsFront from whole old place front
     → Rewrites style front (lexeme_text old) u → NewCut lead at t before after old u place r
 new_cut style lead at from whole t before after old front u place r whole_is at_is cut sound stands w =
     let rest : List ℕ = literal_rest at t before after old place r cut in
@@ -82,8 +82,8 @@ new_cut style lead at from whole t before after old front u place r whole_is at_
       );
     }
 
-pub keeps_the_restyled_cut : KeepsTheRestyledCut
-keeps_the_restyled_cut style at t before after old front u place r cut sound stands w =
+pub keeps_the_tokens_of_a_style : KeepsTheTokensOfAStyle
+keeps_the_tokens_of_a_style style at t before after old front u place r cut sound stands w =
     let n = new_cut style [] at at t t before after old front u place r refl (omega arith) cut sound stands w in
     let m = n.cut in
     record {

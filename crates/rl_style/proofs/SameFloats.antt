@@ -1,23 +1,23 @@
--- A float written anew is the same literal.
-use Rattle.rl_text.proofs.Common.{◌≡◌, ◌⊎◌, ℕ, ◌||◌, Bool, true, false, not, ◌==◌, cond, List, [], ◌∷◌, ◌++◌, map, refl, sym, ap, subst, ◌∙◌, inl, inr, ◌&&◌, append_assoc, append-nil, cases_Bool, append_cancel_right, map-append, list_all, list_any, list_all-append, and_from, or_cases, eqb-true, is_ascii_digit, flat_map, Some, None}
+-- A rewritten float is equal to the old one.
+use Rattle.rl_syntax.proofs.Common.{◌≡◌, ◌⊎◌, ℕ, ◌||◌, Bool, true, false, not, ◌==◌, cond, List, [], ◌∷◌, ◌++◌, map, refl, sym, ap, subst, ◌∙◌, inl, inr, ◌&&◌, append_assoc, append-nil, cases_Bool, append_cancel_right, map-append, list_all, list_any, list_all-append, and_from, or_cases, eqb-true, is_ascii_digit, flat_map, Some, None}
 use Rattle.std.specs.Prelude.{Option, filter}
 use Rattle.std.proofs.lemmas.List.Elements.{filter-append}
-use Rattle.rl_text.specs.Texts.{is_run_part}
-use Rattle.rl_text.proofs.Basics.{apart}
-use Rattle.rl_reading.proofs.Names.{flat_map-append}
-use Rattle.rl_forms.specs.declared.kind.Kind.TheVariants.{Float}
-use Rattle.rl_forms.specs.Reading.{Contents, Digits}
-use Rattle.rl_forms.specs.Strict.{IsDecimalText, IsDigits, IsStrictExponent, StrictFloat}
+use Rattle.rl_syntax.specs.Texts.{is_run_part}
+use Rattle.rl_syntax.proofs.Basics.{apart}
+use Rattle.rl_lenient.proofs.Names.{flat_map-append}
+use Rattle.rl_syntax.specs.declared.kind.Kind.TheVariants.{Float}
+use Rattle.rl_syntax.specs.Reading.{Contents, Digits}
+use Rattle.rl_syntax.specs.Strict.{IsDecimalText, IsDigits, IsStrictExponent, StrictFloat}
 use Rattle.rl_style.specs.declared.style.Case.{Case}
 use Rattle.rl_style.specs.declared.style.Case.TheVariants.{Lower, Upper}
 use Rattle.rl_style.specs.declared.style.Style.{Style}
 use Rattle.rl_style.specs.declared.style.Separator.{Separator}
 use Rattle.rl_style.specs.declared.style.Separator.TheVariants.{Nothing, Underscore}
 use Rattle.rl_style.specs.Cases.{drops_underscores, kept_run, number_character, separator, separator_by, trimmed, trims_by}
-use Rattle.rl_text.specs.Classes.{after_run}
+use Rattle.rl_syntax.specs.Classes.{after_run}
 use Rattle.rl_style.specs.Groups.{digit_run, float_in_groups, least_by, size_by}
 use Rattle.rl_style.specs.Rewriting.{GetsZero, SameLiteral, SameNumber, RewritesFloat, styled_numeral}
-use Rattle.rl_forms.proofs.OneQuoted.{same_tail}
+use Rattle.rl_syntax.proofs.OneQuoted.{same_tail}
 use Rattle.rl_lexer.proofs.LexemeRows.{not_among}
 use Rattle.rl_style.proofs.GroupRows.{plus_free}
 use Rattle.rl_style.proofs.Regrouped.{again_grouped, grouped_kept, grouped_one, grouped_trim, plain_of}
@@ -25,9 +25,9 @@ use Rattle.rl_style.proofs.NumberCharacters.{becomes, by_character, decimal_by, 
 use Rattle.rl_style.proofs.Trimmed.{IsTrim, any_left, digits_join, mapped_trim, only, only_join, row_again, separator_all, separator_gone, some_not_only, trimmed_again, trimmed_all, trimmed_digits, trimmed_filter, trimmed_join, trimmed_some}
 use Rattle.rl_style.proofs.FloatForms.{Letter, lower_e, upper_e, exponent_is, DotShape, PointShape, PowerShape, FloatForm, FloatShape, shape_of, closed_shape, Groups, at_dot, at_point, at_power, at_point_power, Numeral, row_is, form_is}
 
--- ---- without the underscores at the end, and with one before a suffix
+-- ---- a float without the underscores at its end, and with one before a suffix
 
--- a numeral of the same shape
+-- A float's text before its suffix, with the form of the old one.
 pub record Shaped (numeral x : List ℕ) (shape : FloatShape) : Type 0 where
   pub form : FloatForm numeral x
   pub same_shape : shape_of numeral x form ≡ shape
@@ -39,7 +39,7 @@ digits_some_only (c ∷ cs) h = ap (λ b. b && only cs) (not_among c 95 is_ascii
 letter_only : (c : ℕ) (cs : List ℕ) → (c == 101 || c == 69) ≡ true → only (c ∷ cs) ≡ false
 letter_only c cs h = ap (λ b. b && only cs) (apart (λ d. d == 101 || d == 69) c 95 h refl)
 
--- an exponent without them
+-- An exponent without the underscores at its end.
 exponent_row : (e : List ℕ) → (s : IsStrictExponent e) → trimmed e ≡ s.letter ∷ (s.sign ++ trimmed s.run)
 exponent_row e s =
     let some : only s.run ≡ false = some_not_only is_ascii_digit s.run refl s.some in
@@ -99,7 +99,7 @@ kept_form style numeral x form = go (trims_by style.suffix_separator x)
     go true = trimmed_form numeral x form
     go false = record { form = form; same_shape = refl }
 
--- with one underscore
+-- An exponent with further digits or underscores after it is an exponent.
 exponent_more : (e s : List ℕ) → IsStrictExponent e → list_all (is_run_part is_ascii_digit) s ≡ true
     → IsStrictExponent (e ++ s)
 exponent_more e s p h = record {
@@ -150,12 +150,12 @@ no_separator None x e = refl
 no_separator (Some Nothing) x e = refl
 no_separator (Some Underscore) x e = ap (separator_by (Some Underscore)) e
 
--- ---- the contents
+-- ---- the value of a float
 
 abbrev pub spelled : List ℕ → List ℕ
 spelled cs = map (λ c. cond (c == 69) 101 c) (filter (λ c. not (c == 95 || c == 43)) cs)
 
--- one character more on both sides
+-- One more character in the old and in the new text.
 abbrev More : Bool → Bool → Option Case → Option Case → List ℕ → List ℕ → ℕ → Type 0
 More drops plus digits letter a b c = spelled (becomes drops false plus digits letter c ++ a) ≡ spelled (c ∷ b)
 
@@ -193,7 +193,7 @@ more_plus false false digits None a b s = s
 more_plus false false digits (Some Lower) a b s = s
 more_plus false false digits (Some Upper) a b s = s
 
--- a letter, whichever it becomes
+-- The letter of an exponent, in either case.
 more_letter : (drops plus : Bool) (digits letter : Option Case) (c : ℕ) (a b : List ℕ) → spelled (c ∷ b)
     ≡ 101 ∷ spelled b
     → (l : Letter drops plus digits letter c) → spelled a ≡ spelled b → More drops plus digits letter a b c
@@ -249,7 +249,7 @@ run_digits (c ∷ cs) = go (is_run_part is_ascii_digit c) refl (run_digits cs)
         more
     go false h more = refl
 
--- the text before what follows its digits
+-- The digits at the start of a text are the text before the rest after them.
 pub run_cut : (cs front rest : List ℕ) → cs ≡ front ++ rest → rest ≡ after_run (is_run_part is_ascii_digit) cs
     → (front ≡ digit_run cs) × (list_all (λ c. not (c == 43)) front ≡ true)
 run_cut cs front rest cut is =
@@ -266,7 +266,7 @@ spelled_row drops plus digits letter from_first size least cs =
     ap (map (λ c. cond (c == 69) 101 c)) (grouped_kept (λ c. not (c == 95 || c == 43)) from_first size least
     (flat_map (becomes drops false plus digits letter) cs) refl) ∙ spelled_same drops plus digits letter cs
 
--- what a dot alone gets
+-- The zero that is added to a final dot.
 abbrev pub added : FloatShape → Bool → List ℕ
 added DotShape true = 48 ∷ []
 added DotShape false = []
@@ -278,7 +278,7 @@ added_none DotShape = refl
 added_none PointShape = refl
 added_none PowerShape = refl
 
--- a whole part, and what follows it
+-- The value of a whole part and the text after it.
 spelled_at : (drops plus : Bool) (digits letter : Option Case) (size least : ℕ) (numeral new d z w extra : List ℕ)
     → new ≡ Groups size least false (flat_map (becomes drops false plus digits letter) d) ++ w → numeral ≡ d ++ z
     → spelled w ≡ spelled z ++ extra → spelled new ≡ spelled numeral ++ extra
@@ -322,7 +322,7 @@ spelled_numeral drops plus digits letter closes size least numeral x (inr (inr (
     ∙ ap (λ y. spelled z ++ y) (spelled_same drops plus digits letter e) ∙ sym (spelled_join z e))
     ∙ sym (append-nil (spelled (46 ∷ (z ++ e)))))
 
--- ---- the literal
+-- ---- the rewritten literal
 
 abbrev Size : Style → List ℕ → ℕ
 Size style x = size_by style.digit_groups 10 x
@@ -330,7 +330,7 @@ Size style x = size_by style.digit_groups 10 x
 abbrev Least : Style → ℕ
 Least style = least_by style.digit_groups
 
--- as the kept one is written
+-- The new text of a float before its suffix has a whole part and a text after it, as the old one does.
 pub kept_numeral : (style : Style) (numeral x : List ℕ) (form : FloatForm numeral x)
     → Numeral (styled_numeral style x numeral) x
     (closed_shape (shape_of (kept_run style x numeral) x (kept_form style numeral x form).form) style.float_zero)
@@ -358,7 +358,7 @@ spelled_kept style x numeral = go (trims_by style.suffix_separator x)
     go true = ap (map (λ c. cond (c == 69) 101 c)) (trimmed_filter (λ c. not (c == 95 || c == 43)) numeral refl)
     go false = refl
 
--- what is spelled then
+-- The value of the new float.
 abbrev pub new_digits : Style → (numeral x : List ℕ) → FloatForm numeral x → List ℕ
 new_digits style numeral x form = spelled numeral ++ added (shape_of numeral x form) style.float_zero
 
@@ -394,7 +394,7 @@ written style t u v x s e = record {
   contents = ap Digits (sym (new_spelled style s.numeral x s.form));
 }
 
--- the contents, without a zero put after them
+-- The value of the float, without an added zero, is the old one.
 digits_kept : (style : Style) (numeral x : List ℕ) (form : FloatForm numeral x) → style.float_zero ≡ false
     → new_digits style numeral x form ≡ spelled numeral
 digits_kept style numeral x form off = ap (λ b. spelled numeral ++ added (shape_of numeral x form) b) off
@@ -412,7 +412,7 @@ float_same style t u off c =
       is = subst (λ v. StrictFloat u v c.suffix) same (written style t u c.contents c.suffix c.float c.new_is);
     }
 
--- and with one
+-- The value of the new float is the old one, or the old one with an added zero.
 contents_kept : (style : Style) (v : Contents) (numeral x : List ℕ) (form : FloatForm numeral x)
     → v ≡ Digits (spelled numeral)
     → (Digits (new_digits style numeral x form) ≡ v)
@@ -446,9 +446,9 @@ float_number style t u c = record {
   keeps = contents_kept style c.contents c.float.numeral c.suffix c.float.form c.float.contents;
 }
 
--- ---- once is enough
+-- ---- a float is rewritten twice as once
 
--- a part of a numeral after others, without underscores at its end
+-- The last part of a text without underscores at its end has none at its end either.
 tail_trims : (a b : List ℕ) → only b ≡ false → IsTrim (a ++ b) → IsTrim b
 tail_trims a b n h = same_tail a (trimmed b) b (sym (trimmed_join a b n) ∙ h)
 
@@ -536,7 +536,7 @@ numeral_trims style x numeral form h =
     form_trims (drops_underscores style x) style.exponent_plus style.hex_digits style.exponent_letter style.float_zero
     (Size style x) (Least style) kept x (kept_form style numeral x form).form short
 
--- a run that was written
+-- A sequence of digits that was written stays unchanged.
 row_stays_so : (drops plus : Bool) (digits letter : Option Case) (from_first : Bool) (size least : ℕ) (d : List ℕ)
     → IsDigits d
     → Groups size least from_first (flat_map (becomes drops false plus digits letter)
@@ -622,7 +622,7 @@ float_stays style t u c =
       new_is = c.new_is ∙ ap (λ z. z ++ end) (sym again);
     }
 
--- it has the shape of the old one, but for the zero
+-- The new text of a float has the form of the old one, except for an added zero.
 pub same_shape : (style : Style) (t u : List ℕ) (v : Contents) (x : List ℕ) (s : StrictFloat t v x)
     → (e : u ≡ styled_numeral style x s.numeral ++ (separator style x ++ x))
     → shape_of (styled_numeral style x s.numeral ++ separator style x) x (written style t u v x s e).form

@@ -1,18 +1,18 @@
--- An integer written anew is the same literal.
-use Rattle.rl_text.proofs.Common.{◌≡◌, ℕ, ◌⊎◌, Bool, true, false, not, ◌==◌, ◌&&◌, ◌||◌, cond, nat_lt, List, [], ◌∷◌, ◌++◌, refl, sym, ap, subst, ◌∙◌, inl, inr, append_assoc, append-nil, list_all-append, and_from, and_parts, cases_Bool, digit_value, eqb-true, or_parts, is_ascii_digit, list_all, list_any, flat_map, Some, None}
+-- A rewritten integer is equal to the old one.
+use Rattle.rl_syntax.proofs.Common.{◌≡◌, ℕ, ◌⊎◌, Bool, true, false, not, ◌==◌, ◌&&◌, ◌||◌, cond, nat_lt, List, [], ◌∷◌, ◌++◌, refl, sym, ap, subst, ◌∙◌, inl, inr, append_assoc, append-nil, list_all-append, and_from, and_parts, cases_Bool, digit_value, eqb-true, or_parts, is_ascii_digit, list_all, list_any, flat_map, Some, None}
 use Rattle.std.specs.Prelude.{Option}
-use Rattle.rl_text.specs.Texts.{first_passes, is_run_part}
-use Rattle.rl_forms.specs.declared.kind.Kind.TheVariants.{Int}
-use Rattle.rl_forms.specs.Reading.{Contents, Digits}
-use Rattle.rl_forms.specs.Strict.{BasedPrefix, IsDecimalText, IsDigits, StrictInt, dec}
+use Rattle.rl_syntax.specs.Texts.{first_passes, is_run_part}
+use Rattle.rl_syntax.specs.declared.kind.Kind.TheVariants.{Int}
+use Rattle.rl_syntax.specs.Reading.{Contents, Digits}
+use Rattle.rl_syntax.specs.Strict.{BasedPrefix, IsDecimalText, IsDigits, StrictInt, dec}
 use Rattle.rl_lexer.specs.Lexemes.{is_base_letter}
 use Rattle.rl_style.specs.declared.style.Style.{Style}
 use Rattle.rl_style.specs.Cases.{drops_underscores, drops_zeros, is_padding, kept_digits, kept_run, number_character, or_zero, separator, significant, trimmed, trims_by}
-use Rattle.rl_text.specs.Classes.{after_run}
+use Rattle.rl_syntax.specs.Classes.{after_run}
 use Rattle.rl_style.specs.declared.style.DigitGroups.{DigitGroups}
 use Rattle.rl_style.specs.Groups.{base_group, grouped_run, least_by, regrouped, size_by}
 use Rattle.rl_style.specs.Rewriting.{SameLiteral, RewritesInt, styled_run}
-use Rattle.rl_forms.specs.Spelling.{place_value, without_underscores}
+use Rattle.rl_syntax.specs.Spelling.{place_value, without_underscores}
 use Rattle.rl_style.proofs.LeadingZeros.{left, significant_again, significant_all, significant_digits, significant_left, significant_none, significant_number, significant_some}
 use Rattle.rl_style.proofs.CaseLemmas.{none_right}
 use Rattle.rl_style.proofs.GroupRows.{plus_free}
@@ -20,12 +20,12 @@ use Rattle.rl_style.proofs.Regrouped.{again_grouped, grouped_all, grouped_digits
 use Rattle.rl_style.proofs.Trimmed.{IsTrim, any_left, base_kept, digits_join, mapped_trim, row_again, separator_all, separator_gone, significant_trim, trimmed_again, trimmed_all, trimmed_digits, trimmed_filter, trimmed_some}
 use Rattle.rl_style.proofs.NumberCharacters.{RowKeeps, RowStays, decimal_by, digits_stay, each_kept, hex_keeps, keeps_of, number_kept, of_base, row_kept, row_stays, some_kept, stays, twice}
 
--- ---- digits without the zeros in front
+-- ---- digits without leading zeros
 
 abbrev row_of : ℕ → List ℕ → Type 0
 row_of base run = list_all (is_run_part (of_base base)) run ≡ true
 
--- what a run of a base keeps without them
+-- The properties of a sequence of digits that the removal of leading zeros doesn't change.
 pub record RowFacts (base : ℕ) (run kept : List ℕ) : Type 0 where
   pub each : row_of base kept
   pub some : list_any (of_base base) kept ≡ true
@@ -44,7 +44,7 @@ facts_then base a b c f g = record {
   digits = λ d. g.digits (f.digits d);
 }
 
--- without the underscores at the end
+-- The sequence without the underscores at its end has these properties too.
 kept_facts : (style : Style) (base : ℕ) (x run : List ℕ) → row_of base run → list_any (of_base base) run ≡ true
     → of_base base 95 ≡ false → RowFacts base run (kept_run style x run)
 kept_facts style base x run h some n = go (trims_by style.suffix_separator x)
@@ -76,11 +76,11 @@ zero_facts style base x run h some = go (drops_zeros style base x) refl
         subst (λ z. RowFacts z run (significant run)) (sym ten) (of_ten (subst (λ z. row_of z run) ten h))
     go false e = record { each = h; some = some; number = refl; digits = λ d. d }
 
--- the digits that are kept
+-- The digits without those that the style drops.
 abbrev pub kept_of_row : Style → ℕ → List ℕ → List ℕ → List ℕ
 kept_of_row style base x run = kept_digits style base x (kept_run style x run)
 
--- ---- digits by the base
+-- ---- the digits by the base of the number
 
 pub record IntegerFacts (style : Style) (drops : Bool) (base : ℕ) (run : List ℕ) : Type 0 where
   pub keeps : RowKeeps (number_character style drops (base == 16)) run
@@ -128,12 +128,12 @@ row_facts style t v x i =
     facts_then i.base i.run (kept_run style x i.run) (kept_of_row style i.base x i.run) kept
     (zero_facts style i.base x (kept_run style x i.run) kept.each kept.some)
 
--- the digits that are kept, written anew
+-- The digits without those that the style drops, rewritten.
 abbrev pub new_row : Style → Bool → ℕ → List ℕ → List ℕ → List ℕ
 new_row style hex base x run = flat_map (number_character style (drops_underscores style x) hex)
     (kept_of_row style base x run)
 
--- no plus stands in a run
+-- The digits of an integer contain no plus.
 pub integer_plus : (t : List ℕ) (v : Contents) (x run : List ℕ) → (i : StrictInt t v x) → row_of i.base run
     → list_all (λ c. not (c == 43)) run ≡ true
 integer_plus t v x run i each = go i.is_front
@@ -148,9 +148,9 @@ integer_plus t v x run i each = go i.is_front
     go (inr (inr (inl b))) = of 8 b.1 refl
     go (inr (inr (inr b))) = of 16 b.1 refl
 
--- ---- in groups
+-- ---- digits in groups
 
--- what groups keep of a run
+-- The properties of a sequence of digits that grouping doesn't change.
 pub in_row_facts : (style : Style) (base : ℕ) (x run : List ℕ) → of_base base 95 ≡ false → row_of base run
     → list_any (of_base base) run ≡ true → RowFacts base run (grouped_run false style base x run)
 in_row_facts style base x run n h some =
@@ -167,15 +167,15 @@ in_row_facts style base x run n h some =
     or_true true = refl
     or_true false = refl
 
--- in front of a base's letter there are none
+-- If the suffix begins with the letter of a base, the digits aren't divided into groups.
 no_groups : (groups : Option DigitGroups) (base : ℕ) (x : List ℕ) → first_passes is_base_letter x ≡ true
     → size_by groups base x ≡ 0
 no_groups None base x h = refl
 no_groups (Some groups) base x h = ap (λ b. cond b 0 (base_group groups base)) h
 
--- ---- of base ten
+-- ---- decimal integers
 
--- no underscore is dropped before a base's letter
+-- If the suffix begins with the letter of a base, no underscore is dropped.
 kept_before : (style : Style) (x : List ℕ) → first_passes is_base_letter x ≡ true → drops_underscores style x ≡ false
 kept_before style x h = ap (λ b. style.underscores && not b) h ∙ none_right style.underscores
 
@@ -224,7 +224,7 @@ decimal_front style t v x i e d h =
       ],
     )
 
--- ---- the literal
+-- ---- the rewritten literal
 
 pub regrouped_text : (p r s x : List ℕ) → p ++ (r ++ (s ++ x)) ≡ (p ++ (r ++ s)) ++ x
 regrouped_text p r s x = simp append_assoc
@@ -277,9 +277,9 @@ integer_same style t u c = record {
   is = written style t u c.contents c.suffix c.int c.new_is;
 }
 
--- ---- once is enough
+-- ---- an integer is rewritten twice as once
 
--- no zero stands in front of what was written
+-- A rewritten sequence of digits has no leading zeros, if the style drops them.
 zeros_again : (style : Style) (drops : Bool) (base : ℕ) (x run : List ℕ) → row_of base run
     → kept_digits style base x (flat_map (number_character style drops (base == 16)) (kept_digits style base x run))
     ≡ flat_map (number_character style drops (base == 16)) (kept_digits style base x run)
@@ -302,7 +302,7 @@ zeros_again style drops base x run each = go (drops_zeros style base x) refl
         (ten (subst (λ z. row_of z run) is each))
     go false e = refl
 
--- nor do underscores stand at its end
+-- A rewritten sequence of digits has no underscores at its end, if the style drops them.
 row_trims : (style : Style) (t : List ℕ) (v : Contents) (x : List ℕ) (i : StrictInt t v x)
     → trims_by style.suffix_separator x ≡ true
     → IsTrim (flat_map (number_character style (drops_underscores style x) (i.base == 16))
@@ -323,7 +323,7 @@ row_trims style t v x i h =
     go true = significant_trim short short_trims
     go false = short_trims
 
--- nor in front of groups
+-- Digits in groups have no leading zeros if the digits have none.
 significant_groups : (size least : ℕ) (run : List ℕ) → significant run ≡ run
     → significant (regrouped false size least run) ≡ regrouped false size least run
 significant_groups size least run same =

@@ -1,7 +1,7 @@
--- A literal written anew is the same literal, whatever its kind.
-use Rattle.rl_text.proofs.Common.{◌≡◌, ℕ, false, List, inl, inr, refl, subst, sym}
-use Rattle.rl_forms.specs.declared.kind.Kind.TheVariants.{Bool as BoolKind}
-use Rattle.rl_forms.specs.Strict.{StrictBool}
+-- A rewritten literal of any kind is equal to the old one.
+use Rattle.rl_syntax.proofs.Common.{◌≡◌, ℕ, false, List, inl, inr, refl, subst, sym}
+use Rattle.rl_syntax.specs.declared.kind.Kind.TheVariants.{Bool as BoolKind}
+use Rattle.rl_syntax.specs.Strict.{StrictBool}
 use Rattle.rl_style.specs.declared.style.Style.{Style}
 use Rattle.rl_style.specs.Rewriting.{KeepsTruth, Rewrites, SameLiteral, SameNumber}
 use Rattle.rl_style.proofs.SameFloats.{float_number, float_same, float_stays}
@@ -24,7 +24,7 @@ same style front t u off (inr (inr (inl (inr a)))) = lost_same style front t u a
 same style front t u off (inr (inr (inr (inl a)))) = cooked_same style t u a
 same style front t u off (inr (inr (inr (inr a)))) = truth_same t u a
 
--- the same literal is the same number
+-- Equal literals are equal numbers, apart from an added zero.
 number_of : (style : Style) (t u : List ℕ) → SameLiteral t u → SameNumber style t u
 number_of style t u c = record {
   kind = c.kind;

@@ -1,19 +1,19 @@
--- A raw literal written anew is the same literal.
-use Rattle.rl_text.proofs.Common.{◌≡◌, ◌≢◌, ℕ, zero, suc, ◌<◌, Bool, true, false, ◌==◌, List, [], ◌∷◌, ◌++◌, length, replicate, refl, sym, ap, subst, ◌∙◌, inl, inr, append_assoc, append-nil, append_cancel_right, both_ways}
-use Rattle.rl_text.specs.Texts.{first_passes}
-use Rattle.rl_text.proofs.Basics.{hashes_all}
-use Rattle.rl_forms.specs.declared.kind.Kind.{Kind}
-use Rattle.rl_forms.specs.declared.kind.Kind.TheVariants.{Str, ByteStr, CStr, Byte, Char, Int, Float, Bool as BoolKind}
-use Rattle.rl_forms.specs.Quoted.{is_string, raw_opener}
-use Rattle.rl_forms.specs.Reading.{Contents}
-use Rattle.rl_forms.specs.Strict.{Strict, StrictRaw, strict_closer, strict_opener, strict_raw_opener}
-use Rattle.rl_forms.proofs.OneQuoted.{same_tail}
-use Rattle.rl_forms.proofs.StrictNumbers.{same_run}
+-- A rewritten raw string is equal to the old one.
+use Rattle.rl_syntax.proofs.Common.{◌≡◌, ◌≢◌, ℕ, zero, suc, ◌<◌, Bool, true, false, ◌==◌, List, [], ◌∷◌, ◌++◌, length, replicate, refl, sym, ap, subst, ◌∙◌, inl, inr, append_assoc, append-nil, append_cancel_right, both_ways}
+use Rattle.rl_syntax.specs.Texts.{first_passes}
+use Rattle.rl_syntax.proofs.Basics.{hashes_all}
+use Rattle.rl_syntax.specs.declared.kind.Kind.{Kind}
+use Rattle.rl_syntax.specs.declared.kind.Kind.TheVariants.{Str, ByteStr, CStr, Byte, Char, Int, Float, Bool as BoolKind}
+use Rattle.rl_syntax.specs.Quoted.{is_string, raw_opener}
+use Rattle.rl_syntax.specs.Reading.{Contents}
+use Rattle.rl_syntax.specs.Strict.{Strict, StrictRaw, strict_closer, strict_opener, strict_raw_opener}
+use Rattle.rl_syntax.proofs.OneQuoted.{same_tail}
+use Rattle.rl_syntax.proofs.StrictNumbers.{same_run}
 use Rattle.rl_writing.specs.RawStrings.{HasFewestHashes, raw_contents, raw_text}
 use Rattle.rl_style.specs.declared.style.Style.{Style}
 use Rattle.rl_style.specs.Rewriting.{HasHashes, SameLiteral, StaysRaw}
 
--- a raw form is strict in its kind
+-- A raw string is a literal token of its kind.
 pub raw_strict : (t : List ℕ) (k : Kind) (v : Contents) (x : List ℕ) → StrictRaw t k v x → Strict t k v x
 raw_strict t Str v x s = inr s
 raw_strict t ByteStr v x s = inr s
@@ -36,12 +36,12 @@ same_opener ByteStr s = refl
 same_opener CStr s = refl
 same_opener kind s = absurd (cc)
 
--- the parts of a raw form, joined from the right
+-- The parts of a raw string, concatenated from the right.
 pub raw_joined : (o h i x : List ℕ) → ((((o ++ h) ++ (34 ∷ i)) ++ (34 ∷ h)) ++ x) ≡ o
     ++ (h ++ (34 ∷ (i ++ (34 ∷ (h ++ x)))))
 raw_joined o h i x = simp append_assoc
 
--- and as they are written
+-- The parts of a raw string, as they are written.
 pub raw_followed : (k : Kind) (n : ℕ) (inside x : List ℕ) → is_string k ≡ true → raw_text k n inside ++ x
     ≡ (((strict_raw_opener k ++ replicate n 35) ++ (34 ∷ inside)) ++ (34 ∷ replicate n 35)) ++ x
 raw_followed k n inside x s =
@@ -52,13 +52,13 @@ raw_followed k n inside x s =
     ∙ ap (λ z. z ++ (h ++ (34 ∷ (inside ++ (34 ∷ (h ++ x)))))) (sym (same_opener k s))
     ∙ sym (raw_joined (strict_raw_opener k) h inside x)
 
--- ---- so many hashes close it at its end
+-- ---- a raw string with this number of hashes is closed at its end
 
 pub record Suits (inside : List ℕ) (n : ℕ) : Type 0 where
   pub few : n < 256
   pub first_close : (front rest : List ℕ) → inside ≢ (front ++ (34 ∷ replicate n 35)) ++ rest
 
--- a raw literal is none with escapes
+-- A raw string isn't a string with escapes: its text begins differently.
 abbrev pub first_quote : List ℕ → Bool
 first_quote t = first_passes (λ c. c == 34) t
 
@@ -77,7 +77,7 @@ pub length_hashes : (n : ℕ) → length {A = ℕ} (replicate n 35) ≡ n
 length_hashes zero = refl
 length_hashes (suc n) = ap suc (length_hashes n)
 
--- the one way to take such a text apart
+-- A text can be split into hashes and a content in exactly one way.
 one_way : (n m : ℕ) (inside other : List ℕ) → replicate n 35 ++ (34 ∷ (inside ++ (34 ∷ replicate n 35)))
     ≡ replicate m 35 ++ (34 ∷ (other ++ (34 ∷ replicate m 35))) → (n ≡ m) × (inside ≡ other)
 one_way n m inside other e =
@@ -123,7 +123,7 @@ pub hashes_suit : (fewest : Bool) (t : List ℕ) (k : Kind) (v : Contents) (x : 
 hashes_suit true t k v x s n h = fewest_suits k n s.inside (raw_string t k v x s) h
 hashes_suit false t k v x s n h = subst (Suits s.inside) (sym h) (record { few = s.few; first_close = s.first_close })
 
--- ---- the literal
+-- ---- the rewritten literal
 
 abbrev pub written : (t u : List ℕ) (k : Kind) (v : Contents) (x : List ℕ) (s : StrictRaw t k v x) (n : ℕ)
     → Suits s.inside n → u ≡ raw_text k n s.inside ++ x → StrictRaw u k v x

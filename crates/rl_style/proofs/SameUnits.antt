@@ -1,11 +1,11 @@
--- A literal whose units are written anew is the same literal.
-use Rattle.rl_text.proofs.Common.{nat_tests, or_cases, subst, ◌≡◌, ℕ, ◌<◌, ◌||◌, ◌&&◌, Bool, true, false, not, ◌==◌, cond, nat_le, nat_lt, List, [], ◌∷◌, ◌++◌, length, map, refl, sym, ap, ◌∙◌, inl, inr, arith, ◌⊎◌, append-nil, and_from, and_parts, cases_Bool, cases_lt, or_from, eqb-true, not-true, agree_below_at, is_ascii_hexdigit, all_scalars, list_all, flat_map, length-map, suc, both_ways, is_ascii_digit, encode_utf8_all, encode_ascii, Some, None}
+-- A literal whose characters and escapes are rewritten is equal to the old one.
+use Rattle.rl_syntax.proofs.Common.{nat_tests, or_cases, subst, ◌≡◌, ℕ, ◌<◌, ◌||◌, ◌&&◌, Bool, true, false, not, ◌==◌, cond, nat_le, nat_lt, List, [], ◌∷◌, ◌++◌, length, map, refl, sym, ap, ◌∙◌, inl, inr, arith, ◌⊎◌, append-nil, and_from, and_parts, cases_Bool, cases_lt, or_from, eqb-true, not-true, agree_below_at, is_ascii_hexdigit, all_scalars, list_all, flat_map, length-map, suc, both_ways, is_ascii_digit, encode_utf8_all, encode_ascii, Some, None}
 use Rattle.std.specs.Prelude.{Option}
-use Rattle.rl_text.proofs.Basics.{apart}
-use Rattle.rl_reading.proofs.Names.{Kind, Str, ByteStr, CStr, Byte, Char, Int, Float, BoolKind, first_passes, Contents, StrictUnit, Itself, QuoteEscape, PlainEscape, AsciiEscape, ByteEscape, UnicodeEscape, LineBreak, strict_text, strict_contents, strict_content_of, is_dropped_blank, is_strict_unit, place_value, quoted_contents}
-use Rattle.rl_forms.specs.Written.{closer}
-use Rattle.rl_forms.specs.Strict.{Strict, StrictCooked, HasUnits, BlanksEnd, is_octal, plain_escapes, plain_value_in, is_unicode_escape, spaced_value, strict_opener, strict_closer}
-use Rattle.rl_forms.proofs.StrictQuoted.{between}
+use Rattle.rl_syntax.proofs.Basics.{apart}
+use Rattle.rl_lenient.proofs.Names.{Kind, Str, ByteStr, CStr, Byte, Char, Int, Float, BoolKind, first_passes, Contents, StrictUnit, Itself, QuoteEscape, PlainEscape, AsciiEscape, ByteEscape, UnicodeEscape, LineBreak, strict_text, strict_contents, strict_content_of, is_dropped_blank, is_strict_unit, place_value, quoted_contents}
+use Rattle.rl_syntax.specs.Written.{closer}
+use Rattle.rl_syntax.specs.Strict.{Strict, StrictCooked, HasUnits, BlanksEnd, is_octal, plain_escapes, plain_value_in, is_unicode_escape, spaced_value, strict_opener, strict_closer}
+use Rattle.rl_syntax.proofs.StrictQuoted.{between}
 use Rattle.rl_style.specs.declared.style.Case.{Case}
 use Rattle.rl_style.specs.declared.style.Case.TheVariants.{Lower, Upper}
 use Rattle.rl_style.specs.declared.style.Style.{Style}
@@ -16,7 +16,7 @@ use Rattle.rl_style.proofs.CodeDigits.{code_twice, fewest_unicode, fewest_value}
 use Rattle.rl_style.proofs.HiddenUnits.{held_low, number_allowed, number_any, number_contents, quotes_shown, visible_shown}
 use Rattle.rl_style.proofs.CaseLemmas.{none_right, cased_past, cased_value, spelled_cased, twice_cased}
 
--- ---- digits
+-- ---- hexadecimal digits
 
 pub hex_cased : (case : Option Case) (c : ℕ) → is_ascii_hexdigit (cased case c) ≡ is_ascii_hexdigit c
 hex_cased case c =
@@ -66,7 +66,7 @@ unicode_cased case ds =
     ∙ ap (λ n. (nat_le 1 (length ds) && nat_le (length ds) 6) && list_all (λ d. is_ascii_hexdigit d.0) ds
     && all_scalars (n ∷ [])) (code_cased case ds)
 
--- ---- with the fewest digits
+-- ---- Unicode escapes with the fewest digits
 
 abbrev kept_digits : Style → List (ℕ × ℕ) → List (ℕ × ℕ)
 kept_digits style ds = cond style.code_digits (fewest_digits ds) ds
@@ -89,7 +89,7 @@ kept_unicode style ds h = go style.code_digits
 pub code_value : (style : Style) (ds : List (ℕ × ℕ)) → spaced_value (styled_digits style ds) ≡ spaced_value ds
 code_value style ds = code_cased style.escape_digits (kept_digits style ds) ∙ kept_value style ds
 
--- ---- one unit
+-- ---- one character or escape
 
 first_of : (a b : Bool) → (a || b) ≡ true → b ≡ false → a ≡ true
 first_of true b h n = refl
@@ -99,7 +99,7 @@ second_of : (a b : Bool) → (a || b) ≡ true → a ≡ false → b ≡ true
 second_of true b h n = absurd (cc)
 second_of false b h n = h
 
--- an escaped quote is one of the two
+-- An escaped quote is a single or a double quote.
 pub quote_of : (k : Kind) (c : ℕ) → is_strict_unit k (QuoteEscape c) ≡ true → (c == 39 || c == 34) ≡ true
 quote_of Str c h = h
 quote_of ByteStr c h = h
@@ -114,7 +114,7 @@ itself_at : (k : Kind) (c d : ℕ) → (c == d) ≡ true → is_strict_unit k (I
     ≡ true
 itself_at k c d e h = ap (λ z. is_strict_unit k (Itself z)) (eqb-true c d e) ∙ h
 
--- a quote that doesn't close the literal may stand in it
+-- A quote that doesn't close the literal may be in it unescaped.
 quote_allowed : (k : Kind) (us : List StrictUnit) (c : ℕ) → HasUnits k us → (c == 39 || c == 34) ≡ true
     → (c == closer k) ≡ false → is_strict_unit k (Itself c) ≡ true
 quote_allowed Str us c q h n = itself_at Str c 39 (first_of (c == 39) (c == 34) h n) refl
@@ -124,7 +124,8 @@ quote_allowed Byte us c q h n = itself_at Byte c 34 (second_of (c == 39) (c == 3
 quote_allowed Char us c q h n = itself_at Char c 34 (second_of (c == 39) (c == 34) h n) refl
 quote_allowed kind us c q h n = absurd q
 
--- what an escaped quote becomes: itself, where the rule says so and it doesn't close the literal
+-- The new form of an escaped quote: the quote without its backslash, if the rule is set and the quote doesn't close the
+-- literal.
 abbrev quote_unit : Bool → ℕ → StrictUnit
 quote_unit b c = cond b (Itself c) (QuoteEscape c)
 
@@ -170,9 +171,9 @@ code_allowed style CStr ds h =
     (code_unicode style ds p.0) (ap (λ n. not (n == 0)) (code_value style ds) ∙ p.1)
 code_allowed style kind ds h = absurd (cc)
 
--- ---- escapes by number that become shorter
+-- ---- numeric escapes that become shorter
 
--- what holds of each of the three, holds of what such an escape becomes
+-- A property of each of the three new forms of a numeric escape holds for its new form.
 abbrev chosen : Bool → Bool → Kind → ℕ → StrictUnit → StrictUnit
 chosen a b k n escape = cond a (visible_unit k n) (cond b (PlainEscape (letter_of n)) escape)
 
@@ -215,7 +216,7 @@ follows : (a b : Bool) → a ≡ true → (not a || b) ≡ true → b ≡ true
 follows true b h k = k
 follows false b h k = absurd (cc)
 
--- tests of what is below 128, one by one
+-- Tests of the characters below 128, each one separately.
 visible_test : (test : ℕ → Bool) (n : ℕ) → is_visible n ≡ true
     → ((n < 128) → (not (is_visible n) || test n) ≡ true) → test n ≡ true
 visible_test test n v all = follows (is_visible n) (test n) v (all (visible_low n v))
@@ -239,7 +240,7 @@ visible_allowed Char us n q v = visible_test (λ n. is_strict_unit Char (visible
     low)
 visible_allowed kind us n q v = absurd q
 
--- LF, CR, TAB and NUL one by one
+-- A property of LF, CR, TAB and NUL, each one separately.
 named_any : (P : ℕ → Type 0) (z : Bool) (n : ℕ) → gets_letter z n ≡ true → P 10 → P 13 → P 9
     → ((n == 0) ≡ true → P 0) → P n
 named_any P z n h a b c d =
@@ -256,7 +257,7 @@ named_any P z n h a b c d =
           subst P (sym (eqb-true n 0 e)) (d e)
     ]
 
--- `\0` stands in the kind, where this is NUL
+-- If the character is NUL, `\0` is allowed in a literal of the kind.
 abbrev MayBeZero : Kind → ℕ → Type 0
 MayBeZero k n = (n == 0) ≡ true → is_strict_unit k (PlainEscape 48) ≡ true
 
@@ -280,7 +281,7 @@ respelled_allowed : (style : Style) (k : Kind) (z : Bool) (us : List StrictUnit)
 respelled_allowed style k z us n escape q m h = respelled_any (λ u. is_strict_unit k u ≡ true) style k z n escape
     (visible_allowed k us n q) (named_allowed k us z n q m) h
 
--- no escape spells NUL in a C string
+-- In a C string, no escape represents NUL.
 no_zero : (b : Bool) (n : ℕ) → (b && not (n == 0)) ≡ true → (n == 0) ≡ true → ⊥
 no_zero b n h e = both_ways (n == 0) (not-true (n == 0) (and_parts b (not (n == 0)) h).1) e
 
@@ -305,7 +306,7 @@ unicode_zero Char ds h e = refl
 unicode_zero CStr ds h e = absurd (no_zero (is_unicode_escape ds) (spaced_value ds) h e)
 unicode_zero kind ds h e = absurd (cc)
 
--- none of them begins with a blank
+-- The new form of a numeric escape doesn't begin with white space.
 respelled_front : (style : Style) (k : Kind) (z : Bool) (n : ℕ) (escape : StrictUnit) (rest : List ℕ)
     → first_passes is_dropped_blank (strict_text escape ++ rest) ≡ false
     → first_passes is_dropped_blank (strict_text (respelled style k z n escape) ++ rest) ≡ false
@@ -326,7 +327,7 @@ respelled_ends style k z n escape us b h =
     respelled_any (λ u. BlanksEnd (u ∷ us)) style k z n escape
     (λ v. visible_any (λ u. BlanksEnd (u ∷ us)) k n (λ e. b) (λ e. b) b) (λ e. b) h
 
--- they stand for the same
+-- The new form of a numeric escape has the old value.
 visible_contents : (k : Kind) (n : ℕ) → is_visible n ≡ true → strict_contents (strict_content_of k) (visible_unit k n)
     ≡ n ∷ []
 visible_contents k n v =
@@ -346,9 +347,9 @@ respelled_contents style k z n escape v same h =
     respelled_any (λ u. strict_contents (strict_content_of k) u ≡ v) style k z n escape
     (λ e. visible_contents k n e ∙ same (visible_low n e)) (λ e. named_contents z n e ∙ same (named_low z n e)) h
 
--- ---- characters that are escaped
+-- ---- characters that become numeric escapes
 
--- what holds of the escape, and of the character itself, holds of what it becomes
+-- A property of the numeric escape and of the character itself holds for the new form.
 pub itself_any : (P : StrictUnit → Type 0) (style : Style) (k : Kind) (z : Bool) (c : ℕ)
     → (needs_number c ≡ true → P (reescaped style k z (number_escape k c))) → P (Itself c)
     → P (restyled style k z (Itself c))
@@ -359,7 +360,7 @@ itself_any P style k z c escaped other = go (style.hidden && needs_number c) ref
     go true e = escaped (and_parts style.hidden (needs_number c) e).1
     go false e = other
 
--- ---- any unit
+-- ---- any character or escape
 
 ascii_stays : (style : Style) (k : Kind) (z : Bool) (us : List StrictUnit) (high low : ℕ) → HasUnits k us
     → is_strict_unit k (AsciiEscape high low) ≡ true → is_strict_unit k (reescaped style k z (AsciiEscape high low))
@@ -405,7 +406,7 @@ all_allowed style k vs (u ∷ us) q h =
     and_from (is_strict_unit k (restyled style k z u)) (list_all (is_strict_unit k) (restyled_units style k us))
     (unit_allowed style k z vs u q p.0) (all_allowed style k vs us q p.1)
 
--- ---- how many
+-- ---- the number of characters and escapes
 
 unit_count : (style : Style) (k : Kind) (us : List StrictUnit) → length (restyled_units style k us) ≡ length us
 unit_count style k [] = refl
@@ -420,7 +421,7 @@ same_count style Byte us h = unit_count style Byte us ∙ h
 same_count style Char us h = unit_count style Char us ∙ h
 same_count style kind us h = absurd h
 
--- ---- line breaks
+-- ---- escaped line ends
 
 no_blank : (c : ℕ) → (c == 39 || c == 34) ≡ true → is_dropped_blank c ≡ false
 no_blank c h =
@@ -511,7 +512,7 @@ blanks_stay style k (u ∷ us) h b = go u (and_parts (is_strict_unit k u) (list_
         (UnicodeEscape (styled_digits style digits)) rest (ih p b) (ih p b)
     go (LineBreak blanks) p b ih = (front_stays style k us p b.0, ih p b.1)
 
--- ---- contents
+-- ---- the value of the literal
 
 one_byte : (c : ℕ) → (c == 39 || c == 34) ≡ true → encode_utf8_all (c ∷ []) ≡ c ∷ []
 one_byte c h = append-nil _ ∙ encode_ascii c (below (cases_Bool (c == 39)))
@@ -583,16 +584,16 @@ all_contents style k (u ∷ us) h =
     (unit_contents style k (not (digit_follows k us)) u p.0)
     ∙ ap (λ z. strict_contents (strict_content_of k) u ++ z) (all_contents style k us p.1)
 
--- so the same stands for a digit
+-- The next character or escape represents a digit in the old and in the new text, or in neither.
 follows_same : (style : Style) (k : Kind) (us : List StrictUnit) → list_all (is_strict_unit k) us ≡ true
     → digit_follows k (restyled_units style k us) ≡ digit_follows k us
 follows_same style k [] h = refl
 follows_same style k (u ∷ us) h = ap (first_passes is_ascii_digit) (unit_contents style k (not (digit_follows k us)) u
     (and_parts (is_strict_unit k u) (list_all (is_strict_unit k) us) h).0)
 
--- ---- the literal
+-- ---- the rewritten literal
 
--- a form with escapes is strict in its kind
+-- A quoted literal with escapes is a literal token of its kind.
 pub cooked_strict : (t : List ℕ) (k : Kind) (v : Contents) (x : List ℕ) → StrictCooked t k v x → Strict t k v x
 cooked_strict t Str v x s = inl s
 cooked_strict t ByteStr v x s = inl s
@@ -626,9 +627,9 @@ cooked_same style t u c = record {
   is = cooked_strict u c.kind c.contents c.suffix (written style t u c.kind c.contents c.suffix c.cooked c.new_is);
 }
 
--- ---- once is enough
+-- ---- a literal is rewritten twice as once
 
--- what needs_number nothing stays itself
+-- A character that needs no numeric escape is unchanged.
 pub shown_stays : (style : Style) (k : Kind) (z : Bool) (c : ℕ) → needs_number c ≡ false → restyled style k z (Itself c)
     ≡ Itself c
 shown_stays style k z c h =
@@ -641,7 +642,7 @@ twice_quote : (b : Bool) (style : Style) (k : Kind) (z : Bool) (c : ℕ) → (c 
 twice_quote true style k z c q e = shown_stays style k z c (quotes_shown c q)
 twice_quote false style k z c q e = ap (λ z. quote_unit z c) (sym e)
 
--- an escape by number that is written anew again
+-- A numeric escape that is rewritten twice is equal to one that is rewritten once.
 twice_respelled : (style : Style) (k : Kind) (z : Bool) (n : ℕ) (escape : StrictUnit) → restyled style k z escape
     ≡ respelled style k z n escape → restyled style k z (respelled style k z n escape) ≡ respelled style k z n escape
 twice_respelled style k z n escape h = go (style.ascii_escapes && is_visible n) (style.named_escapes && gets_letter z n)

@@ -1,6 +1,6 @@
--- A token in front of a literal that is written anew stays one.
-use Rattle.rl_text.proofs.Common.{◌≡◌, ℕ, inl, inr, Bool, false, ◌&&◌, ◌||◌, ◌==◌, List, [], ◌∷◌, ◌++◌, refl, sym, ◌∙◌, ap, is_ascii_digit}
-use Rattle.rl_text.specs.Texts.{first_passes, is_run_part, is_start, is_continue}
+-- A token before a rewritten literal is lexed as before.
+use Rattle.rl_syntax.proofs.Common.{◌≡◌, ℕ, inl, inr, Bool, false, ◌&&◌, ◌||◌, ◌==◌, List, [], ◌∷◌, ◌++◌, refl, sym, ◌∙◌, ap, is_ascii_digit}
+use Rattle.rl_syntax.specs.Texts.{first_passes, is_run_part, is_start, is_continue}
 use Rattle.rl_lexer.specs.Lexemes.{is_base_letter, LexedFraction, NoLexedFraction, LexedDot, lexed_fraction_text, LexedExponent, NoLexedExponent, LexedPower, lexed_exponent_text, IsRun, IsLexedSuffix, IsLexedFraction, IsLexedExponent, Lexeme, QuotedLexeme, RawLexeme, CharacterLexeme, BasedLexeme, DecimalLexeme, IdentifierLexeme, DelimiterLexeme, MarkLexeme, IsLexeme}
 use Rattle.rl_lexer.specs.Sources.{is_in_line, is_apostrophe, PlainToken, RawIdentifierToken, LifetimeToken, RawLifetimeToken, DocLineToken, DocBlockToken, BadQuoteToken, StrayToken, IsName}
 use Rattle.rl_lexer.proofs.LexemeOpeners.{no_exponent_here, no_exponent_begins, none_otherwise, no_otherwise}

@@ -1,12 +1,12 @@
--- Rows without the underscores at their end, and with one before a suffix.
-use Rattle.rl_text.proofs.Common.{◌≡◌, ℕ, inl, inr, ◌||◌, ◌&&◌, Bool, true, false, not, ◌==◌, cond, List, [], ◌∷◌, ◌++◌, Some, None, refl, sym, ap, ◌∙◌, append-nil, and_from, and_parts, cases_Bool, eqb-true, is_ascii_digit, list_all, list_any, list_all-append, flat_map}
+-- Sequences of digits without the underscores at their end, and with an underscore before a suffix.
+use Rattle.rl_syntax.proofs.Common.{◌≡◌, ℕ, inl, inr, ◌||◌, ◌&&◌, Bool, true, false, not, ◌==◌, cond, List, [], ◌∷◌, ◌++◌, Some, None, refl, sym, ap, ◌∙◌, append-nil, and_from, and_parts, cases_Bool, eqb-true, is_ascii_digit, list_all, list_any, list_all-append, flat_map}
 use Rattle.std.specs.Prelude.{Option, filter}
 use Rattle.std.proofs.lemmas.List.Elements.{filter-append}
-use Rattle.rl_text.specs.Classes.{after_run}
-use Rattle.rl_text.specs.Texts.{first_passes, is_run_part, is_underscore}
+use Rattle.rl_syntax.specs.Classes.{after_run}
+use Rattle.rl_syntax.specs.Texts.{first_passes, is_run_part, is_underscore}
 use Rattle.rl_lexer.proofs.LexemeRows.{not_among}
 use Rattle.rl_lexer.specs.Lexemes.{is_base_letter}
-use Rattle.rl_forms.specs.Strict.{IsDigits}
+use Rattle.rl_syntax.specs.Strict.{IsDigits}
 use Rattle.rl_style.specs.declared.style.Separator.{Separator}
 use Rattle.rl_style.specs.declared.style.Separator.TheVariants.{Nothing, Underscore}
 use Rattle.rl_style.specs.declared.style.Style.{Style}
@@ -17,7 +17,7 @@ use Rattle.rl_style.proofs.NumberCharacters.{RowKeeps}
 abbrev pub only : List ℕ → Bool
 only cs = list_all is_underscore cs
 
--- ---- what it leaves
+-- ---- the part of a sequence that isn't dropped
 
 only_all : (test : ℕ → Bool) (cs : List ℕ) → list_all test cs ≡ true → list_all test (trimmed cs) ≡ true
 only_all test [] h = refl
@@ -48,22 +48,22 @@ trimmed_some test (c ∷ cs) n = go (only (c ∷ cs)) refl (trimmed_some test cs
     go true h more = sym (none_in test (c ∷ cs) n h)
     go false h more = ap (λ b. test c || b) more
 
--- what drops underscores sees no difference
-abbrev pub kept_of : (ℕ → Bool) → List ℕ → List ℕ
-kept_of test cs = filter test cs
+-- The characters of a text that pass a test.
+abbrev pub kept_permissions : (ℕ → Bool) → List ℕ → List ℕ
+kept_permissions test cs = filter test cs
 
-pub none_of : (test : ℕ → Bool) (cs : List ℕ) → test 95 ≡ false → only cs ≡ true → kept_of test cs ≡ []
+pub none_of : (test : ℕ → Bool) (cs : List ℕ) → test 95 ≡ false → only cs ≡ true → kept_permissions test cs ≡ []
 none_of test [] n h = refl
 none_of test (c ∷ cs) n h =
     let p = and_parts (c == 95) (only cs) h in
-    ap (λ b. cond b (c ∷ kept_of test cs) (kept_of test cs)) (ap test (eqb-true c 95 p.0) ∙ n) ∙ none_of test cs n p.1
+    ap (λ b. cond b (c ∷ kept_permissions test cs) (kept_permissions test cs)) (ap test (eqb-true c 95 p.0) ∙ n) ∙ none_of test cs n p.1
 
-pub trimmed_filter : (test : ℕ → Bool) (cs : List ℕ) → test 95 ≡ false → kept_of test (trimmed cs) ≡ kept_of test cs
+pub trimmed_filter : (test : ℕ → Bool) (cs : List ℕ) → test 95 ≡ false → kept_permissions test (trimmed cs) ≡ kept_permissions test cs
 trimmed_filter test [] n = refl
 trimmed_filter test (c ∷ cs) n = go (only (c ∷ cs)) refl (trimmed_filter test cs n)
   where
-    go : (b : Bool) → only (c ∷ cs) ≡ b → kept_of test (trimmed cs) ≡ kept_of test cs
-        → kept_of test (cond b [] (c ∷ trimmed cs)) ≡ kept_of test (c ∷ cs)
+    go : (b : Bool) → only (c ∷ cs) ≡ b → kept_permissions test (trimmed cs) ≡ kept_permissions test cs
+        → kept_permissions test (cond b [] (c ∷ trimmed cs)) ≡ kept_permissions test (c ∷ cs)
     go true h more = sym (none_of test (c ∷ cs) n h)
     go false h more = ap (λ z. cond (test c) (c ∷ z) z) more
 
@@ -78,7 +78,7 @@ trimmed_first (c ∷ cs) h = ap (first_passes is_ascii_digit) (digit_first c cs 
 pub trimmed_digits : (cs : List ℕ) → IsDigits cs → IsDigits (trimmed cs)
 trimmed_digits cs h = (trimmed_first cs h.0, trimmed_all (is_run_part is_ascii_digit) cs h.1)
 
--- ---- joined
+-- ---- two sequences joined
 
 pub only_join : (a b : List ℕ) → only b ≡ false → only (a ++ b) ≡ false
 only_join [] b h = h
@@ -96,7 +96,7 @@ some_not_only test cs n h =
       | inr a ↦ a
     ]
 
--- ---- again
+-- ---- dropping the underscores at the end twice is equal to dropping them once
 
 abbrev pub IsTrim : List ℕ → Type 0
 IsTrim cs = trimmed cs ≡ cs
@@ -149,7 +149,7 @@ zero_trim (c ∷ cs) h = h
 pub significant_trim : (cs : List ℕ) → IsTrim cs → IsTrim (significant cs)
 significant_trim cs h = zero_trim (after_run is_padding cs) (run_trim is_padding cs h)
 
--- and where each character becomes one like it
+-- A rewritten sequence consists of underscores only if the old one does.
 only_mapped : (f : ℕ → List ℕ) (cs : List ℕ) → RowKeeps f cs → only cs ≡ false → only (flat_map f cs) ≡ false
 only_mapped f [] k h = h
 only_mapped f (c ∷ cs) k h =
@@ -177,7 +177,7 @@ mapped_trim f (c ∷ cs) k h =
           ∙ ap (λ z. z ++ flat_map f cs) (sym a.1)
     ]
 
--- an underscore after it
+-- An underscore that is appended to a sequence is dropped with those at its end.
 one_after : (cs : List ℕ) → trimmed (cs ++ (95 ∷ [])) ≡ trimmed cs
 one_after [] = refl
 one_after (c ∷ cs) =
@@ -208,7 +208,7 @@ other_trims a c h =
 pub under_only : (u : List ℕ) (c : ℕ) → only u ≡ true → (c == 95) ≡ true → only (u ++ (c ∷ [])) ≡ true
 under_only u c h k = list_all-append is_underscore u (c ∷ []) ∙ and_from (only u) _ h (and_from (c == 95) true k refl)
 
--- ---- what is kept
+-- ---- the digits that aren't dropped
 
 pub kept_first : (style : Style) (x run : List ℕ) → first_passes is_ascii_digit run ≡ true
     → first_passes is_ascii_digit (kept_run style x run) ≡ true
@@ -218,7 +218,7 @@ kept_first style x run h = go (trims_by style.suffix_separator x)
     go true = trimmed_first run h
     go false = h
 
--- ---- the separator
+-- ---- the separator before the suffix
 
 pub separator_all : (test : ℕ → Bool) (s : Option Separator) (x : List ℕ)
     → list_all (is_run_part test) (separator_by s x)
@@ -233,15 +233,15 @@ separator_all test (Some Underscore) (c ∷ cs) = and_from (test 95 || true) tru
     or_true false = refl
 
 pub separator_gone : (test : ℕ → Bool) (s : Option Separator) (x cs : List ℕ) → test 95 ≡ false
-    → kept_of test (cs ++ separator_by s x) ≡ kept_of test cs
-separator_gone test None x cs n = ap (kept_of test) (append-nil cs)
-separator_gone test (Some Nothing) x cs n = ap (kept_of test) (append-nil cs)
-separator_gone test (Some Underscore) [] cs n = ap (kept_of test) (append-nil cs)
+    → kept_permissions test (cs ++ separator_by s x) ≡ kept_permissions test cs
+separator_gone test None x cs n = ap (kept_permissions test) (append-nil cs)
+separator_gone test (Some Nothing) x cs n = ap (kept_permissions test) (append-nil cs)
+separator_gone test (Some Underscore) [] cs n = ap (kept_permissions test) (append-nil cs)
 separator_gone test (Some Underscore) (c ∷ x) cs n =
-    filter-append test cs (95 ∷ []) ∙ ap (λ b. kept_of test cs ++ cond b (95 ∷ []) []) n
-    ∙ append-nil (kept_of test cs)
+    filter-append test cs (95 ∷ []) ∙ ap (λ b. kept_permissions test cs ++ cond b (95 ∷ []) []) n
+    ∙ append-nil (kept_permissions test cs)
 
--- a base's letter stands at the end of such a number where nothing was changed
+-- If the suffix begins with the letter of a base, the underscores before it aren't dropped, and no separator is written.
 pub base_kept : (s : Option Separator) (x : List ℕ) → first_passes is_base_letter (separator_by s x ++ x) ≡ true
     → (trims_by s x ≡ false) × (separator_by s x ≡ []) × (first_passes is_base_letter x ≡ true)
 base_kept None x h = (refl, refl, h)
@@ -249,7 +249,7 @@ base_kept (Some Nothing) x h = (ap not h, refl, h)
 base_kept (Some Underscore) [] h = absurd (cc)
 base_kept (Some Underscore) (c ∷ cs) h = absurd (cc)
 
--- what was written keeps its run
+-- The digits of a written number are found again.
 pub row_again : (s : Option Separator) (x run : List ℕ) → (trims_by s x ≡ true → IsTrim run)
     → cond (trims_by s x) (trimmed (run ++ separator_by s x)) (run ++ separator_by s x) ≡ run
 row_again None x run h = append-nil run

@@ -1,38 +1,19 @@
--- Rows of units: one text is one run, and each is written anew by what follows it.
-use Rattle.rl_text.proofs.Common.{is_ascii_digit, nat_tests, ◌≡◌, ℕ, ◌≤◌, inl, inr, arith, cases_lt, Bool, true, not, List, [], ◌∷◌, ◌++◌, Some, None, refl, sym, ap, subst, ◌∙◌, append_assoc, append-nil, append_cancel_right, and_parts, list_all, flat_map, encode_utf8_all, encodes-append}
-use Rattle.rl_text.proofs.Basics.{false_unless}
-use Rattle.rl_reading.proofs.Names.{Kind, strict_content_of, strict_contents, first_passes, StrictUnit, Itself, QuoteEscape, PlainEscape, AsciiEscape, ByteEscape, UnicodeEscape, LineBreak, strict_text, is_strict_unit, unit_value}
-use Rattle.rl_forms.specs.Strict.{BlanksEnd}
-use Rattle.rl_forms.proofs.StrictQuoted.{MayFollow, no_blank, no_return, stands}
-use Rattle.rl_reading.specs.Mirrors.UnitAt.{unit_at}
-use Rattle.rl_reading.proofs.UnitLemmas.{some_pair, unit_complete, unit_nil}
+-- Sequences of characters and escapes: a text is exactly one such sequence, and each is rewritten according to the text after
+-- it.
+use Rattle.rl_syntax.proofs.Common.{is_ascii_digit, nat_tests, ◌≡◌, ℕ, ◌≤◌, inl, inr, arith, cases_lt, Bool, true, not, List, [], ◌∷◌, ◌++◌, Some, None, refl, sym, ap, subst, ◌∙◌, append_assoc, append-nil, append_cancel_right, and_parts, list_all, flat_map, encode_utf8_all, encodes-append}
+use Rattle.rl_syntax.proofs.Basics.{false_unless}
+use Rattle.rl_lenient.proofs.Names.{Kind, strict_content_of, strict_contents, first_passes, StrictUnit, strict_text, is_strict_unit, unit_value}
+use Rattle.rl_syntax.proofs.StrictQuoted.{blanks_after, may_follow, stands}
+use Rattle.rl_lenient.specs.Mirrors.UnitAt.{unit_at}
+use Rattle.rl_lenient.proofs.UnitLemmas.{some_pair, unit_complete, unit_nil}
 use Rattle.rl_style.specs.declared.style.Style.{Style}
 use Rattle.rl_style.specs.Rewriting.{digit_follows, restyled_units, restyled}
-use Rattle.rl_style.specs.Mirrors.{AreUnits, ascii_in, lettered, stands_for_digit, restyled_text}
+use Rattle.rl_style.specs.Mirrors.{AreUnits, ascii_in, lettered, represents_digit, restyled_text}
 use Rattle.rl_style.proofs.UnitTexts.{alone_of, bytes_of, unit_restyled}
 
--- ---- the units that were passed
+-- ---- the characters and escapes read so far
 
-may_follow : (k : Kind) (s : StrictUnit) (us : List StrictUnit) → list_all (is_strict_unit k) us ≡ true
-    → BlanksEnd (s ∷ us) → MayFollow s (flat_map strict_text us)
-may_follow k (LineBreak blanks) us h b = no_blank (flat_map strict_text us) b.0 (no_return k us h)
-may_follow k (Itself c) us h b = tt
-may_follow k (QuoteEscape c) us h b = tt
-may_follow k (PlainEscape c) us h b = tt
-may_follow k (AsciiEscape high low) us h b = tt
-may_follow k (ByteEscape high low) us h b = tt
-may_follow k (UnicodeEscape digits) us h b = tt
-
-blanks_after : (s : StrictUnit) (us : List StrictUnit) → BlanksEnd (s ∷ us) → BlanksEnd us
-blanks_after (LineBreak blanks) us b = b.1
-blanks_after (Itself c) us b = b
-blanks_after (QuoteEscape c) us b = b
-blanks_after (PlainEscape c) us b = b
-blanks_after (AsciiEscape high low) us b = b
-blanks_after (ByteEscape high low) us b = b
-blanks_after (UnicodeEscape digits) us b = b
-
--- the first of a run of units is the one that is read
+-- The first character or escape of a sequence is the one that the code reads.
 record FirstIs (k : Kind) (u : StrictUnit) (us : List StrictUnit) (t : List ℕ) : Type 0 where
   value : List ℕ
   value_is : value ≡ strict_contents (strict_content_of k) u
@@ -68,22 +49,22 @@ digit_ascii (n ∷ ns) =
     no_digit : (n : ℕ) → 128 ≤ n → is_ascii_digit n ≡ true → ⊥
     no_digit n high d = grind (arith, nat_tests)
 
--- a character's bytes begin with a digit where it is one
+-- The bytes of a character begin with an ASCII digit if and only if the character is one.
 pub digit_bytes : (c : ℕ) → is_ascii_digit c ≡ is_ascii_digit (ascii_in (encode_utf8_all (c ∷ [])))
 digit_bytes c = digit_ascii (c ∷ []) ∙ ap is_ascii_digit (elim (cases_lt c 128) [
   | inl low ↦ (alone_of c).low low ∙ sym ((bytes_of c).low low)
   | inr high ↦ (alone_of c).high high ∙ sym ((bytes_of c).high high)
 ])
 
--- whether a digit follows, by the text
+-- Whether the next character or escape represents a digit, by the text.
 pub follows_is : (k : Kind) (us : List StrictUnit) (t : List ℕ) → AreUnits k us t
-    → digit_follows k us ≡ stands_for_digit (unit_at k t)
-follows_is k [] t a = sym (ap stands_for_digit (ap (unit_at k) a.inside_is ∙ unit_nil k))
+    → digit_follows k us ≡ represents_digit (unit_at k t)
+follows_is k [] t a = sym (ap represents_digit (ap (unit_at k) a.inside_is ∙ unit_nil k))
 follows_is k (u ∷ us) t a =
     let f = first_is k u us t a in
-    ap (first_passes is_ascii_digit) (sym f.value_is) ∙ digit_ascii f.value ∙ sym (ap stands_for_digit f.read)
+    ap (first_passes is_ascii_digit) (sym f.value_is) ∙ digit_ascii f.value ∙ sym (ap represents_digit f.read)
 
--- one text is one run of units, as far as their texts go
+-- Two sequences of characters and escapes with one text are equal.
 pub texts_once : (style : Style) (k : Kind) (us vs : List StrictUnit) (t : List ℕ) → AreUnits k us t → AreUnits k vs t
     → flat_map strict_text (restyled_units style k us) ≡ flat_map strict_text (restyled_units style k vs)
 texts_once style k [] [] t a b = refl
@@ -108,7 +89,7 @@ texts_once style k (u ∷ us) (v ∷ vs) t a b =
     let x : Bool = not (digit_follows k us) in
     let z : Bool = not (digit_follows k vs) in
     let same : x ≡ z = ap not (follows_is k us (flat_map strict_text us) f.left
-    ∙ ap (λ t. stands_for_digit (unit_at k t)) rest ∙ sym (follows_is k vs (flat_map strict_text vs) g.left)) in
+    ∙ ap (λ t. represents_digit (unit_at k t)) rest ∙ sym (follows_is k vs (flat_map strict_text vs) g.left)) in
     let one : strict_text (restyled style k x u) ≡ strict_text (restyled style k z v) =
     sym (unit_restyled style k x u f.is_unit)
     ∙ ap (restyled_text style k (lettered x (ascii_in (strict_contents (strict_content_of k) u)))) text
@@ -119,7 +100,7 @@ texts_once style k (u ∷ us) (v ∷ vs) t a b =
     ∙ ap (λ t. strict_text (restyled style k z v) ++ t) (texts_once style k us vs (flat_map strict_text us) f.left
     (subst (AreUnits k vs) (sym rest) g.left))
 
--- units before others, as the style makes them
+-- The new text of the first part of a sequence of characters and escapes.
 abbrev pub text_before : Style → Kind → List StrictUnit → List StrictUnit → List ℕ
 text_before style k [] left = []
 text_before style k (u ∷ us) left =
@@ -158,7 +139,7 @@ passed_start style k us inside out a = record { done = []; left = us; units_are 
 pub passed_step : (style : Style) (k : Kind) (us : List StrictUnit) (rest v piece after out new front : List ℕ)
     → UnitsPassed style k us rest out front → Some (v, after) ≡ unit_at k rest → rest ≡ piece ++ after
     → new ≡ out ++ encode_utf8_all (restyled_text style k
-    (lettered (not (stands_for_digit (unit_at k after))) (ascii_in v)) piece) → UnitsPassed style k us after new front
+    (lettered (not (represents_digit (unit_at k after))) (ascii_in v)) piece) → UnitsPassed style k us after new front
 passed_step style k us rest v piece after out new front p e cut w = go p.left p.units_are p.left_are p.out_is
   where
     go : (left : List StrictUnit) → us ≡ p.done ++ left → AreUnits k left rest
@@ -172,7 +153,7 @@ passed_step style k us rest v piece after out new front p e cut w = go p.left p.
         ∙ ap (λ z. strict_text u ++ z) (sym rest_is)) in
         let left_are : AreUnits k left after = subst (λ z. AreUnits k left z) (sym rest_is) f.left in
         let z : Bool = not (digit_follows k left) in
-        let follows : not (stands_for_digit (unit_at k after)) ≡ z = ap not (sym (follows_is k left after left_are)) in
+        let follows : not (represents_digit (unit_at k after)) ≡ z = ap not (sym (follows_is k left after left_are)) in
         let old : List ℕ = text_before style k p.done (u ∷ left) in
         let one : List ℕ = strict_text (restyled style k z u) in
         record {

@@ -1,22 +1,22 @@
--- Units are taken from a text one at a time, and each is written anew by its text.
+-- The code reads the characters and escapes of a text one at a time, and rewrites each by its text.
 use Rattle.std.proofs.Common.{length-append}
-use Rattle.rl_text.proofs.Common.{not-true, length, ◌+◌, ◌≢◌, drop, eqb-true, ◌≡◌, ℕ, ◌<◌, ◌≤◌, inl, inr, arith, nat_lt, lt-ltb, ltb-true, cases_lt, agree_below_at, ◌||◌, ◌&&◌, Bool, true, false, not, ◌==◌, cond, List, [], ◌∷◌, ◌++◌, map, Some, None, refl, sym, ap, ◌∙◌, append_assoc, append-nil, and_from, and_parts, or_from, list_all, flat_map, map-append, replicate, zero, suc, scalar, encode_utf8_all, ◌/◌, ◌%◌, encodes-append, encodes-chars, IsUtf8}
+use Rattle.rl_syntax.proofs.Common.{not-true, length, ◌+◌, ◌≢◌, drop, eqb-true, ◌≡◌, ℕ, ◌<◌, ◌≤◌, inl, inr, arith, nat_lt, lt-ltb, ltb-true, cases_lt, agree_below_at, ◌||◌, ◌&&◌, Bool, true, false, not, ◌==◌, cond, List, [], ◌∷◌, ◌++◌, map, Some, None, refl, sym, ap, ◌∙◌, append_assoc, append-nil, and_from, and_parts, or_from, list_all, flat_map, map-append, replicate, zero, suc, scalar, encode_utf8_all, ◌/◌, ◌%◌, encodes-append, encodes-chars, IsUtf8}
 use Rattle.std.specs.Prelude.{Option}
 use Rattle.std.specs.Str.{chars}
-use Rattle.rl_text.proofs.Basics.{apart, false_unless}
-use Rattle.rl_text.proofs.LowBytes.{encode_is_high, low_front}
-use Rattle.rl_reading.proofs.Names.{Kind, Str, ByteStr, CStr, Byte, Char, Int, Float, BoolKind, content_of, holds_characters, place_value, strict_content_of, strict_contents, first_passes, IsTail, StrictUnit, Itself, QuoteEscape, PlainEscape, AsciiEscape, ByteEscape, UnicodeEscape, LineBreak, strict_text, is_strict_unit, unit_text}
-use Rattle.rl_forms.specs.Written.{closer}
-use Rattle.rl_forms.specs.Strict.{is_bare_character, is_bare_in_string, is_plain_letter, is_unicode_escape, plain_escapes, plain_value_in, spaced_digit, spaced_value}
-use Rattle.rl_reading.specs.Mirrors.UnitAt.{unit_at}
-use Rattle.rl_reading.proofs.UnitLemmas.{unit_sound}
+use Rattle.rl_syntax.proofs.Basics.{apart, false_unless}
+use Rattle.rl_syntax.proofs.LowBytes.{encode_is_high, low_front}
+use Rattle.rl_lenient.proofs.Names.{Kind, Str, ByteStr, CStr, Byte, Char, Int, Float, BoolKind, content_of, holds_characters, place_value, strict_content_of, strict_contents, first_passes, IsTail, StrictUnit, Itself, QuoteEscape, PlainEscape, AsciiEscape, ByteEscape, UnicodeEscape, LineBreak, strict_text, is_strict_unit, unit_text}
+use Rattle.rl_syntax.specs.Written.{closer}
+use Rattle.rl_syntax.specs.Strict.{is_bare_character, is_bare_in_string, is_plain_letter, is_unicode_escape, plain_escapes, plain_value_in, spaced_digit, spaced_value}
+use Rattle.rl_lenient.specs.Mirrors.UnitAt.{unit_at}
+use Rattle.rl_lenient.proofs.UnitLemmas.{unit_sound}
 use Rattle.rl_style.specs.declared.style.Case.{Case}
 use Rattle.rl_style.specs.declared.style.Case.TheVariants.{Lower, Upper}
 use Rattle.rl_style.specs.declared.style.Style.{Style}
 use Rattle.rl_style.specs.Cases.{cased, is_padding}
-use Rattle.rl_text.specs.Classes.{after_run}
-use Rattle.rl_text.specs.Texts.{begins}
-use Rattle.rl_forms.specs.Spelling.{without_underscores}
+use Rattle.rl_syntax.specs.Classes.{after_run}
+use Rattle.rl_syntax.specs.Texts.{begins}
+use Rattle.rl_syntax.specs.Spelling.{without_underscores}
 use Rattle.rl_writing.proofs.AsciiLemmas.{encoded_low, low_chars}
 use Rattle.rl_writing.proofs.UnicodeLemmas.{digits_of, escape_is, escape_text, escape_value}
 use Rattle.rl_style.specs.Rewriting.{cased_digit, digit_follows, gets_letter, restyled_units, styled_digits, fewest_digits, has_letter, needs_number, is_visible, letter_of, lower_digit, number_escape, reescaped, respelled, restyled, hex_escape, visible_unit}
@@ -28,9 +28,9 @@ use Rattle.rl_style.proofs.HiddenUnits.{hidden_invisible, hidden_scalar, hidden_
 use Rattle.rl_style.proofs.SameUnits.{named_low, quote_of, visible_low}
 use Rattle.rl_style.proofs.WrittenTexts.{scalars_join}
 
--- ---- rests
+-- ---- ends of a text
 
--- a text whose characters end with those of another ends with it
+-- If the characters of a text are the end of another text's characters, its bytes are the end of the other text's bytes.
 pub tail_of : (t r front : List ℕ) → IsUtf8 t → IsUtf8 r → chars t ≡ front ++ chars r → IsTail t r
 tail_of t r front u v e = record {
   front = encode_utf8_all front;
@@ -44,7 +44,7 @@ unit_tail k t r v u w e =
     let b = unit_sound k (chars t) (v, chars r) (sym e) in
     tail_of t r (unit_text b.unit) u w b.text_is
 
--- ---- what a unit is written anew as, by its text
+-- ---- the new form of a character or escape, by its text
 
 bare_front : (k : Kind) (c : ℕ) → is_strict_unit k (Itself c) ≡ true → (c == 92) ≡ false
 bare_front Str c h = apart is_bare_in_string c 92 h refl
@@ -61,7 +61,7 @@ letter_of_plain _ c h = h
 abbrev otherwise : Style → Kind → ℕ → ℕ → List ℕ → List ℕ
 otherwise style k n c cs = cond (c == 120 || c == 117) (number_text style k n (92 ∷ c ∷ cs)) (92 ∷ c ∷ cs)
 
--- the number that a unit's contents begin with, where it is of ASCII
+-- The number `m` is the character `n` if it is ASCII, and 128 otherwise.
 pub record IsOf (n m : ℕ) : Type 0 where
   pub low : n < 128 → m ≡ n
   pub high : 128 ≤ n → m ≡ 128
@@ -73,7 +73,7 @@ alone_of n = record {
       (λ b. let l = ltb-true n 128 b in absurd (omega (arith, l, h))));
 }
 
--- its bytes, where the kind holds bytes
+-- The first byte of a character's UTF-8 bytes is the character if it is ASCII. Otherwise it isn't ASCII.
 pub bytes_of : (n : ℕ) → IsOf n (ascii_in (encode_utf8_all (n ∷ [])))
 bytes_of n = record {
   low = λ l. ap ascii_in (low_front n [] l) ∙ (alone_of n).low l;
@@ -92,7 +92,7 @@ held_of Int n = alone_of n
 held_of Float n = alone_of n
 held_of BoolKind n = alone_of n
 
--- a character's value in the code
+-- The value of a character, as the code computes it.
 pub content_ascii : (k : Kind) (n m : ℕ) → m ≡ cond (nat_lt n 128) n 128 → m ≡ ascii_in (content_of k (n ∷ []))
 content_ascii k n m e = go (holds_characters k)
   where
@@ -107,7 +107,7 @@ content_ascii k n m e = go (holds_characters k)
     go true = e
     go false = e ∙ bytes
 
--- an escape by number, by what it spells
+-- The new form of a numeric escape, by its value.
 visible_is : (a b : Bool) (n : ℕ) → cond (a || b) (92 ∷ n ∷ []) (n ∷ [])
     ≡ strict_text (cond a (QuoteEscape n) (cond b (PlainEscape n) (Itself n)))
 visible_is true b n = refl
@@ -129,7 +129,7 @@ either_way : (b : Bool) (n : ℕ) → cond b n n ≡ n
 either_way true n = refl
 either_way false n = refl
 
--- neither visible nor with a letter
+-- The value of the escape isn't a visible character, and has no escape with a letter.
 kept_escape : (style : Style) (k : Kind) (z : Bool) (n : ℕ) (escape : StrictUnit) → is_visible n ≡ false
     → gets_letter z n ≡ false → respelled style k z n escape ≡ escape
 kept_escape style k z n escape v l =
@@ -141,7 +141,7 @@ kept_escape style k z n escape v l =
     ∙ ap (λ b. cond (style.named_escapes && b) (PlainEscape (letter_of n)) escape) l
     ∙ ap (λ b. cond b (PlainEscape (letter_of n)) escape) (none_right style.named_escapes)
 
--- no character of ASCII
+-- If the value isn't an ASCII character, the escape is unchanged except for its digits.
 kept_text : (style : Style) (k : Kind) (text : List ℕ) → number_text style k 128 text ≡ digits_text style text
 kept_text style k text =
     ap (λ b. cond b (visible_text k 128) (cond (style.named_escapes && false) (92 ∷ letter_of 128 ∷ [])
@@ -188,7 +188,7 @@ number_is style k z n m text escape of same =
         ap (λ b. number_text style k (cond b n 128) text) e ∙ kept_text style k text ∙ same
         ∙ ap strict_text (sym (kept_escape style k z n escape none unnamed))
 
--- a plain escape, which begins neither as a quote nor as a number
+-- An escape such as `\n`, whose letter is neither a quote nor that of a numeric escape.
 plain_text : (style : Style) (k : Kind) (n c : ℕ) → is_plain_letter c ≡ true → restyled_escape style k n (c ∷ [])
     ≡ 92 ∷ c ∷ []
 plain_text style k n c h =
@@ -239,7 +239,7 @@ row_text case (d ∷ ds) =
     ∙ ap (λ z. (cased case d.0 ∷ z) ++ map (cased case) (flat_map spaced_digit ds)) (underscores case d.1)
     ∙ ap (λ z. (cased case d.0 ∷ replicate d.1 95) ++ z) (row_text case ds)
 
--- digits and the brace after them
+-- The digits of a `\u{..}` escape, and the brace after them.
 closed_text : (case : Option Case) (ds : List (ℕ × ℕ)) → map (cased case) (flat_map spaced_digit ds ++ (125 ∷ []))
     ≡ flat_map spaced_digit (map (cased_digit case) ds) ++ (125 ∷ [])
 closed_text case ds =
@@ -269,14 +269,14 @@ hex_text style high low =
     (map (cased style.escape_digits) (92 ∷ 120 ∷ high ∷ low ∷ []))) (none_right style.code_digits)
     ∙ hex_front style.escape_digits (high ∷ low ∷ [])
 
--- the digits of an escape that the kind has
+-- The digits of an escape of the kind are hexadecimal.
 hexes : (k : Kind) (ds : List (ℕ × ℕ)) → is_strict_unit k (UnicodeEscape ds) ≡ true → list_all hex_of ds ≡ true
 hexes Str ds h = unicode_hex ds h
 hexes Char ds h = unicode_hex ds h
 hexes CStr ds h = unicode_hex ds (and_parts (is_unicode_escape ds) (not (spaced_value ds == 0)) h).0
 hexes kind ds h = absurd (cc)
 
--- what a character that is escaped becomes: NUL may have a letter
+-- Whether an escaped character is written with a letter. `\0` is allowed for a NUL if the flag is true.
 abbrev by_letter : Style → Bool → ℕ → Bool
 by_letter style z c = style.named_escapes && (z && c == 0)
 
@@ -371,7 +371,7 @@ itself_restyled style k y z c same = go (style.hidden && needs_number c) refl
         ∙ hidden_is style k z c (and_parts style.hidden (needs_number c) e).1
     go false e = refl
 
--- NUL gets a letter by its contents as by itself
+-- Whether a NUL may be written as `\0` is the result for its value and for the character itself.
 zero_same : (k : Kind) (z : Bool) (c : ℕ)
     → ((lettered z (ascii_in (strict_content_of k (c ∷ []))) == 0) && c == 0) ≡ (z && c == 0)
 zero_same k z c = go (c == 0) refl
@@ -421,14 +421,14 @@ unit_restyled style k z (UnicodeEscape digits) h =
     (UnicodeEscape (styled_digits style digits)) (held_of k n) (code_text_is style digits (hexes k digits h))
 unit_restyled style k z (LineBreak blanks) h = refl
 
--- ---- the bytes that are put
+-- ---- the bytes that the code writes
 
 at_escape : (style : Style) (k : Kind) (n : ℕ) (t cs : List ℕ) → t ≡ 92 ∷ cs → restyled_text style k n t
     ≡ restyled_escape style k n cs
 unfolding restyled_text
 at_escape style k n t cs e = ap (restyled_text style k n) e
 
--- a character after the backslash, by which it is
+-- The new form of an escaped quote, by the quote after the backslash.
 quoted_escape : (style : Style) (k : Kind) (n c : ℕ) (cs : List ℕ) → (c == 39 || c == 34) ≡ true
     → restyled_escape style k n (c ∷ cs) ≡ cond (style.quote_escapes && not (c == closer k)) (c ∷ cs) (92 ∷ c ∷ cs)
 quoted_escape style k n c cs q =
@@ -483,7 +483,7 @@ alone_bytes style k n unit escape u e f =
     let text : chars unit ≡ 92 ∷ [] = e ∙ ap (λ z. 92 ∷ z) f in
     ap encode_utf8_all (at_escape style k n (chars unit) [] text ∙ sym text) ∙ encodes-chars unit u
 
--- a character that is no backslash, and what follows it
+-- A character other than a backslash, and the text after it.
 pub plain_bytes : (style : Style) (k : Kind) (n c : ℕ) (unit rest at a b : List ℕ) → IsUtf8 rest
     → chars unit ≡ c ∷ chars rest → first_passes (λ c. c == 92) (chars unit) ≡ false
     → a ≡ at ++ encode_utf8_all (itself_text style (n == 0) c) → b ≡ a ++ rest
@@ -503,7 +503,7 @@ pub empty_bytes : (style : Style) (k : Kind) (n : ℕ) (unit : List ℕ) → cha
 unfolding restyled_text
 empty_bytes style k n unit e = ap (λ z. encode_utf8_all (restyled_text style k n z)) e
 
--- ---- an escape by number that is put
+-- ---- a numeric escape, as the code writes it
 
 opened : (t : List ℕ) → begins (92 ∷ 117 ∷ 123 ∷ []) t ≡ true → t ≡ 92 ∷ 117 ∷ 123 ∷ drop 3 t
 opened [] h = absurd (cc)
@@ -567,7 +567,7 @@ cased_code style text prefix is none =
     ∙ ap (λ b. cond b (92 ∷ 117 ∷ 123 ∷ map (cased style.escape_digits)
     (fewest_text (drop 3 (chars text)))) (map (cased style.escape_digits) (chars text))) (none_right style.code_digits)
 
--- ---- characters stay characters
+-- ---- rewritten characters are Unicode scalar values
 
 scalars_split : (a b : List ℕ) → scalars (a ++ b) ≡ true → (scalars a ≡ true) × (scalars b ≡ true)
 scalars_split [] b h = (refl, h)

@@ -1,13 +1,13 @@
--- A text in which a raw string becomes one with escapes is cut as before, where neither a hash nor a dot stands before
--- it.
-use Rattle.rl_text.proofs.Common.{◌≡◌, ℕ, inr, true, List, [], ◌++◌, refl, ◌∙◌, ap, append-nil}
+-- If a raw string of a text is replaced by a string with escapes, the text is lexed as before. Neither a hash nor a dot
+-- precedes the string.
+use Rattle.rl_syntax.proofs.Common.{◌≡◌, ℕ, inr, true, List, [], ◌++◌, refl, ◌∙◌, ap, append-nil}
 use Rattle.rl_lexer.specs.Lexemes.{BodyPart, NoPrefix, Lexeme, RawLexeme, QuotedLexeme, lexeme_text}
 use Rattle.rl_style.specs.Around.{may_precede_quote}
-use Rattle.rl_style.specs.Recut.{KeepsTheCutUnraw}
+use Rattle.rl_style.specs.Recut.{KeepsTheTokensUnraw}
 use Rattle.rl_style.proofs.Ends.{raw_rest, quoted_rest}
 use Rattle.rl_style.proofs.Recut.{Recut, Unquoted, literal_is, literal_rest, recut}
 
--- a raw string and one with escapes where such a text stands before both
+-- The raw string and the string with escapes, which both follow the text `lead`.
 pub unquoted : (lead : List ℕ) (n : ℕ) (body x : List ℕ) (parts : List BodyPart) (after new_after : List ℕ)
     → may_precede_quote lead ≡ true
     → Unquoted lead (lexeme_text (RawLexeme NoPrefix n body x) ++ after)
@@ -21,8 +21,8 @@ unquoted lead n body x parts after new_after may = record {
   new_is = refl;
 }
 
-pub keeps_the_cut_unraw : KeepsTheCutUnraw
-keeps_the_cut_unraw at t before after n body x parts place r is_body cut sound may =
+pub keeps_the_tokens_unraw : KeepsTheTokensUnraw
+keeps_the_tokens_unraw at t before after n body x parts place r is_body cut sound may =
     let old : Lexeme = RawLexeme NoPrefix n body x in
     let new : Lexeme = QuotedLexeme NoPrefix parts x in
     let rest : List ℕ = literal_rest at t before after old place r cut in

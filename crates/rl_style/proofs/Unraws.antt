@@ -1,7 +1,8 @@
--- A raw string that becomes one with escapes: what stands in front stays, where it ends with neither a hash nor a dot.
-use Rattle.rl_text.proofs.Common.{◌≡◌, ℕ, inl, inr, Bool, true, false, not, ◌&&◌, ◌||◌, ◌==◌, cond, List, [], ◌∷◌, ◌++◌, drop, refl, sym, ◌∙◌, ap, replicate, append_assoc, lit<, is_ascii_digit, is_xid_continue-ascii}
-use Rattle.rl_text.specs.Texts.{is_white, is_underscore, first_passes, is_run_part, is_start, is_continue, begins_char}
-use Rattle.rl_text.specs.Classes.{is_hash, after_run}
+-- A raw string is replaced by a string with escapes. The tokens before it are lexed as before if the text before it ends with
+-- neither a hash nor a dot.
+use Rattle.rl_syntax.proofs.Common.{◌≡◌, ℕ, inl, inr, Bool, true, false, not, ◌&&◌, ◌||◌, ◌==◌, cond, List, [], ◌∷◌, ◌++◌, drop, refl, sym, ◌∙◌, ap, replicate, append_assoc, lit<, is_ascii_digit, is_xid_continue-ascii}
+use Rattle.rl_syntax.specs.Texts.{is_white, is_underscore, first_passes, is_run_part, is_start, is_continue, begins_char}
+use Rattle.rl_syntax.specs.Classes.{is_hash, after_run}
 use Rattle.rl_lexer.specs.Lexemes.{begins_dot, begins_raw_identifier, is_base_letter, LexedFraction, NoLexedFraction, LexedDot, lexed_fraction_text, LexedExponent, NoLexedExponent, LexedPower, lexed_exponent_text, lexed_sign_text, IsRun, IsLexedSuffix, IsLexedFraction, IsLexedExponent, Lexeme, QuotedLexeme, RawLexeme, CharacterLexeme, BasedLexeme, DecimalLexeme, IdentifierLexeme, DelimiterLexeme, MarkLexeme, IsLexeme}
 use Rattle.rl_lexer.specs.Mirrors.LexemeAt.{begins_hashed_quote, begins_exponent, after_sign, begins_otherwise}
 use Rattle.rl_lexer.specs.Sources.{is_in_line, is_apostrophe, PlainToken, RawIdentifierToken, LifetimeToken, RawLifetimeToken, DocLineToken, DocBlockToken, BadQuoteToken, StrayToken, IsName}
@@ -9,10 +10,10 @@ use Rattle.rl_lexer.proofs.LexemeFronts.{start_ascii}
 use Rattle.rl_lexer.proofs.LexemeOpeners.{no_exponent_here, no_exponent_begins, none_otherwise, no_otherwise}
 use Rattle.rl_lexer.proofs.LexemeRows.{not_among, neither_true, not_true}
 use Rattle.rl_style.specs.Around.{may_precede_quote, StaysBeforeQuote}
-use Rattle.rl_text.proofs.Basics.{false_unless}
+use Rattle.rl_syntax.proofs.Basics.{false_unless}
 use Rattle.rl_lexer.proofs.Pieces.{is_equal}
 
--- the old text, and the new one
+-- The old text: the text before the raw string, `r`, and the text after it.
 abbrev old : List ℕ → List ℕ → List ℕ
 old f x = f ++ (114 ∷ x)
 
@@ -45,7 +46,7 @@ suffix_fits : (s f x y : List ℕ) → IsLexedSuffix s (old f x) → IsLexedSuff
 suffix_fits [] f x y h = first_fits is_start f x y start_34 h
 suffix_fits (c ∷ s) f x y (h, r) = (h, row_fits is_continue s f x y continue_34 r)
 
--- ---- dots
+-- ---- texts that begin with a dot
 
 dot_fits : (f x y : List ℕ) → may_precede_quote f ≡ true → begins_dot (old f x) ≡ false → begins_dot (new f y) ≡ false
 dot_fits [] x y may h = refl
@@ -71,7 +72,7 @@ after_dot (LexedPower letter sign n d more) s f x y may suffix (il, id, row) h =
 assoc3 : (d e s t : List ℕ) → (d ++ (e ++ s)) ++ t ≡ d ++ (e ++ (s ++ t))
 assoc3 d e s t = simp append_assoc
 
--- a test of what stands behind more in front
+-- A test of the text after more text has equal results for the old and the new text.
 behind : (test : ℕ → Bool) (d e s f x y : List ℕ) → test 34 ≡ false → first_passes test (d ++ (e ++ (s ++ old f x)))
     ≡ false
     → first_passes test (d ++ (e ++ (s ++ new f y))) ≡ false
@@ -93,7 +94,7 @@ fraction_fits (LexedDot ds) e s f x y may suffix power (h, r) =
       record { each = r.each; ends = behind (is_run_part is_ascii_digit) [] t s f x y refl r.ends },
     )
 
--- ---- exponents
+-- ---- texts that begin with an exponent
 
 run_agrees : (run test : ℕ → Bool) (f x y : List ℕ) → run 114 ≡ false → run 34 ≡ false → test 114 ≡ test 34
     → first_passes test (after_run run (old f x)) ≡ first_passes test (after_run run (new f y))
@@ -157,7 +158,7 @@ decimal_fits d more g e s f x y may (id, not_based, row, fraction, power, suffix
         (ap (first_passes is_base_letter) (at (old f x)) ∙ h)
     base false h = refl
 
--- ---- words
+-- ---- texts that begin with an identifier or a prefix
 
 hashed_agrees : (c : ℕ) (g x y : List ℕ) → may_precede_quote (c ∷ g) ≡ true → begins_hashed_quote (old (c ∷ g) x)
     ≡ begins_hashed_quote (new (c ∷ g) y)

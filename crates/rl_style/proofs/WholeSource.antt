@@ -1,9 +1,9 @@
--- A source whose first line is no interpreter's, in which one literal is written anew, is cut as before everywhere
--- else.
-use Rattle.rl_text.proofs.Common.{◌≡◌, ℕ, ◌+◌, inl, inr, Bool, true, false, not, ◌||◌, ◌==◌, and_parts, both_ways, cond, List, [], ◌∷◌, ◌++◌, refl, sym, ◌∙◌, ap, subst, arith, codes, append_assoc}
-use Rattle.rl_text.specs.Texts.{first_passes, begins, begins_char, byte_len, is_white}
+-- If one literal of a source is rewritten, all other tokens are lexed as before. The source's first line isn't an interpreter's
+-- line.
+use Rattle.rl_syntax.proofs.Common.{◌≡◌, ℕ, ◌+◌, inl, inr, Bool, true, false, not, ◌||◌, ◌==◌, and_parts, both_ways, cond, List, [], ◌∷◌, ◌++◌, refl, sym, ◌∙◌, ap, subst, arith, codes, append_assoc}
+use Rattle.rl_syntax.specs.Texts.{first_passes, begins, begins_char, byte_len, is_white}
 use Rattle.rl_lexer.specs.Lexemes.{Lexeme, lexeme_text}
-use Rattle.rl_lexer.specs.Sources.{CutSource, IsCutUpTo, without_mark, IsScriptLine, IsWithoutLine, IsWithoutPreamble}
+use Rattle.rl_lexer.specs.Sources.{CutSource, IsCutUpTo, without_byte_order_mark, IsScriptLine, IsWithoutLine, IsWithoutPreamble}
 use Rattle.rl_lexer.specs.Skipping.{Skipped}
 use Rattle.rl_lexer.proofs.Pieces.{is_equal, skipped_none}
 use Rattle.rl_lexer.proofs.CutLemmas.{byte_len-append}
@@ -14,14 +14,14 @@ use Rattle.rl_style.proofs.Recut.{Alike, Recut, alike_more, recut_ends}
 abbrev is_mark : ℕ → Bool
 is_mark c = c == 65279
 
--- the mark, or nothing, in front of the body; the same before whatever begins alike
+-- The byte order mark or nothing, and the source after it. It is equal for all texts that begin alike.
 record Marked (t : List ℕ) : Type 0 where
   pub mark : List ℕ
-  pub text_is : t ≡ mark ++ without_mark t
-  pub goes : (u : List ℕ) → first_passes is_mark (without_mark t) ≡ first_passes is_mark u → without_mark (mark ++ u)
+  pub text_is : t ≡ mark ++ without_byte_order_mark t
+  pub goes : (u : List ℕ) → first_passes is_mark (without_byte_order_mark t) ≡ first_passes is_mark u → without_byte_order_mark (mark ++ u)
       ≡ u
 
-unmarked : (u : List ℕ) → first_passes is_mark u ≡ false → without_mark u ≡ u
+unmarked : (u : List ℕ) → first_passes is_mark u ≡ false → without_byte_order_mark u ≡ u
 unmarked [] h = refl
 unmarked (c ∷ u) h = ap (λ b. cond b u (c ∷ u)) h
 
@@ -36,14 +36,14 @@ marked (c ∷ t) = go (c == 65279) refl
       goes = λ u e. ap (λ b. cond b u (c ∷ u)) h;
     }
     go false h =
-        let same : without_mark (c ∷ t) ≡ c ∷ t = ap (λ b. cond b t (c ∷ t)) h in
+        let same : without_byte_order_mark (c ∷ t) ≡ c ∷ t = ap (λ b. cond b t (c ∷ t)) h in
         record {
           mark = [];
           text_is = sym same;
           goes = λ u e. unmarked u (sym e ∙ ap (first_passes is_mark) same ∙ h);
         }
 
--- what follows `#!` is no line where it begins with a bracket
+-- The text after `#!` isn't an interpreter's line if it begins with a bracket.
 no_line : (l : List ℕ) → begins (codes "[") l ≡ true → ((s : List ℕ) → Skipped l s → begins_char 91 s ≡ false) → ⊥
 no_line [] h none = both_ways false refl h
 no_line (c ∷ x) h none =
@@ -51,7 +51,7 @@ no_line (c ∷ x) h none =
     let here : Skipped (c ∷ x) (c ∷ x) = skipped_none (c ∷ x) (ap is_white e) (ap (λ z. z == 47) e) in
     both_ways (begins_char 91 (c ∷ x)) (none (c ∷ x) here) (ap (λ z. z == 91) e)
 
--- as code begins, but for the mark
+-- The text begins without `#!` or with `#![`, after its byte order mark.
 abbrev is_code : List ℕ → Bool
 is_code t = not (begins (codes "#!") t) || begins (codes "#![") t
 
@@ -68,7 +68,7 @@ mark_agrees lead a b (inr (inr u)) = ap (first_passes is_mark) u.old_is ∙ go u
     go [] x y = refl
     go (c ∷ f) x y = refl
 
--- neither a raw string nor one with escapes needs_number or shows what a first line begins with
+-- Neither a raw string nor a string with escapes changes whether a first line is an interpreter's line.
 unquoted_code : (f x y : List ℕ) → is_code (f ++ (114 ∷ x)) ≡ is_code (f ++ (34 ∷ y))
 unquoted_code [] x y = refl
 unquoted_code (c ∷ []) x y = refl
@@ -83,12 +83,12 @@ code_agrees lead a b (inr (inl f)) =
 code_agrees lead a b (inr (inr u)) = ap is_code u.old_is ∙ unquoted_code u.front u.raw u.quoted
     ∙ ap is_code (sym u.new_is)
 
--- the body is what follows the mark
+-- The source's body is the text after the byte order mark.
 body_is : (t body : List ℕ) → is_code t ≡ true → IsWithoutLine t body → body ≡ t
 body_is t body h (inl is) = absurd (no_script t body h is)
 body_is t body h (inr is) = is.0
 
--- what stands in front of the body, before whatever no token in front tells from it
+-- The text before the body. It is followed by any text that no token before can distinguish from the body.
 pub record Preamble (t body : List ℕ) (at : ℕ) : Type 0 where
   pub mark : List ℕ
   pub text_is : t ≡ mark ++ body
@@ -99,7 +99,7 @@ pub preamble : (t : List ℕ) (cuts : List CutSource) (r : List ℕ) → begins_
     → (cut : IsCutUpTo t cuts r)
     → Preamble t cut.body cut.at
 preamble t cuts r code cut =
-    let whole : cut.body ≡ without_mark t = body_is (without_mark t) cut.body code cut.front in
+    let whole : cut.body ≡ without_byte_order_mark t = body_is (without_byte_order_mark t) cut.body code cut.front in
     let k : Marked t = marked t in
     let text_is : t ≡ k.mark ++ cut.body = k.text_is ∙ ap (λ z. k.mark ++ z) (sym whole) in
     let long : byte_len t ≡ byte_len k.mark + byte_len cut.body = ap byte_len text_is
@@ -109,11 +109,11 @@ preamble t cuts r code cut =
       text_is = text_is;
       at_is = omega (arith, cut.place, long);
       goes = λ u a.
-          let bare : without_mark (k.mark ++ u) ≡ u = k.goes u (ap (first_passes is_mark) (sym whole)
+          let bare : without_byte_order_mark (k.mark ++ u) ≡ u = k.goes u (ap (first_passes is_mark) (sym whole)
           ∙ mark_agrees k.mark cut.body u a) in
           let free : begins_with_code (k.mark ++ u) ≡ true = ap is_code bare ∙ sym (code_agrees k.mark cut.body u a)
           ∙ ap is_code whole ∙ code in
-          inr (sym bare, λ s is. no_script (without_mark (k.mark ++ u)) s free is);
+          inr (sym bare, λ s is. no_script (without_byte_order_mark (k.mark ++ u)) s free is);
     }
 
 pub source_recut : (t : List ℕ) (before after : List CutSource) (old new : Lexeme) (place : ℕ) (r : List ℕ)

@@ -1,29 +1,29 @@
--- Numbers as they were written.
-use Rattle.rl_text.proofs.Common.{◌≡◌, ℕ, ◌||◌, ◌&&◌, Bool, true, false, not, ◌==◌, cond, List, [], ◌∷◌, ◌++◌, ◌+◌, length, eqb-true, cases_Bool, Some, None, refl, sym, ap, subst, ◌∙◌, inl, inr, arith, append_assoc, append_cancel_right, and_from, and_parts, flat_map, list_all, scalar, encode_utf8_all, encodes-append, encodes-chars, IsUtf8}
+-- The bytes of a rewritten number, as the code writes them.
+use Rattle.rl_syntax.proofs.Common.{◌≡◌, ℕ, ◌||◌, ◌&&◌, Bool, true, false, not, ◌==◌, cond, List, [], ◌∷◌, ◌++◌, ◌+◌, length, eqb-true, cases_Bool, Some, None, refl, sym, ap, subst, ◌∙◌, inl, inr, arith, append_assoc, append_cancel_right, and_from, and_parts, flat_map, list_all, scalar, encode_utf8_all, encodes-append, encodes-chars, IsUtf8}
 use Rattle.std.specs.Prelude.{Option}
 use Rattle.std.specs.Str.{chars}
 use Rattle.std.proofs.Math.Utf8.{scalars}
 use Rattle.std.proofs.lemmas.Str.{scalars-chars}
-use Rattle.rl_reading.proofs.Names.{Binary, Hexadecimal, Octal}
-use Rattle.rl_forms.specs.Reading.{Contents}
-use Rattle.rl_forms.specs.Strict.{StrictFloat, StrictInt}
-use Rattle.rl_reading.specs.Mirrors.NumberAt.{radix_at}
-use Rattle.rl_reading.proofs.IntegerLemmas.{not_based, radix_past}
+use Rattle.rl_lenient.proofs.Names.{Binary, Hexadecimal, Octal}
+use Rattle.rl_syntax.specs.Reading.{Contents}
+use Rattle.rl_syntax.specs.Strict.{StrictFloat, StrictInt}
+use Rattle.rl_lenient.specs.Mirrors.NumberAt.{radix_at}
+use Rattle.rl_lenient.proofs.IntegerLemmas.{not_based, radix_past}
 use Rattle.rl_style.specs.declared.style.Case.{Case}
 use Rattle.rl_style.specs.declared.style.Case.TheVariants.{Lower, Upper}
 use Rattle.rl_style.specs.declared.style.Separator.{Separator}
 use Rattle.rl_style.specs.declared.style.Separator.TheVariants.{Nothing, Underscore}
 use Rattle.rl_style.specs.declared.style.Style.{Style}
 use Rattle.rl_style.specs.Cases.{cased, drops_underscores, drops_zeros, exponent_letter, kept_digits, kept_run, number_character, separator, separator_by}
-use Rattle.rl_text.specs.Texts.{first_passes, is_run_part}
-use Rattle.rl_text.proofs.Common.{is_ascii_digit}
+use Rattle.rl_syntax.specs.Texts.{first_passes, is_run_part}
+use Rattle.rl_syntax.proofs.Common.{is_ascii_digit}
 use Rattle.rl_style.specs.Groups.{after_dot, digit_run, fraction_in_groups, float_in_groups, grouped_run, least_by, regrouped, size_by}
 use Rattle.rl_style.specs.Rewriting.{RewritesFloat, RewritesInt, styled_run}
-use Rattle.rl_text.specs.Classes.{after_run}
+use Rattle.rl_syntax.specs.Classes.{after_run}
 use denote.Bor.{Bor}
-use Rattle.rl_reasons.specs.declared.read_numbers.Number.{Number}
-use Rattle.rl_reasons.specs.declared.read_numbers.Number.TheVariants.{Integer, Float}
-use Rattle.rl_reasons.specs.StrictNumbersRead.{IsNumberRead}
+use Rattle.rl_strict.specs.declared.read_numbers.Number.{Number}
+use Rattle.rl_strict.specs.declared.read_numbers.Number.TheVariants.{Integer, Float}
+use Rattle.rl_strict.specs.StrictNumbersRead.{IsNumberRead}
 use Rattle.rl_style.proofs.CaseLemmas.{cased_scalar}
 use Rattle.rl_style.proofs.SameIntegers.{integer_plus, kept_of_row, row_facts, zeros_ten}
 use Rattle.rl_style.proofs.Trimmed.{kept_first}
@@ -32,7 +32,7 @@ use Rattle.rl_style.proofs.WrittenTexts.{between_texts, scalars_join, text_of}
 use Rattle.rl_writing.proofs.AsciiLemmas.{encoded_low, low_chars}
 use Rattle.rl_style.specs.declared.characters.Manner.{Manner}
 
--- ---- the base
+-- ---- the base of a number
 
 abbrev radix_of : List ℕ → ℕ
 radix_of t = (radix_at t).0
@@ -73,9 +73,9 @@ digits_found t v x i =
       ]
     ]
 
--- ---- what was written
+-- ---- the bytes that the code writes
 
--- a text of characters, and one after it
+-- A text of Unicode scalar values, followed by a UTF-8 text.
 followed : (m s b : List ℕ) → IsUtf8 s → scalars m ≡ true → b ≡ encode_utf8_all m ++ s → IsUtf8 b
     × (chars b ≡ m ++ chars s)
 followed m s b v h e = text_of b (m ++ chars s) (scalars_join m (chars s) h (scalars-chars s v))
@@ -118,7 +118,7 @@ separator_scalars (Some Nothing) x = refl
 separator_scalars (Some Underscore) [] = refl
 separator_scalars (Some Underscore) (c ∷ cs) = refl
 
--- the bytes of the suffix, and of what the style puts before it
+-- The bytes of the suffix, and of the separator before it.
 abbrev pub ended : Style → List ℕ → List ℕ
 ended style suffix = encode_utf8_all (separator style (chars suffix)) ++ suffix
 
@@ -206,7 +206,7 @@ pub number_utf8 : (style : Style) (front middle suffix new : List ℕ) → IsUtf
     → scalars middle ≡ true → Written style front middle suffix new → IsUtf8 new
 number_utf8 style front middle suffix new u us h e = (number_text style front middle suffix new u us h e).0
 
--- where the digits of an integer stand
+-- The byte offset of an integer's digits.
 pub digits_cut : (text digits suffix full : List ℕ) (base : ℕ) (v : Contents)
     → ◌≡◌ {A = ℕ × List ℕ} (base, chars digits) (radix_at (chars text))
     → chars digits ≡ chars full ++ chars suffix → (i : StrictInt (chars text) v (chars suffix))
@@ -249,7 +249,7 @@ integer_written style text digits suffix full whole run front new base v u us ur
       },
     )
 
--- the digits of an integer of base ten begin with one
+-- The digits of a decimal integer begin with a digit.
 integer_digit : (style : Style) (t : List ℕ) (base : ℕ) (x : List ℕ) (v : Contents) (i : StrictInt t v x)
     → base ≡ i.base → drops_zeros style base x ≡ true → first_passes is_ascii_digit i.run ≡ true
 integer_digit style t base x v i is h =
@@ -274,7 +274,7 @@ whole_digit style text digits suffix full whole base v at cut kept i h =
     ap (first_passes is_ascii_digit) (kept ∙ ap (kept_run style (chars suffix)) p.1)
     ∙ kept_first style (chars suffix) i.run (integer_digit style (chars text) base (chars suffix) v i p.0 h)
 
--- no plus stands in them
+-- The digits of an integer contain no plus.
 pub row_plus : (style : Style) (text digits suffix full whole run : List ℕ) (base : ℕ) (v : Contents)
     → ◌≡◌ {A = ℕ × List ℕ} (base, chars digits) (radix_at (chars text)) → chars digits ≡ chars full ++ chars suffix
     → chars whole ≡ kept_run style (chars suffix) (chars full)
@@ -320,9 +320,9 @@ float_written style text full numeral suffix new v un us cut kept e f =
     empty_utf8 : IsUtf8 []
     empty_utf8 = ([], (refl, refl))
 
--- ---- put into a slice, one after the other
+-- ---- parts that are written into a slice one after the other
 
--- what is left to be put, and what was put
+-- The text that is still to be written, and the text written so far.
 pub one_more : (whole taken new one rest : List ℕ) → whole ≡ taken ++ encode_utf8_all (one ++ rest)
     → new ≡ taken ++ encode_utf8_all one → whole ≡ new ++ encode_utf8_all rest
 one_more whole taken new one rest e h =
@@ -330,7 +330,7 @@ one_more whole taken new one rest e h =
     ∙ sym (append_assoc taken (encode_utf8_all one) (encode_utf8_all rest))
     ∙ ap (λ z. z ++ encode_utf8_all rest) (sym h)
 
--- a digit, and an underscore after it
+-- A digit, and an underscore after it if its group ends.
 pub digit_marked : (old first new one : List ℕ) (b : Bool) → first ≡ old ++ encode_utf8_all one
     → new ≡ first ++ (95 ∷ []) → b ≡ true → new ≡ old ++ encode_utf8_all (one ++ cond b (95 ∷ []) [])
 digit_marked old first new one b e h is =
@@ -339,7 +339,7 @@ digit_marked old first new one b e h is =
     ∙ ap (λ z. old ++ z) (sym (encodes-append one (95 ∷ [])))
     ∙ ap (λ z. old ++ encode_utf8_all (one ++ cond z (95 ∷ []) [])) (sym is)
 
--- a text that begins with a dot
+-- A text that begins with a dot.
 pub dotted : (text inside prefix : List ℕ) → IsUtf8 text → IsUtf8 inside → prefix ≡ 46 ∷ []
     → chars text ≡ chars prefix ++ chars inside
     → (length text ≡ 1 + length inside) × (chars text ≡ 46 ∷ chars inside)
@@ -352,7 +352,7 @@ dotted text inside prefix ut ui is e =
     ∙ ap (λ z. 46 ∷ z) (encodes-chars inside ui) in
     (let n = ap length bytes in omega (arith, n), whole)
 
--- and one that doesn't
+-- A text that doesn't begin with a dot.
 pub undotted : (closes : Bool) (f : ℕ → List ℕ) (g : List ℕ → List ℕ) (cs prefix : List ℕ) → prefix ≡ 46 ∷ []
     → ((x : List ℕ) → cs ≡ chars prefix ++ x → ⊥) → fraction_in_groups closes f g cs ≡ flat_map f cs
 undotted closes f g [] prefix is none = refl
@@ -363,7 +363,7 @@ undotted closes f g (c ∷ cs) prefix is none =
       | inr a ↦ ap (λ b. cond b (c ∷ after_dot closes f g cs) (flat_map f (c ∷ cs))) a
     ]
 
--- nothing follows the dot, or something does
+-- The bytes that are written after a float's dot: a zero or nothing if the text after the dot is empty.
 pub none_put : (closes : Bool) (f : ℕ → List ℕ) (g : List ℕ → List ℕ) (old new cs : List ℕ)
     → new ≡ old ++ encode_utf8_all (cond closes (48 ∷ []) []) → cs ≡ []
     → new ≡ old ++ encode_utf8_all (after_dot closes f g cs)
@@ -400,7 +400,7 @@ fraction_put closes f g old first second text cs a b t =
     ∙ ap (λ z. old ++ z) (sym (encodes-append (46 ∷ []) more))
     ∙ ap (λ z. old ++ encode_utf8_all (fraction_in_groups closes f g z)) (sym t)
 
--- ---- in the manner of the style
+-- ---- a number rewritten with the options of a style
 
 pub float_put : (style : Style) (manner : Manner) (cs run rest first second third suffix : List ℕ)
     → manner.style ≡ style → manner.drops ≡ drops_underscores style (chars suffix)
@@ -455,7 +455,7 @@ integer_put style manner base run front first second third suffix e d h z a b c 
     ∙ ap (λ y. y ++ encode_utf8_all (Of manner.style manner.drops manner.hex manner.size)) a
     ∙ ap (λ y. front ++ encode_utf8_all y) same)
 
--- ---- what was read
+-- ---- the parse result of a number
 
 pub integer_of : (t : List ℕ) (n : Number) (m : Option ℕ) (suffix : Bor (List ℕ)) → IsNumberRead t n → n
     ≡ Integer m suffix

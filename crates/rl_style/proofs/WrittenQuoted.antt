@@ -1,12 +1,12 @@
--- Quoted literals as they were written.
-use Rattle.rl_text.proofs.Common.{◌≡◌, ℕ, zero, suc, ◌+◌, ◌*◌, ◌<◌, ◌≤◌, Bool, true, false, List, [], ◌∷◌, ◌++◌, length, replicate, refl, sym, ap, subst, ◌∙◌, inl, inr, arith, append_assoc, append-nil, cases_lt, list_all, flat_map, encode_utf8, encode_utf8_all, encode_ascii, encodes-append, encodes-chars, chars-append, length-append, IsUtf8}
+-- The bytes of a rewritten quoted literal, as the code writes them.
+use Rattle.rl_syntax.proofs.Common.{◌≡◌, ℕ, zero, suc, ◌+◌, ◌*◌, ◌<◌, ◌≤◌, Bool, true, false, List, [], ◌∷◌, ◌++◌, length, replicate, refl, sym, ap, subst, ◌∙◌, inl, inr, arith, append_assoc, append-nil, cases_lt, list_all, flat_map, encode_utf8, encode_utf8_all, encode_ascii, encodes-append, encodes-chars, chars-append, length-append, IsUtf8}
 use Rattle.std.specs.Str.{chars}
 use Rattle.std.proofs.Math.Utf8.{scalars}
 use Rattle.std.proofs.lemmas.Str.{scalars-chars}
-use Rattle.rl_reading.proofs.Names.{Kind, Str, ByteStr, CStr, Byte, Char, Int, Float, BoolKind, StrictUnit, is_string, opener, quoted_contents, strict_content_of, strict_contents, strict_text}
-use Rattle.rl_forms.specs.Written.{closer}
-use Rattle.rl_forms.specs.Strict.{Strict, StrictRaw, strict_closer, strict_opener, strict_raw_opener}
-use Rattle.rl_forms.proofs.StrictQuoted.{between}
+use Rattle.rl_lenient.proofs.Names.{Kind, Str, ByteStr, CStr, Byte, Char, Int, Float, BoolKind, StrictUnit, is_string, opener, quoted_contents, strict_content_of, strict_contents, strict_text}
+use Rattle.rl_syntax.specs.Written.{closer}
+use Rattle.rl_syntax.specs.Strict.{Strict, StrictRaw, strict_closer, strict_opener, strict_raw_opener}
+use Rattle.rl_syntax.proofs.StrictQuoted.{between}
 use Rattle.rl_writing.specs.RawStrings.{HasFewestHashes, HasNoRaw, raw_contents, raw_text}
 use Rattle.rl_writing.proofs.AsciiLemmas.{encoded_low, is_low, low_join}
 use Rattle.rl_style.specs.declared.style.Style.{Style}
@@ -16,7 +16,7 @@ use Rattle.rl_style.proofs.SameRaw.{length_hashes, raw_followed, raw_joined, raw
 use Rattle.rl_style.proofs.UnitTexts.{units_scalars}
 use Rattle.rl_style.proofs.WrittenTexts.{scalars_join, text_of}
 
--- ---- lengths
+-- ---- the lengths of a literal's parts
 
 pub parts_length : (t i s a b : List ℕ) → IsUtf8 t → IsUtf8 i → IsUtf8 s → list_all is_low a ≡ true
     → list_all is_low b ≡ true → chars t ≡ a ++ (chars i ++ (b ++ chars s))
@@ -32,7 +32,7 @@ parts_length t i s a b ut ui us la lb e =
     ap length whole ∙ length-append a (i ++ (b ++ s)) ∙ ap (λ n. length a + n) (length-append i (b ++ s)
     ∙ ap (λ n. length i + n) (length-append b s))
 
--- ---- with escapes
+-- ---- literals with escapes
 
 opener_low : (k : Kind) → list_all is_low (strict_opener k) ≡ true
 opener_low Str = refl
@@ -114,7 +114,7 @@ closer_scalars Int = refl
 closer_scalars Float = refl
 closer_scalars BoolKind = refl
 
--- one text after another
+-- One text written after another.
 pub joined : (a b c d o mid x : List ℕ) (q r : ℕ) → d ≡ c ++ x → c ≡ b ++ encode_utf8 q → q ≡ r → b ≡ a ++ mid → a ≡ o
     → d
     ≡ ((o ++ mid) ++ encode_utf8 r) ++ x
@@ -166,7 +166,7 @@ cooked_written style k text inside suffix new ui us p w =
       },
     )
 
--- ---- raw
+-- ---- raw strings
 
 abbrev raw_tree : (k : Kind) (t i x : List ℕ) → (p : RawParts k t i x)
     → StrictRaw t k (quoted_contents k (strict_content_of k i)) x
@@ -188,7 +188,7 @@ raw_is_string ByteStr t i x p = refl
 raw_is_string CStr t i x p = refl
 raw_is_string kind t i x p = absurd p.allowed
 
--- without its suffix it is a literal too
+-- A raw string without its suffix is a raw string too.
 raw_alone : (k : Kind) (t i x : List ℕ) → (p : RawParts k t i x)
     → Strict (raw_text k p.hashes i) k (raw_contents k i) []
 raw_alone k t i x p = raw_strict (raw_text k p.hashes i) k (raw_contents k i) [] (record {
@@ -237,7 +237,7 @@ pub regrouped : (o h i x : List ℕ) → o ++ (h ++ (34 ∷ (i ++ (34 ∷ (h ++ 
     ≡ (o ++ (h ++ (34 ∷ []))) ++ (i ++ ((34 ∷ h) ++ x))
 regrouped o h i x = simp append_assoc
 
--- with the fewest hashes it takes no more than a byte more than the text
+-- A raw string with the fewest hashes has at most one byte more than the old text.
 pub raw_room : (k : Kind) (t i s : List ℕ) (n : ℕ) → IsUtf8 t → IsUtf8 i → IsUtf8 s
     → RawParts k (chars t) (chars i) (chars s) → HasFewestHashes k (chars i) n
     → (length i + 2 * n + 4) + length s ≤ length t + 1

@@ -1,14 +1,14 @@
--- Raw literals as they are written with escapes.
-use Rattle.rl_text.proofs.Common.{◌≡◌, ℕ, ◌+◌, ◌*◌, ◌≤◌, true, List, [], ◌∷◌, ◌++◌, length, map, replicate, refl, sym, ap, ◌∙◌, arith, append_assoc, append-nil, and_from, and_parts, list_all, encode_utf8_all, encodes-append, encodes-chars, length-append, scalar, is_ascii_digit, IsUtf8, Bool, not}
+-- The bytes of a raw string that is rewritten as a string with escapes.
+use Rattle.rl_syntax.proofs.Common.{◌≡◌, ℕ, ◌+◌, ◌*◌, ◌≤◌, true, List, [], ◌∷◌, ◌++◌, length, map, replicate, refl, sym, ap, ◌∙◌, arith, append_assoc, append-nil, and_from, and_parts, list_all, encode_utf8_all, encodes-append, encodes-chars, length-append, scalar, is_ascii_digit, IsUtf8, Bool, not}
 use Rattle.std.specs.Str.{chars}
 use Rattle.std.proofs.Math.Utf8.{scalars}
 use Rattle.std.proofs.lemmas.Str.{scalars-chars}
-use Rattle.rl_reading.proofs.Names.{Kind, Str, ByteStr, CStr, is_string, opener}
-use Rattle.rl_forms.specs.Strict.{strict_closer, strict_opener, strict_raw_opener}
-use Rattle.rl_forms.proofs.StrictQuoted.{between}
+use Rattle.rl_lenient.proofs.Names.{Kind, Str, ByteStr, CStr, is_string, opener}
+use Rattle.rl_syntax.specs.Strict.{strict_closer, strict_opener, strict_raw_opener}
+use Rattle.rl_syntax.proofs.StrictQuoted.{between}
 use Rattle.rl_writing.proofs.AsciiLemmas.{encoded_low, is_low, low_join}
 use Rattle.rl_style.specs.declared.style.Style.{Style}
-use Rattle.rl_text.specs.Texts.{first_passes}
+use Rattle.rl_syntax.specs.Texts.{first_passes}
 use Rattle.rl_style.specs.Mirrors.{RawParts, itself_text, raw_character, raw_inside}
 use Rattle.rl_style.specs.Rewriting.{needs_backslash, raw_unit, restyled_inside, unraw_text}
 use Rattle.rl_style.proofs.LostRaw.{raw_texts}
@@ -23,7 +23,7 @@ opener_is ByteStr h = (refl, refl, refl, refl)
 opener_is CStr h = (refl, refl, refl, refl)
 opener_is kind h = absurd (cc)
 
--- four bytes for each that stands inside, and no more hashes
+-- The new text has at most four bytes for each byte of the content, and no hashes.
 pub unraw_room : (k : Kind) (t i s : List ℕ) → IsUtf8 t → IsUtf8 i → IsUtf8 s
     → RawParts k (chars t) (chars i) (chars s) → length (opener k) + 4 * length i + 1 + length s ≤ 4 * length t
 unraw_room k t i s ut ui us p =
@@ -75,9 +75,9 @@ unraw_written style k t inside suffix new ui us p w =
           ++ (z ++ chars suffix))) (sym o.3),
     )
 
--- ---- one character after another
+-- ---- one character after the other
 
--- characters before others
+-- The new text of the first characters of a raw string, where other characters follow.
 abbrev pub raw_before : Style → List ℕ → List ℕ → List ℕ
 raw_before style [] left = []
 raw_before style (c ∷ cs) left =
@@ -119,7 +119,7 @@ raw_all style front a xs all rest cut none e =
     ∙ ap (λ t. front ++ encode_utf8_all t) (raw_whole style xs
     ∙ ap (raw_inside style) (sym (cut ∙ ap (λ t. xs ++ t) none ∙ append-nil xs)))
 
--- ---- the pieces
+-- ---- the parts of the written string
 
 pub unraw_pieces : (a b c d o mid x : List ℕ) → d ≡ c ++ x → c ≡ b ++ (34 ∷ []) → b ≡ a ++ mid → a ≡ o
     → d ≡ ((o ++ mid) ++ (34 ∷ [])) ++ x

@@ -1,23 +1,24 @@
--- What of two texts a token in front of them can tell apart: nothing, where both begin alike up to a literal's first
--- character. A character is its code.
+-- The differences between two texts on which a token before them may depend. It doesn't depend on them if both texts begin
+-- alike up to a literal's first character. A character is its code.
 use Rattle.std.specs.Prelude.{◌≡◌, ◌≢◌, ℕ, ◌⊎◌, Bool, true, false, not, ◌&&◌, ◌||◌, ◌==◌, List, [], ◌∷◌, ◌++◌, codes, IsTrue, ⊤}
 use Rattle.std.specs.Char.{is_ascii_digit}
 use Rattle.std.specs.List.{list_all}
 use Prim.Native.Char.{code}
-use Rattle.rl_text.specs.Texts.{is_among, first_passes, is_run_part, is_continue}
-use Rattle.rl_forms.specs.Numbers.{is_exponent_letter}
+use Rattle.rl_syntax.specs.Texts.{is_among, first_passes, is_run_part, is_continue}
+use Rattle.rl_syntax.specs.Numbers.{is_exponent_letter}
 use Rattle.rl_lexer.specs.Lexemes.{LiteralPrefix, NoPrefix, BeginsHashedQuote, BodyPart, IsBody, CharacterBody, IsCharacterBody, IsRawBody, Lexeme, QuotedLexeme, RawLexeme, CharacterLexeme, BasedLexeme, DecimalLexeme, LexedFraction, NoLexedFraction, LexedDot, lexed_fraction_text, LexedExponent, NoLexedExponent, LexedPower, lexed_exponent_text, is_base_letter, lexeme_text, IsLexeme}
 use Rattle.rl_lexer.specs.Sources.{SourceLexeme, IsProper}
 
--- what a literal begins with
+-- The characters that a literal may begin with.
 abbrev pub is_head : ℕ → Bool
 is_head c = is_among (codes "\"'rbc") c || is_ascii_digit c
 
--- no token in front of a literal tells which of two digits it begins with
+-- The first characters of two literals are equal, or digits. No token before a literal depends on which digit the literal
+-- begins with.
 abbrev pub SameHead : ℕ → ℕ → Type 0
 SameHead old new = (old ≡ new) ⊎ (IsTrue (is_ascii_digit old) × IsTrue (is_ascii_digit new))
 
--- Both texts begin alike, up to a quote, a digit, or the `r` of a raw literal.
+-- The old and the new text begin alike, up to a quote, a digit, or the `r` of a raw string.
 pub record SameFront (old new : List ℕ) : Type 0 where
   pub front : List ℕ
   pub head : ℕ
@@ -30,11 +31,12 @@ pub record SameFront (old new : List ℕ) : Type 0 where
   pub old_is : old ≡ front ++ (head ∷ old_rest)
   pub new_is : new ≡ front ++ (new_head ∷ new_rest)
 
--- A token, bad quotes and strays aside, stays one before the other text.
+-- If two texts begin alike up to a literal's first character, each token before the old text is a token before the new text.
+-- Invalid quotes and stray characters are excepted.
 abbrev pub StaysAround : Type 0
 StaysAround = (w : SourceLexeme) (old new : List ℕ) → SameFront old new → IsProper w old → IsProper w new
 
--- Both are strings with escapes, of one prefix and with one suffix; the new one is well made.
+-- The old and the new literal are quoted with escapes and have one prefix and one suffix. The new one is well formed.
 pub record SameQuoted (old new : Lexeme) : Type 0 where
   pub prefix : LiteralPrefix
   pub parts : List BodyPart
@@ -44,7 +46,7 @@ pub record SameQuoted (old new : Lexeme) : Type 0 where
   pub old_is : old ≡ QuotedLexeme prefix parts suffix
   pub new_is : new ≡ QuotedLexeme prefix new_parts suffix
 
--- the same of raw strings, whatever their hashes
+-- The old and the new literal are raw strings with any hashes, one prefix and one suffix. The new one is well formed.
 pub record SameRawString (old new : Lexeme) : Type 0 where
   pub prefix : LiteralPrefix
   pub hashes : ℕ
@@ -56,7 +58,7 @@ pub record SameRawString (old new : Lexeme) : Type 0 where
   pub old_is : old ≡ RawLexeme prefix hashes body suffix
   pub new_is : new ≡ RawLexeme prefix new_hashes new_body suffix
 
--- The old one is a raw string after `b` or `c`, the new one has escapes in its place.
+-- The old literal is a raw string with the prefix `b` or `c`, and the new one a string with escapes and this prefix.
 pub record SameUnraw (old new : Lexeme) : Type 0 where
   pub prefix : LiteralPrefix
   pub has_prefix : prefix ≢ NoPrefix
@@ -68,7 +70,7 @@ pub record SameUnraw (old new : Lexeme) : Type 0 where
   pub old_is : old ≡ RawLexeme prefix hashes body suffix
   pub new_is : new ≡ QuotedLexeme prefix new_parts suffix
 
--- the same of characters and bytes
+-- The old and the new literal are characters or bytes with one suffix. The new one is well formed.
 pub record SameCharacter (old new : Lexeme) : Type 0 where
   pub is_byte : Bool
   pub inside : CharacterBody
@@ -78,7 +80,7 @@ pub record SameCharacter (old new : Lexeme) : Type 0 where
   pub old_is : old ≡ CharacterLexeme is_byte inside suffix
   pub new_is : new ≡ CharacterLexeme is_byte new_inside suffix
 
--- Both are integers with a base's prefix, of one base; the suffix stands in their runs.
+-- The old and the new literal are integers with one base prefix. Here the suffix is part of their digits.
 pub record SameBased (old new : Lexeme) : Type 0 where
   pub letter : ℕ
   pub digits : List ℕ
@@ -87,7 +89,7 @@ pub record SameBased (old new : Lexeme) : Type 0 where
   pub old_is : old ≡ BasedLexeme letter digits
   pub new_is : new ≡ BasedLexeme letter new_digits
 
--- the same dot part but for its digits; a dot alone stays one or gets a digit
+-- The fractions differ only in their digits. A dot without digits stays so, or gets a digit.
 abbrev pub SameFraction : LexedFraction → LexedFraction → LexedExponent → Type 0
 SameFraction NoLexedFraction NoLexedFraction power = ⊤
 SameFraction (LexedDot digits) (LexedDot new) power =
@@ -95,7 +97,7 @@ SameFraction (LexedDot digits) (LexedDot new) power =
     × (IsTrue (first_passes is_ascii_digit new) ⊎ ((digits ≡ []) × (new ≡ []) × (power ≡ NoLexedExponent)))
 SameFraction _ _ power = ⊥
 
--- an exponent where there was one
+-- The new number has an exponent if and only if the old one has one.
 abbrev pub SamePower : LexedExponent → LexedExponent → Type 0
 SamePower NoLexedExponent NoLexedExponent = ⊤
 SamePower (LexedPower _ _ _ _ _) (LexedPower letter sign n d more) =
@@ -103,8 +105,8 @@ SamePower (LexedPower _ _ _ _ _) (LexedPower letter sign n d more) =
     × IsTrue (list_all (is_run_part is_ascii_digit) more)
 SamePower _ _ = ⊥
 
--- Both are decimals with the same first digit and suffix; the new one has a dot part and an exponent where the old one
--- had them, and doesn't begin as another base does.
+-- The old and the new literal are decimal numbers with one first digit and one suffix. The new one has a fraction and an
+-- exponent where the old one has them, and doesn't begin with the prefix of another base.
 pub record SameDecimal (old new : Lexeme) : Type 0 where
   pub digit : ℕ
   pub more : List ℕ
@@ -122,26 +124,27 @@ pub record SameDecimal (old new : Lexeme) : Type 0 where
   pub old_is : old ≡ DecimalLexeme digit more fraction exponent suffix
   pub new_is : new ≡ DecimalLexeme digit new_more new_fraction new_exponent suffix
 
--- The new literal has the form of the old one, its prefix and its suffix, and is well made.
+-- The new literal has the form, the prefix and the suffix of the old one, and is well formed.
 abbrev pub SameEnds : Lexeme → Lexeme → Type 0
 SameEnds old new =
     SameQuoted old new ⊎ (SameRawString old new ⊎ (SameCharacter old new ⊎ (SameBased old new
     ⊎ (SameDecimal old new ⊎ SameUnraw old new))))
 
--- What ends as the old literal did is a literal before whatever followed the old one, and begins as it did.
+-- A new literal with the form, the prefix and the suffix of the old one is a literal before any text that may follow the old
+-- one, and begins as the old one does.
 abbrev pub KeepsItsEnds : Type 0
 KeepsItsEnds =
     (l m : Lexeme) (after : List ℕ) → SameEnds l m → IsLexeme l after
     → IsLexeme m after × SameFront (lexeme_text l ++ after) (lexeme_text m ++ after)
 
--- the text is empty, or ends with neither a hash nor a dot
+-- The text is empty, or ends with neither a hash nor a dot.
 abbrev pub may_precede_quote : List ℕ → Bool
 may_precede_quote [] = true
 may_precede_quote (c ∷ []) = not (c == code "#" || c == code ".")
 may_precede_quote (c ∷ d ∷ t) = may_precede_quote (d ∷ t)
 
--- A token in front of a raw string stays one before a string, where the text between ends with neither a hash nor a
--- dot.
+-- A token before a raw string is also a token before a string with escapes, if the text between them ends with neither a hash
+-- nor a dot.
 abbrev pub StaysBeforeQuote : Type 0
 StaysBeforeQuote =
     (w : SourceLexeme) (front raw quoted : List ℕ) → IsTrue (may_precede_quote front)

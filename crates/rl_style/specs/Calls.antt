@@ -1,29 +1,29 @@
--- Where a token stands inside of a macro call, of a macro's definition or of an attribute, by the tokens before it. A word is
--- a list of bytes.
+-- Whether a token is inside a macro call, a macro's definition or an attribute, according to the tokens before it. An
+-- identifier's text is a list of bytes.
 use Rattle.std.specs.Prelude.{ℕ, ◌+◌, ◌-◌, Bool, true, false, not, ◌&&◌, ◌==◌, nat_lt, List, [], ◌∷◌, codes, if◌then◌else◌}
 use Rattle.std.specs.List.{list_any}
 use Rattle.std.specs.Str.{bytes_eq}
 use Prim.Native.Char.{code}
-use Rattle.rl_text.specs.Texts.{is_among}
+use Rattle.rl_syntax.specs.Texts.{is_among}
 use Rattle.rl_lexer.specs.Lexemes.{LiteralForm, IdentifierForm, DelimiterForm, MarkForm}
 use Rattle.rl_lexer.specs.Sources.{SourceKind, PlainKind, RawIdentifierKind, LifetimeKind, DocCommentKind, StrayKind}
 use Rattle.rl_style.specs.declared.calls.Calls.{Calls}
 use Rattle.rl_style.specs.declared.calls.Calls.TheVariants as found
 
--- What the tokens so far say of the next. A macro's definition and an attribute are as calls.
+-- The position of the next token relative to macro calls. A macro's definition and an attribute count as calls.
 pub data CallState : Type 0 where
-  -- no call
+  -- The next token is outside of macro calls.
   Outside : CallState
-  -- a word, which may be a macro's name
+  -- The next token follows an identifier, which may be a macro's name.
   AfterWord : (word : List ℕ) → CallState
-  -- a macro's name and `!`, and any words after them
+  -- The next token follows a macro's name, `!`, and perhaps identifiers.
   AfterBang : CallState
-  -- `#`, and any `!` after it
+  -- The next token follows `#`, or `#!`.
   AfterHash : CallState
-  -- a call, so many brackets deep
+  -- The next token is inside a macro call, nested in this number of brackets.
   Inside : (depth : ℕ) → CallState
 
--- the keywords of all editions: no macro has such a name, and `!` after one is an operator or a type
+-- The keywords of all editions of Rust. No macro has one of these names, so `!` after one is an operator or the never type.
 abbrev pub keywords : List (List ℕ)
 keywords =
     codes "as" ∷ codes "break" ∷ codes "const" ∷ codes "continue" ∷ codes "crate" ∷ codes "else" ∷ codes "enum"
@@ -35,7 +35,7 @@ keywords =
 unfoldable pub is_keyword : List ℕ → Bool
 is_keyword word = list_any (bytes_eq word) keywords
 
--- A word after a macro's name and `!` is what a definition names.
+-- The position after an identifier. After a macro's name and `!`, the identifier is the name of a defined macro.
 abbrev pub after_word : CallState → List ℕ → CallState
 after_word (Inside depth) word = Inside depth
 after_word AfterBang word = AfterBang
@@ -46,7 +46,7 @@ after_word AfterHash word = AfterWord word
 abbrev pub at_hash : ℕ → CallState
 at_hash mark = if mark == code "#" then AfterHash else Outside
 
--- `!` after a word that is no keyword makes it a macro's name.
+-- The position after a punctuation character. A `!` after an identifier that isn't a keyword makes it a macro's name.
 abbrev pub after_mark : CallState → ℕ → CallState
 after_mark (Inside depth) mark = Inside depth
 after_mark AfterHash mark = if mark == code "!" then AfterHash else at_hash mark
@@ -54,11 +54,12 @@ after_mark (AfterWord word) mark = if mark == code "!" && not (is_keyword word) 
 after_mark AfterBang mark = at_hash mark
 after_mark Outside mark = at_hash mark
 
--- one bracket deeper, as far as 64 bits count
+-- The depth plus one, or the depth if it is the greatest 64-bit number.
 abbrev pub deeper : ℕ → ℕ
 deeper depth = if nat_lt depth 18446744073709551615 then depth + 1 else depth
 
--- Brackets of any kind nest. A call is opened by any of them, an attribute by `[`.
+-- The position after an opening bracket. Brackets of any kind nest. Any bracket begins a macro call, and `[` begins an
+-- attribute.
 abbrev pub after_opener : CallState → ℕ → CallState
 after_opener (Inside depth) bracket = Inside (deeper depth)
 after_opener AfterBang bracket = Inside 1
@@ -73,12 +74,12 @@ after_closer _ = Outside
 abbrev pub after_bracket : CallState → ℕ → CallState
 after_bracket s bracket = if is_among (codes "([{") bracket then after_opener s bracket else after_closer s
 
--- a literal, a lifetime, a doc comment or a stray character
+-- The position after a literal, a lifetime, a doc comment or a stray character.
 abbrev pub after_any_other : CallState → CallState
 after_any_other (Inside depth) = Inside depth
 after_any_other _ = Outside
 
--- after a token of this kind, with these bytes
+-- The position after a token of this kind with the text `bytes`.
 abbrev pub calls_after : CallState → SourceKind → List ℕ → CallState
 calls_after s (PlainKind IdentifierForm) bytes = after_word s bytes
 calls_after s (PlainKind (DelimiterForm c)) bytes = after_bracket s c
@@ -89,12 +90,12 @@ calls_after s LifetimeKind bytes = after_any_other s
 calls_after s DocCommentKind bytes = after_any_other s
 calls_after s StrayKind bytes = after_any_other s
 
--- the next token stands inside
+-- The next token is inside a macro call.
 abbrev pub is_in_call : CallState → Bool
 is_in_call (Inside depth) = true
 is_in_call _ = false
 
--- what the code tells
+-- The position in these definitions that a position in the code represents.
 abbrev pub calls_seen : Calls → CallState
 calls_seen found.Outside = Outside
 calls_seen (found.AfterWord word) = AfterWord word.now

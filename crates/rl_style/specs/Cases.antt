@@ -1,9 +1,9 @@
--- Letters in one case, and what characters of numbers become. A character is its code.
+-- Lower and upper case, and the new characters of rewritten numbers. A character is its code.
 use Rattle.std.specs.Prelude.{ℕ, ◌+◌, ◌-◌, Bool, not, ◌&&◌, ◌||◌, ◌==◌, nat_le, List, [], ◌∷◌, Option, Some, None, codes, true, false, if◌then◌else◌}
 use Prim.Native.Char.{code}
-use Rattle.rl_text.specs.Classes.{after_run}
+use Rattle.rl_syntax.specs.Classes.{after_run}
 use Rattle.std.specs.List.{list_all}
-use Rattle.rl_text.specs.Texts.{first_passes, is_underscore}
+use Rattle.rl_syntax.specs.Texts.{first_passes, is_underscore}
 use Rattle.rl_lexer.specs.Lexemes.{is_base_letter}
 use Rattle.rl_style.specs.declared.style.Case.{Case}
 use Rattle.rl_style.specs.declared.style.Case.TheVariants.{Lower, Upper}
@@ -11,10 +11,11 @@ use Rattle.rl_style.specs.declared.style.Separator.{Separator}
 use Rattle.rl_style.specs.declared.style.Separator.TheVariants.{Nothing, Underscore}
 use Rattle.rl_style.specs.declared.style.Style.{Style}
 
--- a hexadecimal digit in upper or in lower case; whatever else as it is
+-- A hexadecimal digit in upper case, and any other character unchanged.
 abbrev pub upper_case : ℕ → ℕ
 upper_case c = if nat_le (code "a") c && nat_le c (code "f") then c - 32 else c
 
+-- A hexadecimal digit in lower case, and any other character unchanged.
 abbrev pub lower_case : ℕ → ℕ
 lower_case c = if nat_le (code "A") c && nat_le c (code "F") then c + 32 else c
 
@@ -23,29 +24,30 @@ cased None c = c
 cased (Some Lower) c = lower_case c
 cased (Some Upper) c = upper_case c
 
--- the letter before an exponent in upper or in lower case; whatever else as it is
+-- The letter of an exponent in the given case, and any other character unchanged.
 abbrev pub exponent_letter : Option Case → ℕ → ℕ
 exponent_letter None c = c
 exponent_letter (Some Lower) c = if c == code "E" then code "e" else c
 exponent_letter (Some Upper) c = if c == code "e" then code "E" else c
 
--- The number loses its underscores: the rule says so, and its suffix doesn't begin as a base does, so no other number
--- comes of `0_b1`.
+-- The style drops the underscores of a number with this suffix. If the suffix begins as a base prefix does, they are kept, so
+-- that `0_b1` doesn't become a binary number.
 abbrev pub drops_underscores : Style → List ℕ → Bool
 drops_underscores style suffix = style.underscores && not (first_passes is_base_letter suffix)
 
--- what a character of a number becomes, by whether its underscores are dropped and its base is 16
+-- The new characters for one character of a number: one, or none if it is dropped. `drops` is true if underscores are dropped,
+-- and `hex` if the number is hexadecimal.
 abbrev pub number_character : Style → Bool → Bool → ℕ → List ℕ
 number_character style drops hex c =
     if (drops && c == code "_") || ((not hex && style.exponent_plus) && c == code "+") then []
     else (if hex then cased style.hex_digits c else exponent_letter style.exponent_letter c) ∷ []
 
--- without the underscores at the end
+-- The text without the underscores at its end.
 abbrev pub trimmed : List ℕ → List ℕ
 trimmed [] = []
 trimmed (c ∷ cs) = if list_all is_underscore (c ∷ cs) then [] else c ∷ trimmed cs
 
--- A number with the suffix loses the underscores before it: the rule says so, and no other number comes of it.
+-- The style drops the underscores before a number's suffix, and without them the number doesn't become another one.
 abbrev pub trims_by : Option Separator → List ℕ → Bool
 trims_by None suffix = false
 trims_by (Some Nothing) suffix = not (first_passes is_base_letter suffix)
@@ -54,7 +56,7 @@ trims_by (Some Underscore) suffix = true
 abbrev pub kept_run : Style → List ℕ → List ℕ → List ℕ
 kept_run style suffix run = if trims_by style.suffix_separator suffix then trimmed run else run
 
--- what is put before the suffix
+-- The separator that the style writes before the suffix: an underscore, or none.
 abbrev pub separator_by : Option Separator → List ℕ → List ℕ
 separator_by None suffix = []
 separator_by (Some Nothing) suffix = []
@@ -64,7 +66,7 @@ separator_by (Some Underscore) (c ∷ cs) = codes "_"
 abbrev pub separator : Style → List ℕ → List ℕ
 separator style suffix = separator_by style.suffix_separator suffix
 
--- zeros in front of digits, and underscores between them
+-- The character is a zero or an underscore, which may precede the significant digits of a number.
 abbrev pub is_padding : ℕ → Bool
 is_padding c = c == code "0" || c == code "_"
 
@@ -72,11 +74,11 @@ abbrev pub or_zero : List ℕ → List ℕ
 or_zero [] = codes "0"
 or_zero (c ∷ cs) = c ∷ cs
 
--- digits without the zeros in front; of zeros alone one
+-- The digits without leading zeros, or one zero if there are only zeros.
 abbrev pub significant : List ℕ → List ℕ
 significant run = or_zero (after_run is_padding run)
 
--- An integer of base ten loses those zeros: the rule says so, and its suffix doesn't begin as a base does.
+-- The style drops the leading zeros of an integer: it is decimal, and its suffix doesn't begin as a base prefix does.
 abbrev pub drops_zeros : Style → ℕ → List ℕ → Bool
 drops_zeros style base suffix = (style.leading_zeros && base == 10) && not (first_passes is_base_letter suffix)
 

@@ -1,54 +1,54 @@
--- The statements of the laws (src/laws.rt), by name.
+-- The statements of the theorems in src/laws.rt, by name.
 use Rattle.std.specs.Prelude.{List, ℕ, ◌≡◌, IsFalse}
-use Rattle.rl_forms.specs.declared.kind.Kind.{Kind}
-use Rattle.rl_forms.specs.Reading.{Contents, Reads}
-use Rattle.rl_forms.specs.Strict.{Strict}
+use Rattle.rl_syntax.specs.declared.kind.Kind.{Kind}
+use Rattle.rl_syntax.specs.Reading.{Contents, Reads}
+use Rattle.rl_syntax.specs.Strict.{Strict}
 use Rattle.rl_style.specs.declared.style.Style.{Style}
 use Rattle.rl_style.specs.Rewriting.{HasNoRule, SameLiteral, SameNumber, Rewrites}
 
--- A rewritten literal is the same literal, where the style puts no zero after a float's dot: it has its kind, its contents and its
--- suffix.
+-- A rewritten literal has the kind, the value and the suffix of the old literal, if the style doesn't add a zero after a
+-- float's dot.
 abbrev pub ARewrittenLiteralIsTheSame : Type 0
 ARewrittenLiteralIsTheSame =
     (style : Style) (front t u : List ℕ) → IsFalse style.float_zero → Rewrites style front t u → SameLiteral t u
 
--- In any style a rewritten literal is the same literal, except that the contents of a float that ended with its dot may end
--- with `.0`.
+-- In any style, a rewritten literal is equal to the old one, except that the text of a float which ends with its dot may get a
+-- zero: `1.0` for `1.`.
 abbrev pub ARewrittenLiteralIsTheSameNumber : Type 0
 ARewrittenLiteralIsTheSameNumber =
     (style : Style) (front t u : List ℕ) → Rewrites style front t u → SameNumber style t u
 
--- A style leaves the text as it is that was written in it.
+-- Rewriting a literal twice in one style changes nothing the second time.
 abbrev pub ARewrittenTextStays : Type 0
 ARewrittenTextStays =
     (style : Style) (front t u : List ℕ) → Rewrites style front t u → Rewrites style front u u
 
--- A literal is one text in a style: whatever is the literal in the style is what `rewrite_into` writes.
+-- A literal has exactly one new text in a style: the one that `rewrite_into` writes.
 abbrev pub ALiteralHasOneTextInAStyle : Type 0
 ALiteralHasOneTextInAStyle =
     (style : Style) (front t u w : List ℕ) → Rewrites style front t u → Rewrites style front t w → u ≡ w
 
--- A style without rules changes nothing.
+-- A style in which no rule is set changes nothing.
 abbrev pub NoRuleChangesNothing : Type 0
 NoRuleChangesNothing =
     (style : Style) (front t u : List ℕ) → HasNoRule style → Rewrites style front t u → u ≡ t
 
--- The new text has each reading of the old one: its kind, contents and suffix.
+-- The new text has each parse result of the old text: its kind, its value and its suffix.
 abbrev pub ReadsAlike : List ℕ → List ℕ → Type 0
 ReadsAlike t u =
     (kind : Kind) (contents : Contents) (suffix : List ℕ)
     → Reads t kind contents suffix → Reads u kind contents suffix
 
--- The new text is strict as the old one is: with its kind, contents and suffix.
+-- If the old text is a literal token of Rust's grammar, the new text is one with the same kind, value and suffix.
 abbrev pub StrictAlike : List ℕ → List ℕ → Type 0
 StrictAlike t u =
     (kind : Kind) (contents : Contents) (suffix : List ℕ)
     → Strict t kind contents suffix → Strict u kind contents suffix
 
--- A text that is the same literal as another has its reading. An integer above the limit has none, in either text.
+-- Equal literals have equal parse results. An integer above 128 bits has no parse result, in either text.
 abbrev pub TheSameLiteralReadsAlike : Type 0
 TheSameLiteralReadsAlike = (t u : List ℕ) → SameLiteral t u → ReadsAlike t u
 
--- A text that is the same literal as another is strict as the other is.
+-- If two literals are equal and one is a literal token of Rust's grammar, the other one is too.
 abbrev pub TheSameLiteralIsStrictAlike : Type 0
 TheSameLiteralIsStrictAlike = (t u : List ℕ) → SameLiteral t u → StrictAlike t u

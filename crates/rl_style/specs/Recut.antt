@@ -1,17 +1,17 @@
--- A source whose literal is written anew: which tokens it is cut into.
+-- The tokens of a source in which one literal is replaced.
 use Rattle.std.specs.Prelude.{◌≡◌, ℕ, ◌+◌, ◌-◌, Bool, not, ◌||◌, List, [], ◌∷◌, ◌++◌, IsTrue, codes, ⊤}
 use Rattle.std.specs.List.{AllByRecursion}
-use Rattle.rl_text.specs.Texts.{begins, byte_len}
+use Rattle.rl_syntax.specs.Texts.{begins, byte_len}
 use Rattle.rl_lexer.specs.Lexemes.{BodyPart, IsBody, NoPrefix, Lexeme, RawLexeme, QuotedLexeme, lexeme_text}
-use Rattle.rl_lexer.specs.Sources.{SourceLexeme, PlainToken, BadQuoteToken, StrayToken, CutSource, SourcesUpTo, without_mark, IsCutUpTo}
+use Rattle.rl_lexer.specs.Sources.{SourceLexeme, PlainToken, BadQuoteToken, StrayToken, CutSource, SourcesUpTo, without_byte_order_mark, IsCutUpTo}
 use Rattle.rl_style.specs.Around.{SameEnds, may_precede_quote}
 
--- the same tokens, where what ended at this byte now ends at that
+-- The old tokens, with their byte offsets moved from `from` to `to`.
 abbrev pub moved : ℕ → ℕ → List CutSource → List CutSource
 moved from to [] = []
 moved from to (w ∷ ws) = record { token = w.token; at = w.at + to - from } ∷ moved from to ws
 
--- neither a bad quote nor a stray character: no source that rustc takes holds one
+-- The token is neither an invalid quote nor a stray character. No source that rustc accepts contains one of these.
 abbrev pub IsSoundToken : SourceLexeme → Type 0
 IsSoundToken (BadQuoteToken q) = ⊥
 IsSoundToken (StrayToken c) = ⊥
@@ -23,7 +23,7 @@ IsSound w = IsSoundToken w.token
 abbrev pub placed_literal : Lexeme → ℕ → CutSource
 placed_literal l at = record { token = PlainToken l; at = at }
 
--- The text is cut as the old one was, with this literal in the place of that.
+-- The text with the new literal in place of the old one is lexed as before, except for this literal.
 pub record IsRecut (at : ℕ) (t : List ℕ) (before after : List CutSource) (old new : Lexeme) (place : ℕ) (r : List ℕ) :
     Type 0 where
   pub front : List ℕ
@@ -33,15 +33,15 @@ pub record IsRecut (at : ℕ) (t : List ℕ) (before after : List CutSource) (ol
   pub cuts : SourcesUpTo at (front ++ (lexeme_text new ++ rest)) (before ++ (placed_literal new place
       ∷ moved (place + byte_len (lexeme_text old)) (place + byte_len (lexeme_text new)) after)) r
 
--- A text in which one literal is written anew is cut as before everywhere else.
-abbrev pub KeepsTheCut : Type 0
-KeepsTheCut =
+-- If one literal of a text is replaced, all other tokens are lexed as before.
+abbrev pub KeepsTheTokens : Type 0
+KeepsTheTokens =
     (at : ℕ) (t : List ℕ) (before after : List CutSource) (old new : Lexeme) (place : ℕ) (r : List ℕ)
     → SourcesUpTo at t (before ++ (placed_literal old place ∷ after)) r → AllByRecursion IsSound before
     → SameEnds old new
     → IsRecut at t before after old new place r
 
--- the same of a whole source
+-- The source with the new literal in place of the old one is lexed as before, except for this literal.
 pub record IsRecutSource (t : List ℕ) (before after : List CutSource) (old new : Lexeme) (place : ℕ) (r : List ℕ) : Type
     0 where
   pub front : List ℕ
@@ -51,20 +51,22 @@ pub record IsRecutSource (t : List ℕ) (before after : List CutSource) (old new
   pub cuts : IsCutUpTo (front ++ (lexeme_text new ++ rest)) (before ++ (placed_literal new place
       ∷ moved (place + byte_len (lexeme_text old)) (place + byte_len (lexeme_text new)) after)) r
 
--- the source begins without `#!`, or with an attribute's `#![`, so its first line is no interpreter's, whatever literals it holds
+-- The source begins without `#!`, or with an attribute's `#![`. So its first line isn't an interpreter's line, whatever
+-- literals the source contains.
 abbrev pub begins_with_code : List ℕ → Bool
-begins_with_code t = not (begins (codes "#!") (without_mark t)) || begins (codes "#![") (without_mark t)
+begins_with_code t = not (begins (codes "#!") (without_byte_order_mark t)) || begins (codes "#![") (without_byte_order_mark t)
 
--- Such a source is cut as before everywhere else.
+-- If one literal of a source is replaced, all other tokens are lexed as before. The source begins without `#!` or with `#![`.
 abbrev pub KeepsTheSource : Type 0
 KeepsTheSource =
     (t : List ℕ) (before after : List CutSource) (old new : Lexeme) (place : ℕ) (r : List ℕ)
     → IsTrue (begins_with_code t) → IsCutUpTo t (before ++ (placed_literal old place ∷ after)) r
     → AllByRecursion IsSound before → SameEnds old new → IsRecutSource t before after old new place r
 
--- A raw string without prefix may become one with escapes where neither a hash nor a dot stands before it.
-abbrev pub KeepsTheCutUnraw : Type 0
-KeepsTheCutUnraw =
+-- A raw string without a prefix may be replaced by a string with escapes if neither a hash nor a dot precedes it: all other
+-- tokens are lexed as before.
+abbrev pub KeepsTheTokensUnraw : Type 0
+KeepsTheTokensUnraw =
     (at : ℕ) (t : List ℕ) (before after : List CutSource) (hashes : ℕ) (body suffix : List ℕ) (parts : List BodyPart)
     (place : ℕ) (r : List ℕ) → IsBody parts
     → SourcesUpTo at t (before ++ (placed_literal (RawLexeme NoPrefix hashes body suffix) place ∷ after)) r

@@ -1,14 +1,15 @@
--- A source in which a literal is written anew in a style: which tokens it is cut into.
+-- The tokens of a source in which literals are rewritten in a style.
 use Rattle.std.specs.Prelude.{◌≡◌, ℕ, ◌+◌, List, [], ◌∷◌, ◌++◌, Option, Some, None, IsTrue, ⊤}
 use Rattle.std.specs.List.{AllByRecursion}
-use Rattle.rl_text.specs.Texts.{byte_len}
+use Rattle.rl_syntax.specs.Texts.{byte_len}
 use Rattle.rl_lexer.specs.Lexemes.{Lexeme, form_of, lexeme_text}
 use Rattle.rl_lexer.specs.Sources.{CutSource, IsCutUpTo, PlainToken, SourceLexeme, SourcesUpTo, source_end, source_kind, source_text}
 use Rattle.rl_style.specs.declared.style.Style.{Style}
 use Rattle.rl_style.specs.Recut.{IsRecut, IsRecutSource, IsSound, begins_with_code, placed_literal}
 use Rattle.rl_style.specs.Rewriting.{Rewrites}
 
--- The new text is one token of the old one's form, and with it in the old one's place the text is cut as before.
+-- The new text is one token of the old literal's form. With it in place of the old literal, the other tokens are lexed as
+-- before.
 pub record IsRestyled (at : ℕ) (t : List ℕ) (before after : List CutSource) (old : Lexeme) (written : List ℕ)
     (place : ℕ) (r : List ℕ) : Type 0 where
   pub new : Lexeme
@@ -16,21 +17,22 @@ pub record IsRestyled (at : ℕ) (t : List ℕ) (before after : List CutSource) 
   pub same_form : form_of new ≡ form_of old
   pub recut : IsRecut at t before after old new place r
 
--- In the text, which begins at a byte, the literal at this place stands after this front.
-pub record StandsAfter (at : ℕ) (t : List ℕ) (literal : Lexeme) (place : ℕ) (front : List ℕ) : Type 0 where
+-- The text before the literal is `front`. The literal is at the byte offset `place`, and the text begins at `at`.
+pub record FollowsFront (at : ℕ) (t : List ℕ) (literal : Lexeme) (place : ℕ) (front : List ℕ) : Type 0 where
   pub rest : List ℕ
   pub text_is : t ≡ front ++ (lexeme_text literal ++ rest)
   pub place_is : place ≡ at + byte_len front
 
--- What a style makes of a literal leaves the text cut as before everywhere else.
-abbrev pub KeepsTheRestyledCut : Type 0
-KeepsTheRestyledCut =
+-- If a literal of a text is rewritten in a style, all other tokens are lexed as before.
+abbrev pub KeepsTheTokensOfAStyle : Type 0
+KeepsTheTokensOfAStyle =
     (style : Style) (at : ℕ) (t : List ℕ) (before after : List CutSource) (old : Lexeme) (front written : List ℕ)
     (place : ℕ) (r : List ℕ) → SourcesUpTo at t (before ++ (placed_literal old place ∷ after)) r
-    → AllByRecursion IsSound before → StandsAfter at t old place front
+    → AllByRecursion IsSound before → FollowsFront at t old place front
     → Rewrites style front (lexeme_text old) written → IsRestyled at t before after old written place r
 
--- the same of a whole source
+-- The new text is one token of the old literal's form. With it in place of the old literal, all other tokens of the source are
+-- lexed as before.
 pub record IsRestyledSource (t : List ℕ) (before after : List CutSource) (old : Lexeme) (written : List ℕ) (place : ℕ)
     (r : List ℕ) : Type 0 where
   pub new : Lexeme
@@ -38,23 +40,24 @@ pub record IsRestyledSource (t : List ℕ) (before after : List CutSource) (old 
   pub same_form : form_of new ≡ form_of old
   pub recut : IsRecutSource t before after old new place r
 
--- The same of a source whose first line is no interpreter's.
+-- If a literal of a source is rewritten in a style, all other tokens are lexed as before. The source's first line isn't an
+-- interpreter's line.
 abbrev pub KeepsTheRestyledSource : Type 0
 KeepsTheRestyledSource =
     (style : Style) (t : List ℕ) (before after : List CutSource) (old : Lexeme) (front written : List ℕ) (place : ℕ)
     (r : List ℕ) → IsTrue (begins_with_code t)
     → IsCutUpTo t (before ++ (placed_literal old place ∷ after)) r → AllByRecursion IsSound before
-    → StandsAfter 0 t old place front
+    → FollowsFront 0 t old place front
     → Rewrites style front (lexeme_text old) written → IsRestyledSource t before after old written place r
 
--- ---- several literals
+-- ---- sources with several rewritten literals
 
--- a token's text, or what is written in its place
+-- The new text of a token if it has one, and its old text otherwise.
 abbrev pub edited_text : Option (List ℕ) → SourceLexeme → List ℕ
 edited_text None token = source_text token
 edited_text (Some written) token = written
 
--- The new text is the old one, which begins at a byte, with what is written in the places of some of these tokens.
+-- The new text is the old one with the new texts of some of the tokens. The old text begins at the byte offset `at`.
 abbrev pub IsEdited : ℕ → List ℕ → List CutSource → List (Option (List ℕ)) → List ℕ → Type 0
 IsEdited at old [] [] new = new ≡ old
 IsEdited at old (w ∷ ws) (e ∷ es) new =
@@ -62,11 +65,11 @@ IsEdited at old (w ∷ ws) (e ∷ es) new =
     × (new ≡ gap ++ (edited_text e w.token ++ new_after)) × IsEdited (source_end w) after ws es new_after
 IsEdited at old _ _ new = ⊥
 
--- what is written in the place of a token of a text, which begins at a byte, is what the style makes of it there
+-- The new text of a token, if it has one, is the literal's text in the style. The old text begins at the byte offset `at`.
 abbrev pub IsInStyle : Style → ℕ → List ℕ → CutSource → Option (List ℕ) → Type 0
 IsInStyle style at t w None = ⊤
 IsInStyle style at t w (Some written) =
-    (literal : Lexeme) × (front : List ℕ) × (w.token ≡ PlainToken literal) × StandsAfter at t literal w.at front
+    (literal : Lexeme) × (front : List ℕ) × (w.token ≡ PlainToken literal) × FollowsFront at t literal w.at front
     × Rewrites style front (lexeme_text literal) written
 
 abbrev pub AreInStyle : Style → ℕ → List ℕ → List CutSource → List (Option (List ℕ)) → Type 0
@@ -74,7 +77,7 @@ AreInStyle style at t [] [] = ⊤
 AreInStyle style at t (w ∷ ws) (e ∷ es) = IsInStyle style at t w e × AreInStyle style at t ws es
 AreInStyle style at t _ _ = ⊥
 
--- the same token, or one of its kind that is what was written
+-- The new token is the old one, or has its kind and the new text.
 abbrev pub IsTokenOf : Option (List ℕ) → SourceLexeme → SourceLexeme → Type 0
 IsTokenOf None old new = new ≡ old
 IsTokenOf (Some written) old new = (source_text new ≡ written) × (source_kind new ≡ source_kind old)
@@ -84,28 +87,29 @@ AreTokensOf [] [] [] = ⊤
 AreTokensOf (e ∷ es) (v ∷ vs) (w ∷ ws) = IsTokenOf e v.token w.token × AreTokensOf es vs ws
 AreTokensOf _ _ _ = ⊥
 
--- The new text is cut into as many tokens, each the same but for what was written.
+-- The new text is lexed into the old number of tokens. Each is the old token or has its new text.
 pub record IsCutEdited (at : ℕ) (new : List ℕ) (cuts : List CutSource) (edits : List (Option (List ℕ))) (r : List ℕ) :
     Type 0 where
   pub tokens : List CutSource
   pub are_tokens : AreTokensOf edits cuts tokens
   pub are_cuts : SourcesUpTo at new tokens r
 
--- Whichever tokens of a text are written anew in a style, it is cut as before.
-abbrev pub KeepsTheEditedCut : Type 0
-KeepsTheEditedCut =
+-- If any literals of a text are rewritten in a style, all other tokens are lexed as before.
+abbrev pub KeepsTheTokensOfEdits : Type 0
+KeepsTheTokensOfEdits =
     (style : Style) (at : ℕ) (old : List ℕ) (cuts : List CutSource) (edits : List (Option (List ℕ))) (new r : List ℕ)
     → SourcesUpTo at old cuts r → AllByRecursion IsSound cuts → IsEdited at old cuts edits new
     → AreInStyle style at old cuts edits → IsCutEdited at new cuts edits r
 
--- the same of a whole source
+-- The new source is lexed into the old number of tokens. Each is the old token or has its new text.
 pub record IsEditedSource (new : List ℕ) (cuts : List CutSource) (edits : List (Option (List ℕ))) (r : List ℕ) : Type
     0 where
   pub tokens : List CutSource
   pub are_tokens : AreTokensOf edits cuts tokens
   pub are_cuts : IsCutUpTo new tokens r
 
--- The same of a source whose first line is no interpreter's.
+-- If any literals of a source are rewritten in a style, all other tokens are lexed as before. The source's first line isn't an
+-- interpreter's line.
 abbrev pub KeepsTheEditedSource : Type 0
 KeepsTheEditedSource =
     (style : Style) (old : List ℕ) (cuts : List CutSource) (edits : List (Option (List ℕ))) (new r : List ℕ)

@@ -1,16 +1,17 @@
--- Literals written anew: what a style makes of a strict text, and what every style keeps. A character is its code.
+-- Rewritten literals: the new text of a literal token in a style, and the properties that no style changes. A character is its
+-- code.
 use Rattle.std.specs.Prelude.{◌≡◌, ◌⊎◌, ℕ, ◌+◌, ◌-◌, ◌/◌, ◌%◌, Bool, true, false, not, ◌&&◌, ◌||◌, ◌==◌, nat_le, nat_lt, List, [], ◌∷◌, ◌++◌, Option, None, map, if◌then◌else◌, IsTrue, IsFalse, codes}
 use Rattle.std.specs.List.{flat_map, list_all, list_any}
 use Prim.Native.Char.{code}
 use Rattle.rl_writing.specs.Hiding.{needs_escape}
 use Rattle.std.specs.Char.{is_ascii_digit}
-use Rattle.rl_text.specs.Texts.{first_passes}
-use Rattle.rl_forms.specs.declared.kind.Kind.{Kind}
-use Rattle.rl_forms.specs.declared.kind.Kind.TheVariants.{Str, Char, Float}
-use Rattle.rl_forms.specs.Reading.{Contents, Digits}
-use Rattle.rl_forms.specs.Written.{closer}
-use Rattle.rl_forms.specs.Strict.{StrictUnit, Itself, QuoteEscape, PlainEscape, AsciiEscape, ByteEscape, UnicodeEscape, spaced_value, strict_content_of, strict_contents, strict_text, strict_opener, strict_closer, StrictBool, StrictCooked, StrictFloat, StrictInt, StrictRaw, Strict}
-use Rattle.rl_forms.specs.Spelling.{place_value}
+use Rattle.rl_syntax.specs.Texts.{first_passes}
+use Rattle.rl_syntax.specs.declared.kind.Kind.{Kind}
+use Rattle.rl_syntax.specs.declared.kind.Kind.TheVariants.{Str, Char, Float}
+use Rattle.rl_syntax.specs.Reading.{Contents, Digits}
+use Rattle.rl_syntax.specs.Written.{closer}
+use Rattle.rl_syntax.specs.Strict.{StrictUnit, Itself, QuoteEscape, PlainEscape, AsciiEscape, ByteEscape, UnicodeEscape, spaced_value, strict_content_of, strict_contents, strict_text, strict_opener, strict_closer, StrictBool, StrictCooked, StrictFloat, StrictInt, StrictRaw, Strict}
+use Rattle.rl_syntax.specs.Spelling.{place_value}
 use Rattle.rl_writing.specs.Integers.{numeral}
 use Rattle.rl_writing.specs.RawStrings.{raw_text, HasFewestHashes}
 use Rattle.rl_style.specs.Around.{may_precede_quote}
@@ -19,8 +20,8 @@ use Rattle.rl_style.specs.declared.style.Style.{Style}
 use Rattle.rl_style.specs.Cases.{cased, drops_underscores, kept_digits, kept_run, number_character, separator}
 use Rattle.rl_style.specs.Groups.{float_in_groups, grouped_run}
 
--- Both texts are strict literals of one kind, with the same contents and the same suffix. By the laws of both grammars
--- they then read alike.
+-- Both texts are literal tokens of one kind, with one value and one suffix. It is proved that they have equal parse results
+-- then.
 pub record SameLiteral (old new : List ℕ) : Type 0 where
   pub kind : Kind
   pub contents : Contents
@@ -28,15 +29,14 @@ pub record SameLiteral (old new : List ℕ) : Type 0 where
   pub was : Strict old kind contents suffix
   pub is : Strict new kind contents suffix
 
--- A float's contents get a zero after the dot that they end with, as the style says.
+-- A float's value gets a zero after the dot at its end, since the style adds it.
 pub record GetsZero (style : Style) (old new : Contents) : Type 0 where
   pub float_zero : IsTrue style.float_zero
   pub digits : List ℕ
   pub old_is : old ≡ Digits (digits ++ codes ".")
   pub new_is : new ≡ Digits (digits ++ codes ".0")
 
--- Both texts are strict literals of one kind, with the same suffix and the same contents, but that a float may get a
--- zero.
+-- Both texts are literal tokens of one kind, with one value and one suffix, except that a float may get a zero after its dot.
 pub record SameNumber (style : Style) (old new : List ℕ) : Type 0 where
   pub kind : Kind
   pub contents : Contents
@@ -46,44 +46,45 @@ pub record SameNumber (style : Style) (old new : List ℕ) : Type 0 where
   pub is : Strict new kind new_contents suffix
   pub keeps : (new_contents ≡ contents) ⊎ ((kind ≡ Float) × GetsZero style contents new_contents)
 
--- ---- numbers
+-- ---- rewritten numbers
 
--- what the style makes of the digits of an integer in the base, with this suffix
+-- The new digits of an integer with this base and this suffix.
 abbrev pub styled_run : Style → ℕ → List ℕ → List ℕ → List ℕ
 styled_run style base suffix run =
     grouped_run false style base suffix
     (flat_map (number_character style (drops_underscores style suffix) (base == 16))
     (kept_digits style base suffix (kept_run style suffix run)))
 
--- The old text is an integer; the new one has its prefix, its digits, and its suffix. The digits lose the underscores
--- at their end and the zeros in front, where the style says so, then each character becomes what the style makes of it,
--- then they are grouped, and then stands what the style puts before the suffix.
+-- The old text is an integer, and the new text has its prefix, its rewritten digits, and its suffix. First the digits lose
+-- leading zeros and the underscores at their end, if the style drops these. Then each character is rewritten, the digits are
+-- divided into groups, and the style's separator is written before the suffix.
 pub record RewritesInt (style : Style) (old new : List ℕ) : Type 0 where
   pub contents : Contents
   pub suffix : List ℕ
   pub int : StrictInt old contents suffix
   pub new_is : new ≡ int.prefix ++ (styled_run style int.base suffix int.run ++ (separator style suffix ++ suffix))
 
--- what the style makes of a float's numeral, with this suffix
+-- The new form of a float's text before this suffix.
 abbrev pub styled_numeral : Style → List ℕ → List ℕ → List ℕ
 styled_numeral style suffix numeral =
     float_in_groups style.float_zero (number_character style (drops_underscores style suffix) false)
     (λ from_first. grouped_run from_first style 10 suffix) (kept_run style suffix numeral)
 
--- The same of a float, but for the zeros.
+-- The old text is a float, and the new text has its rewritten digits and its suffix. They are rewritten as those of an integer,
+-- except that leading zeros are kept.
 pub record RewritesFloat (style : Style) (old new : List ℕ) : Type 0 where
   pub contents : Contents
   pub suffix : List ℕ
   pub float : StrictFloat old contents suffix
   pub new_is : new ≡ styled_numeral style suffix float.numeral ++ (separator style suffix ++ suffix)
 
--- ---- literals with escapes
+-- ---- rewritten literals with escapes
 
--- a digit of `\u{..}`, and how many underscores follow it
+-- A digit of `\u{..}` in the given case, and the number of underscores after it.
 abbrev pub cased_digit : Option Case → ℕ × ℕ → ℕ × ℕ
 cased_digit case digit = (cased case digit.0, digit.1)
 
--- the digits of `\u{..}` without underscores, and without the zeros in front of the others
+-- A digit of `\u{..}` without the underscores after it.
 abbrev pub bare_digit : ℕ × ℕ → ℕ × ℕ
 bare_digit digit = (digit.0, 0)
 
@@ -96,36 +97,39 @@ abbrev pub styled_digits : Style → List (ℕ × ℕ) → List (ℕ × ℕ)
 styled_digits style digits =
     map (cased_digit style.escape_digits) (if style.code_digits then fewest_digits digits else digits)
 
--- visible characters of ASCII, from `!` to `~`. A space is none of them: a line break before it would drop it.
+-- The character is visible ASCII, from `!` to `~`. A space isn't visible here, since an escaped line end before it would drop
+-- it.
 abbrev pub is_visible : ℕ → Bool
 is_visible c = nat_le (code "!") c && nat_le c (code "~")
 
--- such a character as a unit: with a backslash where it closes the literal or is a backslash
+-- A visible character as part of a literal: with a backslash if it is the closing quote or a backslash.
 abbrev pub visible_unit : Kind → ℕ → StrictUnit
 visible_unit kind c = if c == closer kind then QuoteEscape c else (if c == code "\\" then PlainEscape c else Itself c)
 
--- LF, CR and TAB, which have letters, and NUL where no digit follows: `\01` is octal in other languages
+-- The character has an escape with a letter: LF, CR or TAB.
 abbrev pub has_letter : ℕ → Bool
 has_letter c = c == code "\n" || c == code "\r" || c == code "\t"
 
+-- The character may have an escape with a letter: LF, CR, TAB, or NUL if `zero` is true. It is false before a digit, since
+-- `\01` is octal in other languages.
 abbrev pub gets_letter : Bool → ℕ → Bool
 gets_letter zero c = has_letter c || (zero && c == 0)
 
--- the letters of their escapes
+-- The letter of the escape for LF, CR, TAB or NUL.
 abbrev pub letter_of : ℕ → ℕ
 letter_of c =
     if c == code "\n" then code "n"
     else (if c == code "\r" then code "r" else (if c == code "\t" then code "t" else code "0"))
 
--- what an escape by number becomes that spells this character or byte; the last is the escape itself. Each of these
--- asks first whether NUL may have a letter.
+-- The new form of a numeric escape whose value is `c`. `escape` is the escape with its digits in the style. NUL may be written
+-- as `\0` if `zero` is true.
 abbrev pub respelled : Style → Kind → Bool → ℕ → StrictUnit → StrictUnit
 respelled style kind zero c escape =
     if style.ascii_escapes && is_visible c then visible_unit kind c
     else (if style.named_escapes && gets_letter zero c then PlainEscape (letter_of c) else escape)
 
--- what an escape becomes: a quote that doesn't close the literal stands for itself, and so does a visible character
--- that is spelled by its number; other escapes by number have their digits in one case
+-- The new form of an escape. A quote that doesn't close the literal is written without its backslash, and a visible character
+-- without its numeric escape. Other numeric escapes have their digits in one case.
 abbrev pub reescaped : Style → Kind → Bool → StrictUnit → StrictUnit
 reescaped style kind zero (QuoteEscape c) =
     if style.quote_escapes && not (c == closer kind) then Itself c else QuoteEscape c
@@ -139,33 +143,34 @@ reescaped style kind zero (UnicodeEscape digits) =
     respelled style kind zero (spaced_value digits) (UnicodeEscape (styled_digits style digits))
 reescaped style kind zero unit = unit
 
--- a character that turns or hides text, but for those that have letters
+-- The character is invisible, bidirectional or a control character, and isn't LF, CR or TAB.
 abbrev pub needs_number : ℕ → Bool
 needs_number c = needs_escape c && not (has_letter c)
 
--- a digit of base 16, in lower case
+-- The hexadecimal digit for a number below 16, in lower case.
 abbrev pub lower_digit : ℕ → ℕ
 lower_digit n = if nat_lt n 10 then code "0" + n else code "a" + (n - 10)
 
--- `\x` and two digits
+-- The escape `\x` with two digits, in a literal of the kind.
 abbrev pub hex_escape : Kind → ℕ → ℕ → StrictUnit
 hex_escape Str high low = AsciiEscape high low
 hex_escape Char high low = AsciiEscape high low
 hex_escape _ high low = ByteEscape high low
 
--- the escape by its number: `\x` in ASCII, else `\u{..}` with the fewest digits
+-- The numeric escape of a character: `\x` for ASCII, and otherwise `\u{..}` with the fewest digits.
 abbrev pub number_escape : Kind → ℕ → StrictUnit
 number_escape kind c =
     if nat_lt c 128 then hex_escape kind (lower_digit (c / 16)) (lower_digit (c % 16))
     else UnicodeEscape (map (λ d. (d, 0)) (numeral 16 false c))
 
--- what a unit becomes: a character that turns or hides text is the escape by its number
+-- The new form of a character or escape. An invisible or bidirectional character is replaced by its numeric escape, if the
+-- style requires this.
 abbrev pub restyled : Style → Kind → Bool → StrictUnit → StrictUnit
 restyled style kind zero (Itself c) =
     if style.hidden && needs_number c then reescaped style kind zero (number_escape kind c) else Itself c
 restyled style kind zero unit = reescaped style kind zero unit
 
--- the first of the units stands for a digit
+-- The first of the characters and escapes represents a decimal digit.
 abbrev pub digit_follows : Kind → List StrictUnit → Bool
 digit_follows kind [] = false
 digit_follows kind (u ∷ us) = first_passes is_ascii_digit (strict_contents (strict_content_of kind) u)
@@ -175,11 +180,11 @@ restyled_units style kind [] = []
 restyled_units style kind (u ∷ us) =
     restyled style kind (not (digit_follows kind us)) u ∷ restyled_units style kind us
 
--- what stands inside a literal, each unit as the style makes it
+-- The new body of a literal: each of its characters and escapes in the style.
 abbrev pub restyled_inside : Style → Kind → List StrictUnit → List ℕ
 restyled_inside style kind units = flat_map strict_text (restyled_units style kind units)
 
--- The old text is a literal with escapes; in the new one each unit is what the style makes of it.
+-- The old text is a quoted literal with escapes, and the new text has each of its characters and escapes in the style.
 pub record RewritesCooked (style : Style) (old new : List ℕ) : Type 0 where
   pub kind : Kind
   pub contents : Contents
@@ -188,14 +193,15 @@ pub record RewritesCooked (style : Style) (old new : List ℕ) : Type 0 where
   pub new_is : new ≡ strict_opener kind
       ++ (restyled_inside style kind cooked.units ++ (strict_closer kind ++ suffix))
 
--- ---- raw literals
+-- ---- rewritten raw strings
 
--- so many hashes: the fewest that the text inside needs, or as many as there were
+-- The new number of hashes of a raw string: the fewest that its content allows, or the old number.
 abbrev pub HasHashes : Bool → Kind → List ℕ → ℕ → ℕ → Type 0
 HasHashes true kind inside old new = HasFewestHashes kind inside new
 HasHashes false kind inside old new = new ≡ old
 
--- A literal may begin with its quote after this text, where it began with `r`. `br` and `cr` keep a letter in front.
+-- A raw string may lose its `r`, where `front` is the text before it. After a hash or a dot, a string without `b` or `c` keeps
+-- it.
 abbrev pub may_lose_r : Kind → List ℕ → Bool
 may_lose_r Str front = may_precede_quote front
 may_lose_r _ front = true
@@ -203,24 +209,23 @@ may_lose_r _ front = true
 abbrev pub needs_backslash : ℕ → Bool
 needs_backslash c = c == code "\"" || c == code "\\"
 
--- A raw literal after this text, with that inside, becomes one with escapes: its text needs none, or holds characters
--- that get some.
+-- A raw string becomes a string with escapes. `front` is the text before it, and `inside` its content. The content needs no
+-- escapes, or contains characters that the style escapes.
 abbrev pub loses_raw : Style → Kind → List ℕ → List ℕ → Bool
 loses_raw style kind front inside =
     may_lose_r kind front
     && ((style.raw && list_all (λ c. not (needs_backslash c)) inside) || (style.hidden && list_any needs_number inside))
 
--- what a character of a raw literal is in one with escapes
+-- A character of a raw string, as a character or escape of a string with escapes.
 abbrev pub raw_unit : ℕ → StrictUnit
 raw_unit c = if c == code "\"" then QuoteEscape c else (if c == code "\\" then PlainEscape c else Itself c)
 
--- the literal with escapes of the kind that holds this text, and has this suffix
+-- The string of the kind with escapes that has the value `inside` and this suffix.
 abbrev pub unraw_text : Style → Kind → List ℕ → List ℕ → List ℕ
 unraw_text style kind inside suffix =
     strict_opener kind ++ (restyled_inside style kind (map raw_unit inside) ++ (strict_closer kind ++ suffix))
 
--- The old text is a raw literal and stays one: the new one has the same text inside, the style's hashes, and the
--- suffix.
+-- The old text is a raw string and stays one. The new text has its content, the style's number of hashes, and its suffix.
 pub record StaysRaw (style : Style) (front old new : List ℕ) : Type 0 where
   pub kind : Kind
   pub contents : Contents
@@ -231,7 +236,7 @@ pub record StaysRaw (style : Style) (front old new : List ℕ) : Type 0 where
   pub hashes_are : HasHashes style.raw_hashes kind raw.inside raw.hashes hashes
   pub new_is : new ≡ raw_text kind hashes raw.inside ++ suffix
 
--- The old text is a raw literal; the new one is what the style makes of the literal with escapes that holds the same.
+-- The old text is a raw string, and the new text is the string with escapes that has its value, in the style.
 pub record LosesRaw (style : Style) (front old new : List ℕ) : Type 0 where
   pub kind : Kind
   pub contents : Contents
@@ -243,23 +248,23 @@ pub record LosesRaw (style : Style) (front old new : List ℕ) : Type 0 where
 abbrev pub RewritesRaw : Style → List ℕ → List ℕ → List ℕ → Type 0
 RewritesRaw style front old new = StaysRaw style front old new ⊎ LosesRaw style front old new
 
--- ---- any literal
+-- ---- rewritten literals of any kind
 
--- The old text is a truth value, and the new one is the same.
+-- The old text is `true` or `false`, and the new text equals it.
 pub record KeepsTruth (old new : List ℕ) : Type 0 where
   pub contents : Contents
   pub suffix : List ℕ
   pub truth : StrictBool old contents suffix
   pub new_is : new ≡ old
 
--- The new text is the old one, which is a literal, in this style; the first text stands in front of it.
+-- The new text is the old literal in the style. `front` is the text before the literal.
 abbrev pub Rewrites : Style → List ℕ → List ℕ → List ℕ → Type 0
 Rewrites style front old new =
     RewritesInt style old new
     ⊎ (RewritesFloat style old new
     ⊎ (RewritesRaw style front old new ⊎ (RewritesCooked style old new ⊎ KeepsTruth old new)))
 
--- The style has no rule.
+-- No rule of the style is set.
 pub record HasNoRule (style : Style) : Type 0 where
   pub hex_digits : style.hex_digits ≡ None
   pub underscores : style.underscores ≡ false

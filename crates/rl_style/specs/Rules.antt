@@ -1,4 +1,4 @@
--- The rules of a style, one by one.
+-- The rules of a style, each by its name.
 use Rattle.std.specs.Prelude.{◌≢◌, ℕ, Bool, false, List, [], ◌∷◌, Option, None, codes}
 use Rattle.rl_style.specs.Rewriting.{Rewrites}
 use Rattle.rl_style.specs.declared.rules.Rule.{Rule}
@@ -8,13 +8,13 @@ use Rattle.rl_style.specs.declared.style.DigitGroups.{DigitGroups as Groups}
 use Rattle.rl_style.specs.declared.style.Separator.{Separator}
 use Rattle.rl_style.specs.declared.style.Style.{Style}
 
--- all rules, in the order of a style's fields
+-- All rules of a style, in the order of the style's fields.
 abbrev pub all_rules : List Rule
 all_rules =
     HexDigits ∷ Underscores ∷ LeadingZeros ∷ SuffixSeparator ∷ DigitGroups ∷ FloatZero ∷ ExponentLetter ∷ ExponentPlus
     ∷ EscapeDigits ∷ CodeDigits ∷ AsciiEscapes ∷ NamedEscapes ∷ QuoteEscapes ∷ RawHashes ∷ Raw ∷ Hidden ∷ []
 
--- its name, as the package and settings have it
+-- The name of a rule in configurations and in the package's setters.
 abbrev pub rule_label : Rule → List ℕ
 rule_label HexDigits = codes "hex_digits"
 rule_label Underscores = codes "drop_underscores"
@@ -31,9 +31,9 @@ rule_label NamedEscapes = codes "named_escapes"
 rule_label QuoteEscapes = codes "drop_quote_escapes"
 rule_label RawHashes = codes "fewest_hashes"
 rule_label Raw = codes "drop_raw"
-rule_label Hidden = codes "escape_hidden"
+rule_label Hidden = codes "escape_invisible"
 
--- ---- what a style has of a rule: its field, where the rule is that one
+-- ---- the field of a style for a rule, if the rule is that one
 
 abbrev only_hex_digits : Style → Rule → Option Case
 only_hex_digits style HexDigits = style.hex_digits
@@ -99,7 +99,7 @@ abbrev only_hidden : Style → Rule → Bool
 only_hidden style Hidden = style.hidden
 only_hidden style _ = false
 
--- the style with a rule alone
+-- The style that has only this rule of the given style.
 abbrev pub only : Style → Rule → Style
 only style rule = record {
   hex_digits = only_hex_digits style rule;
@@ -120,6 +120,6 @@ only style rule = record {
   hidden = only_hidden style rule;
 }
 
--- The style makes another text of the literal, which stands after this front.
+-- The style changes the text of the literal `old`. `front` is the text before it.
 abbrev pub Changes : Style → List ℕ → List ℕ → Type 0
 Changes style front old = (new : List ℕ) × Rewrites style front old new × (new ≢ old)

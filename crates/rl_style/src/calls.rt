@@ -1,4 +1,4 @@
-//! Where tokens stand inside of macro calls, of `macro_rules!` and of attributes.
+//! Recognizes whether a token is inside a macro call, a `macro_rules!` definition or an attribute.
 
 ghost use Rattle.std.specs.Prelude.{◌≡◌};
 ghost use Rattle.rl_lexer.specs.Cursors.{form_view};
@@ -7,22 +7,23 @@ ghost use Rattle.rl_style.specs.Calls.{after_closer, after_bracket, after_mark, 
 
 use rl_lexer::{Form, SourceForm, SourceToken};
 
-/// What the tokens so far say of the next. A macro's definition and an attribute are as calls.
+/// The position of the next token relative to macro calls. A macro's definition and an attribute count as calls.
 #[derive(Clone, Copy)]
 pub(crate) enum Calls<'t> {
-    /// No call.
+    /// The next token is outside of macro calls.
     Outside,
-    /// A word, which may be a macro's name.
+    /// The next token follows this identifier, which may be a macro's name.
     AfterWord(&'t str),
-    /// A macro's name and `!`, and any words after them.
+    /// The next token follows a macro's name, `!`, and perhaps identifiers.
     AfterBang,
-    /// `#`, and any `!` after it.
+    /// The next token follows `#`, or `#!`.
     AfterHash,
-    /// A call, so many brackets deep.
+    /// The next token is inside a macro call, nested in this number of brackets.
     Inside(usize),
 }
 
-/// Whether the word is a keyword in all editions: no macro has such a name, and `!` after it is an operator or a type.
+/// Whether the identifier is a keyword in all editions of Rust. No macro has this name, so `!` after it is an operator or the
+/// never type.
 #[inline(never)]
 fn is_keyword(word: &str) -> bool
     ensures { result ≡ is_keyword word.now }
@@ -66,14 +67,14 @@ fn is_keyword(word: &str) -> bool
     )
 }
 
-/// One bracket deeper, as far as a `usize` counts.
+/// Returns `depth + 1`, or `depth` if it is the greatest `usize`.
 fn deeper(depth: usize) -> usize
     ensures { result ≡ deeper depth }
 {
     if depth < usize::MAX { depth + 1 } else { depth }
 }
 
-/// After a word.
+/// Returns the position after the identifier `word`.
 #[inline(always)]
 fn after_word<'t>(calls: Calls<'t>, word: &'t str) -> Calls<'t>
     ensures { calls_seen result ≡ after_word (calls_seen calls.entry) word.now }
@@ -84,7 +85,7 @@ fn after_word<'t>(calls: Calls<'t>, word: &'t str) -> Calls<'t>
     }
 }
 
-/// After a mark.
+/// Returns the position after the punctuation character `mark`.
 #[inline(always)]
 fn after_mark(calls: Calls<'_>, mark: char) -> Calls<'_>
     ensures { calls_seen result ≡ after_mark (calls_seen calls.entry) mark }
@@ -98,7 +99,7 @@ fn after_mark(calls: Calls<'_>, mark: char) -> Calls<'_>
     }
 }
 
-/// After a bracket that opens.
+/// Returns the position after the opening bracket `bracket`.
 fn after_opener(calls: Calls<'_>, bracket: char) -> Calls<'_>
     ensures { calls_seen result ≡ after_opener (calls_seen calls.entry) bracket }
 {
@@ -110,7 +111,7 @@ fn after_opener(calls: Calls<'_>, bracket: char) -> Calls<'_>
     }
 }
 
-/// After a bracket that closes.
+/// Returns the position after a closing bracket.
 fn after_closer(calls: Calls<'_>) -> Calls<'_>
     ensures { calls_seen result ≡ after_closer (calls_seen calls.entry) }
 {
@@ -120,7 +121,7 @@ fn after_closer(calls: Calls<'_>) -> Calls<'_>
     }
 }
 
-/// After a bracket.
+/// Returns the position after the bracket `bracket`, which may be an opening or a closing one.
 #[inline(always)]
 fn after_bracket(calls: Calls<'_>, bracket: char) -> Calls<'_>
     ensures { calls_seen result ≡ after_bracket (calls_seen calls.entry) bracket }
@@ -131,7 +132,7 @@ fn after_bracket(calls: Calls<'_>, bracket: char) -> Calls<'_>
     after_closer(calls)
 }
 
-/// After any other token.
+/// Returns the position after a token that isn't an identifier, a punctuation character or a bracket.
 #[inline(always)]
 fn after_any_other(calls: Calls<'_>) -> Calls<'_>
     ensures { calls_seen result ≡ after_any_other (calls_seen calls.entry) }
@@ -142,7 +143,7 @@ fn after_any_other(calls: Calls<'_>) -> Calls<'_>
     }
 }
 
-/// After a token of the lexer.
+/// Returns the position after a token of the lexer with the form `form` and the text `text`.
 #[inline(always)]
 fn after_lexeme<'t>(calls: Calls<'t>, form: Form, text: &'t str) -> Calls<'t>
     ensures { calls_seen result ≡ calls_after (calls_seen calls.entry) (PlainKind (form_view form)) text.now }
@@ -155,7 +156,7 @@ fn after_lexeme<'t>(calls: Calls<'t>, form: Form, text: &'t str) -> Calls<'t>
     }
 }
 
-/// What the tokens say after one more.
+/// Returns the position after one more token of a source.
 #[inline(always)]
 pub(crate) fn calls_after<'t>(calls: Calls<'t>, token: SourceToken<'t>) -> Calls<'t>
     ensures { calls_seen result ≡ calls_after (calls_seen calls.entry) (source_view token.entry.form) token.entry.text.now }
@@ -167,7 +168,7 @@ pub(crate) fn calls_after<'t>(calls: Calls<'t>, token: SourceToken<'t>) -> Calls
     }
 }
 
-/// Whether the next token stands inside of a call.
+/// Whether the next token is inside a macro call.
 #[inline(always)]
 pub(crate) fn is_in_call(calls: Calls<'_>) -> bool
     ensures { result ≡ is_in_call (calls_seen calls.entry) }

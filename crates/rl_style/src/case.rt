@@ -1,14 +1,14 @@
-//! Hexadecimal digits in one case.
+//! Converts hexadecimal digits to lower or upper case.
 
 ghost use Rattle.std.specs.Prelude.{◌≡◌, ◌≤◌, ◌+◌, ◌++◌, length, map, take, encode_utf8, encode_utf8_all};
 ghost use Rattle.std.specs.Str.{chars};
 ghost use Rattle.rl_style.specs.Cases.{cased};
 
 use crate::style::Case;
-use rl_text::room::put_char;
-use rl_text::text::split_char;
+use rl_syntax::slice_writer::put_char;
+use rl_syntax::text::split_char;
 
-/// A hexadecimal digit in the case; whatever else as it is.
+/// Returns `c` in the given case if it is a hexadecimal digit, and `c` unchanged otherwise.
 pub(crate) fn cased(case: Option<Case>, c: char) -> char
     ensures value { result ≡ cased case c }
     ensures len { length (encode_utf8 result) ≡ length (encode_utf8 c) }
@@ -26,7 +26,8 @@ pub(crate) fn cased(case: Option<Case>, c: char) -> char
     }
 }
 
-/// Puts the characters there, hexadecimal digits in the case.
+/// Writes `text` to `out` from the index `at` on, with its hexadecimal digits in the given case. Returns the index after the
+/// written bytes.
 pub(crate) fn put_cased(out: &mut [u8], at: usize, case: Option<Case>, text: &str) -> usize
     requires { at + length text.now ≤ length out.old }
     ensures end { result ≡ at + length text.now }

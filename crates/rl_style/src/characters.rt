@@ -1,38 +1,38 @@
-//! What the characters of numbers become.
+//! Rewrites the characters of numbers.
 
 ghost use Rattle.std.specs.Prelude.{◌≡◌, ◌≤◌, ◌+◌, ◌++◌, length, take, encode_utf8, encode_utf8_all, IfSome};
 ghost use Rattle.std.specs.List.{flat_map};
 ghost use Rattle.std.specs.Str.{chars};
-ghost use Rattle.rl_text.specs.Texts.{first_passes};
+ghost use Rattle.rl_syntax.specs.Texts.{first_passes};
 ghost use Rattle.rl_lexer.specs.Lexemes.{is_base_letter};
 ghost use Rattle.rl_style.specs.Cases.{exponent_letter, number_character};
 ghost use Rattle.rl_style.specs.Mirrors.{one_or_none};
 
 use crate::case::cased;
 use crate::style::{Case, Style};
-use rl_text::room::put_char;
-use rl_text::text::split_char;
+use rl_syntax::slice_writer::put_char;
+use rl_syntax::text::split_char;
 
-/// How what stands before a number's suffix is written anew.
+/// The options by which the text of one number before its suffix is rewritten.
 #[derive(Clone, Copy)]
 pub(crate) struct Manner {
     pub style: Style,
-    /// Whether underscores are dropped.
+    /// Whether the number's underscores are dropped.
     pub drops: bool,
-    /// Whether the base is 16.
+    /// Whether the number is hexadecimal.
     pub hex: bool,
-    /// How many digits stand in a group; 0 where they are left alone.
+    /// The number of digits in a group, or 0 if the number's digits aren't divided into groups.
     pub size: usize,
 }
 
-/// Whether the text begins with the letter of a base.
+/// Whether the text begins with a letter that may follow `0` in a base prefix: `x`, `o` or `b`.
 pub(crate) fn begins_base_letter(text: &str) -> bool
     ensures { result ≡ first_passes is_base_letter (chars text.now) }
 {
     matches!(split_char(text), Some(('x' | 'o' | 'b', _)))
 }
 
-/// The letter before an exponent in the case; whatever else as it is.
+/// Returns `c` in the given case if it is `e` or `E`, the letter of an exponent, and `c` unchanged otherwise.
 fn exponent_letter(case: Option<Case>, c: char) -> char
     ensures value { result ≡ exponent_letter case c }
     ensures len { length (encode_utf8 result) ≡ length (encode_utf8 c) }
@@ -50,7 +50,8 @@ fn exponent_letter(case: Option<Case>, c: char) -> char
     }
 }
 
-/// What a character of a number is written anew as, before its suffix: `None` where it is dropped.
+/// Returns the new character for the character `c` of a number before its suffix, or `None` if `c` is dropped. `drops` is true
+/// if underscores are dropped, and `hex` if the number is hexadecimal.
 fn number_character(style: Style, drops: bool, hex: bool, c: char) -> Option<char>
     ensures value { one_or_none result ≡ number_character style drops hex c }
     ensures len { IfSome result (λ d. length (encode_utf8 d) ≡ length (encode_utf8 c)) }
@@ -63,7 +64,8 @@ fn number_character(style: Style, drops: bool, hex: bool, c: char) -> Option<cha
     }
 }
 
-/// Puts what a character of a number becomes.
+/// Writes the new form of the character `c` of a number to `out` from the index `at` on. Returns the index after the written
+/// bytes.
 pub(crate) fn put_character(out: &mut [u8], at: usize, manner: Manner, c: char) -> usize
     requires { at + length (encode_utf8 c) ≤ length out.old }
     ensures end { result ≤ at + length (encode_utf8 c) }
@@ -77,7 +79,7 @@ pub(crate) fn put_character(out: &mut [u8], at: usize, manner: Manner, c: char) 
     }
 }
 
-/// Puts what the characters of a number become.
+/// Writes the new form of a number's text to `out` from the index `at` on. Returns the index after the written bytes.
 pub(crate) fn put_numeral(out: &mut [u8], at: usize, manner: Manner, numeral: &str) -> usize
     requires { at + length numeral.now ≤ length out.old }
     ensures end { result ≤ at + length numeral.now }

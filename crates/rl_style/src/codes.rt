@@ -1,19 +1,20 @@
-//! The digits of `\u{..}` written anew.
+//! Rewrites the digits of numeric escapes: `\x` and `\u{..}`.
 
 ghost use Rattle.std.specs.Prelude.{◌≡◌, ◌≤◌, ◌+◌, ◌++◌, ◌==◌, length, map, take, encode_utf8_all};
 ghost use Rattle.std.specs.Str.{chars};
-ghost use Rattle.rl_text.specs.Texts.{code, first_passes};
-ghost use Rattle.rl_forms.specs.Spelling.{without_underscores};
+ghost use Rattle.rl_syntax.specs.Texts.{code, first_passes};
+ghost use Rattle.rl_syntax.specs.Spelling.{without_underscores};
 ghost use Rattle.rl_style.specs.Cases.{cased};
 ghost use Rattle.rl_style.specs.Mirrors.{digits_text, fewest_text};
 
 use crate::case::{cased, put_cased};
 use crate::numbers::skip_padding;
 use crate::style::{Case, Style};
-use rl_text::room::{put_byte, put_char, put_text};
-use rl_text::text::{after_prefix, split_char};
+use rl_syntax::slice_writer::{put_byte, put_char, put_text};
+use rl_syntax::text::{after_prefix, split_char};
 
-/// Puts the characters there without underscores, hexadecimal digits in the case.
+/// Writes the text without underscores, with its hexadecimal digits in the given case. Returns the index after the written
+/// bytes.
 fn put_bare(out: &mut [u8], at: usize, case: Option<Case>, text: &str) -> usize
     requires { at + length text.now ≤ length out.old }
     ensures end { result ≤ at + length text.now }
@@ -32,14 +33,15 @@ fn put_bare(out: &mut [u8], at: usize, case: Option<Case>, text: &str) -> usize
     end
 }
 
-/// Whether the text begins with a closing brace.
+/// Whether the text begins with `}`.
 fn begins_close(text: &str) -> bool
     ensures { result ≡ first_passes (λ c. c == code "}") (chars text.now) }
 {
     matches!(split_char(text), Some(('}', _)))
 }
 
-/// Puts what stands after `\u{`, with the fewest digits.
+/// Writes the digits of a `\u{..}` escape without leading zeros and underscores, and its closing brace. `inside` is the text
+/// after `\u{`.
 fn put_code(out: &mut [u8], at: usize, case: Option<Case>, inside: &str) -> usize
     requires { at + length inside.now ≤ length out.old }
     ensures end { result ≤ at + length inside.now }
@@ -58,7 +60,7 @@ fn put_code(out: &mut [u8], at: usize, case: Option<Case>, inside: &str) -> usiz
     put_bare(out, at, case, rest)
 }
 
-/// Puts an escape by number, its digits in the style.
+/// Writes a numeric escape (`\x` or `\u{..}`) with its digits as the style requires.
 pub(crate) fn put_digits(out: &mut [u8], at: usize, style: Style, unit: &str) -> usize
     requires { at + length unit.now ≤ length out.old }
     ensures end { result ≤ at + length unit.now }

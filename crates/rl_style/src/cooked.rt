@@ -1,45 +1,44 @@
-//! Literals with escapes written anew, unit by unit.
+//! Rewrites quoted literals with escapes, one character or escape at a time.
 
 ghost use Rattle.std.specs.Prelude.{◌≡◌, ◌<◌, ◌≤◌, ◌+◌, ◌*◌, ◌++◌, ◌∷◌, [], ◌||◌, ◌&&◌, ◌==◌, not, true, nat_lt, if◌then◌else◌, List, length, take, encode_utf8_all, IsFalse};
 ghost use Rattle.std.specs.Str.{chars, IsUtf8};
-ghost use Rattle.rl_text.specs.Texts.{code, first_passes};
-ghost use Rattle.rl_forms.specs.Strict.{StrictUnit};
-ghost use Rattle.rl_forms.specs.Written.{closer};
-ghost use Rattle.rl_reading.specs.Mirrors.UnitAt.{piece_value, unit_at};
-ghost use Rattle.rl_style.specs.Mirrors.{AreUnits, CookedParts, ascii_in, lettered, number_text, restyled_text, stands_for_digit, visible_text};
+ghost use Rattle.rl_syntax.specs.Texts.{code, first_passes};
+ghost use Rattle.rl_syntax.specs.Strict.{StrictUnit};
+ghost use Rattle.rl_syntax.specs.Written.{closer};
+ghost use Rattle.rl_lenient.specs.Mirrors.UnitAt.{piece_value, unit_at};
+ghost use Rattle.rl_style.specs.Mirrors.{AreUnits, CookedParts, ascii_in, lettered, number_text, restyled_text, represents_digit, visible_text};
 ghost use Rattle.rl_style.specs.Rewriting.{RewritesCooked, gets_letter, is_visible, letter_of, restyled_inside};
 
 use crate::codes::put_digits;
 use crate::hidden::put_itself;
 use crate::style::Style;
-use rl_forms::Kind;
-use rl_forms::written_unit::closer;
-use rl_reading::units::{Piece, unit};
-use rl_text::room::{put_byte, put_char, put_text};
-use rl_text::text::{before, split_char, strip_byte};
+use rl_lenient::units::{Piece, unit};
+use rl_syntax::Kind;
+use rl_syntax::slice_writer::{put_byte, put_char, put_text};
+use rl_syntax::text::{before, split_char, strip_byte};
 
-/// Whether it is one of the two quotes.
+/// Whether the character is a single or a double quote.
 fn is_quote(c: char) -> bool
     ensures { result ≡ (c == code "'" || c == code "\"") }
 {
     matches!(c, '\'' | '"')
 }
 
-/// Whether it begins an escape by number.
+/// Whether the character begins a numeric escape: `x` or `u`.
 fn begins_number(c: char) -> bool
     ensures { result ≡ (c == code "x" || c == code "u") }
 {
     matches!(c, 'x' | 'u')
 }
 
-/// Whether the quote loses its backslash.
-fn is_bared(style: Style, kind: Kind, quote: char) -> bool
+/// Whether the style drops the backslash before the quote `quote` in a literal of the kind `kind`.
+fn loses_backslash(style: Style, kind: Kind, quote: char) -> bool
     ensures { result ≡ (style.quote_escapes && not (quote == closer kind)) }
 {
-    style.quote_escapes && quote != closer(kind)
+    style.quote_escapes && quote != kind.quote()
 }
 
-/// The number where it is of ASCII, or 128.
+/// Returns the number as a byte if it is below 128, and 128 otherwise.
 fn ascii_or(code: u32) -> u8
     ensures value { result ≡ (if nat_lt code 128 then code else 128) }
     ensures small { result ≤ 128 }
@@ -47,7 +46,7 @@ fn ascii_or(code: u32) -> u8
     if code < 128 { code as u8 } else { 128 }
 }
 
-/// The character or byte of ASCII that the piece is, or 128.
+/// Returns the value of a character or escape if it is ASCII, and 128 otherwise.
 fn ascii_of(kind: Kind, piece: Piece) -> u8
     ensures value { result ≡ ascii_in (piece_value kind piece) }
     ensures small { result ≤ 128 }
@@ -59,7 +58,7 @@ fn ascii_of(kind: Kind, piece: Piece) -> u8
     }
 }
 
-/// The same, but 128 for NUL that gets no letter.
+/// Returns `byte`, but 128 for a NUL if `zero` is false: this NUL may not be written as `\0`.
 fn lettered(zero: bool, byte: u8) -> u8
     requires { byte ≤ 128 }
     ensures value { result ≡ lettered zero byte }
@@ -68,9 +67,9 @@ fn lettered(zero: bool, byte: u8) -> u8
     if zero || byte != 0 { byte } else { 128 }
 }
 
-/// Whether the unit that the text begins with stands for a digit.
-fn stands_for_digit(kind: Kind, text: &str) -> bool
-    ensures { result ≡ stands_for_digit (unit_at kind (chars text.now)) }
+/// Whether the character or escape at the beginning of the text represents a decimal digit.
+fn represents_digit(kind: Kind, text: &str) -> bool
+    ensures { result ≡ represents_digit (unit_at kind (chars text.now)) }
 {
     match unit(kind, text) {
         Some((piece, _)) => ascii_of(kind, piece).is_ascii_digit(),
@@ -78,21 +77,21 @@ fn stands_for_digit(kind: Kind, text: &str) -> bool
     }
 }
 
-/// Whether the character stands for itself where an escape by number spells it.
+/// Whether the style replaces a numeric escape of the character `byte` by the character itself.
 fn is_visible(style: Style, byte: u8) -> bool
     ensures { result ≡ (style.ascii_escapes && is_visible byte) }
 {
     style.ascii_escapes && matches!(byte, b'!'..=b'~')
 }
 
-/// Whether the character gets a letter where an escape by number spells it.
+/// Whether the style replaces a numeric escape of the character `byte` by an escape with a letter: `\n`, `\r`, `\t` or `\0`.
 fn has_letter(style: Style, byte: u8) -> bool
     ensures { result ≡ (style.named_escapes && gets_letter true byte) }
 {
     style.named_escapes && matches!(byte, b'\n' | b'\r' | b'\t' | 0)
 }
 
-/// The letter of the escape that stands for LF, CR, TAB or NUL.
+/// Returns the letter of the escape for LF, CR, TAB or NUL: `n`, `r`, `t` or `0`.
 fn letter_of(byte: u8) -> u8
     ensures value { result ≡ letter_of byte }
     ensures ascii { result < 128 }
@@ -105,7 +104,7 @@ fn letter_of(byte: u8) -> u8
     }
 }
 
-/// Puts a backslash and a character.
+/// Writes a backslash and the character `byte`. Returns the index after the written bytes.
 pub(crate) fn put_pair(out: &mut [u8], at: usize, byte: u8) -> usize
     requires room { at + 2 ≤ length out.old }
     requires ascii { byte < 128 }
@@ -117,7 +116,8 @@ pub(crate) fn put_pair(out: &mut [u8], at: usize, byte: u8) -> usize
     put_byte(out, end, byte)
 }
 
-/// Puts a visible character of ASCII into a literal of the kind.
+/// Writes a visible ASCII character into a literal of the kind `kind`. The literal's closing quote and a backslash get a
+/// backslash before them.
 fn put_visible(out: &mut [u8], at: usize, kind: Kind, byte: u8) -> usize
     requires room { at + 2 ≤ length out.old }
     requires ascii { byte < 128 }
@@ -125,13 +125,14 @@ fn put_visible(out: &mut [u8], at: usize, kind: Kind, byte: u8) -> usize
     ensures bytes { take result out.new ≡ take at out.old ++ encode_utf8_all (visible_text kind byte) }
     ensures len { length out.new ≡ length out.old }
 {
-    if byte as char == closer(kind) || byte == b'\\' {
+    if byte as char == kind.quote() || byte == b'\\' {
         return put_pair(out, at, byte);
     }
     put_byte(out, at, byte)
 }
 
-/// Puts an escape by number, written anew, that spells this character or byte of ASCII, or 128.
+/// Writes the new form of a numeric escape. `byte` is the escape's value if it is ASCII, and 128 otherwise. For a NUL that
+/// isn't written as `\0` it is 128 too.
 fn put_number(out: &mut [u8], at: usize, kind: Kind, style: Style, unit: &str, byte: u8) -> usize
     requires room { at + length unit.now ≤ length out.old }
     requires two { 2 ≤ length unit.now }
@@ -150,7 +151,8 @@ fn put_number(out: &mut [u8], at: usize, kind: Kind, style: Style, unit: &str, b
     put_digits(out, at, style, unit)
 }
 
-/// Puts an escape, written anew, by what follows its backslash and what it stands for.
+/// Writes the new form of an escape. `unit` is the text of the escape, `escape` this text without the backslash, and `byte` the
+/// escape's value if it is ASCII, or 128.
 fn put_escape(
     out: &mut [u8],
     at: usize,
@@ -173,7 +175,7 @@ fn put_escape(
         return put_text(out, at, unit);
     };
     if is_quote(first) {
-        if is_bared(style, kind, first) {
+        if loses_backslash(style, kind, first) {
             return put_text(out, at, escape);
         }
         return put_text(out, at, unit);
@@ -184,7 +186,7 @@ fn put_escape(
     put_text(out, at, unit)
 }
 
-/// Puts a unit that is no escape, written anew.
+/// Writes the new form of an unescaped character or a CR LF.
 fn put_plain(out: &mut [u8], at: usize, kind: Kind, style: Style, unit: &str, byte: u8) -> usize
     requires room { at + 4 * length unit.now ≤ length out.old }
     requires plain { IsFalse (first_passes (λ c. c == code "\\") (chars unit.now)) }
@@ -202,7 +204,9 @@ fn put_plain(out: &mut [u8], at: usize, kind: Kind, style: Style, unit: &str, by
     }
 }
 
-/// Puts a unit, written anew, that stands for this character or byte of ASCII, or 128: at most four bytes for each of its own.
+/// Writes the new form of one character or escape: at most four bytes for each byte of its text.
+///
+/// `byte` is the value if it is ASCII, and 128 otherwise. For a NUL that isn't written as `\0` it is 128 too.
 fn put_unit(out: &mut [u8], at: usize, kind: Kind, style: Style, unit: &str, byte: u8) -> usize
     requires room { at + 4 * length unit.now ≤ length out.old }
     requires small { byte ≤ 128 }
@@ -217,7 +221,7 @@ fn put_unit(out: &mut [u8], at: usize, kind: Kind, style: Style, unit: &str, byt
     }
 }
 
-/// Puts what stands inside a literal, each unit written anew.
+/// Writes the new form of each character and escape of a literal's body.
 fn put_units(out: &mut [u8], at: usize, kind: Kind, style: Style, inside: &str) -> usize
     requires { at + 4 * length inside.now ≤ length out.old }
     ensures end { result ≤ at + 4 * length inside.now }
@@ -228,14 +232,14 @@ fn put_units(out: &mut [u8], at: usize, kind: Kind, style: Style, inside: &str) 
     let mut end = at;
     let mut rest = inside;
     while let Some((piece, after)) = unit(kind, rest) {
-        let byte = lettered(!stands_for_digit(kind, after), ascii_of(kind, piece));
+        let byte = lettered(!represents_digit(kind, after), ascii_of(kind, piece));
         end = put_unit(out, end, kind, style, before(rest, after), byte);
         rest = after;
     }
     end
 }
 
-/// Writes the literal of the kind anew that has this text inside, with escapes, and this suffix.
+/// Writes the new form of a quoted literal with escapes, whose body is `inside`.
 pub(crate) fn write_cooked(
     text: &str,
     kind: Kind,
@@ -252,6 +256,6 @@ pub(crate) fn write_cooked(
 {
     let at = put_text(out, 0, kind.opener());
     let at = put_units(out, at, kind, style, inside);
-    let at = put_char(out, at, closer(kind));
+    let at = put_char(out, at, kind.quote());
     put_text(out, at, suffix)
 }

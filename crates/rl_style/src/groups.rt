@@ -1,20 +1,20 @@
-//! Digits in groups.
+//! Rewrites the digits of numbers in groups, with underscores between the groups.
 
 ghost use Rattle.std.specs.Prelude.{◌≡◌, ◌≤◌, ◌+◌, ◌*◌, ◌++◌, if◌then◌else◌, [], codes, length, not, ◌==◌, take, encode_utf8, encode_utf8_all, IsTrue};
 ghost use Rattle.std.specs.List.{flat_map, list_all};
 ghost use Rattle.std.specs.Str.{chars};
-ghost use Rattle.rl_text.specs.Texts.{code};
-ghost use Rattle.rl_forms.specs.Spelling.{without_underscores};
-ghost use Rattle.rl_writing.specs.Integers.{ends_group, group_size};
+ghost use Rattle.rl_syntax.specs.Texts.{code};
+ghost use Rattle.rl_syntax.specs.Spelling.{without_underscores};
 ghost use Rattle.rl_style.specs.Cases.{number_character};
 ghost use Rattle.rl_style.specs.Groups.{ends, in_groups, ending, least_by, regrouped, size_by, base_group};
 
 use crate::characters::{Manner, begins_base_letter, put_character, put_numeral};
 use crate::style::{DigitGroups, Style};
-use rl_text::room::put_byte;
-use rl_text::text::split_char;
+use rl_syntax::slice_writer::put_byte;
+use rl_syntax::text::split_char;
+use rl_writing::{ends_group, group_size_for};
 
-/// How many digits of the base stand in a group.
+/// Returns the number of digits in a group, for numbers of the base `base`.
 fn base_group(groups: DigitGroups, base: u32) -> usize
     ensures { result ≡ base_group groups base }
 {
@@ -26,7 +26,8 @@ fn base_group(groups: DigitGroups, base: u32) -> usize
     }
 }
 
-/// How many digits of a number in the base, with the suffix, stand in a group; 0 where they are left alone.
+/// Returns the number of digits in a group, for a number of the base `base` with the suffix `suffix`. 0 means that the number's
+/// digit groups stay unchanged.
 pub(crate) fn group_size(style: Style, base: u32, suffix: &str) -> usize
     ensures { result ≡ size_by style.digit_groups base (chars suffix.now) }
 {
@@ -36,7 +37,7 @@ pub(crate) fn group_size(style: Style, base: u32, suffix: &str) -> usize
     }
 }
 
-/// How many digits a run has at least that underscores stand in.
+/// Returns the smallest number of digits that the style divides into groups.
 fn least_digits(style: Style) -> usize
     ensures { result ≡ least_by style.digit_groups }
 {
@@ -46,25 +47,8 @@ fn least_digits(style: Style) -> usize
     }
 }
 
-/// How many of so many digits stand in a group.
-fn group_among(manner: Manner, count: usize) -> usize
-    ensures { result ≡ group_size manner.size (least_by manner.style.digit_groups) count }
-{
-    if count < least_digits(manner.style) {
-        0
-    } else {
-        manner.size
-    }
-}
-
-/// Whether a group ends where so many digits stand before or after.
-fn ends_group(size: usize, digits: usize) -> bool
-    ensures { result ≡ ends_group size digits }
-{
-    size > 0 && digits > 0 && digits % size == 0
-}
-
-/// Whether an underscore follows the digit, of `count` digits, that `left` are left after.
+/// Whether an underscore follows a digit. `count` is the number of digits in the sequence, and `left` the number of digits
+/// after this one. Groups are counted from the first digit if `from_first` is true, and from the last one otherwise.
 fn ends(from_first: bool, size: usize, count: usize, left: usize) -> bool
     requires { left ≤ count }
     ensures { result ≡ ends from_first size count left }
@@ -76,7 +60,7 @@ fn ends(from_first: bool, size: usize, count: usize, left: usize) -> bool
     }
 }
 
-/// How many digits a run of digits and underscores holds.
+/// Returns the number of digits in a sequence of digits and underscores.
 fn count_digits(run: &str) -> usize
     ensures digits { result ≡ length (without_underscores (chars run.now)) }
     ensures within { result ≤ length run.now }
@@ -92,7 +76,7 @@ fn count_digits(run: &str) -> usize
     count
 }
 
-/// Puts what a digit becomes, and an underscore after it where its group ends.
+/// Writes the new form of a digit, and an underscore after it if `ends` is true: its group ends there.
 fn put_digit(out: &mut [u8], at: usize, manner: Manner, digit: char, ends: bool) -> usize
     requires { at + 2 * length (encode_utf8 digit) ≤ length out.old }
     ensures end { result ≤ at + 2 * length (encode_utf8 digit) }
@@ -108,7 +92,8 @@ fn put_digit(out: &mut [u8], at: usize, manner: Manner, digit: char, ends: bool)
     end
 }
 
-/// Puts what a run of digits and underscores becomes, its digits in groups.
+/// Writes a sequence of digits and underscores with its digits in groups. Underscores at its end are kept, unless the style
+/// drops them.
 fn put_grouped(out: &mut [u8], at: usize, manner: Manner, from_first: bool, run: &str) -> usize
     requires room { at + 2 * length run.now ≤ length out.old }
     requires no_plus { IsTrue (list_all (λ c. not (c == code "+")) (chars run.now)) }
@@ -120,7 +105,7 @@ fn put_grouped(out: &mut [u8], at: usize, manner: Manner, from_first: bool, run:
     ensures len { length out.new ≡ length out.old }
 {
     let count = count_digits(run);
-    let size = group_among(manner, count);
+    let size = group_size_for(manner.size, least_digits(manner.style), count);
     let mut left = count;
     let mut end = at;
     let mut rest = run;
@@ -136,7 +121,7 @@ fn put_grouped(out: &mut [u8], at: usize, manner: Manner, from_first: bool, run:
     end
 }
 
-/// Puts what a run of digits and underscores becomes, in groups where its number is.
+/// Writes the new form of a sequence of digits and underscores, with its digits in groups unless the group size is 0.
 pub(crate) fn put_digit_run(
     out: &mut [u8],
     at: usize,

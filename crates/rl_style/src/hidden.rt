@@ -1,26 +1,28 @@
-//! Characters that turn or hide text, as escapes by their numbers.
+//! Writes invisible and bidirectional characters as numeric escapes.
 
 ghost use Rattle.std.specs.Prelude.{◌≡◌, ◌<◌, ◌≤◌, ◌+◌, ◌*◌, ◌/◌, ◌%◌, ◌++◌, ◌∷◌, [], ◌&&◌, length, take, encode_utf8, encode_utf8_all};
 ghost use Rattle.std.specs.List.{list_any};
 ghost use Rattle.std.specs.Str.{chars};
-ghost use Rattle.rl_text.specs.Texts.{code};
+ghost use Rattle.rl_syntax.specs.Texts.{code};
 ghost use Rattle.rl_style.specs.Mirrors.{code_text, digits_text, hidden_text, itself_text};
 ghost use Rattle.rl_style.specs.Rewriting.{needs_number as wants_number, lower_digit};
 
 use crate::codes::put_digits;
 use crate::style::Style;
-use rl_text::room::{put_byte, put_char, put_text};
-use rl_text::text::split_char;
+use rl_syntax::slice_writer::{put_byte, put_char, put_text};
+use rl_syntax::text::split_char;
 use rl_writing::{needs_escape, put_unicode};
 
-/// Whether the character turns or hides text, and has no letter.
+/// Whether the character must be written as a numeric escape: it is invisible, bidirectional or a control character other than
+/// LF, CR and TAB.
 fn needs_number(c: char) -> bool
     ensures { result ≡ wants_number c }
 {
     needs_escape(c) && !matches!(c, '\n' | '\r' | '\t')
 }
 
-/// Whether a character of the text does.
+/// Whether the text contains a character that must be written as a numeric escape: an invisible or bidirectional one, or a
+/// control character other than LF, CR and TAB.
 pub(crate) fn holds_hidden(text: &str) -> bool
     ensures { result ≡ list_any wants_number (chars text.now) }
 {
@@ -34,7 +36,7 @@ pub(crate) fn holds_hidden(text: &str) -> bool
     false
 }
 
-/// A digit of base 16, in lower case.
+/// Returns the hexadecimal digit for a number below 16, in lower case.
 fn lower_digit(digit: u32) -> u8
     requires { digit < 16 }
     ensures value { result ≡ lower_digit digit }
@@ -48,7 +50,7 @@ fn lower_digit(digit: u32) -> u8
     }
 }
 
-/// Puts `\x` and the two digits of a character of ASCII.
+/// Writes an ASCII character as `\x` and two lower-case digits.
 fn put_two(out: &mut [u8], at: usize, c: char) -> usize
     requires room { at + 4 ≤ length out.old }
     requires ascii { c < 128 }
@@ -64,7 +66,8 @@ fn put_two(out: &mut [u8], at: usize, c: char) -> usize
     put_byte(out, end, lower_digit(number % 16))
 }
 
-/// Puts the escape of a character by its number, with the fewest digits, in lower case.
+/// Writes the numeric escape of a character: `\x` for ASCII, and otherwise `\u{..}` with the fewest digits. They are in lower
+/// case.
 fn put_code(out: &mut [u8], at: usize, c: char) -> usize
     requires { at + length (code_text c) ≤ length out.old }
     ensures end { result ≡ at + length (code_text c) }
@@ -77,7 +80,7 @@ fn put_code(out: &mut [u8], at: usize, c: char) -> usize
     put_unicode(out, at, c)
 }
 
-/// Puts the escape of a character by its number, its digits in the style.
+/// Writes the numeric escape of a character, with its digits as the style requires.
 fn put_styled_code(out: &mut [u8], at: usize, style: Style, c: char) -> usize
     requires { at + 4 * length (encode_utf8 c) ≤ length out.old }
     ensures end { result ≤ at + 4 * length (encode_utf8 c) }
@@ -92,7 +95,7 @@ fn put_styled_code(out: &mut [u8], at: usize, style: Style, c: char) -> usize
     }
 }
 
-/// Puts the escape of a character that turns or hides text; the truth value says whether NUL gets a letter.
+/// Writes the escape of an invisible or bidirectional character. NUL may be written as `\0` if `zero` is true.
 fn put_hidden(out: &mut [u8], at: usize, style: Style, zero: bool, c: char) -> usize
     requires { at + 4 * length (encode_utf8 c) ≤ length out.old }
     ensures end { result ≤ at + 4 * length (encode_utf8 c) }
@@ -105,8 +108,8 @@ fn put_hidden(out: &mut [u8], at: usize, style: Style, zero: bool, c: char) -> u
     put_styled_code(out, at, style, c)
 }
 
-/// Puts a character that stands for itself, written anew: at most four bytes for each of its own. The truth value says whether NUL
-/// gets a letter.
+/// Writes the new form of an unescaped character: at most four bytes for each of its own. NUL may be written as `\0` if `zero`
+/// is true.
 pub(crate) fn put_itself(out: &mut [u8], at: usize, style: Style, zero: bool, c: char) -> usize
     requires { at + 4 * length (encode_utf8 c) ≤ length out.old }
     ensures end { result ≤ at + 4 * length (encode_utf8 c) }

@@ -1,97 +1,100 @@
-//! Laws of the definitions: each function does nothing, and its contract is the law.
+//! Theorems about the definitions. Each function here does nothing: its contract states the theorem.
 
 ghost use Rattle.rl_style.specs.Around.{StaysAround, StaysBeforeQuote, KeepsItsEnds};
-ghost use Rattle.rl_style.specs.Recut.{KeepsTheCut, KeepsTheCutUnraw, KeepsTheSource};
-ghost use Rattle.rl_style.specs.Restyled.{KeepsTheEditedCut, KeepsTheEditedSource, KeepsTheRestyledCut, KeepsTheRestyledSource};
+ghost use Rattle.rl_style.specs.Recut.{KeepsTheTokens, KeepsTheTokensUnraw, KeepsTheSource};
+ghost use Rattle.rl_style.specs.Restyled.{KeepsTheTokensOfEdits, KeepsTheEditedSource, KeepsTheTokensOfAStyle, KeepsTheRestyledSource};
 ghost use Rattle.rl_style.specs.Laws.{ARewrittenLiteralIsTheSame, ARewrittenLiteralIsTheSameNumber, ARewrittenTextStays, ALiteralHasOneTextInAStyle, NoRuleChangesNothing, TheSameLiteralReadsAlike, TheSameLiteralIsStrictAlike};
 
-/// A literal that is written anew is the same literal, where the style puts no zero after a float's dot: its kind, its contents and its
-/// suffix are what they were.
+/// A rewritten literal has the kind, the value and the suffix of the old literal, if the style doesn't add a zero after a
+/// float's dot.
 pub fn a_rewritten_literal_is_the_same()
     ensures { ARewrittenLiteralIsTheSame }
 {}
 
-/// In any style it is the same literal, but that the contents of a float that ended with its dot may end with `.0`.
+/// In any style, a rewritten literal is equal to the old one, except that the text of a float which ends with its dot may get a
+/// zero: `1.0` for `1.`.
 pub fn a_rewritten_literal_is_the_same_number()
     ensures { ARewrittenLiteralIsTheSameNumber }
 {}
 
-/// A text that is the same literal as another reads as the other does, and is strict as the other is: with one kind, the same
-/// contents and the same suffix. An integer above 128 bits has no reading, in either text.
+/// Two literals with one kind, one value and one suffix have equal parse results, and either both or neither are valid in Rust.
+/// An integer above 128 bits has no parse result, in either text.
 pub fn the_same_literal_reads_alike()
     ensures reads { TheSameLiteralReadsAlike }
     ensures strict { TheSameLiteralIsStrictAlike }
 {}
 
-/// What was written in a style, that style leaves as it is.
-pub fn what_was_written_stays()
+/// Rewriting a literal twice in one style changes nothing the second time.
+pub fn a_rewritten_text_stays()
     ensures { ARewrittenTextStays }
 {}
 
-/// A literal is one text in a style: whatever is the literal in the style is what [`rewrite_into`](crate::rewrite_into) writes.
+/// A literal has exactly one new text in a style: the one that [`rewrite_into`](crate::rewrite_into) writes.
 pub fn a_literal_has_one_text_in_a_style()
     ensures { ALiteralHasOneTextInAStyle }
 {}
 
-/// A style without rules changes nothing.
+/// A style in which no rule is set, as `Style::KEEP`, changes nothing.
 pub fn no_rule_changes_nothing()
     ensures { NoRuleChangesNothing }
 {}
 
-/// A token of a source stays one before a literal that begins as the old one did. Bad quotes and stray characters aside: no source
-/// that rustc takes holds one.
+/// If the literal after a token is replaced by one that begins as the old literal does, the token before it is lexed as before.
+/// Excepted are invalid quotes and stray characters, which no valid Rust source contains.
 pub fn tokens_in_front_stay()
     ensures { StaysAround }
 {}
 
-/// A literal that ends as the old one did is a token where the old one was, and begins as it did.
+/// If a literal is replaced by a well-formed one with its form, prefix and suffix, the new literal is lexed as one token before
+/// the text that follows the old one. It begins as the old one does.
 pub fn new_literals_are_tokens()
     ensures { KeepsItsEnds }
 {}
 
-/// A text in which one literal is written anew is cut as before everywhere else.
-pub fn the_cut_is_kept()
-    ensures { KeepsTheCut }
+/// If one literal of a text is rewritten, all other tokens of the text are lexed as before.
+pub fn the_tokens_are_kept()
+    ensures { KeepsTheTokens }
 {}
 
-/// A source in which one literal is written anew is cut as before everywhere else, where it begins without `#!` or with an attribute's
-/// `#![` ([`may_restyle`](crate::may_restyle)). After another `#!` the literal may hide or show the end of a comment, by which a first
-/// line is an interpreter's line or none.
+/// If one literal of a source is rewritten, all other tokens of the source are lexed as before. The source must begin without
+/// `#!`, or with an attribute's `#![` ([`may_restyle`](crate::may_restyle)). After another `#!`, the literal may hide or show
+/// the end of a comment, which determines whether the first line is an interpreter's line.
 pub fn the_source_is_kept()
     ensures { KeepsTheSource }
 {}
 
-/// A text in which a literal is written anew in a style is cut as before everywhere else: what
-/// [`rewrite_into`](crate::rewrite_into) writes is one token of the same form.
-pub fn the_restyled_cut_is_kept()
-    ensures { KeepsTheRestyledCut }
+/// If a literal of a text is rewritten in a style, all other tokens of the text are lexed as before.
+/// [`rewrite_into`](crate::rewrite_into) writes one token of the old form.
+pub fn the_tokens_of_a_style_are_kept()
+    ensures { KeepsTheTokensOfAStyle }
 {}
 
-/// A source in which a literal is written anew in a style is cut as before everywhere else, where it begins without `#!` or with an
-/// attribute's `#![`.
+/// If a literal of a source is rewritten in a style, all other tokens of the source are lexed as before. The source must begin
+/// without `#!`, or with an attribute's `#![`.
 pub fn the_restyled_source_is_kept()
     ensures { KeepsTheRestyledSource }
 {}
 
-/// A text in which any literals are written anew in a style is cut into as many tokens as before, of the same kinds: each is the old
-/// one, or what was written in its place.
-pub fn the_edited_cut_is_kept()
-    ensures { KeepsTheEditedCut }
+/// If any literals of a text are rewritten in a style, the text is lexed into the old number of tokens, of the old kinds. Each
+/// token is the old one, or its new text.
+pub fn the_tokens_of_edits_are_kept()
+    ensures { KeepsTheTokensOfEdits }
 {}
 
-/// The same of a source that begins without `#!` or with an attribute's `#![`.
+/// If any literals of a source are rewritten in a style, the source is lexed into the old number of tokens, of the old kinds.
+/// The source must begin without `#!`, or with an attribute's `#![`.
 pub fn the_edited_source_is_kept()
     ensures { KeepsTheEditedSource }
 {}
 
-/// A token in front of a raw string stays one before a string with escapes, where the text between them ends with neither a hash nor
-/// a dot.
+/// If a raw string is replaced by a string with escapes, the token before it is lexed as before, provided that the text between
+/// them ends with neither a hash nor a dot.
 pub fn tokens_before_quotes_stay()
     ensures { StaysBeforeQuote }
 {}
 
-/// A text in which a raw string becomes one with escapes is cut as before everywhere else, where neither a hash nor a dot stands
-/// before it.
-pub fn the_cut_is_kept_unraw()
-    ensures { KeepsTheCutUnraw }
+/// If a raw string of a text is replaced by a string with escapes, all other tokens of the text are lexed as before, provided
+/// that neither a hash nor a dot precedes the string.
+pub fn the_tokens_are_kept_unraw()
+    ensures { KeepsTheTokensUnraw }
 {}

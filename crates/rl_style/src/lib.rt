@@ -1,5 +1,31 @@
-//! Literals written anew in another style: each has the same kind, the same contents and the same suffix as before, but that `1.` may
-//! become `1.0`. No memory is taken.
+//! Rewrites literals by a style, such as the case of hexadecimal digits. A rewritten literal has the kind, the value and the
+//! suffix of the old one, except that `1.` may become `1.0`. Nothing is allocated.
+//!
+//! # Example
+//!
+//! ```
+//! ghost use Rattle.std.specs.Prelude.{◌≤◌, ◌+◌, ◌*◌, IfSome, length, take};
+//! ghost use Rattle.std.specs.Str.{chars};
+//! ghost use Rattle.rl_style.specs.Rewriting.{SameLiteral};
+//!
+//! use rl_style::{Case, Style, rewrite_into};
+//!
+//! #[tactic(auto, using(rl_style::proofs::Theorems::a_rewritten_literal_is_the_same))]
+//! pub fn write_lower(text: &str, out: &mut [u8]) -> Option<usize>
+//!     requires { 4 * length text.now + 1 ≤ length out.old }
+//!     ensures same { IfSome result (λ n. SameLiteral (chars text.now) (chars (take n out.new))) }
+//! {
+//!     let style = Style {
+//!         hex_digits: Some(Case::Lower),
+//!         ..Style::KEEP
+//!     };
+//!     match rewrite_into("", text, style, out) {
+//!         Ok(n) => Some(n),
+//!         Err(_) => None,
+//!     }
+//! }
+//! // write_lower("0xAB_u8", &mut [0; 64]) == Some(7)
+//! ```
 #![tactic(auto)]
 
 mod calls;

@@ -1,12 +1,12 @@
-//! Numbers written anew.
+//! Rewrites integers and floats by a style.
 
 ghost use Rattle.std.specs.Prelude.{◌≡◌, ◌≤◌, ◌+◌, ◌++◌, ℕ, List, [], codes, if◌then◌else◌, length, take, encode_utf8_all, IsTrue, ◌*◌, ◌==◌, true};
 ghost use Rattle.std.specs.Str.{chars, IsUtf8};
-ghost use Rattle.rl_text.specs.Texts.{IsTail, first_passes};
-ghost use Rattle.rl_forms.specs.Reading.{Contents};
-ghost use Rattle.rl_forms.specs.Strict.{StrictFloat, StrictInt};
-ghost use Rattle.rl_reasons.specs.StrictNumbersRead.{IsNumberRead, suffix_of};
-ghost use Rattle.rl_text.specs.Classes.{after_run};
+ghost use Rattle.rl_syntax.specs.Texts.{IsTail, first_passes};
+ghost use Rattle.rl_syntax.specs.Reading.{Contents};
+ghost use Rattle.rl_syntax.specs.Strict.{StrictFloat, StrictInt};
+ghost use Rattle.rl_strict.specs.StrictNumbersRead.{IsNumberRead, suffix_of};
+ghost use Rattle.rl_syntax.specs.Classes.{after_run};
 ghost use Rattle.std.specs.Char.{is_ascii_digit};
 ghost use Rattle.rl_style.specs.Cases.{drops_underscores, drops_zeros, is_padding, kept_digits, kept_run, number_character, separator, significant, trimmed, trims_by};
 ghost use Rattle.rl_style.specs.Groups.{after_dot, fraction_in_groups, least_by, regrouped, size_by};
@@ -15,20 +15,20 @@ ghost use Rattle.rl_style.specs.Rewriting.{Rewrites, RewritesFloat, RewritesInt}
 use crate::characters::{Manner, begins_base_letter, put_numeral};
 use crate::groups::{group_size, put_digit_run};
 use crate::style::{Separator, Style};
-use rl_reading::number_forms::split_radix;
-use rl_reasons::Number;
-use rl_text::classes::{CharClass, skip_class};
-use rl_text::room::{put_byte, put_text};
-use rl_text::text::{after_prefix, before, split_char};
+use rl_lenient::number_forms::split_radix;
+use rl_strict::Number;
+use rl_syntax::classes::{CharClass, skip_class};
+use rl_syntax::slice_writer::{put_byte, put_text};
+use rl_syntax::text::{after_prefix, before, split_char};
 
-/// Whether a number with the suffix loses its underscores.
+/// Whether the style drops the underscores of a number with this suffix.
 fn drops_underscores(style: Style, suffix: &str) -> bool
     ensures { result ≡ drops_underscores style (chars suffix.now) }
 {
     style.underscores && !begins_base_letter(suffix)
 }
 
-/// The text after the zeros and underscores at its front.
+/// Returns the text after the zeros and underscores at its beginning.
 pub(crate) fn skip_padding(text: &str) -> &str
     ensures rest { chars result.now ≡ after_run is_padding (chars text.now) }
     ensures shorter { length result.now ≤ length text.now }
@@ -40,7 +40,7 @@ pub(crate) fn skip_padding(text: &str) -> &str
     rest
 }
 
-/// The digits without the zeros in front; of zeros alone one.
+/// Returns the digits without leading zeros, or `0` if they are all zeros.
 fn significant(digits: &str) -> &str
     requires { IsTrue (first_passes is_ascii_digit (chars digits.now)) }
     ensures digits { chars result.now ≡ significant (chars digits.now) }
@@ -53,14 +53,14 @@ fn significant(digits: &str) -> &str
     }
 }
 
-/// Whether an integer of the base with the suffix loses the zeros in front of its digits.
+/// Whether the style drops the leading zeros of an integer with this base and this suffix.
 fn drops_zeros(style: Style, base: u32, suffix: &str) -> bool
     ensures { result ≡ drops_zeros style base (chars suffix.now) }
 {
     style.leading_zeros && base == 10 && !begins_base_letter(suffix)
 }
 
-/// The digits of an integer in the base with the suffix, perhaps without the zeros in front.
+/// Returns the digits `run` of an integer, without leading zeros if the style drops them.
 fn kept_digits<'t>(style: Style, base: u32, suffix: &str, run: &'t str) -> &'t str
     requires { IsTrue (drops_zeros style base (chars suffix.now))
         → IsTrue (first_passes is_ascii_digit (chars run.now)) }
@@ -74,7 +74,7 @@ fn kept_digits<'t>(style: Style, base: u32, suffix: &str, run: &'t str) -> &'t s
     }
 }
 
-/// The text without the underscores at its end.
+/// Returns the text without the underscores at its end.
 fn trimmed(text: &str) -> &str
     ensures kept { chars result.now ≡ trimmed (chars text.now) }
     ensures shorter { length result.now ≤ length text.now }
@@ -90,7 +90,7 @@ fn trimmed(text: &str) -> &str
     before(text, tail)
 }
 
-/// Whether a number with the suffix loses the underscores before it.
+/// Whether the style drops the underscores directly before a number's suffix.
 fn trims(style: Style, suffix: &str) -> bool
     ensures { result ≡ trims_by style.suffix_separator (chars suffix.now) }
 {
@@ -101,7 +101,7 @@ fn trims(style: Style, suffix: &str) -> bool
     }
 }
 
-/// What stands before the suffix, perhaps without the underscores at its end.
+/// Returns a number's text before its suffix, without the underscores at its end if the style drops them.
 fn kept_run<'t>(style: Style, suffix: &str, numeral: &'t str) -> &'t str
     ensures kept { chars result.now ≡ kept_run style (chars suffix.now) (chars numeral.now) }
     ensures shorter { length result.now ≤ length numeral.now }
@@ -113,7 +113,7 @@ fn kept_run<'t>(style: Style, suffix: &str, numeral: &'t str) -> &'t str
     }
 }
 
-/// Whether an underscore is put before the suffix.
+/// Whether the style writes an underscore before the number's suffix.
 fn is_separated(style: Style, suffix: &str) -> bool
     ensures { (if result then codes "_" else []) ≡ separator style (chars suffix.now) }
 {
@@ -123,7 +123,7 @@ fn is_separated(style: Style, suffix: &str) -> bool
     }
 }
 
-/// Puts a number's suffix, and what the style puts before it.
+/// Writes a number's suffix, with an underscore before it if the style requires one.
 fn put_suffix(out: &mut [u8], at: usize, style: Style, suffix: &str) -> usize
     requires { at + (length suffix.now + 1) ≤ length out.old }
     ensures end { result ≤ at + (length suffix.now + 1) }
@@ -138,8 +138,8 @@ fn put_suffix(out: &mut [u8], at: usize, style: Style, suffix: &str) -> usize
     put_text(out, at, suffix)
 }
 
-/// How a number in the base, with the suffix, is written anew.
-fn manner_of(style: Style, base: u32, suffix: &str) -> Manner
+/// Returns the options by which a number of this base with this suffix is rewritten.
+fn number_style(style: Style, base: u32, suffix: &str) -> Manner
     ensures style { result.style ≡ style }
     ensures drops { result.drops ≡ drops_underscores style (chars suffix.now) }
     ensures hex { result.hex ≡ (base == 16) }
@@ -153,7 +153,7 @@ fn manner_of(style: Style, base: u32, suffix: &str) -> Manner
     }
 }
 
-/// Writes the integer anew that has this suffix.
+/// Writes the new form of an integer. `text` is its whole text, and `suffix` its end.
 fn write_integer(text: &str, suffix: &str, style: Style, out: &mut [u8]) -> usize
     requires following { IsTail text.now suffix.now }
     requires integer { (v : Contents) × StrictInt (chars text.now) v (chars suffix.now) }
@@ -166,11 +166,11 @@ fn write_integer(text: &str, suffix: &str, style: Style, out: &mut [u8]) -> usiz
     let whole = kept_run(style, suffix, before(digits, suffix));
     let run = kept_digits(style, base, suffix, whole);
     let at = put_text(out, 0, before(text, digits));
-    let at = put_digit_run(out, at, manner_of(style, base, suffix), false, run);
+    let at = put_digit_run(out, at, number_style(style, base, suffix), false, run);
     put_suffix(out, at, style, suffix)
 }
 
-/// Puts the zero that the style has after a float's last dot.
+/// Writes the zero after a float that ends with its dot, if the style requires one.
 fn put_zero(out: &mut [u8], at: usize, style: Style) -> usize
     requires { at + 1 ≤ length out.old }
     ensures end { result ≤ at + 1 }
@@ -184,7 +184,7 @@ fn put_zero(out: &mut [u8], at: usize, style: Style) -> usize
     at
 }
 
-/// Puts what follows a float's dot, written anew.
+/// Writes the new form of the text after a float's dot.
 fn put_after_dot(out: &mut [u8], at: usize, manner: Manner, fraction: &str) -> usize
     requires { at + (2 * length fraction.now + 1) ≤ length out.old }
     ensures end { result ≤ at + (2 * length fraction.now + 1) }
@@ -204,7 +204,7 @@ fn put_after_dot(out: &mut [u8], at: usize, manner: Manner, fraction: &str) -> u
     }
 }
 
-/// Puts what follows a float's whole part, written anew.
+/// Writes the new form of the text after a float's whole part.
 fn put_fraction(out: &mut [u8], at: usize, manner: Manner, rest: &str) -> usize
     requires { at + 2 * length rest.now ≤ length out.old }
     ensures end { result ≤ at + 2 * length rest.now }
@@ -223,7 +223,7 @@ fn put_fraction(out: &mut [u8], at: usize, manner: Manner, rest: &str) -> usize
     }
 }
 
-/// Writes the float anew that has this suffix.
+/// Writes the new form of a float. `text` is its whole text, and `suffix` its end.
 fn write_float(text: &str, suffix: &str, style: Style, out: &mut [u8]) -> usize
     requires following { IsTail text.now suffix.now }
     requires float { (v : Contents) × StrictFloat (chars text.now) v (chars suffix.now) }
@@ -232,7 +232,7 @@ fn write_float(text: &str, suffix: &str, style: Style, out: &mut [u8]) -> usize
     ensures utf8 { IsUtf8 (take result out.new) }
     ensures within { result ≤ 4 * length text.now + 1 }
 {
-    let manner = manner_of(style, 10, suffix);
+    let manner = number_style(style, 10, suffix);
     let numeral = kept_run(style, suffix, before(text, suffix));
     let rest = skip_class(CharClass::Numeral, numeral);
     let at = put_digit_run(out, 0, manner, false, before(numeral, rest));
@@ -240,7 +240,7 @@ fn write_float(text: &str, suffix: &str, style: Style, out: &mut [u8]) -> usize
     put_suffix(out, at, style, suffix)
 }
 
-/// Writes the number anew that was read.
+/// Writes the new form of a number. `text` is its text, and `number` its parse result.
 pub(crate) fn write_number(text: &str, number: Number<'_>, style: Style, out: &mut [u8]) -> usize
     requires number { IsNumberRead (chars text.now) number }
     requires following { IsTail text.now (suffix_of number) }

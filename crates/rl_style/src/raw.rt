@@ -1,9 +1,9 @@
-//! Raw literals written anew.
+//! Rewrites raw strings by a style.
 
 ghost use Rattle.std.specs.Prelude.{◌≡◌, ◌≤◌, ◌+◌, ◌*◌, ◌++◌, ◌||◌, ◌==◌, not, length, take, encode_utf8, encode_utf8_all};
 ghost use Rattle.std.specs.List.{list_all};
 ghost use Rattle.std.specs.Str.{chars, IsUtf8};
-ghost use Rattle.rl_text.specs.Texts.{code};
+ghost use Rattle.rl_syntax.specs.Texts.{code};
 ghost use Rattle.rl_style.specs.Around.{may_precede_quote};
 ghost use Rattle.rl_style.specs.Mirrors.{RawParts, raw_character, raw_inside};
 ghost use Rattle.rl_style.specs.Rewriting.{RewritesRaw, loses_raw, may_lose_r, needs_backslash, unraw_text};
@@ -11,10 +11,10 @@ ghost use Rattle.rl_style.specs.Rewriting.{RewritesRaw, loses_raw, may_lose_r, n
 use crate::cooked::put_pair;
 use crate::hidden::{holds_hidden, put_itself};
 use crate::style::Style;
-use rl_forms::Kind;
-use rl_reading::digit_runs::begins_digit;
-use rl_text::room::{put_byte, put_text};
-use rl_text::text::split_char;
+use rl_lenient::digit_runs::begins_digit;
+use rl_syntax::Kind;
+use rl_syntax::slice_writer::{put_byte, put_text};
+use rl_syntax::text::split_char;
 use rl_writing::{raw_hashes, write_raw_into};
 
 /// Whether the byte is a hash or a dot.
@@ -24,7 +24,7 @@ fn is_hash_or_dot(byte: u8) -> bool
     matches!(byte, b'#' | b'.')
 }
 
-/// Whether the text ends with neither a hash nor a dot.
+/// Whether the text doesn't end with a hash or a dot, so that a string without a prefix may follow it.
 fn may_precede_quote(front: &str) -> bool
     ensures { result ≡ may_precede_quote (chars front.now) }
 {
@@ -34,7 +34,8 @@ fn may_precede_quote(front: &str) -> bool
     }
 }
 
-/// Whether a literal of the kind may begin with its quote after this front.
+/// Whether a raw string of the kind may lose its `r`, where `front` is the text before it. A string without `b` or `c` keeps it
+/// after a hash or a dot.
 fn may_lose_r(kind: Kind, front: &str) -> bool
     ensures { result ≡ may_lose_r kind (chars front.now) }
 {
@@ -44,14 +45,14 @@ fn may_lose_r(kind: Kind, front: &str) -> bool
     }
 }
 
-/// Whether the character gets a backslash in a string with escapes.
+/// Whether the character must be escaped in a string with escapes: a double quote or a backslash.
 fn needs_backslash(c: char) -> bool
     ensures { result ≡ needs_backslash c }
 {
     matches!(c, '"' | '\\')
 }
 
-/// Whether no character of the text does.
+/// Whether the text contains neither a double quote nor a backslash.
 fn is_bare(text: &str) -> bool
     ensures { result ≡ list_all (λ c. not (needs_backslash c)) (chars text.now) }
 {
@@ -65,7 +66,8 @@ fn is_bare(text: &str) -> bool
     true
 }
 
-/// Whether the raw literal of the kind becomes one with escapes, after this front and with this text inside.
+/// Whether the style replaces a raw string by a string with escapes. `front` is the text before the raw string, and `inside`
+/// its content.
 fn loses_raw(style: Style, kind: Kind, front: &str, inside: &str) -> bool
     ensures { result ≡ loses_raw style kind (chars front.now) (chars inside.now) }
 {
@@ -73,7 +75,7 @@ fn loses_raw(style: Style, kind: Kind, front: &str, inside: &str) -> bool
         && (style.raw && is_bare(inside) || style.hidden && holds_hidden(inside))
 }
 
-/// Puts a character from inside a raw literal into one with escapes; the truth value says whether NUL gets a letter.
+/// Writes a character of a raw string into a string with escapes. NUL may be written as `\0` if `zero` is true.
 fn put_raw_character(out: &mut [u8], at: usize, style: Style, zero: bool, c: char) -> usize
     requires { at + 4 * length (encode_utf8 c) ≤ length out.old }
     ensures end { result ≤ at + 4 * length (encode_utf8 c) }
@@ -86,7 +88,7 @@ fn put_raw_character(out: &mut [u8], at: usize, style: Style, zero: bool, c: cha
     put_itself(out, at, style, zero, c)
 }
 
-/// Puts what stands inside a raw literal into one with escapes.
+/// Writes the content of a raw string as the body of a string with escapes.
 fn put_raw_inside(out: &mut [u8], at: usize, style: Style, inside: &str) -> usize
     requires { at + 4 * length inside.now ≤ length out.old }
     ensures end { result ≤ at + 4 * length inside.now }
@@ -103,7 +105,7 @@ fn put_raw_inside(out: &mut [u8], at: usize, style: Style, inside: &str) -> usiz
     end
 }
 
-/// Writes the raw literal of the kind as one with escapes.
+/// Writes a raw string as a string with escapes. `inside` is its content.
 fn write_unraw(
     text: &str,
     kind: Kind,
@@ -124,7 +126,7 @@ fn write_unraw(
     put_text(out, at, suffix)
 }
 
-/// Writes the raw literal of the kind anew that stands after this front, with this text inside and this suffix.
+/// Writes the new form of a raw string. `front` is the text before it, and `inside` its content.
 pub(crate) fn write_raw(
     front: &str,
     text: &str,

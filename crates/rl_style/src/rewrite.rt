@@ -1,14 +1,14 @@
-//! Any literal written anew.
+//! Rewrites a literal of any kind by a style.
 
 ghost use Rattle.std.specs.Prelude.{◌≡◌, ◌≤◌, ◌+◌, ◌*◌, ℕ, List, length, take, IfOk, IfErr, IsTrue};
 ghost use Rattle.std.specs.Char.{is_ascii_digit};
 ghost use Rattle.std.specs.Str.{chars, IsUtf8};
-ghost use Rattle.rl_text.specs.Texts.{first_passes};
-ghost use Rattle.rl_reading.specs.Founds.{IsQuotedAt};
-ghost use Rattle.rl_reading.specs.Mirrors.OpenerAt.{found_opener, opener_at};
+ghost use Rattle.rl_syntax.specs.Texts.{first_passes};
+ghost use Rattle.rl_lenient.specs.Founds.{IsQuotedAt};
+ghost use Rattle.rl_lenient.specs.Mirrors.OpenerAt.{found_opener, opener_at};
 ghost use Rattle.rl_strict.specs.StrictShapes.{IsToken};
-ghost use Rattle.rl_reasons.specs.StrictFlaws.{ExplainsStrictly};
-ghost use Rattle.rl_reasons.specs.StrictRead.{IsStrictReading};
+ghost use Rattle.rl_strict.specs.StrictFlaws.{ExplainsStrictly};
+ghost use Rattle.rl_strict.specs.StrictRead.{IsStrictReading};
 ghost use Rattle.rl_style.specs.Mirrors.{OpensAs};
 ghost use Rattle.rl_style.specs.Rewriting.{Rewrites};
 
@@ -16,15 +16,15 @@ use crate::cooked::write_cooked;
 use crate::numbers::write_number;
 use crate::raw::write_raw;
 use crate::style::Style;
-use rl_forms::Kind;
-use rl_reading::Body;
-use rl_reading::digit_runs::begins_digit;
-use rl_reading::quoted_forms::{QuotedForm, split_opener};
-use rl_reasons::read_numbers::read_number;
-use rl_reasons::{Flaw, Reading, explain, read};
-use rl_text::room::put_text;
+use rl_lenient::Body;
+use rl_lenient::digit_runs::begins_digit;
+use rl_lenient::quoted_forms::{QuotedForm, split_opener};
+use rl_strict::read_numbers::read_number;
+use rl_strict::{Flaw, LineEnds, Reading, explain, read};
+use rl_syntax::Kind;
+use rl_syntax::slice_writer::put_text;
 
-/// Where the parts of a quoted literal of the kind stand, by its reading.
+/// Returns the byte offsets of the parts of a quoted literal, whose parse result is `reading`.
 fn body_of(text: &str, form: QuotedForm, kind: Kind, reading: Reading) -> Body
     requires token { IsToken (chars text.now) }
     requires begins { OpensAs form kind (chars text.now) }
@@ -38,7 +38,7 @@ fn body_of(text: &str, form: QuotedForm, kind: Kind, reading: Reading) -> Body
     }
 }
 
-/// Writes the quoted literal anew that begins so and stands after this front, by its reading.
+/// Writes the new form of a quoted literal. `front` is the text before it, and `reading` its parse result.
 fn write_quoted(
     front: &str,
     text: &str,
@@ -65,7 +65,7 @@ fn write_quoted(
     }
 }
 
-/// Writes the number anew that the text is.
+/// Writes the new form of a number. Returns the number of written bytes, or the flaw if the text isn't a number.
 fn rewrite_number(text: &str, style: Style, out: &mut [u8]) -> Result<usize, Flaw>
     requires digit { IsTrue (first_passes is_ascii_digit (chars text.now)) }
     requires room { 4 * length text.now + 1 ≤ length out.old }
@@ -83,15 +83,18 @@ fn rewrite_number(text: &str, style: Style, out: &mut [u8]) -> Result<usize, Fla
     }
 }
 
-/// Writes the literal token anew in the style, to the front of `out`, and returns how many bytes it is long: at most one more than four
-/// times the text. Kind and suffix are the same, and but for [`Style::float_zero`] the contents; what the style has no rule for stays.
+/// Writes the literal token `text`, rewritten by `style`, to the start of `out`, and returns the number of written bytes. It is
+/// at most four times the length of `text`, plus one.
 ///
-/// The first text is what stands in front of the literal, of which the last character counts: after a hash or a dot no raw string loses
-/// its `r`. It is empty where nothing stands there.
+/// The literal's kind, value and suffix don't change, except that [`Style::float_zero`] adds a zero to `1.`. Each part for
+/// which the style has no rule is unchanged.
+///
+/// `front` is the text before the literal, and may be empty. Only its last character matters: after a hash or a dot, a raw
+/// string keeps its `r`.
 ///
 /// # Errors
 ///
-/// The text is no token: the flaw is that of [`explain`](rl_reasons::explain).
+/// Returns the flaw of [`explain`](rl_strict::explain) if `text` isn't a literal token.
 pub fn rewrite_into(front: &str, text: &str, style: Style, out: &mut [u8]) -> Result<usize, Flaw>
     requires { 4 * length text.now + 1 ≤ length out.old }
     ensures written { IfOk result
@@ -103,7 +106,7 @@ pub fn rewrite_into(front: &str, text: &str, style: Style, out: &mut [u8]) -> Re
     if begins_digit(text) {
         return rewrite_number(text, style, out);
     }
-    let reading = read(text)?;
+    let reading = read(text, LineEnds::Text, false)?;
     match split_opener(text) {
         Some((form, kind, _)) => Ok(write_quoted(front, text, form, kind, reading, style, out)),
         None => Ok(put_text(out, 0, text)),

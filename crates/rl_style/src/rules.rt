@@ -1,15 +1,15 @@
-//! The rules of a style, one by one.
+//! The rules of a style, each by its name.
 
 ghost use Rattle.std.specs.Prelude.{◌≡◌, ◌≤◌, ◌+◌, ◌*◌, ◌↔◌, length, IfOk, IfErr, IsTrue};
 ghost use Rattle.std.specs.Str.{chars};
-ghost use Rattle.rl_reasons.specs.StrictFlaws.{ExplainsStrictly};
+ghost use Rattle.rl_strict.specs.StrictFlaws.{ExplainsStrictly};
 ghost use Rattle.rl_style.specs.Rules.{Changes, all_rules as all_of_them, only as style_of, rule_label};
 
 use crate::rewrite::rewrite_into;
 use crate::style::Style;
-use rl_reasons::Flaw;
+use rl_strict::Flaw;
 
-/// A rule of a style: the field of [`Style`] of this name.
+/// A rule of a style. Each variant is named after a field of [`Style`].
 #[derive(Clone, Copy, PartialEq, Eq, Debug)]
 pub enum Rule {
     HexDigits,
@@ -30,7 +30,7 @@ pub enum Rule {
     Hidden,
 }
 
-/// All rules, in the order of the fields of [`Style`].
+/// Returns all rules, in the order of the fields of [`Style`].
 pub fn all_rules() -> &'static [Rule]
     ensures { result.now ≡ all_of_them }
 {
@@ -55,7 +55,7 @@ pub fn all_rules() -> &'static [Rule]
 }
 
 impl Rule {
-    /// Its name, as the package's setters and settings have it: `drop_underscores`.
+    /// Returns the rule's name in configurations and in the package's setters, for example `drop_underscores`.
     pub fn name(self) -> &'static str
         ensures { result.now ≡ rule_label self }
     {
@@ -75,13 +75,13 @@ impl Rule {
             Rule::QuoteEscapes => "drop_quote_escapes",
             Rule::RawHashes => "fewest_hashes",
             Rule::Raw => "drop_raw",
-            Rule::Hidden => "escape_hidden",
+            Rule::Hidden => "escape_invisible",
         }
     }
 }
 
 impl Style {
-    /// The style with this rule alone.
+    /// Returns a style that has only this rule of the style, and no other rule.
     pub fn only(self, rule: Rule) -> Style
         ensures { result ≡ style_of self rule }
     {
@@ -155,11 +155,12 @@ impl Style {
     }
 }
 
-/// Whether the style writes the literal token otherwise, which stands after this front: as [`rewrite_into`] does, to the front of `out`.
+/// Returns `true` if the style changes the literal token `text`. `front` is the text before the literal. [`rewrite_into`]
+/// writes the new text to the start of `out`.
 ///
 /// # Errors
 ///
-/// The text is no token: the flaw is that of [`explain`](rl_reasons::explain).
+/// Returns the flaw of [`explain`](rl_strict::explain) if `text` isn't a literal token.
 pub fn changes(front: &str, text: &str, style: Style, out: &mut [u8]) -> Result<bool, Flaw>
     requires { 4 * length text.now + 1 ≤ length out.old }
     ensures change { IfOk result (λ is. IsTrue is ↔ Changes style (chars front.now) (chars text.now)) }

@@ -1,13 +1,13 @@
--- A token of the cursor, written flat.
-use Rattle.rl_text.proofs.Common.{◌≡◌, ℕ, ◌∙◌, ap, encode_utf8_all}
+-- The flat form of a token that the cursor over a text returns.
+use Rattle.rl_syntax.proofs.Common.{◌≡◌, ℕ, ◌∙◌, ap, encode_utf8_all}
 use Rattle.rl_lexer.specs.Lexemes.{lexeme_text}
 use Rattle.rl_lexer.specs.Cursors.{form_view, IsBorrowedToken}
-use Rattle.rl_text.specs.declared.span.Span.{Span}
+use Rattle.rl_syntax.specs.declared.span.Span.{Span}
 use Rattle.rl_lexer.specs.Cuts.{LexedToken, end_of}
 use Rattle.rl_tokens.specs.Lexing.{flat_form, flat_token}
 use Rattle.rl_lexer.specs.declared.cursor.Lexeme.{Lexeme as Borrowed}
 
--- the cut written flat
+-- The flat form of a token that the cursor returns equals that of the lexed token.
 pub flat_borrowed : (file : ℕ) (l : Borrowed) (w : LexedToken) → IsBorrowedToken l w → flat_token file w
     ≡ flat_form (form_view l.form) l.text.now (record { file = file; lo = l.lo; hi = l.hi })
 flat_borrowed file l w is =

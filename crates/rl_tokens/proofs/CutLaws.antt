@@ -1,27 +1,28 @@
--- A text is cut in one way, as far as it goes.
-use Rattle.rl_text.proofs.Common.{◌≡◌, ℕ, ◌+◌, List, [], ◌∷◌, ◌++◌, map, Option, Some, None, refl, sym, ◌∙◌, ap, subst, arith, option_and_then, encode_utf8_all, none-some}
+-- Two results of lexing the same text have the same tokens, up to the first error.
+use Rattle.rl_syntax.proofs.Common.{◌≡◌, ℕ, ◌+◌, List, [], ◌∷◌, ◌++◌, map, Option, Some, None, refl, sym, ◌∙◌, ap, subst, arith, option_and_then, encode_utf8_all, none-some}
 use Rattle.rl_lexer.specs.Skipping.{Skipped}
 use Rattle.rl_lexer.specs.Lexemes.{Lexeme, lexeme_text, IsLexeme, LexemeForm, form_of}
 use Rattle.rl_lexer.specs.Mirrors.LexemeAt.{lexeme_at}
 use Rattle.rl_lexer.specs.Cuts.{LexedToken, end_of, LexesUpTo, OpenGroup, after_form, after_lexeme, open_groups}
 use Rattle.rl_tokens.specs.Lexing.{flat_form, flat_token}
-use Rattle.rl_text.specs.Texts.{byte_len}
+use Rattle.rl_syntax.specs.Texts.{byte_len}
 use Rattle.rl_lexer.proofs.Comments.{same_Some}
 use Rattle.rl_lexer.proofs.Pieces.{one_rest}
 use Rattle.rl_lexer.proofs.LexemeFronts.{lexeme_at-past, one_front}
 
--- with these groups open, no token goes on here
+-- If the groups `groups` are open, no token can follow at the start of the text `r`: none begins there, or it is a
+-- delimiter that can't be added.
 abbrev pub IsStuck : List OpenGroup → List ℕ → Type 0
 IsStuck groups r = (l : Lexeme) (after : List ℕ) (at : ℕ) → IsLexeme l after → r ≡ lexeme_text l ++ after
     → after_lexeme groups l at ≡ None
 
--- two cuts are one, seen as tokens
+-- Two results of lexing a text have the same tokens, the same remaining text and the same open groups.
 pub record SameCut (vs ws : List LexedToken) (r s : List ℕ) (g h : List OpenGroup) : Type 0 where
   pub flat : (file : ℕ) → map (flat_token file) vs ≡ map (flat_token file) ws
   pub rest : r ≡ s
   pub groups : g ≡ h
 
--- the first tokens of two cuts are one
+-- The first tokens of two results of lexing a text have the same form, text and position, and the same text follows.
 record SameFirst (v w : LexedToken) (x y : List ℕ) : Type 0 where
   pub form : form_of v.lexeme ≡ form_of w.lexeme
   pub text : lexeme_text v.lexeme ≡ lexeme_text w.lexeme
@@ -65,7 +66,7 @@ same_tail : (groups : List OpenGroup) (v w : LexedToken) (x y : List ℕ) → Sa
 same_tail groups v w x y same = ap (λ f. after_form groups f v.at) same.form
     ∙ ap (λ n. after_form groups (form_of w.lexeme) n) same.at
 
--- the groups after the first token
+-- If the groups after all tokens are known, the groups after the first token are known too.
 opened : (o : Option (List OpenGroup)) (ws : List LexedToken) (h : List OpenGroup)
     → option_and_then (λ g. open_groups g ws) o ≡ Some h → (g : List OpenGroup) × (o ≡ Some g)
     × (open_groups g ws ≡ Some h)
@@ -108,7 +109,7 @@ same_cut at t gs (v ∷ vs) (w ∷ ws) r s g h (x, a, is, m, more) p stuck (y, b
       groups = rec.groups;
     }
 
--- What was cut of a text begins each cut of all of it, seen as tokens.
+-- If tokens are lexed from the start of a text, each result of lexing the whole text begins with these tokens.
 pub begins_cut : (at : ℕ) (t : List ℕ) (vs ws : List LexedToken) (r : List ℕ) → LexesUpTo at t vs r
     → LexesUpTo at t ws [] → (more : List LexedToken) × ((file : ℕ) → map (flat_token file) ws
     ≡ map (flat_token file) vs ++ map (flat_token file) more)

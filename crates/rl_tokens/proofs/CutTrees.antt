@@ -1,23 +1,24 @@
--- The tokens among the trees of a text are as they were cut.
-use Rattle.rl_text.proofs.Common.{◌≡◌, ℕ, Bool, true, false, List, [], ◌∷◌, ◌++◌, map, inl, inr, refl, sym, ◌∙◌, ap, subst, ⊤, if◌then◌else◌, AllByRecursion, chars, encode_utf8_all, scalar}
+-- The literal and identifier tokens among the token trees of a text have the texts with which they were lexed.
+use Rattle.rl_syntax.proofs.Common.{◌≡◌, ℕ, Bool, true, false, List, [], ◌∷◌, ◌++◌, map, inl, inr, refl, sym, ◌∙◌, ap, subst, ⊤, if◌then◌else◌, AllByRecursion, chars, encode_utf8_all, scalar}
 use Rattle.std.proofs.Math.Utf8.{scalars}
 use Rattle.std.proofs.lemmas.Str.{chars-encodes}
-use Rattle.rl_text.specs.declared.span.Span.{Span}
-use Rattle.rl_text.specs.Texts.{SpannedText}
+use Rattle.rl_syntax.specs.declared.span.Span.{Span}
+use Rattle.rl_syntax.specs.Texts.{SpannedText}
 use Rattle.rl_lexer.specs.Skipping.{Skipped}
 use Rattle.rl_tokens.specs.Trees.{Tree, GroupTree, IdentTree, PunctTree, LiteralTree, FlatToken, Opening, Closing, FlatIdent, FlatLiteral, flat, flat_trees}
 use Rattle.rl_lexer.specs.Lexemes.{lexeme_text, IsLexeme, LexemeForm, LiteralForm, IdentifierForm, DelimiterForm, MarkForm, form_of}
 use Rattle.rl_lexer.specs.Cuts.{LexedToken, end_of, LexesUpTo, is_opener}
 use Rattle.rl_tokens.specs.Lexing.{delimiter_for, flat_form, flat_token, Lexes}
 use Rattle.rl_tokens.specs.PrintedTrees.{IsLexedLiteral}
-use Rattle.rl_text.proofs.Basics.{scalars_parts}
+use Rattle.rl_syntax.proofs.Basics.{scalars_parts}
 
--- The token's bytes are those of the text, and its characters are the text.
+-- The token's text is the UTF-8 encoding of `text`, and decodes to `text`.
 pub record IsTokenOf (text : List ℕ) (token : SpannedText) : Type 0 where
   pub bytes : token.text ≡ encode_utf8_all text
   pub characters : chars token.text ≡ text
 
--- a literal's token has the text of a literal that was cut, an identifier's some text
+-- A condition on the tokens of a text: the text of a literal token is that of a literal that the lexer finds in some
+-- text. An identifier token may have any text.
 abbrev pub IsCutToken : SpannedText → Type 0
 IsCutToken token = (text : List ℕ) × IsLexedLiteral text × IsTokenOf text token
 
@@ -60,7 +61,7 @@ flat_is_cut file w after is scalar = go (form_of w.lexeme) refl
     go (DelimiterForm c) form = delimiter (is_opener c) c
     go (MarkForm c) form = tt
 
--- what follows trivia is a part of the text
+-- If all characters of a text are valid, so are those of the text after white space and comments.
 skipped_scalars : (t r : List ℕ) → Skipped t r → scalars t ≡ true → scalars r ≡ true
 skipped_scalars t r (inl s) h = (scalars_parts s.front r (ap scalars (sym s.text) ∙ h)).1
 skipped_scalars t r (inr s) h = ap scalars s.nothing
@@ -88,7 +89,7 @@ trees_are_cut (GroupTree d inside span ∷ trees) h = (
       (all_tail IsCutFlat (flat (GroupTree d inside span)) (flat_trees trees) h),
 )
 
--- Of the trees of a text, each literal has the text of one that was cut.
+-- Each literal token among the token trees of a text has the text of a literal that the lexer finds in some text.
 pub lexed_trees : (t : List ℕ) (file : ℕ) (trees : List Tree) → scalars t ≡ true → Lexes t file trees
     → AllByRecursion IsCutTree trees
 lexed_trees t file trees h lexes =

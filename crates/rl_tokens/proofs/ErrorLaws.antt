@@ -1,14 +1,14 @@
--- Where an error stands no token goes on, and it is one error.
-use Rattle.rl_text.proofs.Common.{◌≡◌, ◌≢◌, ℕ, Bool, true, false, not, ◌&&◌, ◌||◌, ◌==◌, cond, List, [], ◌∷◌, ◌++◌, length, Option, Some, None, refl, sym, ◌∙◌, ap, subst, lit<, and_parts, or_parts, none-some, codes, nat_lt, if◌then◌else◌}
+-- No token can follow at the position of a lexing error, and a position has at most one kind of error.
+use Rattle.rl_syntax.proofs.Common.{◌≡◌, ◌≢◌, ℕ, Bool, true, false, not, ◌&&◌, ◌||◌, ◌==◌, cond, List, [], ◌∷◌, ◌++◌, length, Option, Some, None, refl, sym, ◌∙◌, ap, subst, lit<, and_parts, or_parts, none-some, codes, nat_lt, if◌then◌else◌}
 use Rattle.rl_lexer.specs.declared.lex_error.LexKind.{LexKind}
 use Rattle.rl_lexer.specs.declared.lex_error.LexKind.TheVariants.{DocComment, UnclosedComment, UnclosedQuote, Lifetime, RawIdentifier, StrayCharacter, UnmatchedClose, UnclosedGroup, TooDeep, Memory}
-use Rattle.rl_text.specs.Texts.{is_among, first_passes, begins, is_start, begins_char}
+use Rattle.rl_syntax.specs.Texts.{is_among, first_passes, begins, is_start, begins_char}
 use Rattle.rl_lexer.specs.Lexemes.{Lexeme, lexeme_text, IsLexeme, LexemeForm, form_of, DelimiterForm, MarkForm, delimiters, begins_raw_identifier}
 use Rattle.rl_lexer.specs.Mirrors.LexemeAt.{lexeme_at, SlashHead, begins_quote}
-use Rattle.rl_text.specs.Classes.{after_run, is_hash}
+use Rattle.rl_syntax.specs.Classes.{after_run, is_hash}
 use Rattle.rl_lexer.specs.Cuts.{OpenGroup, is_opener, is_closer, closes, popped, after_form, begins_doc_comment, begins_lifetime, BeginsNoLexeme, ErrorAt}
 use Rattle.rl_lexer.specs.Mirrors.ErrorAt.{error_kind}
-use Rattle.rl_text.proofs.Basics.{false_unless}
+use Rattle.rl_syntax.proofs.Basics.{false_unless}
 use Rattle.rl_lexer.proofs.Comments.{same_Some}
 use Rattle.rl_lexer.proofs.Pieces.{is_equal}
 use Rattle.rl_lexer.proofs.LexemeRows.{not_true, not_among}
@@ -17,7 +17,7 @@ use Rattle.rl_lexer.proofs.LexemeOpeners.{quote_here, no_quote_here, raw_split, 
 use Rattle.rl_lexer.proofs.LexemeFound.{lexeme_at-found}
 use Rattle.rl_tokens.proofs.CutLaws.{IsStuck}
 
--- a lexeme at the front is what `lexeme_at` finds
+-- A lexeme at the start of a text is the one that the model `lexeme_at` finds.
 found_form : (l : Lexeme) (after r : List ℕ) → IsLexeme l after → r ≡ lexeme_text l ++ after → lexeme_at r
     ≡ Some (form_of l, after)
 found_form l after r is same = ap lexeme_at same ∙ lexeme_at-past l after is
@@ -38,7 +38,7 @@ no_lexeme_at r none = go (lexeme_at r) refl
         let (l, is, same, form) = lexeme_at-found r p h in
         absurd (none p.1 (lexeme_text l, (l, is, refl), same))
 
--- comments
+-- The text begins with `//` or `/*`. No lexeme begins such a text.
 abbrev SlashAndMark : List ℕ → Type 0
 SlashAndMark r = (t : List ℕ) × (r ≡ 47 ∷ t) × (first_passes (λ d. d == 47 || d == 42) t ≡ true)
 
@@ -84,7 +84,7 @@ block_slash (c ∷ d ∷ t) h = slash_and c d t (two (c == 47) (d == 47) (d == 4
     two true false true h = (refl, refl)
     two true false false h = absurd (cc)
 
--- delimiters
+-- No token can follow if the text begins with a delimiter that can't be added to the open groups.
 delimiter_stuck : (groups : List OpenGroup) (c : ℕ) (t : List ℕ) → is_among delimiters c ≡ true
     → ((at : ℕ) → after_form groups (DelimiterForm c) at ≡ None) → IsStuck groups (c ∷ t)
 delimiter_stuck groups c t is none l after at is_l same =
@@ -130,7 +130,7 @@ deep_stuck groups r h n =
 pub nothing_stuck : (groups : List OpenGroup) (r : List ℕ) → r ≡ [] → IsStuck groups r
 nothing_stuck groups r nil = stuck_unless groups r (ap lexeme_at nil)
 
--- no token goes on at an error
+-- No token can follow at the position of a lexing error.
 pub error_stuck : (k : LexKind) (groups : List OpenGroup) (r : List ℕ) → ErrorAt k groups r → IsStuck groups r
 error_stuck DocComment groups r h = stuck_unless groups r (slash_none r (doc_slash r h))
 error_stuck UnclosedComment groups r (h, other) = stuck_unless groups r (slash_none r (block_slash r h))
@@ -143,7 +143,7 @@ error_stuck UnclosedGroup groups r (nil, some) = nothing_stuck groups r nil
 error_stuck TooDeep groups r (h, n) = deep_stuck groups r h n
 error_stuck Memory groups r h = absurd h
 
--- The rest determines the kind of an error.
+-- The remaining text at a lexing error determines the kind of the error.
 abbrev kind_by_form : LexemeForm → LexKind
 kind_by_form (DelimiterForm c) = if is_opener c then TooDeep else UnmatchedClose
 kind_by_form _ = StrayCharacter
@@ -164,7 +164,7 @@ slash_some r (t, same, h) nil = let q : 47 ∷ t ≡ [] = sym same ∙ nil in ab
 passes_some : (test : List ℕ → Bool) (r : List ℕ) → test [] ≡ false → test r ≡ true → r ≢ []
 passes_some test r fails h nil = let q : true ≡ false = sym h ∙ ap test nil ∙ fails in absurd (cc)
 
--- no quote, lifetime or raw identifier begins with a slash
+-- A text that begins with a slash begins no quote, no lifetime and no raw identifier.
 no_slash : (test : List ℕ → Bool) (r : List ℕ) → ((d : ℕ) (u : List ℕ) → test (47 ∷ d ∷ u) ≡ false) → test r ≡ true
     → SlashAndMark r → ⊥
 no_slash test r fails h ([], same, is) = absurd (cc)
@@ -281,7 +281,7 @@ error_kind_at UnclosedGroup groups r (nil, some) = sym (ap (λ x. kind_at (lexem
 error_kind_at TooDeep groups r (h, n) = deep_kind r h
 error_kind_at Memory groups r h = absurd h
 
--- nothing is wrong where nothing is left and no group is open
+-- An empty text has no lexing error if no group is open.
 pub no_error : (k : LexKind) → ErrorAt k [] [] → ⊥
 no_error DocComment h = absurd (cc)
 no_error UnclosedComment (h, _) = absurd (cc)

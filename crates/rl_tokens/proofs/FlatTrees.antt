@@ -1,16 +1,16 @@
--- Trees written flat can be told apart.
-use Rattle.rl_text.proofs.Common.{◌≡◌, List, [], ◌∷◌, ◌++◌, refl, sym, ◌∙◌, ap, append_assoc}
-use Rattle.rl_text.specs.declared.span.Span.{Span}
+-- Two lists of token trees with the same flat form are equal.
+use Rattle.rl_syntax.proofs.Common.{◌≡◌, List, [], ◌∷◌, ◌++◌, refl, sym, ◌∙◌, ap, append_assoc}
+use Rattle.rl_syntax.specs.declared.span.Span.{Span}
 use Rattle.rl_tokens.specs.declared.token.Delimiter.{Delimiter}
 use Rattle.rl_tokens.specs.Trees.{Tree, Trees, GroupTree, IdentTree, PunctTree, LiteralTree, NoTrees, MoreTrees, inside_of, FlatToken, Opening, Closing, FlatIdent, FlatPunct, FlatLiteral, opener_span, closer_span, flat, flat_inside, flat_trees}
 
--- a level of trees ends here
+-- The flat tokens are those at the end of a level of token trees: there are none, or a closing delimiter is first.
 abbrev EndsLevel : List FlatToken → Type 0
 EndsLevel [] = Unit {0}
 EndsLevel (Closing d s ∷ fs) = Unit {0}
 EndsLevel _ = ⊥
 
--- no tree begins where a level ends
+-- The flat tokens at the end of a level of token trees don't begin with those of a token tree.
 not_end : (t : Tree) (fs xs : List FlatToken) → EndsLevel xs → xs ≡ flat t ++ fs → ⊥
 not_end t fs [] ends e = head_some t fs e
   where
@@ -37,7 +37,8 @@ same_span s r a b =
     ∙ ap (λ x. let k : Span = record { file = r.file; lo = x; hi = s.hi } in k) los
     ∙ ap (λ x. let k : Span = record { file = r.file; lo = r.lo; hi = x } in k) his
 
--- what stands after a group's opener
+-- The flat tokens after a group's opening delimiter: those inside the group, the closing delimiter, and those after the
+-- group.
 group_rest : (inside : Trees) (d : Delimiter) (s : Span) (ts : Trees) (xs : List FlatToken)
     → ((flat_inside inside ++ (Closing d (closer_span s) ∷ [])) ++ flat_inside ts) ++ xs ≡ flat_inside inside
     ++ (Closing d (closer_span s) ∷ (flat_inside ts ++ xs))
@@ -106,7 +107,7 @@ flat_same (MoreTrees (GroupTree d inside s) ts) (MoreTrees (IdentTree j) us) xs 
 flat_same (MoreTrees (GroupTree d inside s) ts) (MoreTrees (PunctTree j) us) xs ys p q e = absurd (cc)
 flat_same (MoreTrees (GroupTree d inside s) ts) (MoreTrees (LiteralTree j) us) xs ys p q e = absurd (cc)
 
--- the trees inside a group are determined by them
+-- Two lists of token trees that are equal as the inside of a group are equal.
 inside_same : (xs ys : List Tree) → inside_of xs ≡ inside_of ys → xs ≡ ys
 inside_same [] [] e = refl
 inside_same [] (y ∷ ys) e = absurd (cc)

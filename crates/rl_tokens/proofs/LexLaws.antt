@@ -1,7 +1,7 @@
--- A text has one list of trees at most, or one first error, and never both.
-use Rattle.rl_text.proofs.Common.{◌≡◌, ℕ, List, [], refl, sym, ◌∙◌, ap, subst, arith}
+-- A text is lexed into at most one list of token trees, has at most one first error, and never has both.
+use Rattle.rl_syntax.proofs.Common.{◌≡◌, ℕ, List, [], refl, sym, ◌∙◌, ap, subst, arith}
 use Rattle.rl_lexer.specs.Mirrors.LexemeAt.{lexeme_at}
-use Rattle.rl_text.specs.Texts.{byte_len}
+use Rattle.rl_syntax.specs.Texts.{byte_len}
 use Rattle.rl_lexer.specs.Cuts.{OpenGroup, ErrorAt, error_place, OneError}
 use Rattle.rl_tokens.specs.Lexing.{OneList, NeverBoth}
 use Rattle.rl_tokens.proofs.FlatTrees.{flat_trees_same}

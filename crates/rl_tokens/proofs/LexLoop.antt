@@ -1,6 +1,6 @@
--- What the lexer's loop keeps.
-use Rattle.rl_text.proofs.Common.{◌≡◌, ℕ, ◌+◌, inl, inr, true, not, ◌&&◌, ◌||◌, ◌==◌, List, [], ◌∷◌, ◌++◌, length, map, Some, refl, sym, ◌∙◌, ap, subst, arith, and_parts, map-append, encode_ascii, list_all, chars, encode_utf8_all, is_xid_start, is_xid_continue}
-use Rattle.rl_text.specs.Texts.{is_white, xid_ok, IsTail, is_start, is_continue}
+-- The invariant of the lexer's loop over the tokens of a text.
+use Rattle.rl_syntax.proofs.Common.{◌≡◌, ℕ, ◌+◌, inl, inr, true, not, ◌&&◌, ◌||◌, ◌==◌, List, [], ◌∷◌, ◌++◌, length, map, Some, refl, sym, ◌∙◌, ap, subst, arith, and_parts, map-append, encode_ascii, list_all, chars, encode_utf8_all, is_xid_start, is_xid_continue}
+use Rattle.rl_syntax.specs.Texts.{is_white, xid_ok, IsTail, is_start, is_continue}
 use Rattle.rl_lexer.specs.Skipping.{Skipped}
 use Rattle.rl_lexer.specs.Lexemes.{is_punct, Lexeme, QuotedLexeme, RawLexeme, CharacterLexeme, BasedLexeme, DecimalLexeme, IdentifierLexeme, DelimiterLexeme, MarkLexeme, lexeme_text, IsLexeme, LexemeForm, form_of, delimiters}
 use Rattle.rl_lexer.specs.Cursors.{form_view, CursorState, TakesNext}
@@ -9,12 +9,13 @@ use Rattle.rl_lexer.specs.declared.cursor.Lexeme.{Lexeme as Borrowed}
 use Rattle.rl_lexer.specs.Cuts.{LexedToken, LexesUpTo, open_groups, after_form}
 use Rattle.rl_tokens.specs.Lexing.{flat_form, flat_token}
 use Rattle.rl_tokens.specs.Mirrors.TreeBuilders.{groups_of, flat_builder, IsFitting, TakesToken}
-use Rattle.rl_text.proofs.TailLemmas.{tail_step}
+use Rattle.rl_syntax.proofs.TailLemmas.{tail_step}
 use Rattle.rl_lexer.proofs.LexemeFronts.{low_among}
 use Rattle.rl_lexer.proofs.CutLemmas.{open_more}
 use Rattle.rl_tokens.proofs.BorrowedTokens.{flat_borrowed}
 
--- The text is cut up to the rest, and the nest holds what was cut.
+-- The invariant: the text is lexed up to the remaining text `rest`, and the builder `nest` has the lexed tokens and the
+-- open groups.
 pub record HasCut {A : Type 0} (text rest : List ℕ) (file : ℕ) (nest : TreeBuilder A) : Type 0 where
   pub cuts : List LexedToken
   pub are_cuts : LexesUpTo 0 (chars text) cuts (chars rest)
@@ -23,7 +24,7 @@ pub record HasCut {A : Type 0} (text rest : List ℕ) (file : ℕ) (nest : TreeB
   pub file_is : nest.file ≡ file
   pub following : IsTail text rest
 
--- what the nest asks of a token
+-- Lemmas: a lexed token fits its form, as the builder requires.
 start_continues : (c : ℕ) → is_start c ≡ true → (c == 95 || is_xid_start c) ≡ true
 start_continues c h = (and_parts (c == 95 || is_xid_start c) (not (is_white c)) h).0
 
@@ -64,7 +65,7 @@ token_fits {l = l} t =
     subst (λ (f : LexemeForm). IsFitting f l.text.now l.lo l.hi) t.is_cut.form_is
     (fits w.lexeme t.after l.text.now l.lo l.hi t.is_lexeme (sym t.is_cut.chars_are) t.is_cut.bytes_are len)
 
--- one turn
+-- If the lexer's loop adds one more token, its invariant holds again.
 pub has_more : {A : Type 0} (text : List ℕ) (from to : CursorState) (file : ℕ) (old new : TreeBuilder A) (l : Borrowed)
     → from.text ≡ text → HasCut text from.rest file old → TakesNext from l to
     → TakesToken old new (form_view l.form) l.text.now l.lo l.hi → HasCut text to.rest file new
@@ -92,7 +93,7 @@ has_more text from to file old new l same has next takes =
       following = tail_step text from.rest to.rest has.following next.following;
     }
 
--- before the first turn
+-- The invariant of the lexer's loop holds before the first iteration.
 pub has_none : {A : Type 0} (text rest : List ℕ) (file : ℕ) (nest : TreeBuilder A) → Skipped (chars text) (chars rest)
     → IsTail text rest → groups_of nest ≡ [] → flat_builder nest ≡ [] → nest.file ≡ file → HasCut text rest file nest
 has_none text rest file nest skips following groups flat_is file_is = record {

@@ -1,17 +1,19 @@
--- A lexeme but a mark stays one before a gap and at the end.
-use Rattle.rl_text.proofs.Common.{◌≡◌, ℕ, ◌<◌, Bool, true, false, not, ◌&&◌, ◌||◌, ◌==◌, cond, List, [], ◌∷◌, ◌++◌, drop, replicate, refl, sym, ◌∙◌, ap, subst, arith, append_assoc, lit<, and_parts, nat_tests, list_all, is_xid_start, is_xid_continue, is_ascii_alphanumeric, is_ascii_digit, is_xid_continue-ascii}
-use Rattle.rl_text.specs.Texts.{is_white, is_underscore, first_passes, is_run_part, is_start, is_continue, begins_char}
+-- Every lexeme except a punctuation character is the same lexeme if a separator or the end of the text follows it
+-- instead.
+use Rattle.rl_syntax.proofs.Common.{◌≡◌, ℕ, ◌<◌, Bool, true, false, not, ◌&&◌, ◌||◌, ◌==◌, cond, List, [], ◌∷◌, ◌++◌, drop, replicate, refl, sym, ◌∙◌, ap, subst, arith, append_assoc, lit<, and_parts, nat_tests, list_all, is_xid_start, is_xid_continue, is_ascii_digit, is_xid_continue-ascii}
+use Rattle.rl_syntax.specs.Texts.{is_white, is_underscore, first_passes, is_run_part, is_start, is_continue, begins_char}
 use Rattle.rl_lexer.specs.Lexemes.{is_base_letter, begins_dot, LexedFraction, NoLexedFraction, LexedDot, lexed_fraction_text, lexed_sign_text, LexedExponent, NoLexedExponent, LexedPower, lexed_exponent_text, IsRun, IsLexedSuffix, IsLexedFraction, IsLexedExponent, QuotedLexeme, RawLexeme, CharacterLexeme, BasedLexeme, DecimalLexeme, IdentifierLexeme, DelimiterLexeme, MarkLexeme, IsLexeme}
+use Rattle.rl_lexer.proofs.Continues.{continue_ascii}
 use Rattle.rl_lexer.proofs.Gaps.{BeginsGap, StaysBeforeGap}
-use Rattle.rl_text.proofs.Basics.{false_unless}
+use Rattle.rl_syntax.proofs.Basics.{false_unless}
 use Rattle.rl_lexer.proofs.Pieces.{is_equal}
 use Rattle.rl_lexer.proofs.LexemeRows.{not_true, not_among}
 use Rattle.rl_lexer.proofs.LexemeOpeners.{no_exponent_here, no_exponent_begins, none_otherwise}
 use Rattle.rl_lexer.proofs.LexemeFronts.{start_ascii}
 use Rattle.rl_lexer.specs.Mirrors.LexemeAt.{begins_hashed_quote, begins_exponent, after_sign, begins_otherwise}
-use Rattle.rl_text.specs.Classes.{is_hash, after_run}
+use Rattle.rl_syntax.specs.Classes.{is_hash, after_run}
 
--- Tests that no gap passes: each fails at white characters and at the slash.
+-- A test of characters that no separator passes: it fails for white space and for the slash.
 abbrev pub Solid : (ℕ → Bool) → Type 0
 Solid test = (c : ℕ) → (is_white c || c == 47) ≡ true → test c ≡ false
 
@@ -64,7 +66,7 @@ base_solid = or_solid (λ c. c == 120 || c == 111) (λ c. c == 98)
 letter_solid : Solid (λ c. c == 101 || c == 69)
 letter_solid = or_solid (λ c. c == 101) (λ c. c == 69) (code_solid 101 refl refl) (code_solid 69 refl refl)
 
--- A test that fails at what follows fails before a gap too.
+-- If a test fails for the character after a text, it also fails for a separator in its place.
 passes_gap : (test : ℕ → Bool) (s after gap : List ℕ) → Solid test → BeginsGap gap → first_passes test (s ++ after)
     ≡ false → first_passes test (s ++ gap) ≡ false
 passes_gap test [] after gap solid is h = gap_fails test gap solid is
@@ -78,7 +80,7 @@ suffix_gap : (x after gap : List ℕ) → BeginsGap gap → IsLexedSuffix x afte
 suffix_gap [] after gap is h = gap_fails is_start gap start_solid is
 suffix_gap (c ∷ x) after gap is (h, r) = (h, record { each = r.each; ends = gap_fails is_continue gap continue_solid is })
 
--- Exponents.
+-- Lemmas about exponents before separators.
 run_gap : (u test : ℕ → Bool) (s after gap : List ℕ) → Solid u → Solid test → BeginsGap gap
     → first_passes test (after_run u (s ++ after)) ≡ false → first_passes test (after_run u (s ++ gap)) ≡ false
 run_gap u test [] after [] su st is h = refl
@@ -91,9 +93,6 @@ run_gap u test (c ∷ s) after gap su st is h = go (u c) h (run_gap u test s aft
         → first_passes test (cond b (after_run u (s ++ gap)) (c ∷ s ++ gap)) ≡ false
     go true h more = more h
     go false h more = h
-
-pub continue_ascii : (k : ℕ) → k < 128 → is_continue k ≡ ((is_ascii_alphanumeric k || (k == 95)) && not (is_white k))
-continue_ascii k l = ap (λ b. b && not (is_white k)) (is_xid_continue-ascii k l)
 
 no_sign : (c : ℕ) (t : List ℕ) → (c == 43) ≡ false → (c == 45) ≡ false → after_sign (c ∷ t) ≡ c ∷ t
 no_sign c t a b = ap (λ x. cond (x || c == 45) t (c ∷ t)) a ∙ ap (λ x. cond x t (c ∷ t)) b
@@ -131,7 +130,7 @@ exponent_gap (c ∷ p ∷ q) after gap is (h, r) e =
     (ap (λ s. (c == 101 || c == 69) && first_passes is_ascii_digit (after_run is_underscore s))
     (sym (no_sign p (q ++ after) a b)) ∙ e)
 
--- Dot parts.
+-- Lemmas about the part of a float from its dot on, before separators.
 not_dot : (c : ℕ) (t : List ℕ) → (c == 46) ≡ false → begins_dot (c ∷ t) ≡ false
 not_dot c t h = ap (λ b. b && not (first_passes (λ d. d == 46 || is_start d) t)) h
 
@@ -199,7 +198,7 @@ decimal_gap d more f e x after gap is (id, not_based, run, fraction, exponent, s
       suffix_gap x after gap is suffix,
     )
 
--- Identifiers.
+-- Lemmas about identifiers before separators.
 hash_none : (k : ℕ) (x gap : List ℕ) → list_all is_continue x ≡ true → BeginsGap gap → Solid (λ c. c == k)
     → is_continue k ≡ false → begins_char k (x ++ gap) ≡ false
 hash_none k [] [] run is solid no_cont = refl

@@ -1,29 +1,31 @@
--- What may follow a literal in a print, and what no such text begins with.
-use Rattle.rl_text.proofs.Common.{◌≡◌, ℕ, ◌<◌, inl, inr, Bool, true, false, not, ◌&&◌, ◌||◌, ◌==◌, List, [], ◌∷◌, ◌++◌, refl, ◌∙◌, ap, lit<, and_parts, IsTrue, ⊤, codes, list_all, is_ascii_digit, is_ascii_alphanumeric, and_from, or_from, is_xid_start, is_xid_continue}
-use Rattle.rl_text.specs.Texts.{is_white, is_among, first_passes, is_run_part, is_start, is_continue}
+-- Texts that may follow a literal in a printed list of literals, and tests that their first characters fail.
+use Rattle.rl_syntax.proofs.Common.{◌≡◌, ℕ, ◌<◌, inl, inr, Bool, true, false, not, ◌&&◌, ◌||◌, ◌==◌, List, [], ◌∷◌, ◌++◌, refl, ◌∙◌, ap, lit<, and_parts, IsTrue, ⊤, codes, list_all, is_ascii_digit, is_ascii_alphanumeric, and_from, or_from, is_xid_start, is_xid_continue}
+use Rattle.rl_syntax.specs.Texts.{is_white, is_among, first_passes, is_run_part, is_start, is_continue}
 use Rattle.rl_lexer.specs.Lexemes.{is_base_letter, IsLexedSuffix, IsLexeme}
 use Rattle.rl_lexer.proofs.Gaps.{BeginsGap}
-use Rattle.rl_forms.specs.Strict.{IsStrictSuffix}
-use Rattle.rl_text.proofs.Basics.{word_continues}
+use Rattle.rl_syntax.specs.Strict.{IsStrictSuffix}
+use Rattle.rl_syntax.proofs.Basics.{word_continues}
 use Rattle.rl_lexer.proofs.LexemeRows.{not_true, not_among}
 use Rattle.rl_lexer.proofs.LexemeOpeners.{none_otherwise}
 use Rattle.rl_lexer.proofs.LexemeFronts.{start_ascii, among, low_among, not_start_among}
-use Rattle.rl_tokens.proofs.LexemeGaps.{and_false, digit_solid, continue_ascii}
+use Rattle.rl_tokens.proofs.LexemeGaps.{and_false, digit_solid}
+use Rattle.rl_lexer.proofs.Continues.{continue_ascii}
 use Rattle.rl_tokens.proofs.PrintedCuts.{word_lexeme}
 
--- slash, quote, apostrophe, minus
+-- The characters other than white space with which a text after a literal may begin: slash, quote, apostrophe and
+-- minus.
 abbrev pub enders : List ℕ
 enders = 47 ∷ 34 ∷ 39 ∷ 45 ∷ []
 
 abbrev pub is_ender : ℕ → Bool
 is_ender c = is_white c || is_among enders c
 
--- The text is empty, or begins with white space, a slash, a quote, an apostrophe or a minus.
+-- The text may follow a literal: it is empty, or begins with white space, a slash, a quote, an apostrophe or a minus.
 abbrev pub EndsLiteral : List ℕ → Type 0
 EndsLiteral [] = ⊤
 EndsLiteral (c ∷ t) = IsTrue (is_ender c)
 
--- Tests that each of them fails.
+-- A test that fails for each character with which a text after a literal may begin.
 abbrev pub Clear : (ℕ → Bool) → Type 0
 Clear test = (c : ℕ) → is_ender c ≡ true → test c ≡ false
 
@@ -39,60 +41,64 @@ fails_among : (test : ℕ → Bool) → list_all (λ k. not (test k)) enders ≡
     → test c ≡ false
 fails_among test all c is = not_true (test c) (among enders (λ k. not (test k)) c all is)
 
--- It begins no identifier.
+-- No character with which a text after a literal may begin can begin an identifier.
 pub clear_start : Clear is_start
 clear_start = clear_from is_start (λ c w. ap (λ b. (c == 95 || is_xid_start c) && not b) w
     ∙ and_false (c == 95 || is_xid_start c)) (λ c is. not_start_among enders c refl refl is)
 
--- It goes on with none.
+-- No character with which a text after a literal may begin can continue an identifier.
 pub clear_continue : Clear is_continue
 clear_continue =
     clear_from is_continue (λ c w. ap (λ b. is_xid_continue c && not b) w ∙ and_false (is_xid_continue c))
     (λ c is. continue_ascii c (low_among enders c refl is) ∙ fails_among
     (λ k. (is_ascii_alphanumeric k || (k == 95)) && not (is_white k)) refl c is)
 
--- It is no digit.
+-- No character with which a text after a literal may begin is a digit.
 pub clear_digit : Clear is_ascii_digit
 clear_digit = clear_from is_ascii_digit (λ c w. digit_solid c (ap (λ b. b || c == 47) w))
     (fails_among is_ascii_digit refl)
 
--- It is no character but these.
+-- A character that isn't white space, slash, quote, apostrophe or minus differs from each character with which a text
+-- after a literal may begin.
 pub clear_code : (k : ℕ) → is_white k ≡ false → list_all (λ c. not (c == k)) enders ≡ true → Clear (λ c. c == k)
 clear_code k w all = clear_from (λ c. c == k) (λ c h. not_among c k is_white h w) (fails_among (λ c. c == k) all)
 
 clear_or : (f g : ℕ → Bool) → Clear f → Clear g → Clear (λ c. f c || g c)
 clear_or f g a b c h = or_from (f c) (g c) (a c h) (b c h)
 
--- It goes on with no run of digits.
+-- No character with which a text after a literal may begin can continue a sequence of digits.
 pub clear_part : Clear (is_run_part is_ascii_digit)
 clear_part = clear_or is_ascii_digit (λ c. c == 95) clear_digit (clear_code 95 refl refl)
 
--- It doesn't keep a dot from being a dot part.
+-- No character with which a text after a literal may begin is a dot or begins an identifier. So a dot before it is part
+-- of a float.
 pub clear_dot : Clear (λ d. d == 46 || is_start d)
 clear_dot = clear_or (λ d. d == 46) is_start (clear_code 46 refl refl) clear_start
 
--- It makes no base of a zero.
+-- No character with which a text after a literal may begin is the letter of a base, as the `x` of `0x`.
 pub clear_base : Clear is_base_letter
 clear_base = clear_or (λ c. c == 120 || c == 111) (λ c. c == 98)
     (clear_or (λ c. c == 120) (λ c. c == 111) (clear_code 120 refl refl) (clear_code 111 refl refl))
     (clear_code 98 refl refl)
 
--- It begins no exponent.
+-- No character with which a text after a literal may begin is `e` or `E`, which begin an exponent.
 pub clear_exponent : Clear (λ c. c == 101 || c == 69)
 clear_exponent = clear_or (λ c. c == 101) (λ c. c == 69) (clear_code 101 refl refl) (clear_code 69 refl refl)
 
--- Such a text passes no such test.
+-- A text that may follow a literal doesn't begin with a character that passes the test. The test fails for each
+-- character with which a text after a literal may begin.
 pub ends_fails : (test : ℕ → Bool) (after : List ℕ) → Clear test → EndsLiteral after → first_passes test after ≡ false
 ends_fails test [] clear is = refl
 ends_fails test (c ∷ t) clear is = clear c is
 
--- What fails at the front of a text fails where such a text follows.
+-- If a text doesn't begin with a character that passes the test, neither does the text followed by one that may follow
+-- a literal.
 pub front_fails : (test : ℕ → Bool) (s after : List ℕ) → Clear test → EndsLiteral after → first_passes test s ≡ false
     → first_passes test (s ++ after) ≡ false
 front_fails test [] after clear ends h = ends_fails test after clear ends
 front_fails test (c ∷ s) after clear ends h = h
 
--- A gap ends a literal.
+-- A separator may follow a literal.
 pub gap_ends : (t : List ℕ) → BeginsGap t → EndsLiteral t
 gap_ends [] is = tt
 gap_ends (c ∷ t) is = go (is_white c) (c == 47) is
@@ -102,7 +108,7 @@ gap_ends (c ∷ t) is = go (is_white c) (c == 47) is
     go false true h = refl
     go false false h = absurd (cc)
 
--- Suffixes.
+-- Lemmas about suffixes.
 all_both : (f g : ℕ → Bool) (cs : List ℕ) → list_all f cs ≡ true → list_all g cs ≡ true → list_all (λ c. f c && g c) cs
     ≡ true
 all_both f g [] a b = refl
@@ -111,7 +117,7 @@ all_both f g (c ∷ cs) a b =
     let q = and_parts (g c) (list_all g cs) b in
     and_from (f c && g c) (list_all (λ c. f c && g c) cs) (and_from (f c) (g c) p.0 q.0) (all_both f g cs p.1 q.1)
 
--- A strict suffix begins as the lexer's suffixes do.
+-- The first character of a suffix by Rust's grammar can begin a suffix for the lexer.
 pub suffix_starts : (c : ℕ) (cs : List ℕ) → IsStrictSuffix (c ∷ cs) → is_start c ≡ true
 suffix_starts c cs (inl e) = absurd (cc)
 suffix_starts c cs (inr w) =
@@ -119,24 +125,24 @@ suffix_starts c cs (inr w) =
     (list_all is_xid_continue cs) w.identifier).0
     (and_parts (not (is_white c)) (list_all (λ c. not (is_white c)) cs) w.no_white).0
 
--- Each character of it goes on with an identifier.
+-- Each character of a suffix by Rust's grammar can continue an identifier for the lexer.
 pub suffix_continues : (x : List ℕ) → IsStrictSuffix x → list_all is_continue x ≡ true
 suffix_continues x (inl e) = ap (list_all is_continue) e
 suffix_continues x (inr w) = all_both is_xid_continue (λ c. not (is_white c)) x (word_continues x w.identifier)
     w.no_white
 
--- A strict suffix is one of the lexer's.
+-- A suffix by Rust's grammar is a suffix for the lexer, if a text follows that may follow a literal.
 pub strict_suffix_lexed : (x after : List ℕ) → IsStrictSuffix x → EndsLiteral after → IsLexedSuffix x after
 strict_suffix_lexed [] after is ends = ends_fails is_start after clear_start ends
 strict_suffix_lexed (c ∷ cs) after is ends =
     (suffix_starts c cs is, record { each = (and_parts (is_continue c) (list_all is_continue cs) (suffix_continues (c ∷ cs) is)).1; ends = ends_fails is_continue after clear_continue ends })
 
--- The words.
+-- Lemmas about the words `true` and `false`.
 letter_continues : (c : ℕ) → c < 128 → ((is_ascii_alphanumeric c || (c == 95)) && not (is_white c)) ≡ true
     → is_continue c ≡ true
 letter_continues c low is = continue_ascii c low ∙ is
 
--- A word is an identifier before what ends a literal.
+-- The word `true` or `false` is lexed as an identifier if a text follows that may follow a literal.
 pub word_ends : (truth : Bool) (after : List ℕ) → EndsLiteral after → IsLexeme (word_lexeme truth) after
 word_ends true after ends = (
   start_ascii 116 (lit< tt),

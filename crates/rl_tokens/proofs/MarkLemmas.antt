@@ -1,9 +1,9 @@
--- Characters of punctuation at the front of trees.
-use Rattle.rl_text.proofs.Common.{◌≡◌, ℕ, false, List, [], ◌∷◌, refl, IsFalse}
+-- A lemma about punctuation characters at the start of token trees.
+use Rattle.rl_syntax.proofs.Common.{◌≡◌, ℕ, false, List, [], ◌∷◌, refl, IsFalse}
 use Rattle.rl_tokens.specs.Trees.{Tree, GroupTree, IdentTree, PunctTree, LiteralTree}
 use Rattle.rl_tokens.specs.Buffers.{begins_punct, begins_mark}
 
--- where no punctuation stands, this character doesn't
+-- If token trees don't begin with a punctuation character, they don't begin with the punctuation character `ch`.
 pub no_mark : (ch : ℕ) (trees : List Tree) → IsFalse (begins_punct trees) → begins_mark ch trees ≡ false
 no_mark ch [] h = refl
 no_mark ch (GroupTree d inside at ∷ ts) h = refl

@@ -1,8 +1,8 @@
--- The groups that are open, and what was read with them, as trees and groups come and go.
-use Rattle.rl_text.proofs.Common.{◌≡◌, ◌≢◌, ℕ, suc, ◌+◌, ◌-◌, ◌<◌, true, false, List, [], ◌∷◌, ◌++◌, length, map, Some, refl, sym, ◌∙◌, ap, arith, append_assoc, map-append}
+-- Lemmas about the builder of token trees: its open groups and its tokens, while token trees and groups are added.
+use Rattle.rl_syntax.proofs.Common.{◌≡◌, ◌≢◌, ℕ, suc, ◌+◌, ◌-◌, ◌<◌, true, false, List, [], ◌∷◌, ◌++◌, length, map, Some, refl, sym, ◌∙◌, ap, arith, append_assoc, map-append}
 use Rattle.std.proofs.Common.{reverse}
 use Rattle.std.proofs.lemmas.List.{reverse-append, length-reverse}
-use Rattle.rl_text.specs.declared.span.Span.{Span}
+use Rattle.rl_syntax.specs.declared.span.Span.{Span}
 use Rattle.rl_tokens.specs.declared.nest.GroupBuilder.{GroupBuilder}
 use Rattle.rl_tokens.specs.declared.nest.TreeBuilder.{TreeBuilder}
 use Rattle.rl_tokens.specs.declared.token.TokenTree.{TokenTree}
@@ -16,7 +16,7 @@ use Rattle.rl_lexer.specs.Cuts.{is_pair, closes, popped, innermost, after_form}
 use Rattle.rl_tokens.specs.Lexing.{flat_form}
 use Rattle.rl_tokens.specs.Mirrors.TreeBuilders.{opener_of, closer_of, group_of, groups_of, flat_open, flat_builder, TakesToken, TakesTree, OpensGroup, ClosesGroup, EndsInGroup}
 use Rattle.rl_tokens.specs.Puncts.{Mark}
-use Rattle.rl_text.specs.Texts.{SpannedText}
+use Rattle.rl_syntax.specs.Texts.{SpannedText}
 use Rattle.rl_lexer.specs.Lexemes.{LexemeForm, MarkForm, LiteralForm, IdentifierForm}
 use Rattle.rl_tokens.proofs.TreeLemmas.{tree_view-group, tree_view-punct, tree_view-literal, tree_view-ident}
 
@@ -29,7 +29,7 @@ nil_tail : {X : Type 0} (xs : List X) → xs ++ [] ≡ xs
 nil_tail [] = refl
 nil_tail (x ∷ xs) = ap (λ t. x ∷ t) (nil_tail xs)
 
--- a token by the bytes and the span that it was made of
+-- A token that was created from a text and a span has that text and span.
 pub spanned : (l : SpannedText) (bytes text : List ℕ) (s at : Span) → l ≡ record { text = bytes; span = s } → bytes
     ≡ text → s ≡ at → l ≡ record { text = text; span = at }
 spanned l bytes text s at e b p =
@@ -71,7 +71,7 @@ flat_open-push file (x ∷ xs) o =
     ∙ sym (append_assoc f (p ∷ flat_open file xs) (flat_trees (stream_view o.before)
     ++ (Opening o.delimiter (record { file = file; lo = o.at; hi = o.at + 1 }) ∷ [])))
 
--- a group was opened
+-- If the builder's code for an opening delimiter has run, one more group is open.
 pub opens_group : {A : Type 0} (old new : TreeBuilder A) (o : GroupBuilder A) → new.opened.items ≡ old.opened.items
     ++ o ∷ [] → o.before ≡ old.trees → trees_of new.trees ≡ [] → new.file ≡ old.file → length old.opened.items < 128
     → OpensGroup old new o.delimiter o.at
@@ -97,7 +97,7 @@ flat-group : {A : Type 0} (g : Group A) → flat (tree_view (tree.Group g))
     ++ (Closing (delimiter_of g) (closer_span (group_span g)) ∷ []))
 flat-group g = ap flat (tree_view-group g)
 
--- the flat group that ends here
+-- The flat form of a group is its opening delimiter, the flat tokens inside, and its closing delimiter.
 flat_closed : {A : Type 0} (g : Group A) (d : Delimiter) (file at lo hi : ℕ) (inside : List FlatToken) → delimiter_of g
     ≡ d → group_span g ≡ record { file = file; lo = at; hi = hi } → flat_trees (stream_view (stream_of g)) ≡ inside → hi
     ≡ lo + 1 → flat (tree_view (tree.Group g)) ≡ Opening d (record { file = file; lo = at; hi = at + 1 }) ∷
@@ -130,7 +130,8 @@ other_closer Bracket Parenthesis h = refl
 other_closer Bracket Brace h = refl
 other_closer Bracket Bracket h = absurd (h refl)
 
--- a group was closed: it is the last tree of the level around it
+-- If the builder's code for a closing delimiter has run, the innermost group is closed, and is the last token tree of
+-- the group or text around it.
 pub closes_group : {A : Type 0} (old between new : TreeBuilder A) (o : GroupBuilder A) (g : Group A) (d : Delimiter)
     (lo hi : ℕ) → old.opened.items ≡ between.opened.items ++ o ∷ [] → o.before ≡ between.trees → between.file ≡ old.file
     → o.delimiter ≡ d → delimiter_of g ≡ d → stream_of g ≡ old.trees → group_span g
@@ -172,7 +173,7 @@ closes_group old between new o g d lo hi popped_is before file d_is g_delimiter 
         ≡ ((a ++ (b ++ (o ∷ []))) ++ i) ++ (c ∷ [])
     regroup_closed a b i o c = simp append_assoc
 
--- the closer isn't that of the innermost open group
+-- A closing delimiter of another pair doesn't close the innermost open group.
 pub wrong_closer : {A : Type 0} (old : TreeBuilder A) (xs : List (GroupBuilder A)) (o : GroupBuilder A) (d : Delimiter)
     → old.opened.items ≡ xs ++ o ∷ [] → o.delimiter ≢ d → closes (groups_of old) (closer_of d) ≡ false
 wrong_closer old xs o d popped_is other =
@@ -180,7 +181,7 @@ wrong_closer old xs o d popped_is other =
     ∙ ap (λ gs. closes gs (closer_of d)) (groups-push xs o)
     ∙ other_closer o.delimiter d other
 
--- the text ends in a group
+-- If a group is open at the end, the text ends inside the innermost open group.
 pub ends_in_group : {A : Type 0} (old : TreeBuilder A) (xs : List (GroupBuilder A)) (o : GroupBuilder A)
     → old.opened.items ≡ xs ++ o ∷ [] → EndsInGroup (groups_of old) (record { kind = UnclosedGroup; at = o.at })
 ends_in_group old xs o popped_is =
@@ -192,7 +193,7 @@ ends_in_group old xs o popped_is =
       place = λ at. ap (λ gs. innermost gs at) (sym groups_are);
     }
 
--- a token without trees inside was read
+-- If a token that isn't a group is appended, the builder has one more token, and the same groups are open.
 pub takes_leaf : {A : Type 0} (old new : TreeBuilder A) (t : TokenTree A) (f : FlatToken) → flat (tree_view t) ≡ f ∷ []
     → TakesTree old new t → (groups_of new ≡ groups_of old) × (flat_builder new ≡ flat_builder old ++ f ∷ [])
     × (new.file ≡ old.file)

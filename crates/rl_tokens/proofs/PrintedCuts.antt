@@ -1,23 +1,23 @@
--- A text of gaps and items is cut where they meet.
-use Rattle.rl_text.proofs.Common.{◌≡◌, ℕ, ◌+◌, inl, inr, Bool, true, false, not, ◌&&◌, ◌||◌, ◌==◌, List, [], ◌∷◌, ◌++◌, map, length, Some, None, refl, sym, ◌∙◌, ap, subst, arith, append-nil, lit<, ⊤, option_and_then, encode_utf8_all, AllByRecursion, list_all, none-some, encode_ascii, is_xid_start}
-use Rattle.rl_text.specs.Texts.{is_white, is_among, byte_len}
-use Rattle.rl_forms.specs.Trivia.{White, Line, Block, IsTrivia}
+-- A text of separators and items, in turn, is lexed into the token trees of its items.
+use Rattle.rl_syntax.proofs.Common.{◌≡◌, ℕ, ◌+◌, inl, inr, Bool, true, false, not, ◌&&◌, ◌||◌, ◌==◌, List, [], ◌∷◌, ◌++◌, map, length, Some, None, refl, sym, ◌∙◌, ap, subst, arith, append-nil, lit<, ⊤, option_and_then, encode_utf8_all, AllByRecursion, list_all, none-some, encode_ascii, is_xid_start}
+use Rattle.rl_syntax.specs.Texts.{is_white, is_among, byte_len}
+use Rattle.rl_syntax.specs.Trivia.{White, Line, Block, IsTrivia}
 use Rattle.rl_lexer.specs.Skipping.{BeginsTrivia}
 use Rattle.rl_lexer.specs.Lexemes.{delimiters, marks, Lexeme, IdentifierLexeme, MarkLexeme, lexeme_text, IsLexeme, LiteralForm, form_of}
 use Rattle.rl_lexer.specs.Mirrors.LexemeAt.{SlashHead, StrayHead, head_class, lexeme_at}
 use Rattle.rl_tokens.specs.Trees.{Tree, PunctTree, LiteralTree, flat, flat_trees}
 use Rattle.rl_lexer.specs.Cuts.{LexedToken, LexesUpTo, OpenGroup, after_form, open_groups}
 use Rattle.rl_tokens.specs.Lexing.{flat_form, flat_token, Lexes}
-use Rattle.rl_forms.specs.Printed.{Item, WordItem, LiteralItem, MinusItem, item_text, Entry, printed_text, token_at}
+use Rattle.rl_syntax.specs.Printed.{Item, WordItem, LiteralItem, MinusItem, item_text, Entry, printed_text, token_at}
 use Rattle.rl_tokens.specs.PrintedTrees.{item_trees, printed_trees}
-use Rattle.rl_text.proofs.Basics.{false_unless}
+use Rattle.rl_syntax.proofs.Basics.{false_unless}
 use Rattle.rl_lexer.proofs.Pieces.{stops-from_none, no_trivia}
 use Rattle.rl_lexer.proofs.LexemeRows.{not_true, not_among}
 use Rattle.rl_lexer.proofs.LexemeFronts.{lexeme_at-past, stray_class, class47, at_class, among}
 use Rattle.rl_tokens.proofs.LexemeGaps.{and_false, digit_solid}
 use Rattle.rl_lexer.proofs.CutLemmas.{byte_len-append}
 
--- Where trivia begins no lexeme does.
+-- No lexeme begins with the first character of white space or of a comment.
 not_white_among : (codes : List ℕ) (c : ℕ) → list_all (λ k. not (is_white k)) codes ≡ true → is_white c ≡ true
     → is_among codes c ≡ false
 not_white_among codes c all w = false_unless (is_among codes c)
@@ -40,14 +40,15 @@ lexeme_stops : (l : Lexeme) (after : List ℕ) → IsLexeme l after → BeginsTr
 lexeme_stops l after is trivia = none-some (form_of l, after)
     (sym (trivia_none (lexeme_text l ++ after) trivia) ∙ lexeme_at-past l after is)
 
--- The text that stands at this byte is cut into these trees, and no group is opened.
+-- The text `t`, which begins at the byte offset `at`, is lexed into the token trees `trees`, whatever groups are open.
+-- The open groups stay the same.
 record CutInto (file at : ℕ) (t : List ℕ) (trees : List Tree) : Type 0 where
   pub cuts : List LexedToken
   pub are_cuts : LexesUpTo at t cuts []
   pub none_open : (groups : List OpenGroup) → open_groups groups cuts ≡ Some groups
   pub flat_is : map (flat_token file) cuts ≡ flat_trees trees
 
--- the last gap
+-- The last separator of a printed list of literals is lexed into no token trees.
 last_cut : (file at : ℕ) (last : List ℕ) → IsTrivia last → CutInto file at last []
 last_cut file at last is = record {
   cuts = [];
@@ -56,7 +57,8 @@ last_cut file at last is = record {
   flat_is = refl;
 }
 
--- a gap and a token of no delimiter
+-- A text of a separator, a token other than a delimiter, and more text is lexed into the token and the token trees of
+-- that text.
 token_cut : (file at : ℕ) (gap : List ℕ) (l : Lexeme) (after : List ℕ) (tree : Tree) (trees : List Tree) → IsTrivia gap
     → IsLexeme l after → ((groups : List OpenGroup) (n : ℕ) → after_form groups (form_of l) n ≡ Some groups) → flat tree
     ≡ flat_token file (record { lexeme = l; at = at + byte_len gap }) ∷ []
@@ -77,7 +79,7 @@ token_cut file at gap l after tree trees is_gap is_lexeme neutral is_flat rest =
       ∙ ap (λ f. f ++ flat_trees trees) (sym is_flat);
 }
 
--- The trees of items.
+-- Lemmas about the flat form of the token trees of items.
 literal_flat : (file at : ℕ) (l : Lexeme) (text : List ℕ) → form_of l ≡ LiteralForm → text ≡ lexeme_text l
     → flat (LiteralTree (token_at file at text)) ≡ flat_token file (record { lexeme = l; at = at }) ∷ []
 literal_flat file at l text form same =
@@ -96,25 +98,26 @@ minus_flat : (file at : ℕ) → flat (PunctTree (record { ch = 45; span = recor
     ≡ flat_token file (record { lexeme = MarkLexeme 45; at = at }) ∷ []
 minus_flat file at = ap (λ n. flat (PunctTree (record { ch = 45; span = record { file = file; lo = at; hi = at + n } }))) (sym minus_len)
 
--- Below a family says what may follow a literal. The text of a literal that is one lexeme before each such text:
+-- The text `text` is that of a literal, and is one lexeme before each text of the family `ends`, which are the texts
+-- that may follow it.
 pub record LexedBefore (ends : List ℕ → Type 0) (text : List ℕ) : Type 0 where
   pub lexeme : Lexeme
   pub is_lexeme : (after : List ℕ) → ends after → IsLexeme lexeme after
   pub form : form_of lexeme ≡ LiteralForm
   pub text_is : text ≡ lexeme_text lexeme
 
--- a word is an identifier
+-- The lexeme of the word `true` or `false`, an identifier.
 abbrev pub word_lexeme : Bool → Lexeme
 word_lexeme true = IdentifierLexeme 116 (114 ∷ 117 ∷ 101 ∷ [])
 word_lexeme false = IdentifierLexeme 102 (97 ∷ 108 ∷ 115 ∷ 101 ∷ [])
 
--- an item whose literal, or word, is one lexeme before each text of the family
+-- The item's literal or word is one lexeme before each text of the family `ends`.
 abbrev pub LexedItem : (List ℕ → Type 0) → Item → Type 0
 LexedItem ends (WordItem truth) = (after : List ℕ) → ends after → IsLexeme (word_lexeme truth) after
 LexedItem ends (LiteralItem text) = LexedBefore ends text
 LexedItem ends (MinusItem text) = LexedBefore ends text
 
--- After each item the text is of the family.
+-- The text after each item of a printed list of literals is in the family `ends`.
 abbrev pub EndsEach : (List ℕ → Type 0) → List Entry → List ℕ → Type 0
 EndsEach ends [] last = ⊤
 EndsEach ends (e ∷ es) last = ends (printed_text es last) × EndsEach ends es last
@@ -167,7 +170,8 @@ item_cut ends file at gap (LiteralItem text) after trees is_gap is follows rest 
 item_cut ends file at gap (MinusItem text) after trees is_gap is follows rest = minus_cut ends file at gap text after
     trees is_gap is follows rest
 
--- all entries in turn
+-- A printed list of literals is lexed into the token trees of its items, if each item is one lexeme before the text
+-- after it.
 entries_cut : (ends : List ℕ → Type 0) (file at : ℕ) (entries : List Entry) (last : List ℕ)
     → AllByRecursion (λ e. IsTrivia e.gap × LexedItem ends e.item) entries → EndsEach ends entries last → IsTrivia last
     → CutInto file at (printed_text entries last) (printed_trees file at entries)
@@ -177,7 +181,8 @@ entries_cut ends file at (e ∷ es) last ((is_gap, is), each) (follows, follow) 
     (at + byte_len e.gap + byte_len (item_text e.item)) es) is_gap is follows
     (entries_cut ends file (at + byte_len e.gap + byte_len (item_text e.item)) es last each follow is_last)
 
--- A printed text lexes as its items, where each is one lexeme before what follows it.
+-- The whole text of a printed list of literals is lexed into the token trees of its items, if each item is one lexeme
+-- before the text after it.
 pub entries_lex : (ends : List ℕ → Type 0) (file : ℕ) (t : List ℕ) (entries : List Entry) (last : List ℕ) → t
     ≡ printed_text entries last → AllByRecursion (λ e. IsTrivia e.gap × LexedItem ends e.item) entries
     → EndsEach ends entries last → IsTrivia last → Lexes t file (printed_trees file 0 entries)

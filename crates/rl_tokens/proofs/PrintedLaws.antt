@@ -1,15 +1,15 @@
--- Printed lists are cut into their items.
-use Rattle.rl_text.proofs.Common.{◌≡◌, ◌≢◌, ℕ, inl, inr, ◌||◌, ◌==◌, true, List, [], ◌∷◌, ◌++◌, drop, refl, sym, ◌∙◌, ap, subst, append_assoc, append-nil, codes, AllByRecursion, or_right}
-use Rattle.rl_forms.specs.declared.kind.Kind.{Kind}
-use Rattle.rl_forms.specs.declared.kind.Kind.TheVariants.{Str, ByteStr, CStr, Byte, Char, Int, Float, Bool as BoolKind}
-use Rattle.rl_text.specs.Texts.{is_white, first_passes, is_among}
-use Rattle.rl_forms.specs.Trivia.{TriviaPiece, White, Line, Block, trivia_piece_text, IsTriviaPiece, trivia_text, IsTrivia}
+-- Proofs that printed lists of literals are lexed into the token trees of their items.
+use Rattle.rl_syntax.proofs.Common.{◌≡◌, ◌≢◌, ℕ, inl, inr, ◌||◌, ◌==◌, true, List, [], ◌∷◌, ◌++◌, drop, refl, sym, ◌∙◌, ap, subst, append_assoc, append-nil, codes, AllByRecursion, or_right}
+use Rattle.rl_syntax.specs.declared.kind.Kind.{Kind}
+use Rattle.rl_syntax.specs.declared.kind.Kind.TheVariants.{Str, ByteStr, CStr, Byte, Char, Int, Float, Bool as BoolKind}
+use Rattle.rl_syntax.specs.Texts.{is_white, first_passes, is_among}
+use Rattle.rl_syntax.specs.Trivia.{TriviaPiece, White, Line, Block, trivia_piece_text, IsTriviaPiece, trivia_text, IsTrivia}
 use Rattle.rl_lexer.specs.Lexemes.{Lexeme, QuotedLexeme, RawLexeme, CharacterLexeme, BasedLexeme, DecimalLexeme, IdentifierLexeme, DelimiterLexeme, MarkLexeme, LiteralForm, form_of}
 use Rattle.rl_lexer.proofs.Gaps.{KeepsItsEnd, BeginsGap}
-use Rattle.rl_forms.specs.Reading.{Contents}
-use Rattle.rl_forms.specs.Strict.{Strict}
-use Rattle.rl_forms.specs.Quoted.{is_number}
-use Rattle.rl_forms.specs.Printed.{Item, WordItem, LiteralItem, MinusItem, item_text, Entry, printed_text, IsStrictItem, IsApart}
+use Rattle.rl_syntax.specs.Reading.{Contents}
+use Rattle.rl_syntax.specs.Strict.{Strict}
+use Rattle.rl_syntax.specs.Quoted.{is_number}
+use Rattle.rl_syntax.specs.Printed.{Item, WordItem, LiteralItem, MinusItem, item_text, Entry, printed_text, IsStrictItem, IsApart}
 use Rattle.rl_tokens.specs.PrintedTrees.{IsLexedLiteral, IsLexedItem, PrintedLexes, ReprintedLexes}
 use Rattle.rl_tokens.proofs.LexemeGaps.{stays_before_gap}
 use Rattle.rl_tokens.proofs.PrintedCuts.{LexedBefore, LexedItem, EndsEach, entries_lex}
@@ -17,7 +17,7 @@ use Rattle.rl_tokens.proofs.LiteralEnds.{EndsLiteral, gap_ends, word_ends}
 use Rattle.rl_tokens.proofs.StrictQuotedLexemes.{quoted_lexed}
 use Rattle.rl_tokens.proofs.StrictNumberLexemes.{int_lexed, float_lexed}
 
--- What holds of each, and what holds after the first.
+-- If each element of a list has two properties, and these imply a third one, each element has the third one.
 all_by : {A : Type 0} (P Q R : A → Type 0) → ((x : A) → P x → Q x → R x) → (xs : List A) → AllByRecursion P xs
     → AllByRecursion Q xs → AllByRecursion R xs
 all_by P Q R f [] ps qs = tt
@@ -32,7 +32,7 @@ tail_first : {A : Type 0} (P : A → Type 0) (xs : List A) → AllByRecursion P 
 tail_first P [] ps = tt
 tail_first P (x ∷ xs) (p, ps) = ps
 
--- What a gap begins with.
+-- Lemmas about the first character of a separator.
 piece_begins : (p : TriviaPiece) (rest : List ℕ) → IsTriviaPiece p → BeginsGap (trivia_piece_text p ++ rest)
 piece_begins (White c) rest is = ap (λ b. b || c == 47) is
 piece_begins (Line body) rest is = refl
@@ -53,7 +53,8 @@ filled_gap gap rest is some = gap_begins gap rest is (λ h. absurd (some h))
 last_begins : (last : List ℕ) → IsTrivia last → BeginsGap last
 last_begins last is = subst (λ (x : List ℕ). BeginsGap x) (append-nil last) (gap_begins last [] is (λ h. tt))
 
--- After each item stands an entry, or the last gap.
+-- The separator and the item of an entry, with any text after them, are in the family `ends` of texts that may follow
+-- an item.
 abbrev Follows : (List ℕ → Type 0) → Entry → Type 0
 Follows ends e = (rest : List ℕ) → ends (e.gap ++ (item_text e.item ++ rest))
 
@@ -64,7 +65,7 @@ follow_each ends (e ∷ []) last follow ends_last = (ends_last, tt)
 follow_each ends (e ∷ d ∷ es) last (here, follow) ends_last =
     (here (printed_text es last), follow_each ends (d ∷ es) last follow ends_last)
 
--- A strict item is one lexeme before what may follow it.
+-- A literal by Rust's grammar, other than a `bool`, is one lexeme before each text that may follow a literal.
 strict_lexed : (kind : Kind) (text suffix : List ℕ) (contents : Contents) → kind ≢ BoolKind
     → Strict text kind contents suffix → LexedBefore EndsLiteral text
 strict_lexed Int text suffix contents other strict = int_lexed text suffix contents strict
@@ -89,7 +90,7 @@ item_lexed (MinusItem text) (kind, number, (contents, suffix, strict), read) = s
 strict_item : (e : Entry) → IsTrivia e.gap × IsStrictItem e.item → IsTrivia e.gap × LexedItem EndsLiteral e.item
 strict_item e (gap, is) = (gap, item_lexed e.item is)
 
--- what begins with a quote, an apostrophe or a minus
+-- A text that begins with a quote, an apostrophe or a minus may follow a literal.
 text_ends : (text rest : List ℕ) → first_passes (is_among (codes "\"'-")) text ≡ true → EndsLiteral (text ++ rest)
 text_ends [] rest begins = absurd (cc)
 text_ends (c ∷ t) rest begins = or_right (is_white c) (is_among (47 ∷ codes "\"'-") c)
@@ -105,7 +106,7 @@ item_follows e (gap, is) (inr begins) rest = go e.gap gap
     go (c ∷ g) is = gap_ends (c ∷ g ++ (item_text e.item ++ rest))
         (filled_gap (c ∷ g) (item_text e.item ++ rest) is (λ h. cc))
 
--- A print of strict items is cut into them.
+-- Proof that a printed list of literals by Rust's grammar is lexed into the token trees of its items.
 pub printed_lexes : PrintedLexes
 printed_lexes t entries last file printed =
     entries_lex EndsLiteral file t entries last printed.text
@@ -117,7 +118,7 @@ printed_lexes t entries last file printed =
     (gap_ends last (last_begins last printed.last_gap)))
     printed.last_gap
 
--- A literal that was cut stays one before a gap.
+-- A lexed literal is the same lexeme if a separator follows it.
 literal_keeps : (l : Lexeme) → form_of l ≡ LiteralForm → KeepsItsEnd l
 literal_keeps (QuotedLexeme p parts x) form = tt
 literal_keeps (RawLexeme p n body x) form = tt
@@ -136,7 +137,7 @@ item_stays (WordItem truth) is = λ after begins. word_ends truth after (gap_end
 item_stays (LiteralItem text) is = cut_stays text is
 item_stays (MinusItem text) is = cut_stays text is
 
--- A print of items that were cut from any text is cut into them.
+-- Proof that a printed list of literals that were lexed from any text is lexed into the token trees of its items.
 pub reprinted_lexes : ReprintedLexes
 reprinted_lexes t entries last file printed =
     entries_lex BeginsGap file t entries last printed.text

@@ -1,22 +1,23 @@
--- A strict number is one lexeme before what may follow a literal.
-use Rattle.rl_text.proofs.Common.{◌≡◌, ℕ, ◌<◌, ◌≤◌, ◌⊎◌, inl, inr, suc, Bool, true, false, not, ◌&&◌, ◌||◌, ◌==◌, List, [], ◌∷◌, ◌++◌, replicate, refl, sym, ◌∙◌, ap, subst, arith, append_assoc, append-nil, lit<, nat_lt, list_all, list_any, digit_value, is_ascii_digit, is_ascii_hexdigit, is_ascii_alphanumeric, and_parts, and_from, or_from, or_cases, eqb-true, ltb-true, lt-ltb, agree_below_at, nat_tests, list_all-append}
-use Rattle.rl_text.specs.Texts.{is_white, first_passes, begins, is_run_part, is_start, is_continue}
-use Rattle.rl_forms.specs.Numbers.{Decimal, is_digit}
+-- A number by Rust's grammar is one lexeme before each text that may follow a literal.
+use Rattle.rl_syntax.proofs.Common.{◌≡◌, ℕ, ◌<◌, ◌≤◌, ◌⊎◌, inl, inr, suc, Bool, true, false, not, ◌&&◌, ◌||◌, ◌==◌, List, [], ◌∷◌, ◌++◌, replicate, refl, sym, ◌∙◌, ap, subst, arith, append_assoc, append-nil, lit<, nat_lt, list_all, list_any, digit_value, is_ascii_digit, and_parts, and_from, or_from, or_cases, eqb-true, list_all-append}
+use Rattle.rl_syntax.specs.Texts.{first_passes, begins, is_run_part, is_start, is_continue}
+use Rattle.rl_syntax.specs.Numbers.{Decimal, is_digit}
 use Rattle.rl_lexer.specs.Lexemes.{is_base_letter, begins_dot, LexedFraction, NoLexedFraction, LexedDot, lexed_fraction_text, LexedSign, NoLexedSign, LexedPlus, LexedMinus, lexed_sign_text, LexedExponent, NoLexedExponent, LexedPower, lexed_exponent_text, IsLexedFraction, IsLexedExponent, BasedLexeme, DecimalLexeme}
-use Rattle.rl_forms.specs.Reading.{Contents}
-use Rattle.rl_forms.specs.Strict.{IsDigits, IsDecimalText, IsStrictSuffix, IsNumberSuffix, StrictInt, StrictFloat, IsStrictExponent}
-use Rattle.rl_text.proofs.Basics.{all_weaker, passes_same, digit_is_ten, hex_is_sixteen}
-use Rattle.rl_forms.proofs.StrictNumbers.{suffix_of_strict, suffix_no_part}
+use Rattle.rl_syntax.specs.Reading.{Contents}
+use Rattle.rl_syntax.specs.Strict.{IsDigits, IsDecimalText, IsStrictSuffix, IsNumberSuffix, StrictInt, StrictFloat, IsStrictExponent}
+use Rattle.rl_syntax.proofs.Basics.{all_weaker, passes_same, digit_is_ten}
+use Rattle.rl_syntax.proofs.StrictNumbers.{suffix_of_strict, suffix_no_part}
+use Rattle.rl_lexer.proofs.Continues.{row_continues}
 use Rattle.rl_lexer.proofs.LexemeRows.{not_among}
 use Rattle.rl_lexer.proofs.LexemeOpeners.{no_exponent_begins}
 use Rattle.rl_lexer.proofs.LexemeFronts.{start_ascii, digit_not_start, decimal_text}
-use Rattle.rl_tokens.proofs.LexemeGaps.{and_false, and_more, continue_ascii, assoc3}
+use Rattle.rl_tokens.proofs.LexemeGaps.{and_false, and_more, assoc3}
 use Rattle.rl_tokens.proofs.PrintedCuts.{LexedBefore}
 use Rattle.rl_tokens.proofs.LiteralEnds.{EndsLiteral, Clear, clear_continue, clear_part, clear_dot, clear_base, clear_exponent, clear_code, ends_fails, front_fails, suffix_starts, suffix_continues, strict_suffix_lexed}
 use Rattle.rl_lexer.specs.Mirrors.LexemeAt.{begins_exponent, after_sign}
-use Rattle.rl_text.specs.Classes.{after_run}
+use Rattle.rl_syntax.specs.Classes.{after_run}
 
--- Decimals. What the parts of one are, apart from the text that follows.
+-- Lemmas about the parts of a decimal number, without the text that follows.
 abbrev is_dot_or_start : ℕ → Bool
 is_dot_or_start d = d == 46 || is_start d
 
@@ -69,7 +70,8 @@ no_exponent : (s : List ℕ) → first_passes is_letter s ≡ false → begins_e
 no_exponent [] h = refl
 no_exponent (c ∷ t) h = ap (λ b. b && first_passes is_ascii_digit (after_run (λ c. c == 95) (after_sign t))) h
 
--- a test that fails at a joined text fails where an end follows
+-- If the first character of two joined texts fails a test that texts after a literal fail, it also fails the test
+-- before such a text.
 fails_tail2 : (test : ℕ → Bool) (e x after : List ℕ) → Clear test → EndsLiteral after → first_passes test (e ++ x)
     ≡ false → first_passes test (e ++ (x ++ after)) ≡ false
 fails_tail2 test e x after clear ends h = ap (first_passes test) (sym (append_assoc e x after))
@@ -119,7 +121,7 @@ decimal_lexed t s =
       text_is = s.text;
     }
 
--- Rows of digits, suffixes, exponents.
+-- Lemmas about sequences of digits, suffixes and exponents.
 record DigitRun (run : List ℕ) : Type 0 where
   pub digit : ℕ
   pub more : List ℕ
@@ -146,7 +148,7 @@ letter_fails test c lower upper h =
       | inr a ↦ subst (λ (x : ℕ). test x ≡ false) (sym (eqb-true c 69 a)) upper
     ]
 
--- a run with a digit: underscores, the digit, and more
+-- The sequence of an exponent's digits: underscores, a digit, and more digits and underscores.
 record PowerRow (run : List ℕ) : Type 0 where
   pub underscores : ℕ
   pub digit : ℕ
@@ -192,7 +194,7 @@ power_facts e s =
     let (sign, same) = sign_of s.sign s.is_sign in
     record { letter = s.letter; sign = sign; run = s.run; is_letter = s.is_letter; power = p; text = s.text ∙ ap (λ z. s.letter ∷ (z ++ s.run)) same ∙ ap (λ z. s.letter ∷ (lexed_sign_text sign ++ z)) p.text }
 
--- Integers.
+-- Lemmas about integers.
 decimal_int : (t x : List ℕ) (v : Contents) (s : StrictInt t v x) → s.prefix ≡ [] → IsDigits s.run → IsDecimalText t
     → LexedBefore EndsLiteral t
 decimal_int t x v s none digits decimal =
@@ -213,27 +215,6 @@ decimal_int t x v s none digits decimal =
       is_decimal = decimal;
       text = s.text ∙ ap (λ z. (z ++ s.run) ++ x) none ∙ ap (λ z. z ++ x) r.text;
     })
-
-hex_low : (c : ℕ) → is_ascii_hexdigit c ≡ true → c < 128
-hex_low c h = grind (arith, nat_tests)
-
-hex_continues : (c : ℕ) → is_ascii_hexdigit c ≡ true → is_continue c ≡ true
-hex_continues c h =
-    let low : c < 128 = hex_low c h in
-    let same : (not (is_ascii_hexdigit c) || ((is_ascii_alphanumeric c || (c == 95)) && not (is_white c))) ≡ true =
-    agree_below_at (λ c. not (is_ascii_hexdigit c) || ((is_ascii_alphanumeric c || (c == 95)) && not (is_white c)))
-    (λ c. true) 128 c refl low in
-    continue_ascii c low ∙ ap (λ b. not b || ((is_ascii_alphanumeric c || (c == 95)) && not (is_white c))) (sym h)
-    ∙ same
-
-row_continues : (n c : ℕ) → n ≤ 16 → is_run_part (λ d. nat_lt (digit_value d) n) c ≡ true → is_continue c ≡ true
-row_continues n c few h =
-    elim (or_cases (nat_lt (digit_value c) n) (c == 95) h) [
-      | inl a ↦
-          let less : digit_value c < n = ltb-true (digit_value c) n a in
-          hex_continues c (hex_is_sixteen c ∙ lt-ltb (digit_value c) 16 (omega arith))
-      | inr a ↦ subst (λ (x : ℕ). is_continue x ≡ true) (sym (eqb-true c 95 a)) (continue_ascii 95 (lit< tt))
-    ]
 
 based_int : (letter n : ℕ) (t x : List ℕ) (v : Contents) (s : StrictInt t v x) → s.prefix ≡ 48 ∷ letter ∷ [] → s.base
     ≡ n → n ≤ 16 → is_base_letter letter ≡ true → LexedBefore EndsLiteral t
@@ -256,7 +237,7 @@ based_int letter n t x v s front base few is =
       text_is = s.text ∙ ap (λ z. (z ++ s.run) ++ x) front;
     }
 
--- A strict integer is one lexeme before what may follow it.
+-- An integer by Rust's grammar is one lexeme before each text that may follow a literal.
 pub int_lexed : (t x : List ℕ) (v : Contents) → StrictInt t v x → LexedBefore EndsLiteral t
 int_lexed t x v s =
     elim s.is_front [
@@ -270,7 +251,7 @@ int_lexed t x v s =
       ]
     ]
 
--- Floats.
+-- Lemmas about floats.
 float_from : (t x d : List ℕ) (v : Contents) (s : StrictFloat t v x) (f : LexedFraction) (e : LexedExponent)
     → IsDigits d → s.numeral ≡ d ++ (lexed_fraction_text f ++ lexed_exponent_text e)
     → first_passes (is_run_part is_ascii_digit) (lexed_fraction_text f ++ (lexed_exponent_text e ++ x)) ≡ false
@@ -303,7 +284,7 @@ dot_alone t x d v s digits numeral none =
     (ap (first_passes is_dot_or_start) none, refl, ap (first_passes (is_run_part is_ascii_digit)) none)
     (ap (first_passes is_letter) none)
 
--- after a dot the digits begin neither as a dot does nor as an identifier
+-- The digits after a float's dot begin neither with a dot nor as an identifier.
 digits_behind_dot : (f s : List ℕ) → IsDigits f → first_passes is_dot_or_start (f ++ s) ≡ false
 digits_behind_dot f s digits =
     let r = digit_row f digits in
@@ -338,7 +319,7 @@ pointed_power t x d f e v s digits following p numeral =
     )
     (p.is_letter, p.power.is_digit, p.power.each, suffix_no_numeral x s.suffix)
 
--- A strict float is one lexeme before what may follow it.
+-- A float by Rust's grammar is one lexeme before each text that may follow a literal.
 pub float_lexed : (t x : List ℕ) (v : Contents) → StrictFloat t v x → LexedBefore EndsLiteral t
 float_lexed t x v s =
     elim s.form [

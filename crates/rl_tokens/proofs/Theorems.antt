@@ -1,4 +1,4 @@
--- The laws (src/laws.rt), as lemmas that callers may cite.
+-- The theorems of src/laws.rt, as lemmas that callers may cite.
 use Rattle.rl_tokens.specs.PrintedTrees.{PrintedLexes, ReprintedLexes}
 use Rattle.rl_tokens.proofs.PrintedLaws.{printed_lexes as printed_lexes_law, reprinted_lexes as reprinted_lexes_law}
 

@@ -1,15 +1,15 @@
--- Views of trees and streams.
-use Rattle.rl_text.proofs.Common.{◌≡◌, List, [], ◌∷◌, map, refl, sym, ◌∙◌, ap, ◌++◌, map-append}
-use Rattle.rl_text.specs.declared.span.Span.{Span}
+-- Lemmas about token trees and streams as plain data.
+use Rattle.rl_syntax.proofs.Common.{◌≡◌, List, [], ◌∷◌, map, refl, sym, ◌∙◌, ap, ◌++◌, map-append}
+use Rattle.rl_syntax.specs.declared.span.Span.{Span}
 use Rattle.rl_tokens.specs.declared.token.TokenTree.{fold-roll-TokenTree, TokenTree}
 use Rattle.rl_tokens.specs.declared.token.TokenTree.TheOpen as layer
 use Rattle.rl_tokens.specs.declared.token.TokenTree.TheVariants as tree
 use Rattle.rl_tokens.specs.declared.token.Group.{Group, fold_out-Group}
 use Rattle.rl_tokens.specs.declared.token.TokenStream.{TokenStream, fold-TokenStream, fold_out-TokenStream}
 use Rattle.rl_tokens.specs.Puncts.{Mark}
-use Rattle.rl_text.specs.Texts.{SpannedText}
+use Rattle.rl_syntax.specs.Texts.{SpannedText}
 use Rattle.rl_tokens.specs.Trees.{Tree, GroupTree, PunctTree, LiteralTree, IdentTree, trees_of, MoreTrees, GroupParts, delimiter_of, stream_of, group_span, inside_of, tree_step, group_step, stream_step, tree_view, stream_view, respanned, all_respanned, relocated, all_relocated, group_tree}
-use Rattle.rl_text.specs.Spans.{looked_up}
+use Rattle.rl_syntax.specs.Spans.{looked_up}
 
 abbrev stream_fold : {A : Type 0} → TokenStream A → List Tree
 stream_fold {A} = fold-TokenStream A Tree GroupParts (List Tree) tree_step group_step stream_step
@@ -17,7 +17,7 @@ stream_fold {A} = fold-TokenStream A Tree GroupParts (List Tree) tree_step group
 stream_fold-view : {A : Type 0} (s : TokenStream A) → stream_fold s ≡ stream_view s
 stream_fold-view {A} s = fold_out-TokenStream A Tree GroupParts (List Tree) tree_step group_step stream_step s
 
--- a group's tree, by its parts
+-- The plain data of a group, as a token tree, has the plain data of its parts.
 pub tree_view-group : {A : Type 0} (g : Group A) → tree_view (tree.Group g)
     ≡ GroupTree (delimiter_of g) (inside_of (stream_view (stream_of g))) (group_span g)
 tree_view-group {A} g =
@@ -39,7 +39,7 @@ pub tree_view-ident : (A : Type 0) (i : SpannedText) → tree_view {A = A} (tree
 tree_view-ident A i = ap tree_view (sym (tree.rolls-Ident i))
     ∙ fold-roll-TokenTree A Tree GroupParts (List Tree) tree_step group_step stream_step (layer.Ident i)
 
--- a stream with one tree more
+-- If a token tree is appended to a stream, its plain data is appended to the plain data of the stream.
 pub stream_view-append : {A : Type 0} (old new : TokenStream A) (x : TokenTree A) (t : Tree) → tree_view x ≡ t
     → trees_of new ≡ trees_of old ++ x ∷ [] → stream_view new ≡ stream_view old ++ t ∷ []
 stream_view-append old new x t is e = ap (map tree_view) e ∙ map-append tree_view (trees_of old) (x ∷ [])
@@ -50,7 +50,8 @@ pub respanned-inside : (span : Span) (ts : List Tree) → all_respanned span (in
 respanned-inside span [] = refl
 respanned-inside span (t ∷ ts) = ap (MoreTrees (respanned span t)) (respanned-inside span ts)
 
--- a group with every span another, by its parts
+-- If a group's span and the spans inside it are replaced by `span`, the plain data of the group has that span
+-- everywhere.
 pub respanned_group : {A : Type 0} (span : Span) (g h : Group A) → delimiter_of h ≡ delimiter_of g → group_span h ≡ span
     → stream_view (stream_of h) ≡ map (respanned span) (stream_view (stream_of g)) → tree_view (tree.Group h)
     ≡ respanned span (tree_view (tree.Group g))
@@ -72,7 +73,8 @@ pub relocated-inside : (table : List Span) (ts : List Tree) → all_relocated ta
 relocated-inside table [] = refl
 relocated-inside table (t ∷ ts) = ap (MoreTrees (relocated table t)) (relocated-inside table ts)
 
--- a group with every span looked up, by its parts
+-- If a group's span and the spans inside it are replaced by those that `table` gives for them, so are the spans in the
+-- group's plain data.
 pub relocated_parts : {A : Type 0} (table : List Span) (g h : Group A) → delimiter_of h ≡ delimiter_of g → group_span h
     ≡ looked_up table (group_span g) → stream_view (stream_of h) ≡ map (relocated table) (stream_view (stream_of g))
     → group_tree h ≡ relocated table (group_tree g)
@@ -88,7 +90,7 @@ pub relocated_group : {A : Type 0} (table : List Span) (g h : Group A) → group
     → tree_view (tree.Group h) ≡ relocated table (tree_view (tree.Group g))
 relocated_group table g h e = tree_view-group h ∙ e ∙ ap (relocated table) (sym (tree_view-group g))
 
--- the first of several trees
+-- If the first token tree of a list is consumed, the plain data of the list begins with its plain data.
 pub first_taken : {A : Type 0} (xs rest : List (TokenTree A)) (x : TokenTree A) (t : Tree) → xs ≡ x ∷ rest → tree_view x
     ≡ t → map tree_view xs ≡ t ∷ map tree_view rest
 first_taken xs rest x t e is = ap (map tree_view) e ∙ ap (λ z. z ∷ map tree_view rest) is

@@ -1,44 +1,45 @@
--- Trees that are left of those before.
-use Rattle.rl_text.proofs.Common.{subst, inr, ◌≡◌, List, [], ◌∷◌, ◌++◌, refl, sym, ◌∙◌, ap, append_assoc}
+-- Lemmas about `IsRest`: a list of token trees is the end of another list.
+use Rattle.rl_syntax.proofs.Common.{subst, inr, ◌≡◌, List, [], ◌∷◌, ◌++◌, refl, sym, ◌∙◌, ap, append_assoc}
 use Rattle.std.specs.Prelude.{◌≢◌, Result, Ok}
-use Rattle.rl_text.specs.declared.span.Span.{Span}
+use Rattle.rl_syntax.specs.declared.span.Span.{Span}
 use Rattle.rl_tokens.specs.declared.error.ErrorKind.TheVariants.{Unexpected}
 use Rattle.rl_tokens.specs.declared.error.Error.{Error}
 use Rattle.rl_tokens.specs.Buffers.{first_span, IsRest, StaysRest}
 use Rattle.rl_tokens.specs.Whole.{RejectsParse}
 use Rattle.rl_tokens.specs.Trees.{Tree}
 
--- after one tree
+-- The token trees after the first one of a list are the end of the list.
 pub rest_one : (before left : List Tree) (t : Tree) → before ≡ t ∷ left → IsRest before left
 rest_one before left t e = record { taken = t ∷ []; are = e }
 
--- after two
+-- The token trees after the first two of a list are the end of the list.
 pub rest_two : (before left : List Tree) (t u : Tree) → before ≡ t ∷ (u ∷ left) → IsRest before left
 rest_two before left t u e = record { taken = t ∷ (u ∷ []); are = e }
 
--- after none
+-- If nothing is consumed, the token trees afterwards are the end of those before.
 pub rest_none : (before left : List Tree) → left ≡ before → IsRest before left
 rest_none before left e = record { taken = []; are = sym e }
 
--- what is left of what is left
+-- If a list of token trees is the end of a second list, and that is the end of a third, the first list is the end of
+-- the third.
 pub rest_step : (before between left : List Tree) → IsRest before between → IsRest between left → IsRest before left
 rest_step before between left a b = record {
   taken = a.taken ++ b.taken;
   are = a.are ∙ (ap (λ z. a.taken ++ z) b.are ∙ sym (append_assoc a.taken b.taken left));
 }
 
--- all that was there
+-- A list of token trees is the end of itself.
 pub rest_self : (trees : List Tree) → IsRest trees trees
 rest_self trees = record { taken = []; are = refl }
 
--- of which trees those before are a rest, these are one too
+-- If `left` is the end of `between`, each list of token trees that ends in `between` also ends in `left`.
 pub stays_rest : (between left : List Tree) → IsRest between left → StaysRest between left
 stays_rest between left a before b = rest_step before between left b a
 
 pub stays_tail : (between left : List Tree) (t : Tree) → between ≡ t ∷ left → StaysRest between left
 stays_tail between left t e = stays_rest between left (rest_one between left t e)
 
--- what a parser did, of trees and scopes that are the same
+-- The meaning of a parser holds for a second list of token trees and a second scope if these equal the first ones.
 pub run_moved : {T E : Type 0} (runs : List Tree → Span → Result T E → List Tree → Type 0) (a b : List Tree)
     (s t : Span) (r : Result T E) (x y : List Tree) → a ≡ b → s ≡ t → x ≡ y → runs a s r x → runs b t r y
 run_moved runs a b s t r x y p q e ran = subst (λ z. runs z t r y) p

@@ -1,6 +1,6 @@
--- What contracts see of a buffer of trees: the trees that are left, and the scope.
+-- The parts of a parse buffer that contracts cite: the token trees that haven't been consumed yet, and the scope.
 use Rattle.std.specs.Prelude.{◌≡◌, ℕ, ◌==◌, Bool, true, false, List, [], ◌∷◌, ◌++◌, map}
-use Rattle.rl_text.specs.declared.span.Span.{Span}
+use Rattle.rl_syntax.specs.declared.span.Span.{Span}
 use Rattle.rl_tokens.specs.declared.error.ErrorKind.{ErrorKind}
 use Rattle.rl_tokens.specs.declared.error.ErrorKind.TheVariants.{Expected, EndOfInput}
 use Rattle.rl_tokens.specs.declared.error.Error.{Error}
@@ -8,27 +8,28 @@ use Rattle.rl_tokens.specs.declared.buffer.ParseBuffer.{ParseBuffer}
 use Rattle.rl_tokens.specs.Puncts.{Mark}
 use Rattle.rl_tokens.specs.Trees.{Tree, GroupTree, IdentTree, PunctTree, LiteralTree, tree_view}
 
--- the trees that are left
+-- The token trees of a parse buffer that haven't been consumed yet.
 abbrev pub trees_in : {A : Type 0} → ParseBuffer A → List Tree
 trees_in b = map tree_view b.trees.now
 
--- the span at which the end of the trees is reported
+-- A parse buffer's scope: the span of an error at the end of the token trees.
 abbrev pub scope_of : {A : Type 0} → ParseBuffer A → Span
 scope_of b = b.scope
 
--- where a tree stands
+-- The span of a token tree.
 abbrev pub tree_span : Tree → Span
 tree_span (GroupTree delimiter inside span) = span
 tree_span (IdentTree token) = token.span
 tree_span (PunctTree mark) = mark.span
 tree_span (LiteralTree token) = token.span
 
--- where the first tree stands; where there is none, the scope
+-- The span of the first token tree, or the buffer's scope if all token trees have been consumed.
 abbrev pub first_span : List Tree → Span → Span
 first_span [] scope = scope
 first_span (t ∷ ts) scope = tree_span t
 
--- what the first tree is
+-- Four tests of the first token tree of a list: whether it is a literal token, an identifier, a punctuation character
+-- or a group.
 abbrev pub begins_literal : List Tree → Bool
 begins_literal [] = false
 begins_literal (LiteralTree x ∷ ts) = true
@@ -49,41 +50,43 @@ begins_group [] = false
 begins_group (GroupTree d inside span ∷ ts) = true
 begins_group (_ ∷ ts) = false
 
--- whether the first tree is this character of punctuation
+-- Whether the first token tree of a list is the punctuation character `ch`.
 abbrev pub begins_mark : ℕ → List Tree → Bool
 begins_mark ch [] = false
 begins_mark ch (PunctTree m ∷ ts) = m.ch == ch
 begins_mark ch (_ ∷ ts) = false
 
--- The trees begin with this character of punctuation, and the rest stands after it.
+-- The token trees `trees` are the punctuation character `ch`, followed by the token trees `rest`.
 pub record IsAfterMark (ch : ℕ) (trees rest : List Tree) : Type 0 where
   pub mark : Mark
   pub trees_are : trees ≡ PunctTree mark ∷ rest
   pub is : mark.ch ≡ ch
 
--- The trees are what is left of those before.
+-- The token trees `left` are the end of the token trees `before`: a parser consumed the token trees before them.
 pub record IsRest (before left : List Tree) : Type 0 where
   pub taken : List Tree
   pub are : before ≡ taken ++ left
 
--- what was a rest of these trees is still one of them: a rest of a rest is a rest
+-- Each list of token trees that ends in `between` also ends in `left`. This holds if `between` ends in `left`.
 abbrev pub StaysRest : List Tree → List Tree → Type 0
 StaysRest between left = (before : List Tree) → IsRest before between → IsRest before left
 
--- The buffer stands where it stood before.
+-- The parse buffer `after` is at the same position as the parse buffer `before`: it has the same remaining token trees
+-- and the same scope.
 pub record IsPutBack {A : Type 0} (before after : ParseBuffer A) : Type 0 where
   pub trees : trees_in after ≡ trees_in before
   pub scope : scope_of after ≡ scope_of before
   pub rest : IsRest (trees_in before) (trees_in after)
 
--- the kind of an error where this word was expected before these trees
+-- The kind of a parser's error whose message names the expected token by `word`: `EndOfInput(word)` if no token tree is
+-- left, else `Expected(word)`.
 abbrev pub MissesWord : {A : Type 0} → List Tree → List ℕ → ErrorKind A → Type 0
 MissesWord [] word (EndOfInput w) = w.now ≡ word
 MissesWord (t ∷ ts) word (Expected w) = w.now ≡ word
 MissesWord _ word _ = ⊥
 
--- The error where this word was expected before these trees: at the first tree, at the end at the
--- scope.
+-- The error of a parser that expected the token named `word` at the start of `trees`. Its span is that of the first
+-- token tree, or the scope if `trees` is empty.
 pub record IsRejection {A : Type 0} (trees : List Tree) (scope : Span) (word : List ℕ) (e : Error A)
     : Type 0 where
   pub span : e.span ≡ first_span trees scope

@@ -1,8 +1,8 @@
--- What a C string holds, and the error of bytes that hold a zero.
-pub use Rattle.rl_forms.specs.Agreeing.{is_zero, has_no_zero}
+-- The contents of the error `NulError`, which `CString::new` returns for bytes that contain a zero.
+pub use Rattle.rl_syntax.specs.Agreeing.{is_zero, has_no_zero}
 use Rattle.std.specs.Prelude.{ℕ, List}
 
--- The bytes that were rejected, and the place of their first zero.
+-- Bytes that aren't a C string, and the offset of the first zero in the bytes.
 pub record ZeroInside : Type 0 where
   pub bytes : List ℕ
   pub place : ℕ

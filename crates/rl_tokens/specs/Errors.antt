@@ -1,7 +1,7 @@
--- What errors say.
-pub use Rattle.rl_text.specs.Spans.{nowhere}
+-- The messages of errors, and two errors that contracts cite.
+pub use Rattle.rl_syntax.specs.Spans.{nowhere}
 use Rattle.std.specs.Prelude.{ℕ, List, ◌++◌, codes, string_bytes}
-use Rattle.rl_text.specs.declared.span.Span.{Span}
+use Rattle.rl_syntax.specs.declared.span.Span.{Span}
 use Rattle.rl_lexer.specs.declared.lex_error.LexKind.{LexKind}
 use Rattle.rl_lexer.specs.declared.lex_error.LexKind.TheVariants.{Memory as LexMemory}
 use Rattle.rl_tokens.specs.declared.error.ErrorKind.{ErrorKind}
@@ -9,7 +9,7 @@ use Rattle.rl_tokens.specs.declared.error.ErrorKind.TheVariants.{Expected, EndOf
 use Rattle.rl_tokens.specs.declared.error.Error.{Error}
 use Rattle.rl_lexer.specs.LexErrors.{lex_message}
 
--- the text of an error
+-- The message of an error, by the kind of the error.
 abbrev pub message_of : {A : Type 0} → ErrorKind A → List ℕ
 message_of (Expected word) = codes "expected " ++ word.now
 message_of (EndOfInput word) = codes "unexpected end of input, expected " ++ word.now
@@ -24,11 +24,12 @@ message_of Repeated = codes "repeated name"
 message_of (Number words) = string_bytes words
 message_of Memory = codes "out of memory"
 
--- an allocation failure, reported at a span
+-- The error for an allocation failure, with the span `at`.
 abbrev pub memory_at : {A : Type 0} → Span → Error A
 memory_at at = record { span = at; kind = Memory }
 
--- the lexer's error, reported at a span; its allocation failure is `Memory`
+-- The error with the span `at` for a kind of the lexer's errors. The lexer's `Memory` becomes `ErrorKind::Memory`, and
+-- any other kind becomes `ErrorKind::Lex`.
 abbrev pub lex_rejection : {A : Type 0} → LexKind → Span → Error A
 lex_rejection LexMemory at = memory_at at
 lex_rejection kind at = record { span = at; kind = Lex kind }

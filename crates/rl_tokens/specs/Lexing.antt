@@ -1,21 +1,22 @@
--- The trees that a text is cut into: its tokens, and the groups that they make.
+-- The relation between a text and its token trees: the text's tokens, and the groups that they form.
 pub use Rattle.rl_lexer.specs.Cuts.{LexedToken, end_of, LexesUpTo, is_pair, is_opener, is_closer, OpenGroup, closes, popped, after_delimiter, after_form, after_lexeme, open_groups, begins_doc_comment, begins_lifetime, BeginsQuote, BeginsLexeme, BeginsNoLexeme, ErrorAt, innermost, error_place, HasFirstError, LeavesRestAt, Rejects, OneError}
 use Rattle.std.specs.Prelude.{◌≡◌, ℕ, ◌||◌, ◌==◌, List, [], map, encode_utf8_all, Some, if◌then◌else◌}
 use Prim.Native.Char.{code}
-use Rattle.rl_text.specs.declared.span.Span.{Span}
+use Rattle.rl_syntax.specs.declared.span.Span.{Span}
 use Rattle.rl_tokens.specs.declared.token.Delimiter.{Delimiter}
 use Rattle.rl_tokens.specs.declared.token.Delimiter.TheVariants.{Parenthesis, Brace, Bracket}
 use Rattle.rl_lexer.specs.declared.lex_error.LexKind.{LexKind}
 use Rattle.rl_tokens.specs.Trees.{Tree, FlatToken, Opening, Closing, FlatIdent, FlatPunct, FlatLiteral, flat_trees}
 use Rattle.rl_lexer.specs.Lexemes.{lexeme_text, LexemeForm, LiteralForm, IdentifierForm, DelimiterForm, MarkForm, form_of}
 
--- which delimiter it is
+-- The pair of delimiters that the opening or closing delimiter `c` belongs to.
 abbrev pub delimiter_for : ℕ → Delimiter
 delimiter_for c =
     if c == code "(" || c == code ")" then Parenthesis
     else (if c == code "[" || c == code "]" then Bracket else Brace)
 
--- the token of this form, text and place, written flat
+-- The token with the form, text and span given, as an element of the flat form of token trees, in which each delimiter
+-- is an element of its own.
 abbrev pub flat_form : LexemeForm → List ℕ → Span → FlatToken
 flat_form LiteralForm text span = FlatLiteral (record { text = text; span = span })
 flat_form IdentifierForm text span = FlatIdent (record { text = text; span = span })
@@ -23,25 +24,25 @@ flat_form (DelimiterForm c) text span =
     if is_opener c then Opening (delimiter_for c) span else Closing (delimiter_for c) span
 flat_form (MarkForm c) text span = FlatPunct (record { ch = c; span = span })
 
--- a token that was cut, written flat: its span is the file and the bytes of its text
+-- A lexed token as an element of the flat form of token trees. Its span is the file and the byte range of the token's
+-- text.
 abbrev pub flat_token : ℕ → LexedToken → FlatToken
 flat_token file w =
     flat_form (form_of w.lexeme) (encode_utf8_all (lexeme_text w.lexeme))
     (record { file = file; lo = w.at; hi = end_of w })
 
--- The text is cut into the tokens of these trees, and nothing is left: neither text nor an open
--- group.
+-- The whole text `t` is lexed into the token trees `trees`. No text remains, and no group is open at the end.
 pub record Lexes (t : List ℕ) (file : ℕ) (trees : List Tree) : Type 0 where
   pub cuts : List LexedToken
   pub are_cuts : LexesUpTo 0 t cuts []
   pub none_open : open_groups [] cuts ≡ Some []
   pub flat_is : map (flat_token file) cuts ≡ flat_trees trees
 
--- A text has at most one list of trees.
+-- A theorem: a text is lexed into at most one list of token trees.
 abbrev pub OneList : Type 0
 OneList = (t : List ℕ) (file : ℕ) (xs ys : List Tree) → Lexes t file xs → Lexes t file ys → xs ≡ ys
 
--- No text has both.
+-- A theorem: if a text is lexed into token trees, the text has no first error.
 abbrev pub NeverBoth : Type 0
 NeverBoth =
     (t : List ℕ) (file : ℕ) (trees : List Tree) (k : LexKind) (at : ℕ) → Lexes t file trees

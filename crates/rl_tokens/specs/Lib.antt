@@ -1,4 +1,5 @@
--- What stands here, and what stands in the crates below and is passed on under its name here.
+-- The definitions of the crate `rl_tokens`, and definitions of the crates `rl_syntax` and `rl_lexer` that can also be
+-- named through `rl_tokens`.
 pub mod Errors
 pub mod CStrings
 pub mod Puncts
@@ -8,21 +9,20 @@ pub mod Lexing
 pub mod Whole
 pub mod PrintedTrees
 pub mod Mirrors
-pub use Rattle.rl_text.specs.Texts
-pub use Rattle.rl_forms.specs.Quoted
-pub use Rattle.rl_forms.specs.Numbers
-pub use Rattle.rl_forms.specs.Reading
-pub use Rattle.rl_forms.specs.Words
-pub use Rattle.rl_forms.specs.Written
-pub use Rattle.rl_forms.specs.Strict
-pub use Rattle.rl_forms.specs.Agreeing
-pub use Rattle.rl_forms.specs.Trivia
+pub use Rattle.rl_syntax.specs.Texts
+pub use Rattle.rl_syntax.specs.Quoted
+pub use Rattle.rl_syntax.specs.Numbers
+pub use Rattle.rl_syntax.specs.Reading
+pub use Rattle.rl_syntax.specs.Words
+pub use Rattle.rl_syntax.specs.Written
+pub use Rattle.rl_syntax.specs.Strict
+pub use Rattle.rl_syntax.specs.Agreeing
+pub use Rattle.rl_syntax.specs.Trivia
 pub use Rattle.rl_lexer.specs.Lexemes
-pub use Rattle.rl_text.specs.Classes
+pub use Rattle.rl_syntax.specs.Classes
 pub use Rattle.rl_lexer.specs.LexErrors
 pub use Rattle.rl_lexer.specs.Cursors
-pub use Rattle.rl_forms.specs.Printed
-pub use Rattle.rl_text.specs.Scanning
+pub use Rattle.rl_syntax.specs.Printed
+pub use Rattle.rl_syntax.specs.Scanning
 pub use Rattle.rl_lexer.specs.Skipping
 pub use Rattle.rl_lexer.specs.Sources
-pub use Rattle.rl_lexer.specs.Lines

@@ -1,4 +1,4 @@
--- Mirrors of the code: programs on lists of characters that code is proved equal to. No public
--- clause cites one.
+-- Executable models of the crate's code: functions on lists of characters. It is proved that the code returns the same
+-- results. No public postcondition cites a model.
 
 pub mod TreeBuilders

@@ -1,17 +1,18 @@
--- The trees that a printed list of literals is cut into, and prints of literals that were cut from
--- any text.
+-- The token trees into which a printed list of literals is lexed. A printed list is a text of literals with separators
+-- between them.
 use Rattle.std.specs.Prelude.{◌≡◌, ◌≢◌, ℕ, ◌+◌, List, [], ◌∷◌, ◌++◌, ⊤, drop}
 use Rattle.std.specs.List.{AllByRecursion}
 use Prim.Native.Char.{code}
-use Rattle.rl_forms.specs.Trivia.{IsTrivia}
+use Rattle.rl_syntax.specs.Trivia.{IsTrivia}
 use Rattle.rl_tokens.specs.Trees.{Tree, IdentTree, PunctTree, LiteralTree}
 use Rattle.rl_lexer.specs.Lexemes.{Lexeme, lexeme_text, IsLexeme, LiteralForm, form_of}
-use Rattle.rl_text.specs.Texts.{byte_len}
+use Rattle.rl_syntax.specs.Texts.{byte_len}
 use Rattle.rl_tokens.specs.Lexing.{Lexes}
-use Rattle.rl_forms.specs.Reading.{truth_text}
-use Rattle.rl_forms.specs.Printed.{Entry, Item, LiteralItem, MinusItem, Printed, WordItem, item_text, printed_text, token_at}
+use Rattle.rl_syntax.specs.Reading.{truth_text}
+use Rattle.rl_syntax.specs.Printed.{Entry, Item, LiteralItem, MinusItem, Printed, WordItem, item_text, printed_text, token_at}
 
--- the trees of an item that begins at this byte
+-- The token trees of one item of a printed list of literals: a word `true` or `false`, a literal, or a minus and a
+-- literal. The item begins at the byte offset `at` of the file.
 abbrev pub item_trees : ℕ → ℕ → Item → List Tree
 item_trees file at (WordItem truth) = IdentTree (token_at file at (truth_text truth)) ∷ []
 item_trees file at (LiteralItem text) = LiteralTree (token_at file at text) ∷ []
@@ -19,20 +20,21 @@ item_trees file at (MinusItem text) =
     PunctTree (record { ch = code "-"; span = record { file = file; lo = at; hi = at + 1 } })
     ∷ LiteralTree (token_at file (at + 1) text) ∷ []
 
--- the trees of all entries, the first of which begins at this byte
+-- The token trees of all items of a printed list of literals, which begins at the byte offset `at` of the file.
 abbrev pub printed_trees : ℕ → ℕ → List Entry → List Tree
 printed_trees file at [] = []
 printed_trees file at (e ∷ es) =
     item_trees file (at + byte_len e.gap) e.item
     ++ printed_trees file (at + byte_len e.gap + byte_len (item_text e.item)) es
 
--- Such a text is cut into the trees of its items and no others.
+-- A theorem: a printed list of literals that Rust's grammar accepts is lexed into the token trees of the list's items
+-- and no others.
 abbrev pub PrintedLexes : Type 0
 PrintedLexes =
     (t : List ℕ) (entries : List Entry) (last : List ℕ) (file : ℕ) → Printed t entries last
     → Lexes t file (printed_trees file 0 entries)
 
--- The text of a literal that was cut from some text, strict or not.
+-- The text is that of a literal token that the lexer finds in some text. The literal needn't be valid.
 abbrev pub IsLexedLiteral : List ℕ → Type 0
 IsLexedLiteral text =
     (l : Lexeme) × (after : List ℕ) × IsLexeme l after × (form_of l ≡ LiteralForm)
@@ -43,15 +45,17 @@ IsLexedItem (WordItem truth) = ⊤
 IsLexedItem (LiteralItem text) = IsLexedLiteral text
 IsLexedItem (MinusItem text) = IsLexedLiteral text
 
--- The text is gap, item, gap, .., item, gap, each item as it was cut from some text and each gap
--- trivia. The first gap and the last may be empty; one between two items isn't.
+-- The text `t` is a printed list of lexed literals: a separator, an item, a separator, and so on, up to the separator
+-- `last`. Each item is a literal as the lexer finds it in some text, and each separator is trivia (white space and
+-- plain comments). The first and the last separator may be empty. A separator between two items isn't empty.
 pub record Reprinted (t : List ℕ) (entries : List Entry) (last : List ℕ) : Type 0 where
   pub items : AllByRecursion (λ e. IsTrivia e.gap × IsLexedItem e.item) entries
   pub apart : AllByRecursion (λ e. e.gap ≢ []) (drop 1 entries)
   pub last_gap : IsTrivia last
   pub text : t ≡ printed_text entries last
 
--- So is such a text.
+-- A theorem: a printed list of literals that were lexed from any text is lexed into the token trees of the list's items
+-- and no others.
 abbrev pub ReprintedLexes : Type 0
 ReprintedLexes =
     (t : List ℕ) (entries : List Entry) (last : List ℕ) (file : ℕ) → Reprinted t entries last

@@ -1,20 +1,20 @@
--- What contracts see of token trees: their parts, a tree as plain data, and a tree written flat.
-pub use Rattle.rl_text.specs.Spans.{entry_at, looked_up}
+-- The parts of token trees that contracts cite, token trees as plain data, and the flat form of token trees.
+pub use Rattle.rl_syntax.specs.Spans.{entry_at, looked_up}
 use Rattle.std.specs.Prelude.{◌+◌, ◌-◌, List, [], ◌∷◌, ◌++◌, map}
-use Rattle.rl_text.specs.declared.span.Span.{Span}
+use Rattle.rl_syntax.specs.declared.span.Span.{Span}
 use Rattle.rl_tokens.specs.declared.token.Delimiter.{Delimiter}
 use Rattle.rl_tokens.specs.declared.token.TokenTree.{TokenTree, fold-TokenTree, out-TokenTree}
 use Rattle.rl_tokens.specs.declared.token.TokenTree.TheOpen.{TokenTree-F, Group-F, TokenStream-F}
 use Rattle.rl_tokens.specs.declared.token.Group.{Group, out-Group}
 use Rattle.rl_tokens.specs.declared.token.TokenStream.{TokenStream, out-TokenStream}
-use Rattle.rl_text.specs.Texts.{SpannedText}
+use Rattle.rl_syntax.specs.Texts.{SpannedText}
 use Rattle.rl_tokens.specs.Puncts.{Mark}
 
--- the trees of a stream
+-- The token trees of a stream.
 abbrev pub trees_of : {A : Type 0} → TokenStream A → List (TokenTree A)
 trees_of {A} s = (out-TokenStream A s).trees.items
 
--- the parts of a group
+-- The three parts of a group: its pair of delimiters, the stream of token trees inside, and its span.
 abbrev pub delimiter_of : {A : Type 0} → Group A → Delimiter
 delimiter_of {A} g = (out-Group A g).delimiter
 
@@ -24,7 +24,7 @@ stream_of {A} g = (out-Group A g).stream
 abbrev pub group_span : {A : Type 0} → Group A → Span
 group_span {A} g = (out-Group A g).span
 
--- where a tree stands
+-- The span of a token tree.
 abbrev pub span_in : {A : Type 0} → TokenTree-F A (TokenTree A) (Group A) (TokenStream A) → Span
 span_in (TokenTree-F.Group g) = group_span g
 span_in (TokenTree-F.Ident i) = i.span
@@ -34,7 +34,8 @@ span_in (TokenTree-F.Literal l) = l.span
 abbrev pub token_tree_span : {A : Type 0} → TokenTree A → Span
 token_tree_span {A} t = span_in (out-TokenTree A t)
 
--- A tree as plain data: a token, or a group with the trees inside.
+-- A token tree as plain data: an identifier, a punctuation character, a literal token, or a group with the token trees
+-- inside it.
 mutual
   pub data Tree : Type 0 where
     GroupTree : (delimiter : Delimiter) (inside : Trees) (span : Span) → Tree
@@ -46,18 +47,18 @@ mutual
     NoTrees : Trees
     MoreTrees : (first : Tree) (rest : Trees) → Trees
 
--- the trees inside a group
+-- A list of token trees, as the data type of the token trees inside a group.
 abbrev pub inside_of : List Tree → Trees
 inside_of [] = NoTrees
 inside_of (t ∷ ts) = MoreTrees t (inside_of ts)
 
--- A group before it is a tree.
+-- The parts of a group as plain data: its pair of delimiters, the token trees inside, and its span.
 pub record GroupParts : Type 0 where
   pub delimiter : Delimiter
   pub inside : List Tree
   pub span : Span
 
--- one level, with each part already seen as data
+-- One step of the conversion of a token tree, a group or a stream to plain data, given the plain data of its parts.
 abbrev pub tree_step : {A : Type 0} → TokenTree-F A Tree GroupParts (List Tree) → Tree
 tree_step (TokenTree-F.Group g) = GroupTree g.delimiter (inside_of g.inside) g.span
 tree_step (TokenTree-F.Ident i) = IdentTree i
@@ -70,21 +71,21 @@ group_step g = record { delimiter = g.delimiter; inside = g.stream; span = g.spa
 abbrev pub stream_step : {A : Type 0} → TokenStream-F A Tree GroupParts (List Tree) → List Tree
 stream_step s = s.trees.items
 
--- a tree, and the trees of a stream, as data
+-- A token tree as plain data, and the token trees of a stream as plain data.
 abbrev pub tree_view : {A : Type 0} → TokenTree A → Tree
 tree_view {A} = fold-TokenTree A Tree GroupParts (List Tree) tree_step group_step stream_step
 
 abbrev pub stream_view : {A : Type 0} → TokenStream A → List Tree
 stream_view s = map tree_view (trees_of s)
 
--- the tree elsewhere: its own span is another, and what is inside a group stays
+-- The token tree with its own span replaced by `span`. The spans of token trees inside a group are unchanged.
 abbrev pub with_span : Span → Tree → Tree
 with_span span (GroupTree d inside _) = GroupTree d inside span
 with_span span (IdentTree i) = IdentTree (record i { span = span })
 with_span span (PunctTree p) = PunctTree (record p { span = span })
 with_span span (LiteralTree l) = LiteralTree (record l { span = span })
 
--- every span is another, also inside groups
+-- The token tree with its span, and the span of every token tree inside a group, replaced by `span`.
 abbrev mutual
   pub respanned : Span → Tree → Tree
   respanned span (GroupTree d inside _) = GroupTree d (all_respanned span inside) span
@@ -96,7 +97,8 @@ abbrev mutual
   all_respanned span NoTrees = NoTrees
   all_respanned span (MoreTrees t ts) = MoreTrees (respanned span t) (all_respanned span ts)
 
--- every span is what the table gives, also inside groups
+-- The token tree with its span, and the span of every token tree inside a group, replaced by the span that `table`
+-- gives for it. `table` contains a span for each byte of the lexed text.
 abbrev mutual
   pub relocated : List Span → Tree → Tree
   relocated table (GroupTree d inside span) =
@@ -113,11 +115,12 @@ abbrev mutual
   all_relocated table (MoreTrees t ts) =
       MoreTrees (relocated table t) (all_relocated table ts)
 
--- a group as a tree
+-- A group as plain data of a token tree.
 abbrev pub group_tree : {A : Type 0} → Group A → Tree
 group_tree g = GroupTree (delimiter_of g) (inside_of (stream_view (stream_of g))) (group_span g)
 
--- A tree written flat: each token, and of each group its opener and its closer.
+-- An element of the flat form of token trees, which is the list of their tokens. A group's opening and closing
+-- delimiters are elements of their own.
 pub data FlatToken : Type 0 where
   Opening : (delimiter : Delimiter) (span : Span) → FlatToken
   Closing : (delimiter : Delimiter) (span : Span) → FlatToken
@@ -125,7 +128,7 @@ pub data FlatToken : Type 0 where
   FlatPunct : (mark : Mark) → FlatToken
   FlatLiteral : (token : SpannedText) → FlatToken
 
--- the first byte of a group, and its last
+-- The spans of a group's opening and closing delimiters: the first and the last byte of the group's span.
 abbrev pub opener_span : Span → Span
 opener_span s = record { file = s.file; lo = s.lo; hi = s.lo + 1 }
 

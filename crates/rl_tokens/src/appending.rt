@@ -1,4 +1,4 @@
-//! Tokens that are appended to a stream as copies.
+//! Functions that append a token to a token stream.
 
 ghost use Rattle.std.specs.Prelude.{◌≡◌, ◌++◌, ◌∷◌, [], OnOk, OnErr, IfErr};
 ghost use Rattle.rl_tokens.specs.Errors.{memory_at};
@@ -11,11 +11,11 @@ use crate::literal::Literal;
 use crate::token::{TokenStream, TokenTree};
 use std::alloc::Allocator;
 
-/// Puts a copy of the literal token last.
+/// Appends a copy of the literal token `token` to the stream `tokens`.
 ///
 /// # Errors
 ///
-/// `Memory` at the token's span. The stream stays.
+/// Returns `Memory` at the token's span if an allocation fails. The stream is unchanged then.
 pub fn append_literal<A: Allocator, B: Allocator>(
     alloc: B,
     token: &Literal<A>,
@@ -31,11 +31,12 @@ pub fn append_literal<A: Allocator, B: Allocator>(
     Ok(())
 }
 
-/// Puts the identifier last.
+/// Appends the identifier token `ident` to the stream `tokens`.
 ///
 /// # Errors
 ///
-/// `Memory` at the identifier's span. The stream stays, and the identifier is handed back.
+/// Returns `Memory` at the identifier's span if an allocation fails. The stream is unchanged then, and the error
+/// contains the identifier.
 pub fn append_ident<A: Allocator>(
     ident: Ident<A>,
     tokens: &mut TokenStream<A>,

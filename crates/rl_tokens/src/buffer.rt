@@ -1,4 +1,4 @@
-//! A buffer of trees that parsers go over.
+//! The buffer of token trees that parsers consume.
 
 ghost use Rattle.std.specs.Prelude.{◌≡◌, ◌∷◌, [], map, IsTrue, IsFalse, ◌↔◌, IfSome, IfNone, OnOk, OnErr, IfOk, IfErr};
 
@@ -7,11 +7,14 @@ use crate::ident::Ident;
 use crate::literal::Literal;
 use crate::punct::{Punct, word_of};
 use crate::token::{Group, TokenTree};
-use rl_text::Span;
+use rl_syntax::Span;
 use std::alloc::{Allocator, Global};
 
-/// Trees that are borrowed, and a scope: the span at which their end is reported. Parsers take trees from
-/// the front; the trees themselves stay with their owner, who may hand them out as often as is wanted.
+/// A sequence of borrowed token trees from which parsers consume, and a scope: the span of an error at the end of the
+/// token trees.
+///
+/// Parsers consume token trees from the start of the buffer. The owner of the token trees keeps them, and may make any
+/// number of buffers of them.
 ///
 /// # Example
 ///
@@ -68,8 +71,8 @@ impl<'a, A: Allocator> ParseBuffer<'a, A> {
     ghost use Rattle.rl_lexer.specs.Lexemes.{is_punct};
     ghost use Rattle.rl_tokens.specs.Puncts.{mark_word};
 
-    /// The buffer of these trees. The scope is best where they end: the text's end, or a group's
-    /// closer.
+    /// Creates a buffer of the token trees `trees`, with the scope `scope`. The best scope is the end of the token
+    /// trees: the text's end, or a group's closing delimiter.
     pub fn new(trees: &'a [TokenTree<A>], scope: Span) -> ParseBuffer<'a, A>
         ensures trees { trees_in result ≡ map tree_view trees.now }
         ensures scope { scope_of result ≡ scope }
@@ -77,14 +80,15 @@ impl<'a, A: Allocator> ParseBuffer<'a, A> {
         ParseBuffer { trees, scope }
     }
 
-    /// Whether no tree is left.
+    /// Returns `true` if all token trees of the buffer have been consumed.
     pub fn is_empty(&self) -> bool
         ensures { IsTrue result ↔ (trees_in self.now ≡ []) }
     {
         self.trees.is_empty()
     }
 
-    /// Where the next tree stands, a group whole; at the end, the scope.
+    /// Returns the span of the next token tree, or the buffer's scope if all token trees have been consumed. The span
+    /// of a group includes its delimiters.
     pub fn span(&self) -> Span
         ensures { result ≡ first_span (trees_in self.now) (scope_of self.now) }
     {
@@ -94,8 +98,8 @@ impl<'a, A: Allocator> ParseBuffer<'a, A> {
         }
     }
 
-    /// A buffer of the same trees and scope, to look ahead by: what is taken from it stays in this
-    /// one. No tree is copied.
+    /// Returns a second buffer with the same remaining token trees and the same scope, to look ahead with. Consuming
+    /// from the second buffer doesn't change the first. No token tree is copied.
     pub fn fork(&self) -> ParseBuffer<'a, A>
         ensures trees { trees_in result ≡ trees_in self.now }
         ensures scope { scope_of result ≡ scope_of self.now }
@@ -106,15 +110,15 @@ impl<'a, A: Allocator> ParseBuffer<'a, A> {
         }
     }
 
-    /// The trees that are left, in their order, borrowed.
+    /// Returns the token trees that haven't been consumed yet, in their order, borrowed.
     pub fn rest(&self) -> &'a [TokenTree<A>]
         ensures { map tree_view result.now ≡ trees_in self.now }
     {
         &self.trees[..]
     }
 
-    /// Takes the next tree where it is a literal token, and borrows it; else the buffer stays. `true`
-    /// and `-1` are no literal tokens: the parser of `Lit` takes them.
+    /// Consumes the next token tree if it is a literal token, and returns the token, borrowed. Otherwise the result is
+    /// `None` and the buffer is unchanged. `true` and `-1` aren't literal tokens: the parser of `Lit` accepts them.
     pub fn literal(&mut self) -> Option<&'a Literal<A>>
         ensures taken { IfSome result
             (λ x. trees_in self.old ≡ LiteralTree x.now ∷ trees_in self.new) }
@@ -134,7 +138,8 @@ impl<'a, A: Allocator> ParseBuffer<'a, A> {
         }
     }
 
-    /// Takes the next tree where it is an identifier, and borrows it; else the buffer stays.
+    /// Consumes the next token tree if it is an identifier, and returns the token, borrowed. Otherwise the result is
+    /// `None` and the buffer is unchanged.
     pub fn ident(&mut self) -> Option<&'a Ident<A>>
         ensures taken { IfSome result
             (λ x. trees_in self.old ≡ IdentTree x.now ∷ trees_in self.new) }
@@ -154,8 +159,8 @@ impl<'a, A: Allocator> ParseBuffer<'a, A> {
         }
     }
 
-    /// Takes the next tree where it is a character of punctuation, whichever, and borrows it; else
-    /// the buffer stays.
+    /// Consumes the next token tree if it is a punctuation character, and returns the token, borrowed. Otherwise the
+    /// result is `None` and the buffer is unchanged.
     pub fn punct(&mut self) -> Option<&'a Punct>
         ensures taken { IfSome result
             (λ x. trees_in self.old ≡ PunctTree x.now ∷ trees_in self.new) }
@@ -175,7 +180,7 @@ impl<'a, A: Allocator> ParseBuffer<'a, A> {
         }
     }
 
-    /// Whether this character of punctuation stands next. The buffer stays.
+    /// Returns `true` if the next token tree is the punctuation character `ch`. Nothing is consumed.
     #[tactic(auto, using(crate::proofs::MarkLemmas::no_mark))]
     pub fn peek_punct(&self, ch: char) -> bool
         ensures { result ≡ begins_mark ch (trees_in self.now) }
@@ -186,14 +191,14 @@ impl<'a, A: Allocator> ParseBuffer<'a, A> {
         }
     }
 
-    /// Takes this character of punctuation ([`Punct::is_char`] says which are), and borrows its
-    /// token.
+    /// Consumes the next token tree, which must be the punctuation character `ch`, and returns the token, borrowed.
+    /// [`Punct::is_char`] must be `true` for `ch`.
     ///
     /// # Errors
     ///
-    /// Where it doesn't stand next, `Expected` at the next tree, at the end `EndOfInput` at the
-    /// scope, with the word of the character between backticks, as in ``expected `=` ``. The buffer
-    /// stays.
+    /// Returns `Expected` at the next token tree's span if that isn't the character `ch`, and `EndOfInput` at the
+    /// buffer's scope if all token trees have been consumed. The message contains the character between backticks, as
+    /// in ``expected `=` ``. The buffer is unchanged on an error.
     pub fn take_punct(&mut self, ch: char) -> Result<&'a Punct, Error<A>>
         requires { IsTrue (is_punct ch) }
         ensures taken { OnOk result (IsAfterMark ch (trees_in self.old) (trees_in self.new)) }
@@ -213,7 +218,8 @@ impl<'a, A: Allocator> ParseBuffer<'a, A> {
         }
     }
 
-    /// Takes this character of punctuation where it stands next; else the buffer stays.
+    /// Consumes the next token tree if it is the punctuation character `ch`, and returns the token, borrowed. Otherwise
+    /// the result is `None` and the buffer is unchanged.
     #[tactic(auto, using(crate::proofs::MarkLemmas::no_mark))]
     fn mark(&mut self, ch: char) -> Option<&'a Punct>
         ensures taken { IfSome result
@@ -230,8 +236,8 @@ impl<'a, A: Allocator> ParseBuffer<'a, A> {
         self.punct()
     }
 
-    /// Takes the next tree where it is a group, and borrows it; else the buffer stays.
-    /// [`Group::inside`] is a buffer of its trees.
+    /// Consumes the next token tree if it is a group, and returns the group, borrowed. Otherwise the result is `None`
+    /// and the buffer is unchanged. [`Group::inside`] returns a buffer of the group's token trees.
     pub fn group(&mut self) -> Option<&'a Group<A>>
         ensures taken { IfSome result
             (λ x. trees_in self.old
@@ -254,8 +260,9 @@ impl<'a, A: Allocator> ParseBuffer<'a, A> {
         }
     }
 
-    /// The error of what stands next, where this word was expected: `Expected` at the next tree's
-    /// span, at the end `EndOfInput` at the scope. It takes no memory.
+    /// Returns the error for a parser that expected something else than the next token tree: `Expected(word)` at the
+    /// next token tree's span, or `EndOfInput(word)` at the buffer's scope if all token trees have been consumed.
+    /// Nothing is allocated.
     pub fn error(&self, word: &'static str) -> Error<A>
         ensures { IsRejection (trees_in self.now) (scope_of self.now) word.now result }
     {

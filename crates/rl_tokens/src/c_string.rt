@@ -1,4 +1,4 @@
-//! C strings: bytes without zero.
+//! C strings: sequences of bytes without a zero byte.
 
 ghost use Rattle.std.specs.Prelude.{◌≡◌, ◌==◌, IsTrue, IfOk, IfErr, Some, position};
 ghost use Rattle.std.proofs.Common.{rules};
@@ -6,13 +6,14 @@ ghost use Rattle.std.specs.Cmp.{partial_equiv_from_equiv, and_equiv, on_equiv};
 ghost use Rattle.std.specs.Cmp.Rules.{comparing};
 ghost use Rattle.std.specs.Ordering.{on, eq_of_both};
 ghost use Rattle.std.specs.Cmp.Lexicographic.{pointwise, nat_list_eq_equiv};
-ghost use Rattle.rl_forms.specs.Agreeing.{is_zero, has_no_zero};
+ghost use Rattle.rl_syntax.specs.Agreeing.{is_zero, has_no_zero};
 
 use std::alloc::{Allocator, Global};
 use std::fmt;
 use std::marker::Model;
 
-/// The bytes of a C string: any but zero, and none added at the end. Equal where the bytes are.
+/// An owned C string: a sequence of bytes that contains no zero byte, also not at the end. Two C strings are equal if
+/// their bytes are equal.
 ///
 /// See the example of [`LitCStr`].
 #[derive(Drop)]
@@ -22,7 +23,7 @@ pub struct CString<A: Allocator = Global> {
 
 impl<A: Allocator> Model for CString<A> {
     ghost use Rattle.std.specs.Prelude.{List, ℕ, IsTrue};
-    ghost use Rattle.rl_forms.specs.Agreeing.{has_no_zero};
+    ghost use Rattle.rl_syntax.specs.Agreeing.{has_no_zero};
 
     ghost Value = { List ℕ };
 
@@ -31,7 +32,7 @@ impl<A: Allocator> Model for CString<A> {
     ghost invariant = { λ c. IsTrue (has_no_zero c.bytes.items) };
 }
 
-/// Bytes that are no C string, since a zero stands among them.
+/// The error of [`CString::new`] for bytes that contain a zero, with the bytes and the offset of the first zero.
 ///
 /// See the example of [`CString`].
 #[derive(Drop)]
@@ -42,7 +43,7 @@ pub struct NulError<A: Allocator = Global> {
 
 impl<A: Allocator> Model for NulError<A> {
     ghost use Rattle.std.specs.Prelude.{◌≡◌, Some, position};
-    ghost use Rattle.rl_forms.specs.Agreeing.{is_zero};
+    ghost use Rattle.rl_syntax.specs.Agreeing.{is_zero};
     ghost use Rattle.rl_tokens.specs.CStrings.{ZeroInside};
 
     ghost Value = { ZeroInside };
@@ -53,12 +54,12 @@ impl<A: Allocator> Model for NulError<A> {
 }
 
 impl<A: Allocator> CString<A> {
-    /// The C string of these bytes.
+    /// Creates a C string from `bytes`, which must contain no zero.
     ///
     /// # Errors
     ///
-    /// Where a zero stands among them: the [`NulError`] has the place of the first, and the
-    /// bytes back.
+    /// Returns a [`NulError`] if `bytes` contains a zero. The error contains the bytes and the offset of the first
+    /// zero.
     pub fn new(bytes: Vec<u8, A>) -> Result<CString<A>, NulError<A>>
         ensures ok { IfOk result (λ c. c ≡ bytes.items) }
         ensures none_is_zero { IfOk result (λ c. IsTrue (has_no_zero bytes.items)) }
@@ -71,7 +72,7 @@ impl<A: Allocator> CString<A> {
         }
     }
 
-    /// The bytes, none of which is zero, borrowed.
+    /// Returns the C string's bytes, borrowed. There is no zero at the end.
     pub fn as_bytes(&self) -> &[u8]
         ensures bytes { result.now ≡ self.now }
         ensures none_is_zero { IsTrue (has_no_zero result.now) }
@@ -80,7 +81,7 @@ impl<A: Allocator> CString<A> {
     }
 }
 
-/// The place of the first zero.
+/// Returns the offset of the first zero in `bytes`, or `None` if there is none.
 fn first_zero(bytes: &[u8]) -> Option<usize>
     ensures { result ≡ position is_zero bytes.now }
 {
@@ -88,7 +89,7 @@ fn first_zero(bytes: &[u8]) -> Option<usize>
 }
 
 impl<A: Allocator> NulError<A> {
-    /// The place of the first zero, counted in bytes from 0.
+    /// Returns the byte offset of the first zero in the rejected bytes.
     pub fn nul_position(&self) -> usize
         ensures place { result ≡ self.now.place }
         ensures first { position is_zero self.now.bytes ≡ Some result }
@@ -96,7 +97,7 @@ impl<A: Allocator> NulError<A> {
         self.place
     }
 
-    /// The bytes as they were given, handed back.
+    /// Returns the rejected bytes, which were passed to [`CString::new`].
     pub fn into_vec(self) -> Vec<u8, A>
         ensures { result.items ≡ self.bytes }
     {

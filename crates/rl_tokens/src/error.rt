@@ -1,51 +1,52 @@
-//! Errors: what was rejected, and where.
+//! Errors of lexing and parsing: the kind of an error, and the span of the rejected text.
 
 ghost use Rattle.std.specs.Prelude.{◌≡◌, Some};
 ghost use Rattle.rl_tokens.specs.Errors.{message_of};
 
 use rl_lexer::LexKind;
-use rl_text::Span;
+use rl_syntax::Span;
 use std::alloc::{AllocError, AllocFailed, Allocator, Global};
 use std::fmt;
 
-/// What was rejected, and where. `Display` prints the message of the kind; the span is for who shows
-/// the text.
+/// An error: its kind, and the span of the rejected text. `Display` prints the message of the kind only. A caller can
+/// use the span to show the rejected text.
 ///
 /// See the example of [`parse_all`].
 #[derive(Drop)]
 #[derive_where(PartialEq, Eq, Debug)]
 pub struct Error<A: Allocator = Global> {
-    /// Where the error is reported.
+    /// The span of the rejected text or token tree.
     pub span: Span,
-    /// What the error is.
+    /// The kind of the error.
     pub kind: ErrorKind<A>,
 }
 
-/// What can be rejected. Match the kind to act on it: the words are for people.
+/// The kind of an error. A program should match the kind, since the messages of errors are written for people.
 ///
 /// See the example of [`parse_all`].
 #[derive(Drop)]
 #[derive_where(PartialEq, Eq, Debug)]
 pub enum ErrorKind<A: Allocator = Global> {
-    /// Another token stands where this was expected.
+    /// The next token isn't the expected one. The field is the expected token's name in the message, as in
+    /// ``expected `=` ``.
     Expected(&'static str),
-    /// The trees end where this was expected.
+    /// The token trees end where another token was expected. The field is the expected token's name in the message.
     EndOfInput(&'static str),
-    /// A token is left over.
+    /// A token follows the end of the parsed value.
     Unexpected,
-    /// A text couldn't be cut into tokens.
+    /// The text can't be lexed. The field is the lexer's reason.
     Lex(LexKind),
-    /// A string has this suffix where it may have none.
+    /// A string literal has a suffix where no suffix is allowed. The field is the suffix.
     Suffix(String<A>),
-    /// The text has no integer reading.
+    /// The text isn't an integer.
     NotInteger,
-    /// The text is an integer whose magnitude passes 128 bits.
+    /// The text is an integer with a magnitude above 128 bits.
     TooLarge,
-    /// The text has no float reading.
+    /// The text isn't a float.
     NotFloat,
-    /// The name stood before.
+    /// A name occurs for the second time where each name may occur only once.
     Repeated,
-    /// A number type rejected the digits, in these words of its own.
+    /// The number type to which a literal's digits were converted rejected the digits. The field is the type's message.
     Number(String<A>),
     /// An allocation failed.
     Memory,
@@ -54,14 +55,14 @@ pub enum ErrorKind<A: Allocator = Global> {
 impl<A: Allocator> Error<A> {
     ghost use Rattle.rl_tokens.specs.Errors.{memory_at, lex_rejection};
 
-    /// The error of this kind, reported at this span.
+    /// Creates an error with the kind `kind` and the span `span`.
     pub fn new(span: Span, kind: ErrorKind<A>) -> Error<A>
         ensures { result ≡ record { span = span; kind = kind } }
     {
         Error { span, kind }
     }
 
-    /// An allocation failure, reported at this span.
+    /// Creates the error for an allocation failure, with the span `span`.
     pub fn memory(span: Span) -> Error<A>
         ensures { result ≡ memory_at span }
     {
@@ -71,8 +72,8 @@ impl<A: Allocator> Error<A> {
         }
     }
 
-    /// The lexer's error, reported at a span: as `Lex`, but its allocation failure as
-    /// `Memory`.
+    /// Creates an error with the span `span` from the lexer's error `kind`. The lexer's `Memory` becomes
+    /// [`ErrorKind::Memory`], and any other kind becomes [`ErrorKind::Lex`].
     pub fn of_lexer(kind: LexKind, span: Span) -> Error<A>
         ensures { result ≡ lex_rejection kind span }
     {
@@ -86,11 +87,11 @@ impl<A: Allocator> Error<A> {
     }
 }
 
-/// std's error for an allocation failure, which has no place: `Memory` at [`Span::call_site`].
+/// Converts std's error for an allocation failure, which has no position, to `Memory` at [`Span::call_site`].
 impl<A: Allocator> From<AllocError> for Error<A> {
     ghost use Rattle.std.specs.Prelude.{◌≡◌};
     ghost use Rattle.rl_tokens.specs.Errors.{memory_at};
-    ghost use Rattle.rl_text.specs.Spans.{nowhere};
+    ghost use Rattle.rl_syntax.specs.Spans.{nowhere};
 
     ghost from_gives = { λ rejected error. error ≡ memory_at nowhere };
 
@@ -99,12 +100,12 @@ impl<A: Allocator> From<AllocError> for Error<A> {
     }
 }
 
-/// std's error for a value that couldn't be stored, as of `Vec::push`: `Memory` at [`Span::call_site`]. The value is let
-/// go.
+/// Converts std's error of a method as `Vec::push`, which returns the value that it couldn't store, to `Memory` at
+/// [`Span::call_site`]. The value is dropped.
 impl<T: Drop, A: Allocator> From<AllocFailed<T>> for Error<A> {
     ghost use Rattle.std.specs.Prelude.{◌≡◌};
     ghost use Rattle.rl_tokens.specs.Errors.{memory_at};
-    ghost use Rattle.rl_text.specs.Spans.{nowhere};
+    ghost use Rattle.rl_syntax.specs.Spans.{nowhere};
 
     ghost from_gives = { λ failed error. error ≡ memory_at nowhere };
 
@@ -121,7 +122,7 @@ impl<A: Allocator> fmt::Display for ErrorKind<A> {
             ErrorKind::Expected(word) => write!(f, "expected {word}"),
             ErrorKind::EndOfInput(word) => write!(f, "unexpected end of input, expected {word}"),
             ErrorKind::Unexpected => f.write_str("unexpected token"),
-            ErrorKind::Lex(error) => f.write_str(error.words()),
+            ErrorKind::Lex(error) => f.write_str(error.message()),
             ErrorKind::Suffix(suffix) => write!(
                 f,
                 "unexpected suffix `{suffix}` on string literal"

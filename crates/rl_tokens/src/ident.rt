@@ -1,17 +1,17 @@
-//! Identifiers.
+//! Identifier tokens.
 
 ghost use Rattle.std.specs.Prelude.{◌≡◌, IsTrue, IfOk, IfErr, string_bytes};
 ghost use Rattle.std.specs.Str.{chars};
-ghost use Rattle.rl_text.specs.Texts.{xid_ok};
+ghost use Rattle.rl_syntax.specs.Texts.{xid_ok};
 ghost use Rattle.rl_tokens.specs.Errors.{memory_at};
 
 use crate::error::Error;
-use rl_text::Span;
-pub use rl_text::ident::xid_ok;
+use rl_syntax::Span;
+pub use rl_syntax::ident::xid_ok;
 use std::alloc::{Allocator, Global};
 use std::marker::Model;
 
-/// An identifier token, `true` and `false` among them, and where it stands.
+/// An identifier token, with its span. `true` and `false` are lexed as identifiers too.
 ///
 /// See the example of [`Punct`].
 #[derive(Drop)]
@@ -33,11 +33,12 @@ impl<A: Allocator> Model for Ident<A> {
 }
 
 impl<A: Allocator> Ident<A> {
-    /// The token with this text, which has to be an identifier ([`xid_ok`] says whether it is), and this span.
+    /// Creates the identifier token with the text `text` and the span `span`. The text must be an identifier:
+    /// [`xid_ok`] must be `true` for it.
     ///
     /// # Errors
     ///
-    /// `Memory` at the span.
+    /// Returns `Memory` at `span` if an allocation fails.
     pub fn new(alloc: A, text: &str, span: Span) -> Result<Ident<A>, Error<A>>
         requires { IsTrue (xid_ok (chars text.now)) }
         ensures ok { IfOk result (λ i. i ≡ record { text = text.now; span = span }) }
@@ -49,7 +50,8 @@ impl<A: Allocator> Ident<A> {
         }
     }
 
-    /// The token of this text, which is an identifier, and span.
+    /// Creates the identifier token from the string `text`, which must be an identifier, and the span `span`. Nothing
+    /// is allocated.
     pub(crate) fn of_string(text: String<A>, span: Span) -> Ident<A>
         requires { IsTrue (xid_ok (chars (string_bytes text))) }
         ensures { result ≡ record { text = string_bytes text; span = span } }
@@ -57,7 +59,7 @@ impl<A: Allocator> Ident<A> {
         Ident { text, span }
     }
 
-    /// The text, an identifier ([`xid_ok`]), borrowed.
+    /// Returns the identifier's text, borrowed. [`xid_ok`] is `true` for it.
     pub fn text(&self) -> &str
         ensures text { result.now ≡ self.now.text }
         ensures identifier { IsTrue (xid_ok (chars result.now)) }
@@ -65,18 +67,18 @@ impl<A: Allocator> Ident<A> {
         self.text.as_str()
     }
 
-    /// Where the token stands: its file, and its bytes in it.
+    /// Returns the identifier's span: a file, and a range of bytes in that file.
     pub fn span(&self) -> Span
         ensures { result ≡ self.now.span }
     {
         self.span
     }
 
-    /// The token once more, with its memory from this allocator.
+    /// Returns a copy of the identifier token, in memory from `alloc`.
     ///
     /// # Errors
     ///
-    /// `Memory` at the token's span.
+    /// Returns `Memory` at the token's span if an allocation fails.
     pub fn clone<B: Allocator>(&self, alloc: B) -> Result<Ident<B>, Error<B>>
         ensures ok { IfOk result (λ i. i ≡ self.now) }
         ensures memory { IfErr result (λ e. e ≡ memory_at self.now.span) }
@@ -84,7 +86,7 @@ impl<A: Allocator> Ident<A> {
         Ident::new(alloc, self.text(), self.span)
     }
 
-    /// Puts the token elsewhere: its span becomes this one, and its text stays.
+    /// Sets the identifier token's span to `span`, and leaves its text unchanged.
     pub fn set_span(&mut self, span: Span)
         ensures { self.new ≡ record self.old { span = span } }
     {

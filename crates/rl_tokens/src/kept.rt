@@ -1,10 +1,10 @@
-//! Values that a rejected call hands back.
+//! A value that a function was given, returned with the error if the function fails.
 
 use crate::error::Error;
 use std::alloc::{Allocator, Global};
 
-/// A value that a rejected call hands back as it was, and why the call was rejected. `?` turns it
-/// into its [`Error`], and drops the value.
+/// The error type of functions that take ownership of a value: the unchanged value, and the error. `?` converts a
+/// `Kept` to its [`Error`], and drops the value.
 ///
 /// # Example
 ///
@@ -26,13 +26,13 @@ use std::alloc::{Allocator, Global};
 #[derive(Drop)]
 #[derive_where(Debug; T)]
 pub struct Kept<T, A: Allocator = Global> {
-    /// What the call was given.
+    /// The value that was passed to the failed function.
     pub value: T,
-    /// Why it was rejected.
+    /// The error that the failed function returns.
     pub error: Error<A>,
 }
 
-/// The reason alone; the value is dropped.
+/// Converts a [`Kept`] to its error, and drops the value that it returned.
 impl<T: Drop, A: Allocator> From<Kept<T, A>> for Error<A> {
     ghost use Rattle.std.specs.Prelude.{◌≡◌};
 

@@ -1,20 +1,22 @@
-//! Laws of the definitions: each function does nothing, and its contract is the law.
+//! Theorems about lexing. Each function here does nothing when it is called: its contract is a theorem about all texts.
 
 ghost use Rattle.rl_tokens.specs.PrintedTrees.{PrintedLexes, ReprintedLexes};
 
-pub use rl_forms::laws::{
+pub use rl_lexer::laws::{literals_dont_begin_with_a_minus, one_lexing, sources_hold_lexemes};
+pub use rl_syntax::laws::{
     a_minus_tells_the_sign, both_grammars_agree, one_reading, one_strict, readings_are_one,
     strict_holds_no_return, strict_minus, strict_reads, words_strict, written_reads,
     written_strict,
 };
-pub use rl_lexer::laws::{no_literal_begins_with_a_minus, one_cutting, sources_hold_lexemes};
 
-/// A printed list of strict literals is cut into exactly its items.
+/// Proves that a printed list of literals is lexed into exactly the token trees of the list's items. The literals are
+/// those that Rust's grammar accepts, and separators are between them.
 pub fn printed_lexes()
     ensures { PrintedLexes }
 {}
 
-/// A printed list of literals, as they were cut from any text, is cut into exactly its items.
+/// Proves that the texts of lexed literals, with separators between them, are lexed into the same literals. The
+/// literals were lexed from any text. The separators aren't empty.
 pub fn reprinted_lexes()
     ensures { ReprintedLexes }
 {}

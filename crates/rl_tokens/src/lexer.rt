@@ -1,11 +1,11 @@
-//! The lexer.
+//! The lexer, which turns a text into token trees.
 
 ghost use Rattle.std.specs.Prelude.{List, ℕ, ◌≡◌, IfOk, IfErr};
 ghost use Rattle.std.specs.Str.{chars};
 ghost use Rattle.rl_lexer.specs.declared.lex_error.LexKind.{LexKind};
 ghost use Rattle.rl_tokens.specs.Lexing.{Lexes, OneList, NeverBoth};
 ghost use Rattle.rl_lexer.specs.Cuts.{Rejects, OneError};
-ghost use Rattle.rl_forms.specs.Printed.{Entry, Printed};
+ghost use Rattle.rl_syntax.specs.Printed.{Entry, Printed};
 ghost use Rattle.rl_tokens.specs.PrintedTrees.{Reprinted, printed_trees};
 ghost use Rattle.rl_tokens.specs.Trees.{stream_view};
 
@@ -14,36 +14,38 @@ use crate::token::TokenStream;
 use rl_lexer::{LexError, Tokens};
 use std::alloc::Allocator;
 
-/// Cuts a text into token trees. Each span is the file and the bytes of its text; a group's runs
-/// from its opener to its closer.
+/// Lexes a text into token trees.
 ///
-/// White space and plain comments are dropped. Escapes aren't judged: what a literal token reads as
-/// is asked of it later.
+/// The span of a token is `file` and the token's byte range in the text. A group's span is from its opening delimiter
+/// to its closing one.
+///
+/// White space and plain comments are dropped. Escapes aren't checked: a literal token may be invalid.
 ///
 /// See the example of [`TokenTree`].
 ///
 /// # Errors
 ///
-/// The text is read from its front, and the first error is reported, at the byte that [`LexKind`]
-/// names; no more than 128 groups may be open at once. `Memory` comes at the first byte of the
-/// token whose allocation failed.
+/// Lexing ends at the first error. [`LexKind`] describes each error's byte offset. At most 128 groups may be open at
+/// once. An allocation failure is `Memory`, at the first byte of the token for which memory was needed.
 ///
 /// [`LexKind`]: crate::LexKind
 pub fn lex<A: Allocator + Copy>(alloc: A, text: &str, file: u32) -> Result<TokenStream<A>, LexError>
-    // The text is cut into these trees, and nothing is left of it.
+    // The whole text is lexed into the returned token trees.
     ensures trees { IfOk result (λ trees. Lexes (chars text.now) file (stream_view trees)) }
-    // Else the text's first error, or the place of a token for which an allocation failed.
+    // The returned error is the text's first error, or an allocation failure at the start of a token.
     ensures rejected { IfErr result (λ e. Rejects (chars text.now) e.kind e.at) }
-    // A text has one list of trees at most, or one first error, and never both.
+    // A text is lexed into at most one list of token trees, has at most one first error, and never has both.
     ensures one_list { OneList }
     ensures one_error { OneError }
     ensures never_both { NeverBoth }
-    // A print of strict literals is cut into exactly its items, or an allocation failed.
+    // If the text is a printed list (literals that Rust's grammar accepts, with separators between them), `lex` returns
+    // exactly the token trees of the list's items, or an allocation failed.
     ensures printed { (entries : List Entry) (last : List ℕ)
         → Printed (chars text.now) entries last
         → IfOk result (λ trees. stream_view trees ≡ printed_trees file 0 entries)
         × IfErr result (λ e. e.kind ≡ LexKind.Memory) }
-    // So is one of literals that were cut from any text, where no gap between two items is empty.
+    // If the text is a printed list of literals that were lexed from any text, with separators between them that aren't
+    // empty, `lex` returns exactly the token trees of the list's items, or an allocation failed.
     ensures reprinted { (entries : List Entry) (last : List ℕ)
         → Reprinted (chars text.now) entries last
         → IfOk result (λ trees. stream_view trees ≡ printed_trees file 0 entries)
@@ -52,7 +54,7 @@ pub fn lex<A: Allocator + Copy>(alloc: A, text: &str, file: u32) -> Result<Token
     trees_of(alloc, text, file)
 }
 
-/// The trees that the text is cut into, or its first error.
+/// Returns the token trees of a text, or the first error of the text if it can't be lexed.
 #[inline(always)]
 fn trees_of<A: Allocator + Copy>(
     alloc: A,

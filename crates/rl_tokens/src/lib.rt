@@ -1,5 +1,21 @@
-//! The tokens of Rust's literals: literal tokens, token trees, parsers, how values are written, and errors. What takes no memory
-//! of them stands in the crates below, and is passed on from here.
+//! Tokens of Rust's literals, token trees, the lexer, parse buffers, the traits of parsers, functions that write values
+//! as literals, and errors. The crate is modelled on `src/whitespace.rs` and the parsers of the crate `syn` 3.0.9. The
+//! items that don't allocate are defined in the crates `rl_lexer` and `rl_syntax`, and are re-exported here.
+//!
+//! # Example
+//!
+//! ```
+//! use rl_tokens::{ParseBuffer, Span, lex};
+//! use std::alloc::Global;
+//!
+//! pub fn mark_after_name(alloc: Global, text: &str) -> Option<char> {
+//!     let stream = lex(alloc, text, 0).ok()?;
+//!     let mut input = ParseBuffer::new(stream.trees(), Span::call_site());
+//!     input.ident()?;
+//!     Some(input.punct()?.as_char())
+//! }
+//! // mark_after_name(alloc, "port = 80") == Some('=')
+//! ```
 #![tactic(auto)]
 
 mod appending;
@@ -31,11 +47,12 @@ pub use crate::parse::{ByParse, Parse, Parser, ToTokens, Token};
 pub use crate::punct::Punct;
 pub use crate::rewind::{Rewind, attempt};
 pub use crate::token::{Delimiter, Group, TokenStream, TokenTree};
-pub use crate::whole::{parse_all, trees_of_text};
+pub use crate::whole::{lex_for_parsing, parse_all};
 pub use crate::writer::push_str_literal;
-pub use rl_forms::{Kind, write_bytes_into, write_char_into, write_str_into};
 pub use rl_lexer::{
-    Form, LexError, LexKind, Lexeme, LineColumn, Lines, SourceForm, SourceToken, Sources, Tokens,
-    whitespace,
+    Form, LexError, LexKind, Lexeme, SourceForm, SourceToken, Sources, Tokens, whitespace,
 };
-pub use rl_text::{Span, characters, classes, room, scan, text};
+pub use rl_syntax::{
+    Kind, Span, characters, classes, scan, slice_writer, text, write_bytes_into, write_char_into,
+    write_str_into,
+};

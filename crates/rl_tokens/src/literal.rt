@@ -2,17 +2,17 @@
 
 ghost use Rattle.std.specs.Prelude.{◌≡◌, ◌∷◌, IfOk, IfErr, Some, string_bytes};
 ghost use Rattle.std.specs.Fmt.{padded};
-ghost use Rattle.rl_text.specs.Texts.{code};
+ghost use Rattle.rl_syntax.specs.Texts.{code};
 ghost use Rattle.rl_tokens.specs.Errors.{memory_at};
 
 use crate::error::Error;
-use rl_text::Span;
+use rl_syntax::Span;
 use std::alloc::{AllocError, Allocator, Global};
 use std::fmt;
 use std::marker::Model;
 
-/// A literal token: any text, and where it stands. Whether the text reads as a literal is said by
-/// `rl_grammar`, and what it reads as by `Lit::new` of `rust_literals`.
+/// A literal token: a text, with its span. The text may be an invalid literal. The crate `rl_grammar` checks whether a
+/// text is a literal, and `Lit::new` of the crate `rust_literals` parses the token.
 ///
 /// # Example
 ///
@@ -41,7 +41,7 @@ pub struct Literal<A: Allocator = Global> {
 
 impl<A: Allocator> Model for Literal<A> {
     ghost use Rattle.std.specs.Prelude.{string_bytes};
-    ghost use Rattle.rl_text.specs.Texts.{SpannedText};
+    ghost use Rattle.rl_syntax.specs.Texts.{SpannedText};
 
     ghost Value = { SpannedText };
 
@@ -49,11 +49,11 @@ impl<A: Allocator> Model for Literal<A> {
 }
 
 impl<A: Allocator> Literal<A> {
-    /// The token with this text and span. Nothing is asked of the text.
+    /// Creates a literal token with the text `text` and the span `span`. The text isn't checked.
     ///
     /// # Errors
     ///
-    /// `Memory` at the span.
+    /// Returns `Memory` at `span` if an allocation fails.
     pub fn from_text(alloc: A, text: &str, span: Span) -> Result<Literal<A>, Error<A>>
         ensures ok { IfOk result (λ l. l ≡ record { text = text.now; span = span }) }
         ensures memory { IfErr result (λ e. e ≡ memory_at span) }
@@ -64,11 +64,11 @@ impl<A: Allocator> Literal<A> {
         }
     }
 
-    /// The token of a minus and this text, with this span.
+    /// Creates a literal token whose text is a minus and `text`, with the span `span`. The text isn't checked.
     ///
     /// # Errors
     ///
-    /// `Memory` at the span.
+    /// Returns `Memory` at `span` if an allocation fails.
     pub fn negative(alloc: A, text: &str, span: Span) -> Result<Literal<A>, Error<A>>
         ensures ok { IfOk result (λ l. l ≡ record { text = code "-" ∷ text.now; span = span }) }
         ensures memory { IfErr result (λ e. e ≡ memory_at span) }
@@ -79,32 +79,33 @@ impl<A: Allocator> Literal<A> {
         Ok(Literal { text, span })
     }
 
-    /// The token of this text and span.
+    /// Creates a literal token from the string `text` and the span `span`. Nothing is allocated, and the text isn't
+    /// checked.
     pub(crate) fn of_string(text: String<A>, span: Span) -> Literal<A>
         ensures { result ≡ record { text = string_bytes text; span = span } }
     {
         Literal { text, span }
     }
 
-    /// The text as it was given, quotes and suffix included.
+    /// Returns the literal token's text as written, with its quotes and its suffix.
     pub fn text(&self) -> &str
         ensures { result.now ≡ self.now.text }
     {
         self.text.as_str()
     }
 
-    /// Where the token stands: its file, and its bytes in it.
+    /// Returns the literal token's span: a file, and a range of bytes in that file.
     pub fn span(&self) -> Span
         ensures { result ≡ self.now.span }
     {
         self.span
     }
 
-    /// The token once more, with its memory from this allocator.
+    /// Returns a copy of the literal token, in memory from `alloc`.
     ///
     /// # Errors
     ///
-    /// `Memory` at the token's span.
+    /// Returns `Memory` at the token's span if an allocation fails.
     pub fn clone<B: Allocator>(&self, alloc: B) -> Result<Literal<B>, Error<B>>
         ensures ok { IfOk result (λ l. l ≡ self.now) }
         ensures memory { IfErr result (λ e. e ≡ memory_at self.now.span) }
@@ -112,11 +113,11 @@ impl<A: Allocator> Literal<A> {
         Literal::from_text(alloc, self.text(), self.span)
     }
 
-    /// The token with a minus before its text, at this span.
+    /// Returns a new literal token whose text is a minus and this token's text, with the span `span`.
     ///
     /// # Errors
     ///
-    /// `Memory` at the span.
+    /// Returns `Memory` at `span` if an allocation fails.
     pub fn after_minus<B: Allocator>(&self, alloc: B, span: Span) -> Result<Literal<B>, Error<B>>
         ensures ok { IfOk result (λ l. l ≡ record { text = code "-" ∷ self.now.text; span = span }) }
         ensures memory { IfErr result (λ e. e ≡ memory_at span) }
@@ -124,7 +125,7 @@ impl<A: Allocator> Literal<A> {
         Literal::negative(alloc, self.text(), span)
     }
 
-    /// Puts the token elsewhere: its span becomes this one, and its text stays.
+    /// Sets the literal token's span to `span`, and leaves its text unchanged.
     pub fn set_span(&mut self, span: Span)
         ensures { self.new ≡ record self.old { span = span } }
     {
@@ -132,7 +133,7 @@ impl<A: Allocator> Literal<A> {
     }
 }
 
-/// A minus, and the text.
+/// Returns a new string of a minus and `text`.
 fn text_after_minus<A: Allocator>(alloc: A, text: &str) -> Result<String<A>, AllocError>
     ensures { IfOk result (λ s. string_bytes s ≡ code "-" ∷ text.now) }
 {
@@ -142,7 +143,7 @@ fn text_after_minus<A: Allocator>(alloc: A, text: &str) -> Result<String<A>, All
     Ok(joined)
 }
 
-/// The text.
+/// Writes the literal token's text as written.
 impl<A: Allocator> fmt::Display for Literal<A> {
     ghost output = { λ literal. Some literal.text };
 

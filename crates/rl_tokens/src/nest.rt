@@ -1,40 +1,39 @@
-//! The trees of a text as they grow.
+//! The builder that collects tokens into token trees while a text is lexed.
 
 ghost use Rattle.std.specs.Prelude.{◌≡◌, ◌≤◌, ◌+◌, [], vec_len, OnOk, IfErr, IfOk};
 ghost use Rattle.rl_lexer.specs.Cursors.{form_view};
-ghost use Rattle.rl_lexer.specs.Cuts.{is_opener};
 ghost use Rattle.rl_tokens.specs.Lexing.{delimiter_for};
 
 use crate::ident::Ident;
 use crate::literal::Literal;
 use crate::punct::Punct;
 use crate::token::{Delimiter, Group, TokenStream, TokenTree};
-use rl_lexer::{Form, LexError, LexKind};
-use rl_text::Span;
+use rl_lexer::{Form, LexError, LexKind, is_opener};
+use rl_syntax::Span;
 use std::alloc::Allocator;
 use std::mem;
 
-/// How many groups may be open at once.
+/// The greatest number of groups that may be open at once while a text is lexed.
 const MAX_OPEN: usize = 128;
 
-/// A group whose closer wasn't read yet.
+/// An open group: the lexer has found its opening delimiter, and not yet its closing one.
 #[derive(Drop)]
 pub(crate) struct GroupBuilder<A: Allocator> {
     delimiter: Delimiter,
-    // the byte of its opener
+    // The byte offset of the group's opening delimiter in the text.
     at: usize,
-    // the trees before the group
+    // The token trees that precede the group inside the group or text around it.
     before: TokenStream<A>,
 }
 
-/// The trees that were read so far of one text, and the groups that are open.
+/// A builder of the token trees of one text: the token trees so far, and the groups that are open.
 #[derive(Drop)]
 pub(crate) struct TreeBuilder<A: Allocator> {
     alloc: A,
     file: u32,
-    // the outermost first
+    // The open groups, from the outermost to the innermost.
     opened: Vec<GroupBuilder<A>, A>,
-    // the trees of the innermost open group
+    // The token trees of the innermost open group so far, or of the text if no group is open.
     trees: TokenStream<A>,
     ghost shallow: { vec_len opened ≤ 128 },
 }
@@ -43,7 +42,7 @@ impl<A: Allocator + Copy> TreeBuilder<A> {
     ghost use Rattle.rl_tokens.specs.Trees.{stream_view, flat_trees};
     ghost use Rattle.rl_tokens.specs.Mirrors.TreeBuilders.{groups_of, flat_builder, IsFitting, TakesToken, TakesTree, OpensGroup, ClosesGroup, RejectsForm, RejectsOpener, RejectsCloser, EndsInGroup};
 
-    /// Nothing was read yet.
+    /// Creates an empty builder. The spans of its token trees get the file number `file`.
     pub(crate) fn new(alloc: A, file: u32) -> TreeBuilder<A>
         ensures groups { groups_of result ≡ [] }
         ensures flat { flat_builder result ≡ [] }
@@ -57,8 +56,8 @@ impl<A: Allocator + Copy> TreeBuilder<A> {
         }
     }
 
-    /// Reads one token more, of this form and text, which stands from the byte `lo` to the byte
-    /// `hi`. An error is reported at `lo`.
+    /// Adds a token with the form `form`, the text `text` and the byte range from `lo` to `hi`. The error of a
+    /// delimiter that doesn't fit, or of an allocation failure, is at the byte offset `lo`.
     pub(crate) fn add(
         &mut self,
         form: Form,
@@ -93,7 +92,8 @@ impl<A: Allocator + Copy> TreeBuilder<A> {
         }
     }
 
-    /// All trees. A group that is open is reported at its opener, the innermost of several.
+    /// Returns the token trees of the whole text. If a group is still open, the result is the error `UnclosedGroup` at
+    /// the opening delimiter of the innermost open group.
     pub(crate) fn finish(self) -> Result<TokenStream<A>, LexError>
         ensures none_open { IfOk result (λ trees. groups_of self ≡ []) }
         ensures flat { IfOk result (λ trees. flat_trees (stream_view trees) ≡ flat_builder self) }
@@ -110,7 +110,8 @@ impl<A: Allocator + Copy> TreeBuilder<A> {
         }
     }
 
-    /// Puts a tree after the others of its level. An allocation failure is reported at the byte.
+    /// Appends the token tree `tree` to the innermost open group, or to the text if no group is open. An allocation
+    /// failure is reported at the byte offset `at`.
     #[inline(always)]
     fn append(&mut self, tree: TokenTree<A>, at: usize) -> Result<(), LexError>
         ensures ok { OnOk result (TakesTree self.old self.new tree) }
@@ -122,7 +123,8 @@ impl<A: Allocator + Copy> TreeBuilder<A> {
         Ok(())
     }
 
-    /// The trees that follow stand in a new group, whose opener is at the byte.
+    /// Opens a group with the delimiters `delimiter`. Its opening delimiter is at the byte offset `at`, where errors
+    /// are reported.
     #[inline(never)]
     fn open_group(&mut self, delimiter: Delimiter, at: usize) -> Result<(), LexError>
         ensures ok { OnOk result (OpensGroup self.old self.new delimiter at) }
@@ -144,7 +146,8 @@ impl<A: Allocator + Copy> TreeBuilder<A> {
         Ok(())
     }
 
-    /// The innermost group ends with this closer: it is the next tree of the level around it.
+    /// Closes the innermost open group, which must have the delimiters `delimiter`, and appends it to the group or text
+    /// around it. The closing delimiter's byte range is from `lo` to `hi`, and errors are reported at `lo`.
     #[inline(never)]
     fn close_group(&mut self, delimiter: Delimiter, lo: usize, hi: usize) -> Result<(), LexError>
         requires { hi ≡ lo + 1 }
@@ -164,14 +167,7 @@ impl<A: Allocator + Copy> TreeBuilder<A> {
     }
 }
 
-/// Whether a delimiter opens a group.
-fn is_opener(c: char) -> bool
-    ensures { result ≡ is_opener c }
-{
-    matches!(c, '(' | '[' | '{')
-}
-
-/// Which delimiter the opener or closer belongs to.
+/// Returns the pair of delimiters that the opening or closing delimiter `c` belongs to.
 fn delimiter_for(c: char) -> Delimiter
     ensures { result ≡ delimiter_for c }
 {

@@ -1,7 +1,8 @@
-//! What can be parsed from a buffer, peeked at, and appended to a stream.
+//! Traits of types whose values are parsed from a parse buffer, found at its start without parsing, or appended to a
+//! token stream.
 
 ghost use Rattle.std.specs.Prelude.{◌≡◌, List, ℕ, Result, ◌↔◌, ◌++◌, IsTrue, IfErr, OnOk, OnErr};
-ghost use Rattle.rl_text.specs.declared.span.Span.{Span};
+ghost use Rattle.rl_syntax.specs.declared.span.Span.{Span};
 ghost use Rattle.rl_tokens.specs.declared.error.Error.{Error};
 ghost use Rattle.rl_tokens.specs.declared.error.ErrorKind.TheVariants.{Memory};
 ghost use Rattle.rl_tokens.specs.Trees.{Tree, stream_view};
@@ -13,10 +14,10 @@ use crate::token::TokenStream;
 use std::alloc::Allocator;
 use std::marker::PhantomData;
 
-/// A type whose values are parsed from the front of a buffer.
+/// A type whose values can be parsed from the start of a parse buffer.
 ///
-/// The member `runs` says what an implementation means: it relates the trees before and the scope
-/// to the result and the trees after.
+/// The member `runs` of the contract is the meaning of an implementation. It relates four things: the token trees
+/// before the call, the buffer's scope, the result, and the token trees that remain after the call.
 ///
 /// # Example
 ///
@@ -50,22 +51,23 @@ use std::marker::PhantomData;
 pub trait Parse<A: Allocator>: Sized {
     ghost runs: { List Tree → Span → Result Self (Error A) → List Tree → Type 0 };
 
-    /// Parses a value, and leaves the buffer where the implementation says. The trees after are a
-    /// rest of those before, and the scope stays.
+    /// Parses a value from the start of `input`. The implementation determines how many token trees are consumed, also
+    /// on an error. The remaining token trees are always the end of those before the call, and the buffer's scope is
+    /// unchanged.
     ///
     /// # Errors
     ///
-    /// The implementation's own, as its `runs` says. The types of literals reject by their word
-    /// where another token stands, and report an allocation failure at the buffer's span, which
-    /// leaves the buffer.
+    /// Returns the implementation's own error, as its `runs` describes. A literal type as `LitInt` returns `Expected`
+    /// or `EndOfInput` with the name of the type if the next token isn't a literal of the type. It returns an
+    /// allocation failure at the buffer's span, and leaves the buffer unchanged then.
     fn parse(alloc: A, input: &mut ParseBuffer<'_, A>) -> Result<Self, Error<A>>
         ensures runs { runs (trees_in input.old) (scope_of input.old) result (trees_in input.new) }
         ensures rest { IsRest (trees_in input.old) (trees_in input.new) }
         ensures scope { scope_of input.new ≡ scope_of input.old };
 }
 
-/// A value that parses, once: what `LitStr::parse_with` runs. The member `runs` says what it means,
-/// as that of [`Parse`].
+/// A parser as a value, which is used up by one call of `parse`. `LitStr::parse_with` runs a `Parser` on the tokens
+/// inside a string literal. The member `runs` of the contract is the parser's meaning, as that of [`Parse`].
 ///
 /// # Example
 ///
@@ -100,17 +102,18 @@ pub trait Parse<A: Allocator>: Sized {
 /// // mark_in_string(alloc, "\"+\"") == Some('+')
 /// ```
 pub trait Parser<A: Allocator>: Sized {
-    /// What is parsed.
+    /// The type of the value that the parser returns.
     type Output;
 
     ghost runs: { Self → List Tree → Span → Result Self.Output (Error A) → List Tree → Type 0 };
 
-    /// Parses a value, and leaves the buffer where the implementation says. The trees after are a
-    /// rest of those before, and the scope stays.
+    /// Parses a value from the start of `input`. The implementation determines how many token trees are consumed, also
+    /// on an error. The remaining token trees are always the end of those before the call, and the buffer's scope is
+    /// unchanged.
     ///
     /// # Errors
     ///
-    /// The implementation's own, as its `runs` says.
+    /// Returns the implementation's own error, as its `runs` describes.
     fn parse(self, alloc: A, input: &mut ParseBuffer<'_, A>) -> Result<Self::Output, Error<A>>
         ensures runs { runs self (trees_in input.old) (scope_of input.old) result
             (trees_in input.new) }
@@ -118,14 +121,14 @@ pub trait Parser<A: Allocator>: Sized {
         ensures scope { scope_of input.new ≡ scope_of input.old };
 }
 
-/// The parser that calls `T::parse`: a [`Parser`] of a type that has [`Parse`].
+/// The [`Parser`] that calls `T::parse`, for a type `T` that implements [`Parse`].
 #[derive(Drop)]
 pub struct ByParse<T> {
     parsed: PhantomData<T>,
 }
 
 impl<T> ByParse<T> {
-    /// The parser that calls `T::parse`. It holds nothing.
+    /// Creates the [`Parser`] that calls `T::parse`. The parser has no data.
     pub fn new() -> ByParse<T> {
         ByParse {
             parsed: PhantomData,
@@ -143,9 +146,10 @@ impl<A: Allocator, T: Parse<A>> Parser<A> for ByParse<T> {
     }
 }
 
-/// A type that can be seen to stand next, without parsing it: what [`ParseBuffer::peek`] asks.
+/// A type of which [`ParseBuffer::peek`] can tell, without parsing, whether a value begins a parse buffer.
 ///
-/// The member `peeks` says before which trees `peek` is true, and `shown` what `display` returns.
+/// The member `peeks` of the contract is the condition on the token trees for `peek` to return `true`. The member
+/// `shown` is the text that `display` returns.
 ///
 /// See the example of [`ParseBuffer`].
 pub trait Token {
@@ -153,16 +157,17 @@ pub trait Token {
 
     ghost shown: { List ℕ };
 
-    /// Whether it stands next. The buffer stays, and no memory is taken.
+    /// Returns `true` if the token trees of `input` begin with a value of the type. Nothing is consumed or allocated.
     fn peek<A: Allocator>(input: &ParseBuffer<'_, A>) -> bool
         ensures { IsTrue result ↔ peeks (trees_in input.now) };
 
-    /// What it is called in messages, as `string literal`.
+    /// Returns the name of the type's tokens in error messages, for example `string literal`.
     fn display() -> &'static str
         ensures { result.now ≡ shown };
 }
 
-/// A value that is appended to a stream as tokens. The member `appends` says as which trees.
+/// A value that can be appended to a token stream as token trees. The member `appends` of the contract is the list of
+/// these token trees.
 ///
 /// # Example
 ///
@@ -182,11 +187,11 @@ pub trait Token {
 pub trait ToTokens {
     ghost appends: { Self → List Tree };
 
-    /// Appends the trees.
+    /// Appends the value's token trees to the stream `tokens`.
     ///
     /// # Errors
     ///
-    /// `Memory` where an allocation fails; the stream stays.
+    /// Returns `Memory` if an allocation fails. The stream is unchanged then.
     fn to_tokens<A: Allocator>(&self, alloc: A, tokens: &mut TokenStream<A>) -> Result<(), Error<A>>
         ensures ok { OnOk result
             (stream_view tokens.new ≡ stream_view tokens.old ++ appends self.now) }
@@ -195,13 +200,13 @@ pub trait ToTokens {
 }
 
 impl<'a, A: Allocator> ParseBuffer<'a, A> {
-    /// Parses a value of a type that says how.
+    /// Parses a value of the type `T`, which implements [`Parse`], from the start of the buffer.
     ///
     /// See the example of [`ParseBuffer`].
     ///
     /// # Errors
     ///
-    /// Those of `T::parse`, which also says where the buffer stands then.
+    /// Returns the error of `T::parse`. `T::parse` also determines how many token trees are consumed.
     #[tactic(auto, using(crate::proofs::TreeRests::rest_step))]
     pub fn parse<T: Parse<A>>(&mut self, alloc: A) -> Result<T, Error<A>>
         ensures runs { T.runs (trees_in self.old) (scope_of self.old) result (trees_in self.new) }
@@ -212,8 +217,9 @@ impl<'a, A: Allocator> ParseBuffer<'a, A> {
         T::parse(alloc, self)
     }
 
-    /// Whether such a token stands next. The buffer stays, and no memory is taken. Of the types of
-    /// literals it is true exactly where `parse` would succeed with memory found.
+    /// Returns `true` if the buffer begins with a value of the type `T`. Nothing is consumed or allocated. For a
+    /// literal type as `LitInt` the result is `true` exactly if `parse` would succeed, provided that no allocation
+    /// fails.
     ///
     /// See the example of [`ParseBuffer`].
     pub fn peek<T: Token>(&self) -> bool

@@ -4,10 +4,10 @@ ghost use Rattle.std.specs.Prelude.{◌≡◌, IsTrue};
 ghost use Rattle.rl_lexer.specs.Lexemes.{is_punct};
 ghost use Rattle.rl_tokens.specs.Puncts.{mark_word};
 
-use rl_text::Span;
+use rl_syntax::Span;
 use std::marker::Model;
 
-/// One character of punctuation, and where it stands. `==` is two of them.
+/// A token of one punctuation character, with its span. `==` is two tokens.
 ///
 /// # Example
 ///
@@ -42,8 +42,8 @@ impl Model for Punct {
 }
 
 impl Punct {
-    /// The token of this character, which is punctuation ([`Punct::is_char`] says whether it is), with this
-    /// span.
+    /// Creates the token of the punctuation character `ch`, with the span `span`. [`Punct::is_char`] must be `true` for
+    /// `ch`.
     pub fn new(ch: char, span: Span) -> Punct
         requires { IsTrue (is_punct ch) }
         ensures { result ≡ record { ch = ch; span = span } }
@@ -51,7 +51,7 @@ impl Punct {
         Punct { ch, span }
     }
 
-    /// Whether the character is one of ``~ ! @ # $ % ^ & * - = + | ; : , < . > / ?``.
+    /// Returns `true` if `ch` is a punctuation character: one of ``~ ! @ # $ % ^ & * - = + | ; : , < . > / ?``.
     pub fn is_char(ch: char) -> bool
         ensures { result ≡ is_punct ch }
     {
@@ -80,7 +80,7 @@ impl Punct {
         )
     }
 
-    /// The character, of which [`Punct::is_char`] is true.
+    /// Returns the token's punctuation character. [`Punct::is_char`] is `true` for it.
     pub fn as_char(&self) -> char
         ensures ch { result ≡ self.now.ch }
         ensures punct { IsTrue (is_punct result) }
@@ -88,14 +88,14 @@ impl Punct {
         self.ch
     }
 
-    /// Where the token stands: its file, and its byte in it.
+    /// Returns the punctuation token's span: a file, and the range of one byte in that file.
     pub fn span(&self) -> Span
         ensures { result ≡ self.now.span }
     {
         self.span
     }
 
-    /// Puts the token elsewhere: its span becomes this one, and its character stays.
+    /// Sets the punctuation token's span to `span`, and leaves its character unchanged.
     pub fn set_span(&mut self, span: Span)
         ensures { self.new ≡ record self.old { span = span } }
     {
@@ -103,7 +103,7 @@ impl Punct {
     }
 }
 
-/// What a character of punctuation is called in errors: itself between two backticks.
+/// Returns the name of the punctuation character `ch` in error messages: the character between two backticks.
 pub(crate) fn word_of(ch: char) -> &'static str
     requires { IsTrue (is_punct ch) }
     ensures { result.now ≡ mark_word ch }

@@ -1,4 +1,4 @@
-//! Parsers that leave the buffer where they reject.
+//! A function that runs a parser and puts the buffer back to its old position if the parser fails.
 
 ghost use Rattle.std.specs.Prelude.{OnOk, OnErr};
 ghost use Rattle.std.specs.Fn.{FnOnceReturnsAtMut};
@@ -6,13 +6,14 @@ ghost use Rattle.std.specs.Fn.{FnOnceReturnsAtMut};
 use crate::buffer::ParseBuffer;
 use std::alloc::Allocator;
 
-/// What a parser moves over, and can be put back: a [`ParseBuffer`].
+/// A parse buffer whose position can be saved and restored. [`ParseBuffer`] implements the trait.
 ///
-/// The member `same` says of two values that the second stands where the first stands.
+/// The member `same` of the contract relates two buffers that are at the same position.
 pub trait Rewind: Sized {
     ghost same: { Self → Self → Type 0 };
 
-    /// The value once more, where it stands now: what an error is put back to.
+    /// Returns a copy of the buffer at its current position. [`attempt`] uses the copy to restore the position after an
+    /// error.
     fn here(&self) -> Self
         ensures { same self.now result };
 }
@@ -28,7 +29,7 @@ impl<'a, A: Allocator> Rewind for ParseBuffer<'a, A> {
     }
 }
 
-/// Runs the parser, wherever it leaves the buffer.
+/// Runs `parser` on `input`, and returns the parser's result. The parser determines the position of `input` afterwards.
 fn ran<B, T, E, F: FnOnce(&mut B) -> Result<T, E>>(input: &mut B, parser: F) -> Result<T, E>
     requires { F.IsAlwaysCallable parser }
     ensures { FnOnceReturnsAtMut F.FnOnce parser input.old result input.new }
@@ -36,11 +37,12 @@ fn ran<B, T, E, F: FnOnce(&mut B) -> Result<T, E>>(input: &mut B, parser: F) -> 
     parser(input)
 }
 
-/// Runs a parser of one or more steps. Where it rejects, the buffer is put back to where it stood.
+/// Runs `parser`, which may have several steps, on the buffer `input`. If the parser fails, the buffer is put back to
+/// the position that it had before the call.
 ///
 /// # Errors
 ///
-/// The parser's own. The buffer stays.
+/// Returns the parser's error. The buffer is then at its old position.
 ///
 /// # Example
 ///
@@ -66,12 +68,12 @@ pub fn attempt<B: Rewind + Drop, T, E, F: FnOnce(&mut B) -> Result<T, E>>(
     parser: F,
 ) -> Result<T, E>
     requires { F.IsAlwaysCallable parser }
-    // The value is the parser's, and the buffer is left where the parser left it.
+    // On success the value is the parser's, and the buffer is where the parser left it.
     ensures parsed { OnOk result (FnOnceReturnsAtMut F.FnOnce parser input.old result input.new) }
-    // The error is the parser's, wherever the parser left the buffer.
+    // The returned error is the parser's own, wherever the parser left the buffer.
     ensures rejected { OnErr result
         ((following : _) × FnOnceReturnsAtMut F.FnOnce parser input.old result following) }
-    // An error leaves the buffer where it stood.
+    // On an error the buffer is at the position that it had before the call.
     ensures left { OnErr result (B.same input.old input.new) }
 {
     let before = input.here();

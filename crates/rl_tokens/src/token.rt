@@ -1,4 +1,4 @@
-//! Token trees: what a text is cut into.
+//! Token trees, the result of lexing a text.
 
 ghost use Rattle.std.specs.Prelude.{◌≡◌, ◌++◌, ◌∷◌, [], map, OnOk, OnErr, IfErr};
 
@@ -8,10 +8,10 @@ use crate::ident::Ident;
 use crate::kept::Kept;
 use crate::literal::Literal;
 use crate::punct::Punct;
-use rl_text::Span;
+use rl_syntax::Span;
 use std::alloc::{AllocFailed, Allocator, Global};
 
-/// How a group is delimited.
+/// The pair of delimiters around a group of token trees.
 ///
 /// See the example of [`TokenTree`].
 #[derive(Clone, Copy, PartialEq, Eq, Debug)]
@@ -24,7 +24,8 @@ pub enum Delimiter {
     Bracket,
 }
 
-/// One token, or a group with all that is inside: what [`lex`](crate::lex) cuts a text into.
+/// A token other than a delimiter, or a group with everything inside it. [`lex`](crate::lex) returns a sequence of
+/// token trees.
 ///
 /// # Example
 ///
@@ -44,17 +45,17 @@ pub enum Delimiter {
 #[derive(Drop)]
 #[cycle(tree)]
 pub enum TokenTree<A: Allocator = Global> {
-    /// Trees between an opener and its closer.
+    /// A group: token trees between an opening and a closing delimiter.
     Group(Group<A>),
-    /// An identifier.
+    /// An identifier token.
     Ident(Ident<A>),
-    /// One character of punctuation.
+    /// A token of one punctuation character.
     Punct(Punct),
-    /// A literal.
+    /// A literal token.
     Literal(Literal<A>),
 }
 
-/// Trees between an opener and its closer.
+/// A group: token trees between an opening and a closing delimiter, with its span.
 ///
 /// See the example of [`ParseBuffer`].
 #[derive(Drop)]
@@ -65,7 +66,8 @@ pub struct Group<A: Allocator = Global> {
     span: Span,
 }
 
-/// A sequence of trees. It keeps the allocator that it was made with.
+/// A sequence of token trees, to which token trees can be appended. Its memory comes from the allocator that it was
+/// created with.
 ///
 /// See the example of [`ToTokens`].
 #[derive(Drop)]
@@ -77,7 +79,7 @@ pub struct TokenStream<A: Allocator = Global> {
 impl<A: Allocator> TokenTree<A> {
     ghost use Rattle.rl_tokens.specs.Trees.{token_tree_span, tree_view, with_span, respanned, relocated};
 
-    /// Where the tree stands: a group from its opener to its closer.
+    /// Returns the token tree's span. A group's span is from its opening delimiter to its closing one.
     pub fn span(&self) -> Span
         ensures { result ≡ token_tree_span self.now }
     {
@@ -89,7 +91,7 @@ impl<A: Allocator> TokenTree<A> {
         }
     }
 
-    /// Puts the tree elsewhere; what is inside a group stays.
+    /// Sets the token tree's own span to `span`. The spans of token trees inside a group are unchanged.
     pub fn set_span(&mut self, span: Span)
         ensures { tree_view self.new ≡ with_span span (tree_view self.old) }
     {
@@ -101,7 +103,7 @@ impl<A: Allocator> TokenTree<A> {
         }
     }
 
-    /// Gives the tree this span, and with a group all that is inside.
+    /// Sets the token tree's span, and the span of every token tree inside a group, to `span`.
     #[cycle(respan)]
     #[tactic(auto, using(crate::proofs::TreeLemmas::respanned_group))]
     fn respan(&mut self, span: Span)
@@ -113,7 +115,8 @@ impl<A: Allocator> TokenTree<A> {
         }
     }
 
-    /// Moves the tree to where the table says, and with a group all that is inside.
+    /// Replaces the token tree's span, and the span of every token tree inside a group, by the span that `table` gives
+    /// for it, as [`TokenStream::relocate`] does.
     #[cycle(relocate)]
     #[tactic(auto, using(crate::proofs::TreeLemmas::relocated_group))]
     fn relocate(&mut self, table: &[Span])
@@ -142,7 +145,7 @@ impl<A: Allocator> Group<A> {
     };
     ghost use Rattle.rl_tokens.specs.Buffers.{trees_in, scope_of};
 
-    /// The group of these trees.
+    /// Creates a group with the delimiters `delimiter`, the token trees of `stream` inside, and the span `span`.
     pub fn new(delimiter: Delimiter, stream: TokenStream<A>, span: Span) -> Group<A>
         ensures delimiter { delimiter_of result ≡ delimiter }
         ensures stream { stream_of result ≡ stream }
@@ -155,21 +158,22 @@ impl<A: Allocator> Group<A> {
         }
     }
 
-    /// How the group is delimited.
+    /// Returns the group's pair of delimiters.
     pub fn delimiter(&self) -> Delimiter
         ensures { result ≡ delimiter_of self.now }
     {
         self.delimiter
     }
 
-    /// The trees inside.
+    /// Returns the token trees inside the group, borrowed.
     pub fn stream(&self) -> &TokenStream<A>
         ensures { result.now ≡ stream_of self.now }
     {
         &self.stream
     }
 
-    /// A buffer of the trees inside, whose end is reported at the group's closer: at its last byte.
+    /// Returns a parse buffer of the token trees inside the group. The buffer's scope is the last byte of the group's
+    /// span, which is the closing delimiter.
     pub fn inside(&self) -> ParseBuffer<'_, A>
         ensures trees { trees_in result ≡ stream_view (stream_of self.now) }
         ensures scope { scope_of result ≡ closer_span (group_span self.now) }
@@ -179,14 +183,14 @@ impl<A: Allocator> Group<A> {
         ParseBuffer::new(self.stream.trees(), closer)
     }
 
-    /// Where the group stands, from its opener to its closer.
+    /// Returns the group's span, from its opening delimiter to its closing one.
     pub fn span(&self) -> Span
         ensures { result ≡ group_span self.now }
     {
         self.span
     }
 
-    /// Puts the group elsewhere; the trees inside stay.
+    /// Sets the group's own span to `span`. The spans of the token trees inside the group are unchanged.
     pub fn set_span(&mut self, span: Span)
         ensures delimiter { delimiter_of self.new ≡ delimiter_of self.old }
         ensures stream { stream_of self.new ≡ stream_of self.old }
@@ -195,7 +199,7 @@ impl<A: Allocator> Group<A> {
         self.span = span;
     }
 
-    /// Gives the group this span, and all that is inside.
+    /// Sets the group's span, and the span of every token tree inside the group, to `span`.
     #[cycle(respan)]
     fn respan(&mut self, span: Span)
         ensures delimiter { delimiter_of self.new ≡ delimiter_of self.old }
@@ -207,7 +211,8 @@ impl<A: Allocator> Group<A> {
         self.stream.respan(span);
     }
 
-    /// Moves the group to where the table says, and all that is inside.
+    /// Replaces the group's span, and the span of every token tree inside the group, by the span that `table` gives for
+    /// it, as [`TokenStream::relocate`] does.
     #[cycle(relocate)]
     #[tactic(auto, using(crate::proofs::TreeLemmas::relocated_parts))]
     fn relocate(&mut self, table: &[Span])
@@ -223,7 +228,7 @@ impl<A: Allocator> TokenStream<A> {
     ghost use Rattle.rl_tokens.specs.Errors.{memory_at};
     ghost use Rattle.rl_tokens.specs.Trees.{trees_of, token_tree_span, stream_view, respanned, relocated};
 
-    /// No trees. The stream takes its memory from the allocator.
+    /// Creates an empty stream, whose memory comes from `alloc`.
     pub fn new(alloc: A) -> TokenStream<A>
         ensures { trees_of result ≡ [] }
     {
@@ -232,11 +237,12 @@ impl<A: Allocator> TokenStream<A> {
         }
     }
 
-    /// Puts the tree last.
+    /// Appends the token tree `tree` to the stream.
     ///
     /// # Errors
     ///
-    /// `Memory` at the tree's span. The stream stays, and the tree is handed back.
+    /// Returns `Memory` at the token tree's span if an allocation fails. The stream is unchanged then, and the error
+    /// contains the token tree.
     pub fn append(&mut self, tree: TokenTree<A>) -> Result<(), Kept<TokenTree<A>, A>>
         ensures ok { OnOk result (trees_of self.new ≡ trees_of self.old ++ tree ∷ []) }
         ensures unchanged { OnErr result (trees_of self.new ≡ trees_of self.old) }
@@ -253,7 +259,8 @@ impl<A: Allocator> TokenStream<A> {
         }
     }
 
-    /// Puts the tree last. Where an allocation fails, the stream stays, and the tree is handed back.
+    /// Appends the token tree `tree` to the stream. If an allocation fails, the stream is unchanged, and the error
+    /// contains the token tree.
     pub(crate) fn push(&mut self, tree: TokenTree<A>) -> Result<(), AllocFailed<TokenTree<A>>>
         ensures ok { OnOk result (trees_of self.new ≡ trees_of self.old ++ tree ∷ []) }
         ensures unchanged { OnErr result (trees_of self.new ≡ trees_of self.old) }
@@ -262,14 +269,14 @@ impl<A: Allocator> TokenStream<A> {
         self.trees.push(tree)
     }
 
-    /// The trees, in their order.
+    /// Returns the stream's token trees, in their order, borrowed.
     pub fn trees(&self) -> &[TokenTree<A>]
         ensures { result.now ≡ trees_of self.now }
     {
         self.trees.as_slice()
     }
 
-    /// Gives every tree this span, also inside groups.
+    /// Sets the span of every token tree of the stream, also inside groups, to `span`.
     #[cycle(respan)]
     pub fn respan(&mut self, span: Span)
         ensures { stream_view self.new ≡ map (respanned span) (stream_view self.old) }
@@ -279,9 +286,11 @@ impl<A: Allocator> TokenStream<A> {
         }
     }
 
-    /// Moves every tree into a file, also inside groups: the table says of each byte of the text that the trees were cut
-    /// from where in the file it comes from, and past its end its last entry serves. A tree then stands from where its
-    /// first byte begins to where its last ends.
+    /// Maps the span of every token tree of the stream, also inside groups, from the lexed text into a file.
+    ///
+    /// `table` contains a span for each byte of the lexed text: the position in the file that the byte comes from. For
+    /// a byte after the end of `table`, the last span of `table` counts. A token tree's new span begins where the span
+    /// of its first byte begins, and ends where the span of its last byte ends.
     #[cycle(relocate)]
     pub fn relocate(&mut self, table: &[Span])
         ensures { stream_view self.new

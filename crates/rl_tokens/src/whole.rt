@@ -1,4 +1,4 @@
-//! A whole text as token trees, or as one value.
+//! Functions that lex a whole text, or parse it as one value.
 
 ghost use Rattle.std.specs.Prelude.{[], IfOk, IfErr, Ok};
 ghost use Rattle.std.specs.Str.{chars};
@@ -11,16 +11,17 @@ use crate::error::{Error, ErrorKind};
 use crate::lexer::lex;
 use crate::parse::Parse;
 use crate::token::TokenStream;
-use rl_text::Span;
+use rl_syntax::Span;
 use std::alloc::Allocator;
 
-/// The token trees of a text, as [`lex`] cuts them, with the lexer's error as an [`Error`] at its place.
+/// Lexes a text into token trees, as [`lex`] does, and returns the lexer's error as an [`Error`]. The span of a token
+/// is `file` and the token's byte range in the text.
 ///
 /// # Errors
 ///
-/// The lexer's, as `Lex` with the span of no bytes at its place; an allocation failure as `Memory` there. Spans have the
-/// file and bytes of the text.
-pub fn trees_of_text<A: Allocator + Copy>(
+/// Returns the lexer's error as `Lex`, with an empty span at the error's byte offset. If an allocation fails, returns
+/// `Memory` with an empty span at the start of the token for which memory was needed.
+pub fn lex_for_parsing<A: Allocator + Copy>(
     alloc: A,
     text: &str,
     file: u32,
@@ -37,7 +38,8 @@ pub fn trees_of_text<A: Allocator + Copy>(
     }
 }
 
-/// Parses all of the trees as one value. Their end is reported at the scope.
+/// Parses the token trees of `stream` as one value of type `T`. An error at the end of the token trees has the span
+/// `scope`, and a token tree after the value is an error.
 fn parse_trees<T: Parse<A> + Drop, A: Allocator>(
     alloc: A,
     stream: &TokenStream<A>,
@@ -54,14 +56,15 @@ fn parse_trees<T: Parse<A> + Drop, A: Allocator>(
     Ok(value)
 }
 
-/// Parses all of a text as one value of a type that says how.
+/// Parses a whole text as one value of the type `T`, which implements [`Parse`]. Spans are `file` and byte ranges of
+/// the text.
 ///
 /// # Errors
 ///
-/// In this order: the lexer's, as `Lex` with the span of no bytes at its place (its running out of
-/// memory as `Memory` there); the parser's own, whose scope is the span of no bytes at the text's
-/// end; and `Unexpected` at the first tree that is left over. Spans have the file and bytes of the
-/// text.
+/// Returns the lexer's error as `Lex`, with an empty span at the error's byte offset. If an allocation fails while the
+/// text is lexed, returns `Memory` with an empty span at the start of the token for which memory was needed. Otherwise
+/// returns the error of `T::parse`, which runs with the empty span at the text's end as scope. Otherwise returns
+/// `Unexpected` at the first token tree that follows the value.
 ///
 /// # Example
 ///
@@ -85,7 +88,7 @@ pub fn parse_all<T: Parse<A> + Drop, A: Allocator + Copy>(
     ensures rejected { IfErr result (RejectsAll T.runs text.now file) }
 {
     let end = Span::new(file, text.len(), text.len());
-    match trees_of_text(alloc, text, file) {
+    match lex_for_parsing(alloc, text, file) {
         Ok(stream) => parse_trees(alloc, &stream, end),
         Err(error) => Err(error),
     }

@@ -1,22 +1,22 @@
-//! How values are written as literals.
+//! Functions that write a value as a literal: a string, bytes, or a character.
 
 ghost use Rattle.std.specs.Prelude.{◌≡◌, ◌⊎◌, ◌<◌, ◌++◌, ◌∷◌, [], length, take, is_ok, IsTrue, if◌then◌else◌, OnOk, OnErr, IfOk, IfErr, MatchResult, string_bytes, encode_utf8_all};
 ghost use Rattle.std.specs.Str.{chars};
-ghost use Rattle.rl_forms.specs.Quoted.{holds_characters, unit_text};
-ghost use Rattle.rl_forms.specs.Written.{closer, written_text, written_unit, IsWrittenForm};
-ghost use Rattle.rl_forms.specs.Agreeing.{AreBytesOf, IsQuotedValue};
+ghost use Rattle.rl_syntax.specs.Quoted.{holds_characters, unit_text};
+ghost use Rattle.rl_syntax.specs.Written.{closer, written_text, written_unit, IsWrittenForm};
+ghost use Rattle.rl_syntax.specs.Agreeing.{AreBytesOf, IsQuotedValue};
 ghost use Rattle.rl_tokens.specs.Errors.{memory_at};
-ghost use Rattle.rl_text.specs.Spans.{nowhere};
+ghost use Rattle.rl_syntax.specs.Spans.{nowhere};
 
 use crate::c_string::CString;
 use crate::error::Error;
 use crate::literal::Literal;
-use rl_forms::Kind;
-use rl_forms::written_unit::{closer, escape};
-use rl_text::Span;
+use rl_syntax::written_unit::escape;
+use rl_syntax::{Kind, Span};
 use std::alloc::{AllocError, Allocator};
 
-/// Appends a character or a byte as it stands in a literal of the kind, or nothing where an allocation fails.
+/// Appends the character or byte `c` to `out` as a literal of the kind `kind` represents it: as an escape, or
+/// unchanged. If an allocation fails, nothing is appended.
 fn push_written<A: Allocator>(out: &mut String<A>, kind: Kind, c: char) -> Result<(), AllocError>
     requires { IsTrue (holds_characters kind) ⊎ (c < 256) }
     ensures { string_bytes out.new ≡ (if is_ok result
@@ -29,8 +29,8 @@ fn push_written<A: Allocator>(out: &mut String<A>, kind: Kind, c: char) -> Resul
     }
 }
 
-/// Appends the literal of the kind, which holds characters, that stands for the text. Where an allocation fails, a front of it
-/// may stand there.
+/// Appends to `out` a literal of the kind `kind` that represents the text `value`. `kind` must be a kind with
+/// characters as value. If an allocation fails, a beginning of the literal may have been appended.
 fn push_characters<A: Allocator>(
     out: &mut String<A>,
     kind: Kind,
@@ -46,16 +46,16 @@ fn push_characters<A: Allocator>(
     for c in value.chars() {
         push_written(out, kind, c)?;
     }
-    out.push(closer(kind))?;
+    out.push(kind.quote())?;
     Ok(())
 }
 
-/// Appends the string literal that stands for the text, as docs/GRAMMAR.md writes it: what [`Literal::string`] makes, with
-/// no text between.
+/// Appends to `out` the string literal that represents the text `value`, in the form that docs/GRAMMAR.md describes.
+/// [`Literal::string`] creates a token with the same text.
 ///
 /// # Errors
 ///
-/// An allocation failure. Nothing is appended then.
+/// Returns an error if an allocation fails. `out` is unchanged then.
 pub fn push_str_literal<A: Allocator>(out: &mut String<A>, value: &str) -> Result<(), AllocError>
     ensures text { OnOk result (chars (string_bytes out.new)
         ≡ chars (string_bytes out.old) ++ written_text Kind.Str (chars value.now)) }
@@ -73,7 +73,7 @@ pub fn push_str_literal<A: Allocator>(out: &mut String<A>, value: &str) -> Resul
     }
 }
 
-/// The text of a literal that holds characters.
+/// Returns the text of a literal of the kind `kind` that represents the characters `value`.
 fn text_of_characters<A: Allocator>(
     alloc: A,
     kind: Kind,
@@ -88,7 +88,7 @@ fn text_of_characters<A: Allocator>(
     Ok(text)
 }
 
-/// The text of a literal that holds bytes.
+/// Returns the text of a literal of the kind `kind` that represents the bytes `value`.
 fn text_of_bytes<A: Allocator>(alloc: A, kind: Kind, value: &[u8]) -> Result<String<A>, AllocError>
     requires { AreBytesOf kind value.now }
     ensures { IfOk result (λ s. IsWrittenForm kind value.now (chars (string_bytes s))) }
@@ -97,11 +97,12 @@ fn text_of_bytes<A: Allocator>(alloc: A, kind: Kind, value: &[u8]) -> Result<Str
     for byte in value {
         push_written(&mut text, kind, char::from(*byte))?;
     }
-    text.push(closer(kind))?;
+    text.push(kind.quote())?;
     Ok(text)
 }
 
-/// The token of a written text, at no place.
+/// Creates a literal token of a written literal's text, at [`Span::call_site`]. An allocation failure of the writer
+/// becomes `Memory` at [`Span::call_site`].
 fn token<A: Allocator>(text: Result<String<A>, AllocError>) -> Result<Literal<A>, Error<A>>
     ensures value { MatchResult text
         (λ s. result ≡ Ok (record { text = string_bytes s; span = nowhere }))
@@ -113,15 +114,15 @@ fn token<A: Allocator>(text: Result<String<A>, AllocError>) -> Result<Literal<A>
     }
 }
 
-/// The literals that values are written as, at no place (`Span::call_site`), where an allocation
-/// failure is reported too.
+/// Functions that create the literal token that represents a value. The token's span is [`Span::call_site`], and so is
+/// the span of an allocation failure.
 impl<A: Allocator> Literal<A> {
-    /// The string literal that stands for the text, as docs/GRAMMAR.md writes it, at
-    /// [`Span::call_site`].
+    /// Creates the token of the string literal that represents the text `value`, at [`Span::call_site`].
+    /// docs/GRAMMAR.md describes the form in which the literal is written.
     ///
     /// # Errors
     ///
-    /// `Memory`, at [`Span::call_site`].
+    /// Returns `Memory` at [`Span::call_site`] if an allocation fails.
     pub fn string(alloc: A, value: &str) -> Result<Literal<A>, Error<A>>
         ensures text { IfOk result (λ l. IsWrittenForm Kind.Str (chars value.now) (chars l.text)) }
         ensures span { IfOk result (λ l. l.span ≡ nowhere) }
@@ -130,12 +131,12 @@ impl<A: Allocator> Literal<A> {
         token(text_of_characters(alloc, Kind::Str, value))
     }
 
-    /// The byte string literal that stands for the bytes, as docs/GRAMMAR.md writes it, at
-    /// [`Span::call_site`].
+    /// Creates the token of the byte string literal that represents the bytes `value`, at [`Span::call_site`].
+    /// docs/GRAMMAR.md describes the form in which the literal is written.
     ///
     /// # Errors
     ///
-    /// `Memory`, at [`Span::call_site`].
+    /// Returns `Memory` at [`Span::call_site`] if an allocation fails.
     pub fn byte_string(alloc: A, value: &[u8]) -> Result<Literal<A>, Error<A>>
         ensures text { IfOk result (λ l. IsWrittenForm Kind.ByteStr value.now (chars l.text)) }
         ensures span { IfOk result (λ l. l.span ≡ nowhere) }
@@ -144,12 +145,12 @@ impl<A: Allocator> Literal<A> {
         token(text_of_bytes(alloc, Kind::ByteStr, value))
     }
 
-    /// The C string literal that stands for the bytes, as docs/GRAMMAR.md writes it, at
-    /// [`Span::call_site`].
+    /// Creates the token of the C string literal that represents the bytes of `value`, at [`Span::call_site`].
+    /// docs/GRAMMAR.md describes the form in which the literal is written.
     ///
     /// # Errors
     ///
-    /// `Memory`, at [`Span::call_site`].
+    /// Returns `Memory` at [`Span::call_site`] if an allocation fails.
     pub fn c_string<B: Allocator>(alloc: A, value: &CString<B>) -> Result<Literal<A>, Error<A>>
         ensures text { IfOk result (λ l. IsWrittenForm Kind.CStr value.now (chars l.text)) }
         ensures span { IfOk result (λ l. l.span ≡ nowhere) }
@@ -158,12 +159,12 @@ impl<A: Allocator> Literal<A> {
         token(text_of_bytes(alloc, Kind::CStr, value.as_bytes()))
     }
 
-    /// The byte literal that stands for the byte, as docs/GRAMMAR.md writes it, at
-    /// [`Span::call_site`].
+    /// Creates the token of the byte literal that represents the byte `value`, at [`Span::call_site`]. docs/GRAMMAR.md
+    /// describes the form in which the literal is written.
     ///
     /// # Errors
     ///
-    /// `Memory`, at [`Span::call_site`].
+    /// Returns `Memory` at [`Span::call_site`] if an allocation fails.
     pub fn byte_character(alloc: A, value: u8) -> Result<Literal<A>, Error<A>>
         ensures text { IfOk result (λ l. IsWrittenForm Kind.Byte (value ∷ []) (chars l.text)) }
         ensures span { IfOk result (λ l. l.span ≡ nowhere) }
@@ -172,12 +173,12 @@ impl<A: Allocator> Literal<A> {
         token(text_of_bytes(alloc, Kind::Byte, &[value]))
     }
 
-    /// The character literal that stands for the character, as docs/GRAMMAR.md writes it, at
-    /// [`Span::call_site`].
+    /// Creates the token of the character literal that represents the character `value`, at [`Span::call_site`].
+    /// docs/GRAMMAR.md describes the form in which the literal is written.
     ///
     /// # Errors
     ///
-    /// `Memory`, at [`Span::call_site`].
+    /// Returns `Memory` at [`Span::call_site`] if an allocation fails.
     pub fn character(alloc: A, value: char) -> Result<Literal<A>, Error<A>>
         ensures text { IfOk result (λ l. IsWrittenForm Kind.Char (value ∷ []) (chars l.text)) }
         ensures span { IfOk result (λ l. l.span ≡ nowhere) }

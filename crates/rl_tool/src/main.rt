@@ -1,4 +1,4 @@
-//! Reads literals, or attributes, and prints of each literal its kind, what it stands for, and its suffix.
+//! The program `rl_tool`. It reads literals or attributes, and prints the kind, the value and the suffix of each literal.
 #![tactic(auto)]
 
 use rl_commands::call;

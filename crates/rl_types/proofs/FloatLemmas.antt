@@ -1,12 +1,12 @@
--- When a decimal number is at least another: its digits are compared from the first one on.
-use Rattle.rl_text.proofs.Common.{◌≡◌, ◌⊎◌, ℕ, zero, suc, ◌+◌, ◌*◌, ◌^◌, ◌<◌, ◌≤◌, ◌-◌, ◌≢◌, Bool, true, false, not, ◌==◌, nat_lt, cond, List, [], ◌∷◌, ◌++◌, length, replicate, refl, sym, ap, ◌∙◌, inl, inr, arith, rules, nat_tests, and_from, and_parts, cases_Bool, eqb-true, both_ways, length-append, digit_value, is_ascii_digit, list_all, list_all-append, subst, chars, chars-IsAscii, IsUtf8, AllByRecursion, encode_utf8_all, encodes-chars, encodes-append, append-nil, append_assoc}
+-- A comparison of decimal numbers, digit by digit from the first digit on.
+use Rattle.rl_syntax.proofs.Common.{◌≡◌, ◌⊎◌, ℕ, zero, suc, ◌+◌, ◌*◌, ◌^◌, ◌<◌, ◌≤◌, ◌-◌, ◌≢◌, Bool, true, false, not, ◌==◌, nat_lt, cond, List, [], ◌∷◌, ◌++◌, length, replicate, refl, sym, ap, ◌∙◌, inl, inr, arith, rules, nat_tests, and_from, and_parts, cases_Bool, eqb-true, both_ways, length-append, digit_value, is_ascii_digit, list_all, list_all-append, subst, chars, chars-IsAscii, IsUtf8, AllByRecursion, encode_utf8_all, encodes-chars, encodes-append, append-nil, append_assoc}
 use Rattle.std.proofs.lemmas.Str.{digit_value_digit}
 use Rattle.std.proofs.ByRecursion.{IsAscii-from_all}
-use Rattle.rl_text.specs.Texts.{IsTail}
-use Rattle.rl_reading.proofs.Names.{is_exponent_letter, pow-suc, place_value}
+use Rattle.rl_syntax.specs.Texts.{IsTail}
+use Rattle.rl_lenient.proofs.Names.{is_exponent_letter, pow-suc, place_value}
 use native.Mathlib.Numerals.{unary_clauses}
 use Rattle.std.specs.Prelude.{filter}
-use Rattle.rl_text.specs.Classes.{after_run}
+use Rattle.rl_syntax.specs.Classes.{after_run}
 use Rattle.rl_types.specs.FloatRange.{IsAtLeast, after_point, power_part, decimal_part, digits_only, exponent, has_minus, lowered, raised, significand}
 use Rattle.rl_types.specs.Mirrors.Floats.{IsBound, not_below, without_zeros}
 
@@ -24,7 +24,7 @@ digit_small c h = grind (arith, nat_tests)
 small : (c : ℕ) → is_ascii_digit c ≡ true → digit_value c < 10
 small c h = (digit_code c h).1
 
--- ---- what digits spell, from the first one on
+-- ---- the number that a list of digits represents, computed from the first digit on
 
 onto : ℕ → List ℕ → ℕ
 onto v [] = v
@@ -61,7 +61,7 @@ scaled ds n =
     let spelled : onto 0 ds ≡ place_value 10 ds = onto_is 0 ds ∙ omega arith in
     ap (λ v. v * 10 ^ n) (sym spelled) ∙ sym (onto_zeros n (onto 0 ds)) ∙ sym (onto_append 0 ds (zeros n))
 
--- ---- order
+-- ---- the order of numbers by their digits
 
 less_stays : (x y : ℕ) (us bs : List ℕ) → x < y → list_all is_ascii_digit us ≡ true → length us ≡ length bs
     → onto x us < onto y bs
@@ -92,7 +92,7 @@ unfolding onto zeros
 zeros_least x y [] h = h
 zeros_least x y (a ∷ us) h = zeros_least (x * 10 + 0) (y * 10 + digit_value a) us (omega (arith, h))
 
--- ---- digits that begin at one power of ten
+-- ---- numbers whose first digits have the same power of ten
 
 same_digit : (d b : ℕ) → (d == b) ≡ true → d ≡ b
 same_digit d b h = eqb-true d b h
@@ -117,7 +117,7 @@ length_zeros (suc n) = ap suc (length_zeros n)
 padded : (ds : List ℕ) (n : ℕ) → length (ds ++ zeros n) ≡ length ds + n
 padded ds n = length-append ds (zeros n) ∙ ap (λ k. length ds + k) (length_zeros n)
 
--- digits are at least what zeros alone spell
+-- Digits represent a number that is at least the number represented by zeros.
 past_zeros : (x : ℕ) (ds : List ℕ) (up down : ℕ) → length ds + up ≡ down → onto x (zeros down) ≤ onto x (ds ++ zeros up)
 past_zeros x ds up down e =
     subst (λ n. onto x (zeros n) ≤ onto x (ds ++ zeros up)) (padded ds up ∙ e)
@@ -136,7 +136,7 @@ all_padded : (ds : List ℕ) (n : ℕ) → list_all is_ascii_digit ds ≡ true �
 all_padded ds n h = list_all-append is_ascii_digit ds (zeros n) ∙ and_from (list_all is_ascii_digit ds)
     (list_all is_ascii_digit (zeros n)) h (all_zeros n)
 
--- one digit on
+-- The comparison of two numbers continues with their next digits.
 same_front : (r : Bool) (x d : ℕ) (ours least : List ℕ) → Ordered r (x * 10 + digit_value d) ours least
     → Ordered r x (d ∷ ours) (d ∷ least)
 unfolding onto
@@ -189,9 +189,9 @@ ordered x (d ∷ ds) (b ∷ bs) up down hd hb e =
     step x d b ds bs up down q.0 p.0 q.1 p.1 (omega (arith, e))
     (ordered (x * 10 + digit_value b) ds bs up down q.1 p.1 (omega (arith, e)))
 
--- ---- numbers
+-- ---- the order of decimal numbers
 
--- digits, of which the first, where there is one, is none of zero
+-- The list consists of decimal digits, and it has a first digit, which isn't zero.
 abbrev pub IsFirst : List ℕ → Type 0
 IsFirst [] = ⊥
 IsFirst (d ∷ ds) = (list_all is_ascii_digit (d ∷ ds) ≡ true) × ((d == 48) ≡ false)
@@ -199,7 +199,7 @@ IsFirst (d ∷ ds) = (list_all is_ascii_digit (d ∷ ds) ≡ true) × ((d == 48)
 first_value : (d : ℕ) → is_ascii_digit d ≡ true → (d == 48) ≡ false → 0 < digit_value d
 first_value d h n = let e = (digit_code d h).0 in grind (arith, nat_tests)
 
--- a run that is longer spells more
+-- A longer sequence of digits represents a greater number, if its first digit isn't zero.
 pub more_digits : (ds bs : List ℕ) (up down : ℕ) → IsFirst ds → list_all is_ascii_digit bs ≡ true
     → length bs + down < length ds + up → place_value 10 bs * 10 ^ down < place_value 10 ds * 10 ^ up
 unfolding onto
@@ -230,7 +230,7 @@ same_digits ds bs up down hd hb e = go (not_below ds bs) (ordered 0 ds bs up dow
     go true h = omega (arith, h, scaled ds up, scaled bs down)
     go false h = omega (arith, h, scaled ds up, scaled bs down)
 
--- ---- one digit more
+-- ---- a number with one more digit
 
 pub place_more : (ds : List ℕ) (c : ℕ) → place_value 10 (ds ++ (c ∷ [])) ≡ place_value 10 ds * 10 + digit_value c
 place_more [] c = omega arith
@@ -238,7 +238,7 @@ place_more (d ∷ ds) c =
     let long : length (ds ++ (c ∷ [])) ≡ suc (length ds) = length-append ds (c ∷ []) ∙ omega arith in
     rw (long, place_more ds c, pow-suc 10 (length ds)) (omega arith)
 
--- a value, exact where it is below 2 to the 100th
+-- The value of an exponent. It is exact if it is below 2^100.
 abbrev pub IsCapped : ℕ → ℕ → Type 0
 IsCapped capped value = (capped ≡ value) ⊎ ((2 ^ 100 ≤ capped) × (2 ^ 100 ≤ value))
 
@@ -292,7 +292,7 @@ first_digits : (ds : List ℕ) → IsFirst ds → list_all is_ascii_digit ds ≡
 first_digits [] h = absurd h
 first_digits (d ∷ ds) h = h.0
 
--- digits of the numeral without the zeros in front
+-- The digits of a numeral without leading zeros.
 abbrev pub ours_of : List ℕ → List ℕ
 ours_of numeral = without_zeros (digits_only (decimal_part numeral))
 
@@ -327,7 +327,7 @@ none_reach n bs count bound is none reaches =
     long [] g = absurd g
     long (d ∷ ds) g = omega arith
 
--- ---- places of first digits, by an exponent that may be capped
+-- ---- the powers of ten of the first digits, if an exponent above the limit isn't exact
 
 exactly : (m : Bool) (count places bound power value : ℕ) → IsCapped power value → count < 2 ^ 64 → places < 2 ^ 64
     → bound ≤ 309
@@ -354,7 +354,7 @@ exactly false count places bound power value (inr q) c p b = (
   (λ h. absurd (omega (arith, q.0, p, b, h)), λ h. absurd (omega (arith, q.0, p, b, h))),
 )
 
--- what the code finds of a numeral
+-- The parts of a numeral as the code computes them.
 pub record IsMeasured (n bs : List ℕ) (count places power : ℕ) : Type 0 where
   pub bound : IsBound bs
   pub short : length bs ≤ 309
@@ -424,7 +424,7 @@ reach_same n bs count places power s h r is =
       λ x reaches. absurd (omega (arith, c, same, reaches)),
     )
 
--- ---- texts
+-- ---- digits as texts
 
 digits_chars : (bs : List ℕ) → list_all is_ascii_digit bs ≡ true → chars bs ≡ bs
 digits_chars bs h = chars-IsAscii bs (IsAscii-from_all bs (low bs h))

@@ -1,12 +1,13 @@
--- The type of what was found.
-use Rattle.rl_text.proofs.Common.{◌≡◌, ℕ, ◌^◌, ◌-◌, ◌<◌, ◌≢◌, ◌++◌, ◌∙◌, Bool, List, Option, Some, None, IfNone, refl, sym, ap, arith, rules, subst, inl, inr, length, take, chars, chars-IsAscii, chars-append, chars-nil, IsUtf8, AllByRecursion, length-append, take-append_seam}
-use Rattle.rl_reading.proofs.Names.{Kind, Float}
+-- The type of a literal by its parse result.
+use Rattle.rl_syntax.proofs.Common.{◌≡◌, ℕ, ◌^◌, ◌-◌, ◌<◌, ◌≢◌, ◌++◌, ◌∙◌, Bool, List, Option, Some, None, IfNone, refl, sym, ap, arith, rules, subst, inl, inr, length, take, chars, chars-IsAscii, chars-append, chars-nil, IsUtf8, AllByRecursion, length-append, take-append_seam}
+use Rattle.rl_lenient.proofs.Names.{Kind, Float}
 use Rattle.std.proofs.ByRecursion.{IsAscii-from_all}
 use Rattle.rl_types.specs.FloatRange.{IsAtLeast, numeral_of}
 use Rattle.rl_types.specs.NumberTypes.{greatest_of, infinite_from, number_name}
 use Rattle.rl_types.specs.TypeErrors.{HasType, IsFinite, IsInfinite, IsInRange, IsTypeOfFloat, NamesType}
+use Rattle.rl_syntax.specs.declared.integer_type.IntegerType.TheVariants.{U8, U16, U32, U64, U128, Usize, I8, I16, I32, I64, I128, Isize}
 use Rattle.rl_types.specs.declared.number_types.NumberType.{NumberType}
-use Rattle.rl_types.specs.declared.number_types.NumberType.TheVariants.{U8, U16, U32, U64, U128, Usize, I8, I16, I32, I64, I128, Isize, F32, F64}
+use Rattle.rl_types.specs.declared.number_types.NumberType.TheVariants.{Integer, F32, F64}
 use Rattle.rl_types.specs.declared.type_errors.TypeError.{TypeError}
 
 pub same_typed : (k l : Kind) (text : List ℕ) (magnitude : ℕ) (negated : Bool) (a b : List ℕ) (o : Option TypeError) → k
@@ -16,7 +17,7 @@ same_typed k l text magnitude negated a b o e f h =
     subst (λ z. IfNone o (HasType l text magnitude negated z)) f
     (subst (λ z. IfNone o (HasType z text magnitude negated a)) e h)
 
--- a float's magnitude says nothing of it
+-- The type of a float doesn't depend on the magnitude in its parse result.
 pub float_typed : (text : List ℕ) (magnitude : ℕ) (negated : Bool) (suffix : List ℕ) (o : Option TypeError)
     → IfNone o (HasType Float text 0 negated suffix) → IfNone o (HasType Float text magnitude negated suffix)
 float_typed text magnitude negated suffix (Some error) h = tt
@@ -25,42 +26,31 @@ float_typed text magnitude negated suffix None (inr (inl h)) = inr (inl h)
 float_typed text magnitude negated suffix None (inr (inr (t, inl h))) = absurd (let e = h.0 in cc)
 float_typed text magnitude negated suffix None (inr (inr (t, inr h))) = inr (inr (t, inr h))
 
--- an integer of a type of floats is one of the type but where it rounds to infinity
+-- An integer below 2^128 is in the range of a float type, unless the type is `f32` and the integer rounds to infinity.
 pub in_floats : (t : NumberType) (n : Bool) (m : ℕ) → greatest_of t n ≡ None → (t ≡ F32 → m < 2 ^ 128 - 2 ^ 103)
     → m < 2 ^ 128 → IsInRange t m n
-in_floats U8 n m none less fits = absurd (let e = none in cc)
-in_floats U16 n m none less fits = absurd (let e = none in cc)
-in_floats U32 n m none less fits = absurd (let e = none in cc)
-in_floats U64 n m none less fits = absurd (let e = none in cc)
-in_floats U128 n m none less fits = absurd (let e = none in cc)
-in_floats Usize n m none less fits = absurd (let e = none in cc)
-in_floats I8 n m none less fits = absurd (let e = none in cc)
-in_floats I16 n m none less fits = absurd (let e = none in cc)
-in_floats I32 n m none less fits = absurd (let e = none in cc)
-in_floats I64 n m none less fits = absurd (let e = none in cc)
-in_floats I128 n m none less fits = absurd (let e = none in cc)
-in_floats Isize n m none less fits = absurd (let e = none in cc)
+in_floats (Integer t) n m none less fits = absurd (let e = none in cc)
 in_floats F32 n m none less fits = inr (2 ^ 128 - 2 ^ 103, refl, less refl)
 in_floats F64 n m none less fits = inr (2 ^ 1024 - 2 ^ 970, refl, omega (arith, fits))
 
--- ---- what stands before a suffix
+-- ---- the text before a suffix
 
 name_ascii : (t : NumberType) → chars (number_name t) ≡ number_name t
 name_ascii t = chars-IsAscii (number_name t) (IsAscii-from_all (number_name t) (low t))
   where
     low : (u : NumberType) → AllByRecursion (λ b. b < 128) (number_name u)
-    low U8 = search (rules, arith)
-    low U16 = search (rules, arith)
-    low U32 = search (rules, arith)
-    low U64 = search (rules, arith)
-    low U128 = search (rules, arith)
-    low Usize = search (rules, arith)
-    low I8 = search (rules, arith)
-    low I16 = search (rules, arith)
-    low I32 = search (rules, arith)
-    low I64 = search (rules, arith)
-    low I128 = search (rules, arith)
-    low Isize = search (rules, arith)
+    low (Integer U8) = search (rules, arith)
+    low (Integer U16) = search (rules, arith)
+    low (Integer U32) = search (rules, arith)
+    low (Integer U64) = search (rules, arith)
+    low (Integer U128) = search (rules, arith)
+    low (Integer Usize) = search (rules, arith)
+    low (Integer I8) = search (rules, arith)
+    low (Integer I16) = search (rules, arith)
+    low (Integer I32) = search (rules, arith)
+    low (Integer I64) = search (rules, arith)
+    low (Integer I128) = search (rules, arith)
+    low (Integer Isize) = search (rules, arith)
     low F32 = search (rules, arith)
     low F64 = search (rules, arith)
 
@@ -86,18 +76,7 @@ infinite_float t text numeral suffix typed same infinite =
     (t, typed, subst (λ z. IsInfinite t z) (sym same) infinite)
 
 least_of : (t : NumberType) (n : Bool) → greatest_of t n ≡ None → (least : ℕ) × (infinite_from t ≡ Some least)
-least_of U8 n none = absurd (let e = none in cc)
-least_of U16 n none = absurd (let e = none in cc)
-least_of U32 n none = absurd (let e = none in cc)
-least_of U64 n none = absurd (let e = none in cc)
-least_of U128 n none = absurd (let e = none in cc)
-least_of Usize n none = absurd (let e = none in cc)
-least_of I8 n none = absurd (let e = none in cc)
-least_of I16 n none = absurd (let e = none in cc)
-least_of I32 n none = absurd (let e = none in cc)
-least_of I64 n none = absurd (let e = none in cc)
-least_of I128 n none = absurd (let e = none in cc)
-least_of Isize n none = absurd (let e = none in cc)
+least_of (Integer t) n none = absurd (let e = none in cc)
 least_of F32 n none = (2 ^ 128 - 2 ^ 103, refl)
 least_of F64 n none = (2 ^ 1024 - 2 ^ 970, refl)
 
@@ -107,7 +86,7 @@ finite_float t n text numeral suffix none same finite =
     let (least, is) = least_of t n none in
     (least, is, λ reaches. finite (least, is, subst (λ z. IsAtLeast least z) same reaches))
 
--- a float with the suffix of an integer
+-- If the type that a float's suffix selects is an integer type, the suffix is the name of this type.
 pub integer_suffix : (s : List ℕ) (t : NumberType) (n : Bool) → IsTypeOfFloat s t → greatest_of t n ≢ None
     → (u : NumberType) × NamesType s u × (greatest_of u n ≢ None)
 integer_suffix s t n (inl named) some = (t, named, some)

@@ -1,3 +1,4 @@
--- Mirrors of the code: programs on lists of characters that code is proved equal to. No public clause cites one.
+-- Executable models of the code: functions on lists of characters that the code is proved equal to. No public contract mentions
+-- one.
 
 pub mod Floats

@@ -1,4 +1,4 @@
-//! What stands right before a literal.
+//! Rules about the text directly before a literal: a minus, and prefixes that an edition of Rust reserves.
 
 ghost use Rattle.std.specs.Prelude.{◌≡◌, ◌≤◌, length, option_map};
 ghost use Rattle.std.specs.Prelude.{reverse};
@@ -7,30 +7,30 @@ ghost use Rattle.rl_types.specs.Before.{has_part, holds_comment, is_after_hashes
 /// An edition of Rust.
 #[derive(Clone, Copy, PartialEq, Eq, Debug)]
 pub enum Edition {
-    /// 2015.
+    /// The edition Rust 2015.
     E2015,
-    /// 2018.
+    /// The edition Rust 2018.
     E2018,
-    /// 2021.
+    /// The edition Rust 2021.
     E2021,
-    /// 2024.
+    /// The edition Rust 2024.
     E2024,
 }
 
-/// A class of bytes that may stand right before a literal.
+/// A class of bytes that may occur directly before a literal.
 #[derive(Clone, Copy)]
 enum Part {
-    /// White space of ASCII within a line, and opening parentheses.
+    /// ASCII white space within a line, and opening parentheses.
     Inline,
-    /// The same, and line ends.
+    /// ASCII white space, line ends, and opening parentheses.
     Passed,
-    /// The hashes of a raw string.
+    /// The hashes of a raw string: `#`.
     Hash,
-    /// Letters and digits of ASCII, and `_`.
+    /// ASCII letters and digits, and `_`.
     Word,
 }
 
-/// Whether the byte is one of the class.
+/// Whether `byte` is in the class `part`.
 fn has_part(part: Part, byte: u8) -> bool
     ensures { result ≡ has_part part byte }
 {
@@ -42,7 +42,7 @@ fn has_part(part: Part, byte: u8) -> bool
     }
 }
 
-/// The bytes without those at their end that are of the class.
+/// Returns `bytes` without the bytes at its end that are in the class `part`.
 fn trimmed(bytes: &[u8], part: Part) -> &[u8]
     ensures bytes { result.now ≡ without part bytes.now }
     ensures within { length result.now ≤ length bytes.now }
@@ -57,7 +57,7 @@ fn trimmed(bytes: &[u8], part: Part) -> &[u8]
     left
 }
 
-/// Whether two slashes stand in the last line.
+/// Whether the last line of `bytes` contains two slashes next to each other, which may begin a comment.
 fn holds_comment(bytes: &[u8]) -> bool
     ensures { result ≡ holds_comment (reverse bytes.now) }
 {
@@ -74,8 +74,10 @@ fn holds_comment(bytes: &[u8]) -> bool
     false
 }
 
-/// What stands before, but for white space, line ends and opening parentheses. `None` where a comment may hide it: where a slash or a
-/// character past ASCII comes before these, or they begin a line and two slashes stand in the one before.
+/// Returns the text `before` a literal without the white space, line ends and opening parentheses at its end.
+///
+/// Returns `None` if a comment may hide the text: if a slash or a non-ASCII character precedes the removed part, or if a line
+/// begins in the removed part and the line before contains two slashes.
 fn seen_before(before: &str) -> Option<&[u8]>
     ensures { option_map (λ front. front.now) result ≡ seen_before before.now }
 {
@@ -88,8 +90,10 @@ fn seen_before(before: &str) -> Option<&[u8]>
     Some(all)
 }
 
-/// Whether a minus may stand before a literal, of the text before it: it does, but for white space, comments and opening parentheses,
-/// or what may be a comment hides whether it does.
+/// Returns `true` if a minus may precede a literal, where `before` is the text before it.
+///
+/// The minus may be separated from the literal by white space, comments and opening parentheses. The result is also `true` if a
+/// possible comment hides whether there is a minus.
 pub fn may_be_negated(before: &str) -> bool
     ensures { result ≡ may_negate before.now }
 {
@@ -99,7 +103,8 @@ pub fn may_be_negated(before: &str) -> bool
     }
 }
 
-/// Whether a word ends here that is no number and no part of a literal, a lifetime or a raw identifier.
+/// Whether `bytes` ends with an identifier or a keyword that is neither a number nor a part of a literal, a lifetime or a raw
+/// identifier.
 fn is_after_word(bytes: &[u8]) -> bool
     ensures { result ≡ is_after_word bytes.now }
 {
@@ -108,16 +113,18 @@ fn is_after_word(bytes: &[u8]) -> bool
     !matches!(word, [] | [b'0'..=b'9', ..]) && !matches!(front, [.., b'"' | b'\'' | b'#' | 128..])
 }
 
-/// Whether hashes end here that don't close a raw string.
+/// Whether `bytes` ends with hashes that don't close a raw string. `front` is the part of `bytes` before these hashes.
 fn is_after_hashes(bytes: &[u8], front: &[u8]) -> bool
     ensures { result ≡ is_after_hashes bytes.now front.now }
 {
     matches!(bytes, [.., b'#']) && !matches!(front, [.., b'"'])
 }
 
-/// From which edition on Rust reserves what a literal and the text before it form: a word or hashes right before a quote, as
-/// `f"x"`, `c'a'` and `f#"x"#` from 2021 on, and `#"x"#` from 2024 on. `None` where it is none of these, or may be part of a number, of
-/// another literal, a lifetime or a raw identifier.
+/// Returns the first edition of Rust that reserves the literal together with the text before it, or `None` if no edition does.
+///
+/// From 2021 on, an identifier directly before a quote is reserved, with or without hashes between them: `f"x"`, `c'a'` and
+/// `f#"x"#`. From 2024 on, hashes alone are too: `#"x"#`. The result is also `None` if the text before may be part of a number,
+/// of another literal, of a lifetime or of a raw identifier.
 pub fn reserved_from(before: &str, literal: &str) -> Option<Edition>
     ensures { result ≡ reserving before.now literal.now }
 {
@@ -130,7 +137,7 @@ pub fn reserved_from(before: &str, literal: &str) -> Option<Edition>
 }
 
 impl Edition {
-    /// The year of its name.
+    /// Returns the year of the edition, for example 2021.
     pub fn year(self) -> u16
         ensures { result ≡ year_of self }
     {
@@ -142,7 +149,7 @@ impl Edition {
         }
     }
 
-    /// Whether Rust of this edition reserves what a literal and the text before it form.
+    /// Returns `true` if this edition of Rust reserves the literal together with the text before it.
     pub fn reserves(self, before: &str, literal: &str) -> bool
         ensures { result ≡ reserved self before.now literal.now }
     {

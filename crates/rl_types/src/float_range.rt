@@ -1,40 +1,40 @@
-//! Decimal numbers that round to infinity.
+//! Checks whether a decimal number rounds to infinity as an `f32` or `f64`.
 
 ghost use Rattle.std.specs.Prelude.{◌≡◌, ◌==◌, ◌*◌, ◌^◌, ◌≤◌, ◌<◌, ◌⊎◌, ℕ, List, [], ◌∷◌, true, false, cond, nat_lt, IfNone, IfSome, IsTrue, length};
 ghost use Rattle.std.specs.Char.{is_ascii_digit};
 ghost use Rattle.std.specs.List.{list_any};
 ghost use Rattle.std.specs.Str.{chars};
-ghost use Rattle.rl_text.specs.Texts.{code};
-ghost use Rattle.rl_forms.specs.Numbers.{is_exponent_letter};
-ghost use Rattle.rl_forms.specs.Spelling.{place_value};
+ghost use Rattle.rl_syntax.specs.Texts.{code};
+ghost use Rattle.rl_syntax.specs.Numbers.{is_exponent_letter};
+ghost use Rattle.rl_syntax.specs.Spelling.{place_value};
 ghost use Rattle.rl_types.specs.FloatRange.{IsAtLeast, after_point, power_part, decimal_part, digits_only};
 ghost use Rattle.rl_types.specs.Mirrors.Floats.{IsBound, not_below, without_zeros};
 ghost use Rattle.rl_types.specs.TypeErrors.{IsInfinite};
 
 use crate::number_types::NumberType;
-use rl_text::text::{before, split_char};
+use rl_syntax::text::{before, split_char};
 
-/// An exponent from here on is past every other place of a number: no text has as many digits.
+/// A limit for exponents: an exponent of at least this value exceeds the number of digits in any text.
 const HUGE: u128 = 1 << 100;
 
-/// The digits of 2 to the 128th less 2 to the 103rd.
+/// The decimal digits of 2^128 - 2^103, the smallest number that rounds to infinity as an `f32`.
 const F32_DIGITS: &str = "340282356779733661637539395458142568448";
 
-/// The digits of 2 to the 1024th less 2 to the 970th.
+/// The decimal digits of 2^1024 - 2^970, the smallest number that rounds to infinity as an `f64`.
 const F64_DIGITS: &str =
     "1797693134862315807937289714053034150799341327100378269361737789804449682927647509466\
      4901797758720709633028641669288791094655554785194040263065748867150582068190890200070\
      8383676273854845817711531764475730270069855571366959622842914819860834936475292719074\
      168444365510704342711559699508093042880177904174497792";
 
-/// Whether the character begins an exponent.
+/// Whether the character begins an exponent: `e` or `E`.
 fn is_exponent_letter(c: char) -> bool
     ensures { result ≡ is_exponent_letter c }
 {
     matches!(c, 'e' | 'E')
 }
 
-/// What stands before the letter of the exponent, and after it.
+/// Splits a number's text at the letter of its exponent, and returns the text before the letter and the text after it.
 fn split_letter(numeral: &str) -> (&str, &str)
     ensures before { chars result.0.now ≡ decimal_part (chars numeral.now) }
     ensures after { chars result.1.now ≡ power_part (chars numeral.now) }
@@ -49,7 +49,7 @@ fn split_letter(numeral: &str) -> (&str, &str)
     (numeral, rest)
 }
 
-/// What stands after the dot.
+/// Returns the text after its first dot, or an empty text if it has no dot.
 fn after_point(text: &str) -> &str
     ensures { chars result.now ≡ after_point (chars text.now) }
 {
@@ -63,7 +63,7 @@ fn after_point(text: &str) -> &str
     rest
 }
 
-/// Whether there is a minus.
+/// Whether the text contains a minus.
 fn has_minus(text: &str) -> bool
     ensures { result ≡ list_any (λ c. c == code "-") (chars text.now) }
 {
@@ -77,7 +77,7 @@ fn has_minus(text: &str) -> bool
     false
 }
 
-/// The first digit, and what stands after it.
+/// Returns the first ASCII digit in the text, and the text after this digit.
 fn split_digit(text: &str) -> Option<(char, &str)>
     ensures some { IfSome result (λ p. IsTrue (is_ascii_digit p.0)
         × (digits_only (chars text.now) ≡ p.0 ∷ digits_only (chars p.1.now)) × (length p.1.now < length text.now)) }
@@ -93,7 +93,7 @@ fn split_digit(text: &str) -> Option<(char, &str)>
     None
 }
 
-/// The text from the first digit on that isn't zero.
+/// Returns the text from its first nonzero digit on. Characters that aren't digits are skipped too.
 fn skip_zeros(text: &str) -> &str
     ensures { digits_only (chars result.now) ≡ without_zeros (digits_only (chars text.now)) }
 {
@@ -104,7 +104,7 @@ fn skip_zeros(text: &str) -> &str
     rest
 }
 
-/// How many digits there are.
+/// Returns the number of ASCII digits in the text.
 fn count_digits(text: &str) -> usize
     ensures count { result ≡ length (digits_only (chars text.now)) }
     ensures fits { result < 2 ^ 64 }
@@ -118,7 +118,8 @@ fn count_digits(text: &str) -> usize
     count
 }
 
-/// What the digits spell, exactly below `HUGE`.
+/// Returns the number that the decimal digits in the text represent. The number is exact if it is below `HUGE`; otherwise the
+/// result is at least `HUGE`.
 fn capped_value(text: &str) -> u128
     ensures value { (result ≡ place_value 10 (digits_only (chars text.now)))
         ⊎ ((HUGE ≤ result) × (HUGE ≤ place_value 10 (digits_only (chars text.now)))) }
@@ -135,7 +136,7 @@ fn capped_value(text: &str) -> u128
     value
 }
 
-/// The first digit, and what stands after it; a zero where there is none.
+/// Returns the first ASCII digit in the text and the text after it, or `'0'` and an empty text if there is no digit.
 fn digit_or_zero(text: &str) -> (char, &str)
     ensures { (b : ℕ) (bs : List ℕ) → not_below (digits_only (chars text.now)) (b ∷ bs)
         ≡ cond (result.0 == b) (not_below (digits_only (chars result.1.now)) bs) (nat_lt b result.0) }
@@ -146,7 +147,8 @@ fn digit_or_zero(text: &str) -> (char, &str)
     }
 }
 
-/// Whether the digits aren't below those of the bound, where the first ones have the same power of ten.
+/// Whether the number with the digits `digits` is at least the one with the digits `bound`, where the first digit of each has
+/// the same power of ten.
 fn is_not_below(digits: &str, bound: &str) -> bool
     ensures { result ≡ not_below (digits_only (chars digits.now)) (chars bound.now) }
 {
@@ -163,14 +165,14 @@ fn is_not_below(digits: &str, bound: &str) -> bool
     true
 }
 
-/// The value, or zero.
+/// Returns `value` if `condition` is true, and 0 otherwise.
 fn value_if(condition: bool, value: u128) -> u128
     ensures { result ≡ cond condition value 0 }
 {
     if condition { value } else { 0 }
 }
 
-/// Whether a number is at least the one that the digits of the bound spell.
+/// Whether the decimal number `numeral` is at least the integer that the digits `bound` represent.
 fn reaches(bound: &str, numeral: &str) -> bool
     requires bound { IsBound bound.now }
     requires short { length bound.now ≤ 309 }
@@ -197,7 +199,7 @@ fn reaches(bound: &str, numeral: &str) -> bool
     is_not_below(digits, bound)
 }
 
-/// Whether the number rounds to infinity in the type; none does in a type of integers.
+/// Whether the decimal number `numeral` rounds to infinity as the type `ty`. In an integer type the result is `false`.
 pub(crate) fn is_infinite(ty: NumberType, numeral: &str) -> bool
     ensures yes { result ≡ true → IsInfinite ty (chars numeral.now) }
     ensures no { result ≡ false → IsInfinite ty (chars numeral.now) → ⊥ }

@@ -1,4 +1,4 @@
-//! What Rust allows of a literal: which suffix it may have, which value, and what may stand right before it. No memory is taken.
+//! Rust's rules for a literal beyond its grammar: its suffix, its range, and the text directly before it. Nothing is allocated.
 #![tactic(auto)]
 
 mod before;
@@ -8,5 +8,5 @@ mod number_types;
 mod type_errors;
 
 pub use crate::before::{Edition, may_be_negated, reserved_from};
-pub use crate::number_types::{NumberType, greatest, type_named};
+pub use crate::number_types::{NumberType, max_integer, type_named};
 pub use crate::type_errors::{TypeError, type_error};

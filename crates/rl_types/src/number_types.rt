@@ -1,69 +1,63 @@
-//! The types of numbers.
+//! The number types of Rust, and the greatest integer of each.
 
 ghost use Rattle.std.specs.Prelude.{◌≡◌, ◌≢◌, IfNone, IfSome};
-ghost use Rattle.rl_types.specs.NumberTypes.{greatest_of, number_name};
+ghost use Rattle.rl_types.specs.NumberTypes.{greatest_integer, greatest_of, number_name};
 ghost use Rattle.rl_types.specs.declared.number_types.NumberType.{NumberType as AnyType};
 
-/// A type of numbers.
+use rl_syntax::IntegerType;
+
+/// A number type of Rust: an integer type, `f32` or `f64`.
 #[derive(Clone, Copy, PartialEq, Eq, Debug)]
 pub enum NumberType {
-    U8,
-    U16,
-    U32,
-    U64,
-    U128,
-    Usize,
-    I8,
-    I16,
-    I32,
-    I64,
-    I128,
-    Isize,
+    Integer(IntegerType),
     F32,
     F64,
 }
 
-/// The type that a suffix names; `None` where it names none.
+/// Returns the number type that the suffix names, or `None` if it names none.
 pub fn type_named(suffix: &str) -> Option<NumberType>
     ensures some { IfSome result (λ t. suffix.now ≡ number_name t) }
     ensures none { IfNone result ((t : AnyType) → suffix.now ≢ number_name t) }
 {
     match suffix {
-        "u8" => Some(NumberType::U8),
-        "u16" => Some(NumberType::U16),
-        "u32" => Some(NumberType::U32),
-        "u64" => Some(NumberType::U64),
-        "u128" => Some(NumberType::U128),
-        "usize" => Some(NumberType::Usize),
-        "i8" => Some(NumberType::I8),
-        "i16" => Some(NumberType::I16),
-        "i32" => Some(NumberType::I32),
-        "i64" => Some(NumberType::I64),
-        "i128" => Some(NumberType::I128),
-        "isize" => Some(NumberType::Isize),
         "f32" => Some(NumberType::F32),
         "f64" => Some(NumberType::F64),
-        _ => None,
+        _ => match IntegerType::named(suffix) {
+            Some(ty) => Some(NumberType::Integer(ty)),
+            None => None,
+        },
     }
 }
 
-/// The greatest integer that a literal of the type may be, `usize` and `isize` with 64 bits; `None` of floats. Where a minus
-/// stands before it, a signed type has one more.
-pub fn greatest(ty: NumberType, negated: bool) -> Option<u128>
-    ensures { result ≡ greatest_of ty negated }
+/// Returns the greatest integer that a literal of the integer type `ty` may be. `usize` and `isize` have 64 bits.
+///
+/// If a minus precedes the literal (`negated`), a signed type allows an integer that is greater by one.
+fn greatest_integer(ty: IntegerType, negated: bool) -> u128
+    ensures { result ≡ greatest_integer ty negated }
 {
     let more = if negated { 1 } else { 0 };
     match ty {
-        NumberType::U8 => Some(0xFF),
-        NumberType::U16 => Some(0xFFFF),
-        NumberType::U32 => Some(0xFFFF_FFFF),
-        NumberType::U64 | NumberType::Usize => Some(0xFFFF_FFFF_FFFF_FFFF),
-        NumberType::U128 => Some(0xFFFF_FFFF_FFFF_FFFF_FFFF_FFFF_FFFF_FFFF),
-        NumberType::I8 => Some(0x7F + more),
-        NumberType::I16 => Some(0x7FFF + more),
-        NumberType::I32 => Some(0x7FFF_FFFF + more),
-        NumberType::I64 | NumberType::Isize => Some(0x7FFF_FFFF_FFFF_FFFF + more),
-        NumberType::I128 => Some(0x7FFF_FFFF_FFFF_FFFF_FFFF_FFFF_FFFF_FFFF + more),
+        IntegerType::U8 => 0xFF,
+        IntegerType::U16 => 0xFFFF,
+        IntegerType::U32 => 0xFFFF_FFFF,
+        IntegerType::U64 | IntegerType::Usize => 0xFFFF_FFFF_FFFF_FFFF,
+        IntegerType::U128 => 0xFFFF_FFFF_FFFF_FFFF_FFFF_FFFF_FFFF_FFFF,
+        IntegerType::I8 => 0x7F + more,
+        IntegerType::I16 => 0x7FFF + more,
+        IntegerType::I32 => 0x7FFF_FFFF + more,
+        IntegerType::I64 | IntegerType::Isize => 0x7FFF_FFFF_FFFF_FFFF + more,
+        IntegerType::I128 => 0x7FFF_FFFF_FFFF_FFFF_FFFF_FFFF_FFFF_FFFF + more,
+    }
+}
+
+/// Returns the greatest integer that a literal of the type `ty` may be, or `None` for a float type.
+///
+/// If a minus precedes the literal (`negated`), a signed type allows an integer that is greater by one.
+pub fn max_integer(ty: NumberType, negated: bool) -> Option<u128>
+    ensures { result ≡ greatest_of ty negated }
+{
+    match ty {
+        NumberType::Integer(ty) => Some(greatest_integer(ty, negated)),
         NumberType::F32 | NumberType::F64 => None,
     }
 }

@@ -1,31 +1,31 @@
-//! What Rust's types don't allow of a literal.
+//! Checks whether Rust has a type for a literal: its suffix, and its range.
 
 ghost use Rattle.std.specs.Prelude.{◌≡◌, ◌≢◌, ◌==◌, ◌++◌, [], None, IfNone, IfSome};
 ghost use Rattle.std.specs.Str.{chars};
-ghost use Rattle.rl_text.specs.Texts.{code, first_passes};
-ghost use Rattle.rl_forms.specs.Numbers.{begins_base as is_of_base};
-ghost use Rattle.rl_forms.specs.declared.kind.Kind.TheVariants.{Int, Float};
-ghost use Rattle.rl_reading.specs.Founds.{IsFound, suffix_in};
+ghost use Rattle.rl_syntax.specs.Texts.{code, first_passes};
+ghost use Rattle.rl_syntax.specs.Numbers.{begins_base as is_of_base};
+ghost use Rattle.rl_syntax.specs.declared.kind.Kind.TheVariants.{Int, Float};
+ghost use Rattle.rl_lenient.specs.Founds.{IsFound, suffix_in};
 ghost use Rattle.rl_types.specs.NumberTypes.{greatest_of};
 ghost use Rattle.rl_types.specs.declared.type_errors.TypeError.TheVariants.{OutOfRange};
 ghost use Rattle.rl_types.specs.TypeErrors.{HasTypeError, HasType, IsInRange, IsPastRange, IsTypeOfFloat, NamesNone};
 
 use crate::float_range::is_infinite;
-use crate::number_types::{NumberType, greatest, type_named};
-use rl_forms::Kind;
-use rl_reading::Found;
-use rl_text::text::{before, begins};
+use crate::number_types::{NumberType, max_integer, type_named};
+use rl_lenient::Found;
+use rl_syntax::Kind;
+use rl_syntax::text::{before, begins};
 
-/// Why no type of Rust has a literal.
+/// The reason why Rust has no type for a literal.
 #[derive(Clone, Copy, PartialEq, Eq, Debug)]
 pub enum TypeError {
-    /// A string, a character or a byte has a suffix.
+    /// A string, a character or a byte has a suffix. Rust allows suffixes only for numbers.
     QuotedSuffix,
-    /// The suffix of a number names no type of numbers.
+    /// The suffix of a number isn't the name of a number type.
     UnknownSuffix,
-    /// The suffix of a float names a type of integers.
+    /// The suffix of a float is the name of an integer type.
     FloatSuffix,
-    /// The suffix of a binary, octal or hexadecimal integer is that of a float.
+    /// A binary, octal or hexadecimal integer has a suffix that begins with `f`, as a float's suffix does.
     BasedFloat,
     /// The integer is out of its type's range, or the float rounds to infinity.
     OutOfRange,
@@ -34,20 +34,20 @@ pub enum TypeError {
 impl TypeError {
     ghost use Rattle.rl_types.specs.ErrorWords.{type_error_id, type_error_message};
 
-    /// What is wrong, in words.
-    pub fn words(self) -> &'static str
+    /// Returns the error message, for example `unknown suffix`.
+    pub fn message(self) -> &'static str
         ensures { result.now ≡ type_error_message self }
     {
         match self {
             TypeError::QuotedSuffix => "only numbers have suffixes",
             TypeError::UnknownSuffix => "unknown suffix",
             TypeError::FloatSuffix => "a float's suffix is f32 or f64",
-            TypeError::BasedFloat => "floats have base ten alone",
+            TypeError::BasedFloat => "a float must be decimal",
             TypeError::OutOfRange => "out of its type's range",
         }
     }
 
-    /// What is wrong, by a name that stays, for programs.
+    /// Returns the identifier of the error, for example `unknown-suffix`. It never changes.
     pub fn id(self) -> &'static str
         ensures { result.now ≡ type_error_id self }
     {
@@ -61,24 +61,24 @@ impl TypeError {
     }
 }
 
-/// Whether the text begins with the prefix of a base.
+/// Whether the number's text begins with the prefix of a base: `0b`, `0o` or `0x`.
 fn is_of_base(text: &str) -> bool
     ensures { result ≡ is_of_base (chars text.now) }
 {
     begins(text, "0b") || begins(text, "0o") || begins(text, "0x")
 }
 
-/// Whether the suffix begins as that of a float.
+/// Whether the suffix begins with `f`, as a float's suffix does.
 fn begins_float(suffix: &str) -> bool
     ensures { result ≡ first_passes (λ b. b == code "f") suffix.now }
 {
     matches!(suffix.as_bytes(), [b'f', ..])
 }
 
-/// 2 to the 128th less 2 to the 103rd.
+/// The number 2^128 - 2^103, the smallest that rounds to infinity as an `f32`.
 const F32_INFINITE: u128 = 0xFFFF_FF80_0000_0000_0000_0000_0000_0000;
 
-/// Why an integer has not this type of floats.
+/// Returns the error of a decimal integer whose suffix is the float type `ty` and that rounds to infinity in this type.
 fn infinite_error(ty: NumberType, magnitude: u128, negated: bool) -> Option<TypeError>
     requires { greatest_of ty negated ≡ None }
     ensures some { IfSome result (λ error. (error ≡ OutOfRange) × IsPastRange ty magnitude negated) }
@@ -95,19 +95,19 @@ fn infinite_error(ty: NumberType, magnitude: u128, negated: bool) -> Option<Type
     }
 }
 
-/// Why an integer has not this type.
+/// Returns the error of an integer that the number type `ty` can't represent.
 fn range_error(ty: NumberType, magnitude: u128, negated: bool) -> Option<TypeError>
     ensures some { IfSome result (λ error. (error ≡ OutOfRange) × IsPastRange ty magnitude negated) }
     ensures none { IfNone result (IsInRange ty magnitude negated) }
 {
-    match greatest(ty, negated) {
+    match max_integer(ty, negated) {
         Some(most) if magnitude > most => Some(TypeError::OutOfRange),
         Some(_) => None,
         None => infinite_error(ty, magnitude, negated),
     }
 }
 
-/// Why no type has an integer with this suffix.
+/// Returns the error of an integer with the suffix `suffix` that Rust has no type for.
 fn integer_error(text: &str, suffix: &str, magnitude: u128, negated: bool) -> Option<TypeError>
     requires { suffix.now ≢ [] }
     ensures some { IfSome result (λ error. HasTypeError error Int (chars text.now) magnitude negated suffix.now) }
@@ -122,7 +122,7 @@ fn integer_error(text: &str, suffix: &str, magnitude: u128, negated: bool) -> Op
     }
 }
 
-/// The type of a float with the suffix; `None` where it names none.
+/// Returns the type of a float with the suffix `suffix`: `f64` without a suffix, or `None` if the suffix is unknown.
 fn type_of_float(suffix: &str) -> Option<NumberType>
     ensures some { IfSome result (λ t. IsTypeOfFloat suffix.now t) }
     ensures none { IfNone result ((suffix.now ≢ []) × NamesNone suffix.now) }
@@ -133,7 +133,7 @@ fn type_of_float(suffix: &str) -> Option<NumberType>
     type_named(suffix)
 }
 
-/// Why a float with this numeral has not this type of floats.
+/// Returns the error of a float that rounds to infinity as the float type `ty`. `numeral` is its text without the suffix.
 fn decimal_error(
     ty: NumberType,
     text: &str,
@@ -153,7 +153,7 @@ fn decimal_error(
     None
 }
 
-/// Why no type has a float with this numeral and this suffix.
+/// Returns the error of a float that Rust has no type for. `numeral` is its text without the suffix.
 fn float_error(text: &str, numeral: &str, suffix: &str, negated: bool) -> Option<TypeError>
     requires { text.now ≡ numeral.now ++ suffix.now }
     ensures some { IfSome result (λ error. HasTypeError error Float (chars text.now) 0 negated suffix.now) }
@@ -162,18 +162,20 @@ fn float_error(text: &str, numeral: &str, suffix: &str, negated: bool) -> Option
     let Some(ty) = type_of_float(suffix) else {
         return Some(TypeError::UnknownSuffix);
     };
-    match greatest(ty, negated) {
+    match max_integer(ty, negated) {
         Some(_) => Some(TypeError::FloatSuffix),
         None => decimal_error(ty, text, numeral, suffix, negated),
     }
 }
 
-/// Why Rust has no type for a literal that reads: its suffix names none, or it is out of that type's range. `None` where there is
-/// one, as for an integer without a suffix: then Rust infers it. A float is out of range where its number rounds to infinity, without
-/// a suffix that of `f64`.
+/// Returns the reason why Rust has no type for a literal, or `None` if it has one.
 ///
-/// `found` is the literal's reading; `negated` says whether a minus may stand before it, which makes `128i8` a value of its type.
-/// No memory is taken.
+/// The reason is a suffix that isn't the name of a fitting type, or a number that is out of its type's range. An integer
+/// without a suffix has no error: Rust infers its type. A float is out of range if it rounds to infinity in its type, which is
+/// `f64` without a suffix.
+///
+/// `text` is the text of the literal, and `found` its parse result. If a minus may precede the literal, `negated` is true; then
+/// `128i8` is in range. Nothing is allocated.
 pub fn type_error(text: &str, found: &Found, negated: bool) -> Option<TypeError>
     requires { IsFound text.now found.now }
     ensures some { IfSome result (λ error. HasTypeError error found.now.kind (chars text.now) found.now.magnitude negated

@@ -1,4 +1,4 @@
--- A server's settings: the port and the name that attributes set.
+-- Lemmas about a server's settings: the port and the name that attributes set.
 use Rattle.std.proofs.Common.{◌≡◌, inl, inr, ℕ, List, Any, Option, Some, None, Result, Ok, Err, sym, ◌∙◌, ap, codes}
 use Rattle.std.specs.Prelude.{String, string_bytes, IsOkAnd}
 use Rattle.std.specs.Option.{unwrap_or}
@@ -12,13 +12,13 @@ use Rattle.rl_attributes.specs.TextSettings.{AreDigitsAt, IsNamed, IsSomeNumberO
 use Rattle.rl_attributes.proofs.Theorems.{an_entry_is_an_attribute, set_of_set_or}
 use Rattle.rl_uses.specs.Configs.{IsPort, IsServerName}
 
--- ---- the port
+-- ---- lemmas about the port
 
--- the number type gives numbers of 16 bits
+-- The number type's `from_str` parses unsigned numbers of 16 bits.
 abbrev Parses : {E : Type 0} → (List ℕ → Result ℕ E → Type 0) → Type 0
 Parses {E = E} gives = (digits : List ℕ) (r : Result ℕ E) → gives digits r → ParsesUnsigned 16 10 digits r
 
--- the answer is this port
+-- The result isn't an error, and gives the port `port`: the number that is set, or 80 if the result is `None`.
 abbrev IsPortAnswer : {E : Type 0} → ℕ → Result (Option ℕ) E → Type 0
 IsPortAnswer port (Ok o) = unwrap_or o 80 ≡ port
 IsPortAnswer port (Err e) = ⊥
@@ -37,7 +37,7 @@ port_exactly gives (Ok (Some n)) list port parses exactly unset (inr (none, e)) 
 port_exactly gives (Ok None) list port parses exactly unset (inr (none, e)) = sym e
 port_exactly gives (Err e) list port parses exactly unset (inr (none, is)) = unset none
 
--- ---- the name
+-- ---- lemmas about the server's name
 
 pub name_some : {B : Type 0} (v : String B) (name : List ℕ) (list : List Attribute)
     → IsStringAt (codes "name") (string_bytes v) list

@@ -1,4 +1,4 @@
--- How often elements stand in a list, one element after another.
+-- Lemmas about counting how often elements occur in a list, one element after another.
 use Rattle.std.proofs.Common.{◌≡◌, ℕ, zero, suc, ◌+◌, Bool, true, false, cond, List, [], ◌∷◌, ◌++◌, Option, None, Some, All, count_by, find, unwrap_or, refl, sym, ap, ◌∙◌, arith}
 use Rattle.std.proofs.lemmas.List.Elements.{All-nil, All-cons, All-weaker}
 use Rattle.std.proofs.lemmas.List.Folds.{find-append}
@@ -10,7 +10,7 @@ use Rattle.std.specs.Option.{option_or}
 use Rattle.std.specs.Cmp.{IsEquivalence}
 use Rattle.rl_uses.specs.Counts.{some_times}
 
--- the number that is stored, or zero where none is
+-- A count that is stored as `None` for zero has zero as its value.
 pub some_times_value : (n : ℕ) → unwrap_or (some_times n) 0 ≡ n
 some_times_value zero = refl
 some_times_value (suc n) = refl
@@ -18,7 +18,7 @@ some_times_value (suc n) = refl
 some_times_more : (n : ℕ) → some_times (n + 1) ≡ Some (n + 1)
 some_times_more n = let e : n + 1 ≡ suc n = omega arith in rw e refl
 
--- what one more element makes of the numbers
+-- If an element is appended to a list, the count of elements equal to it grows by 1, and other counts are unchanged.
 pub times_more : {K : Type 0} (eq : K → K → Bool) → IsEquivalence eq → (xs : List K) (y q : K)
     → some_times (count_by (eq q) (xs ++ (y ∷ []))) ≡ cond (eq y q) (Some (count_by (eq y) xs + 1))
     (some_times (count_by (eq q) xs))
@@ -36,7 +36,7 @@ times_more {K} eq laws xs y q = go (eq y q) refl
         ap some_times one ∙ some_times_more (count_by (eq y) xs)
     go false e = ap some_times (rw (laws.symm q y ∙ e) at grown ∙ omega arith)
 
--- where no element passes, none is found
+-- If no element of a list passes a test, the search for such an element finds none.
 none_found : {K : Type 0} (p : K → Bool) (xs : List K) → count_by p xs ≡ 0 → find p xs ≡ None
 none_found p [] e = refl
 none_found {K} p (x ∷ xs) e = go (p x) refl (none_found p xs)
@@ -52,12 +52,12 @@ none_counted : (n : ℕ) → None ≡ some_times n → n ≡ 0
 none_counted zero e = refl
 none_counted (suc n) e = absurd (cc)
 
--- no keys yet
+-- In an empty map each key is the first of its equals in the empty list, since there are no keys.
 pub firsts_none : {K S : Type 0} (eq : K → K → Bool) (m : HashMap K ℕ S) → IsEmpty m
     → All (λ k. find (eq k) [] ≡ Some k) (keys m)
 firsts_none eq m e = rw e (All-nil (λ k. find (eq k) [] ≡ Some k))
 
--- each key stays the first of its equals when one element is counted
+-- If one more element is counted, each key of the map is still the first element of the list that equals it.
 pub firsts_more : {K S : Type 0} (eq : K → K → Bool) → IsEquivalence eq
     → (xs : List K) (y : K) (m n : HashMap K ℕ S) (v : ℕ) (old : Option ℕ) → old ≡ some_times (count_by (eq y) xs)
     → PutsEntry eq m n y v old → All (λ k. find (eq k) xs ≡ Some k) (keys m)

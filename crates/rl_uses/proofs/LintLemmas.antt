@@ -1,18 +1,18 @@
--- The spans of strings with control characters, one literal after another.
+-- Lemmas about the linter for control characters, which checks one literal after another.
 use Rattle.std.proofs.Common.{inl, inr, true, false, List, [], ◌∷◌, ◌++◌, refl, ap}
-use Rattle.rl_text.specs.declared.span.Span.{Span}
+use Rattle.rl_syntax.specs.declared.span.Span.{Span}
 use Rattle.rust_literals.specs.declared.lit.Lit.{Lit}
 use Rattle.rust_literals.specs.LitParts.{lit_span}
 use Rattle.rl_uses.specs.Lints.{ReportsLintError, AreErrors}
 
--- one literal more that is no error
+-- If one more literal has no control character in its value, the spans stay the same.
 pub bad_spans_same : {A : Type 0} (ls : List (Lit A)) (l : Lit A) (spans : List Span) → AreErrors ls spans
     → ReportsLintError l false → AreErrors (ls ++ (l ∷ [])) spans
 bad_spans_same [] l spans e t = inl (t, e)
 bad_spans_same (x ∷ xs) l spans (inl (u, h)) t = inl (u, bad_spans_same xs l spans h t)
 bad_spans_same (x ∷ xs) l spans (inr (rest, u, e, h)) t = inr (rest, u, e, bad_spans_same xs l rest h t)
 
--- one error more
+-- If one more literal is a string with a control character in its value, its span is appended to the spans.
 pub bad_spans_more : {A : Type 0} (ls : List (Lit A)) (l : Lit A) (spans : List Span) → AreErrors ls spans
     → ReportsLintError l true → AreErrors (ls ++ (l ∷ [])) (spans ++ (lit_span l ∷ []))
 bad_spans_more [] l spans e t = inr ([], t, ap (λ z. z ++ (lit_span l ∷ [])) e, refl)

@@ -1,17 +1,17 @@
--- The reasons of literals, one literal after another.
-use Rattle.rl_text.proofs.Common.{List, [], ap, inl, inr, refl, ◌++◌, ◌∷◌}
+-- Lemmas about the linter that explains why literals have no value, which checks one literal after another.
+use Rattle.rl_syntax.proofs.Common.{List, [], ap, inl, inr, refl, ◌++◌, ◌∷◌}
 use Rattle.rust_literals.specs.declared.lit.Lit.{Lit}
 use Rattle.rl_uses.specs.declared.reasons.Reason.{Reason}
 use Rattle.rl_uses.specs.Reasons.{HasValue, IsReasonOf, AreReasons}
 
--- one literal more that has a value
+-- If one more literal has a value in Rust, the reasons stay the same.
 pub reasons_same : {A : Type 0} (ls : List (Lit A)) (l : Lit A) (reasons : List Reason) → AreReasons ls reasons
     → HasValue l → AreReasons (ls ++ (l ∷ [])) reasons
 reasons_same [] l reasons e t = inl (t, e)
 reasons_same (x ∷ xs) l reasons (inl (u, h)) t = inl (u, reasons_same xs l reasons h t)
 reasons_same (x ∷ xs) l reasons (inr (first, rest, u, e, h)) t = inr (first, rest, u, e, reasons_same xs l rest h t)
 
--- one reason more
+-- If one more literal has no value in Rust, its reason is appended to the reasons.
 pub reasons_more : {A : Type 0} (ls : List (Lit A)) (l : Lit A) (reasons : List Reason) (reason : Reason)
     → AreReasons ls reasons → IsReasonOf l reason → AreReasons (ls ++ (l ∷ [])) (reasons ++ (reason ∷ []))
 reasons_more [] l reasons reason e t = inr (reason, [], t, ap (λ z. z ++ (reason ∷ [])) e, refl)

@@ -1,4 +1,4 @@
--- An allocation failure for a literal of a list.
+-- Lemmas about an allocation failure at a literal of a list.
 use Rattle.std.proofs.Common.{◌≡◌, ℕ, ◌<◌, List, length, get_or, sym, ◌∙◌}
 use Rattle.std.specs.Prelude.{Result, IfErr}
 use Rattle.std.specs.Result.{IsErrAnd}
@@ -9,7 +9,8 @@ use Rattle.rust_literals.specs.declared.lit.Lit.{Lit}
 use Rattle.rust_literals.specs.LitParts.{lit_span}
 use Rattle.rl_uses.specs.Shortage.{IsShortOf}
 
--- what a call for the literal at a place rejects, and is passed on
+-- If a call for the literal at an index fails with `Memory` at that literal, and the error is returned, it is an
+-- allocation failure at a literal of the list.
 pub short_at : {A B T : Type 0} (list : List (Lit A)) (i : ℕ) (literal : Lit A) (r : Result T (Error B)) (e : Error B)
     → i < length list → literal ≡ get_or list i literal → e ≡ memory_at (lit_span literal) → IsErrAnd r (λ y. y ≡ e)
     → IfErr r (IsShortOf list)

@@ -1,4 +1,4 @@
--- A product is a sum.
+-- A product of integers is a sum of products with one term.
 use Rattle.rl_lexer.specs.Cursors.{CursorState}
 use Rattle.rl_uses.specs.Sums.{Tree, Leaf, Plus, Times, IsProduct, IsSum}
 

@@ -1,28 +1,28 @@
--- Strings whose value has a control character.
+-- The results of the linter for string literals whose decoded value contains a control character.
 use Rattle.std.specs.Prelude.{◌≡◌, ◌⊎◌, ℕ, Bool, true, false, List, [], ◌∷◌}
 use Rattle.std.specs.Char.{is_control}
 use Rattle.std.specs.List.{list_any}
 use Rattle.std.specs.Str.{chars}
-use Rattle.rl_text.specs.declared.span.Span.{Span}
-use Rattle.rl_forms.specs.declared.kind.Kind.TheVariants.{Str as StrKind}
-use Rattle.rl_text.specs.Texts.{SpannedText}
-use Rattle.rl_forms.specs.Reading.{Characters, HasContents}
+use Rattle.rl_syntax.specs.declared.span.Span.{Span}
+use Rattle.rl_syntax.specs.declared.kind.Kind.TheVariants.{Str as StrKind}
+use Rattle.rl_syntax.specs.Texts.{SpannedText}
+use Rattle.rl_syntax.specs.Reading.{Characters, HasContents}
 use Rattle.rust_literals.specs.declared.lit.Lit.{Lit}
 use Rattle.rust_literals.specs.declared.lit.Lit.TheVariants.{Str}
 use Rattle.rust_literals.specs.LitParts.{lit_span}
 
--- The answer tells whether the string's value has a control character.
+-- The result is `true` exactly if the decoded value of the string literal contains a control character.
 abbrev pub ReportsControl : SpannedText → Bool → Type 0
 ReportsControl string answer =
     (value : List ℕ) × HasContents StrKind (chars string.text) (Characters value)
     × (answer ≡ list_any is_control value)
 
--- The answer tells whether the literal is a string whose value has a control character.
+-- The result is `true` exactly if the literal is a string literal whose decoded value contains a control character.
 abbrev pub ReportsLintError : {A : Type 0} → Lit A → Bool → Type 0
 ReportsLintError (Str string) answer = ReportsControl string answer
 ReportsLintError other answer = answer ≡ false
 
--- The spans are those of the literals that are such strings, in order.
+-- The spans are those of the string literals of the list whose decoded value contains a control character, in order.
 abbrev pub AreErrors : {A : Type 0} → List (Lit A) → List Span → Type 0
 AreErrors [] spans = spans ≡ []
 AreErrors (l ∷ ls) spans =

@@ -1,10 +1,10 @@
--- A string literal written as a raw one.
+-- The meaning of rewriting a string literal as a raw string literal.
 use Rattle.std.specs.Prelude.{ℕ, List, []}
 use Rattle.std.specs.Str.{chars}
-use Rattle.rl_forms.specs.declared.kind.Kind.TheVariants.{Str}
-use Rattle.rl_forms.specs.Reading.{Characters, Reads}
+use Rattle.rl_syntax.specs.declared.kind.Kind.TheVariants.{Str}
+use Rattle.rl_syntax.specs.Reading.{Characters, Reads}
 
--- Both texts, in bytes, read as strings of the same characters, with no suffix.
+-- The texts `old` and `new`, as bytes, are string literals with the same decoded value, without a suffix.
 pub record IsSameString (old new : List ℕ) : Type 0 where
   pub value : List ℕ
   pub of_old : Reads (chars old) Str (Characters value) []

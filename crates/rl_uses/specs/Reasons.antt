@@ -1,17 +1,18 @@
--- Why literals have no value in Rust.
+-- The results of the linter that explains why literals have no value in Rust.
 use Rattle.std.specs.Prelude.{◌≡◌, ◌⊎◌, List, [], ◌∷◌}
 use Rattle.std.specs.Str.{chars}
-use Rattle.rl_forms.specs.Reading.{HasReading}
-use Rattle.rl_reasons.specs.declared.flaws.Flaw.{Flaw}
-use Rattle.rl_reasons.specs.Flaws.{place_in}
-use Rattle.rl_reasons.specs.Limits.{ExplainsValue, IsFloatBySuffix}
-use Rattle.rl_reasons.specs.SignedFlaws.{IsSignedToken}
+use Rattle.rl_syntax.specs.Reading.{HasReading}
+use Rattle.rl_strict.specs.declared.flaws.Flaw.{Flaw}
+use Rattle.rl_strict.specs.Flaws.{place_in}
+use Rattle.rl_strict.specs.Limits.{ExplainsValue, IsFloatBySuffix}
+use Rattle.rl_strict.specs.SignedFlaws.{IsSignedToken}
 use Rattle.rust_literals.specs.declared.lit.Lit.{Lit}
 use Rattle.rust_literals.specs.Literals.{token_of}
 use Rattle.rust_literals.specs.LitParts.{lit_span}
 use Rattle.rl_uses.specs.declared.reasons.Reason.{Reason}
 
--- The reason is a flaw that explains the literal's text, at its place in the file.
+-- `reason` is the reason why the literal has no value in Rust: the kind of a flaw in the literal's text, and the flaw's
+-- span in the file.
 abbrev pub IsReasonOf : {A : Type 0} → Lit A → Reason → Type 0
 IsReasonOf literal reason =
     (flaw : Flaw) × ExplainsValue (chars (token_of literal).text) flaw
@@ -22,13 +23,14 @@ IsReasonOf literal reason =
       hi = place_in (lit_span literal) flaw.hi;
     })
 
--- The literal is one of Rust, perhaps a negative number, and has a reading or is a float by its suffix.
+-- The literal has a value in Rust: it is a literal of Rust, perhaps after a minus, and is parsed as one or is a float
+-- by its suffix.
 abbrev pub HasValue : {A : Type 0} → Lit A → Type 0
 HasValue literal =
     IsSignedToken (chars (token_of literal).text)
     × (HasReading (chars (token_of literal).text) ⊎ IsFloatBySuffix (chars (token_of literal).text))
 
--- The reasons are those of the literals that have no value, in order.
+-- The reasons are those of the literals of the list that have no value in Rust, in order.
 abbrev pub AreReasons : {A : Type 0} → List (Lit A) → List Reason → Type 0
 AreReasons [] reasons = reasons ≡ []
 AreReasons (l ∷ ls) reasons =

@@ -1,4 +1,4 @@
-//! Attributes: a name that is set to a string.
+//! The parser of an attribute `name = "value"`, which sets a name to a string.
 
 ghost use Rattle.std.specs.Prelude.{◌≡◌, IfOk, IfErr};
 ghost use Rattle.rl_tokens.specs.Buffers.{trees_in, scope_of, IsRest, StaysRest};
@@ -9,16 +9,17 @@ use rl_quoted::LitStr;
 use rl_tokens::{Error, Ident, Parse, ParseBuffer, attempt, parse_all};
 use std::alloc::{Allocator, Global};
 
-/// An attribute, `name = "value"`, with the places of its parts in the two tokens.
+/// An attribute `name = "value"`: its name and its string literal, as tokens.
 #[derive(Drop)]
 pub struct Attribute<A: Allocator = Global> {
-    /// What is set.
+    /// The attribute's name.
     pub name: Ident<A>,
-    /// What it is set to.
+    /// The string literal that the name is set to.
     pub value: LitStr<A>,
 }
 
-/// Takes the character `=` and a string literal. An error may leave the buffer after what was taken.
+/// Consumes `=` and a string literal at the start of `input`, and returns the string literal. On an error, tokens may
+/// have been consumed.
 fn parse_value<A: Allocator>(
     alloc: A,
     input: &mut ParseBuffer<'_, A>,
@@ -32,7 +33,7 @@ fn parse_value<A: Allocator>(
     input.parse::<LitStr<A>>(alloc)
 }
 
-/// Takes an attribute. An error may leave the buffer after what was taken.
+/// Consumes an attribute `name = "value"` at the start of `input`. On an error, tokens may have been consumed.
 fn parse_attribute<A: Allocator + Copy>(
     alloc: A,
     input: &mut ParseBuffer<'_, A>,
@@ -51,9 +52,9 @@ fn parse_attribute<A: Allocator + Copy>(
     Ok(Attribute { name, value })
 }
 
-/// Takes an identifier, the character `=` and a string literal. The first of these that doesn't
-/// stand there is rejected by its word: `identifier`, `` `=` `` or `string literal`. An allocation
-/// failure is reported where the token stands. An error leaves the buffer.
+/// Parses an attribute at the start of a buffer: an identifier, `=` and a string literal. The error's message names the
+/// first of these that is missing: `identifier`, `` `=` `` or `string literal`. An allocation failure is reported at
+/// the token for which memory was needed. On an error the buffer is unchanged.
 impl<A: Allocator + Copy> Parse<A> for Attribute<A> {
     ghost use Rattle.rl_uses.specs.Attributes.{RunsAttribute};
 
@@ -65,11 +66,11 @@ impl<A: Allocator + Copy> Parse<A> for Attribute<A> {
     }
 }
 
-/// The attribute that all of a text is.
+/// Parses the whole text `text` as one attribute `name = "value"`.
 ///
 /// # Errors
 ///
-/// As [`parse_all`] says, by the parser of attributes.
+/// Returns the errors of [`parse_all`] for the parser of [`Attribute`].
 pub fn read_attribute<A: Allocator + Copy>(
     alloc: A,
     text: &str,

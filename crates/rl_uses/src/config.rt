@@ -1,4 +1,4 @@
-//! A server's settings: three names, and their defaults.
+//! A server's settings with three names, each of which has a default.
 
 ghost use Rattle.std.specs.Prelude.{◌≡◌, ℕ, List, Bool, IfOk, Ok, string_bytes};
 ghost use Rattle.rl_attributes.specs.TextSettings.{IsStringOrMemory, list_of};
@@ -7,36 +7,36 @@ ghost use Rattle.rl_uses.specs.Configs.{IsServerName, IsPort, IsConfig, IsConfig
 use rl_attributes::{Attrs, Setting, SettingError, read};
 use std::alloc::{Allocator, Global};
 
-/// The port, 80 where it isn't set.
+/// The setting `port`, whose default is 80.
 const PORT: Setting = Setting {
     name: "port",
     expected: "an integer from 0 to 65535",
 };
 
-/// The server's name, `server` where it isn't set.
+/// The setting `name`, the server's name, whose default is `server`.
 const NAME: Setting = Setting {
     name: "name",
     expected: "a string",
 };
 
-/// Whether it reports more, `false` where it isn't set.
+/// The setting `verbose`, whose default is `false`. It makes the server log more.
 const VERBOSE: Setting = Setting {
     name: "verbose",
     expected: "`true` or `false`",
 };
 
-/// What a server is started with.
+/// A server's settings.
 #[derive(Drop)]
 pub struct Config<A: Allocator = Global> {
-    /// Where it listens.
+    /// The port that the server listens on.
     pub port: u16,
-    /// What it calls itself.
+    /// The server's name.
     pub name: String<A>,
-    /// Whether it reports more.
+    /// Whether the server logs more than by default.
     pub verbose: bool,
 }
 
-/// The port that is set, or 80.
+/// Returns the port that the attributes `attrs` set, or 80 if they don't set `port`.
 fn port_of<A: Allocator + Copy>(alloc: A, attrs: &Attrs<A>) -> Result<u16, SettingError<A>>
     ensures set { IfOk result (λ port. IsPort port (list_of attrs.now)) }
     ensures exactly { (port : ℕ) → IsPort port (list_of attrs.now) → result ≡ Ok port }
@@ -47,7 +47,7 @@ fn port_of<A: Allocator + Copy>(alloc: A, attrs: &Attrs<A>) -> Result<u16, Setti
     }
 }
 
-/// The name that is set, or `server`.
+/// Returns the server's name that the attributes `attrs` set, or `server` if they don't set `name`.
 fn name_of<A: Allocator + Copy>(alloc: A, attrs: &Attrs<A>) -> Result<String<A>, SettingError<A>>
     ensures set { IfOk result (λ name. IsServerName (string_bytes name) (list_of attrs.now)) }
     ensures exactly { (name : List ℕ) → IsServerName name (list_of attrs.now) → IsStringOrMemory name result }
@@ -59,7 +59,7 @@ fn name_of<A: Allocator + Copy>(alloc: A, attrs: &Attrs<A>) -> Result<String<A>,
     }
 }
 
-/// The settings that attributes are.
+/// Returns the server's settings that the attributes `attrs` set. Settings that they don't set have their defaults.
 fn config_of<A: Allocator + Copy>(alloc: A, attrs: &Attrs<A>) -> Result<Config<A>, SettingError<A>>
     ensures set { IfOk result (λ config.
         IsConfig (list_of attrs.now) config.port (string_bytes config.name) config.verbose) }
@@ -88,20 +88,21 @@ fn config_of<A: Allocator + Copy>(alloc: A, attrs: &Attrs<A>) -> Result<Config<A
     }
 }
 
-/// The settings that all of a text is.
+/// Parses the whole text `text` as a server's settings, for example `port = 8080, verbose = true`.
 ///
 /// # Errors
 ///
-/// As [`read`] and [`Attrs::check`] report them; else a value that isn't what its setting expects, by the setting's name.
+/// Returns the errors of [`read`] and [`Attrs::check`]. Otherwise returns the error of a value that isn't as its
+/// setting expects, with the setting's name.
 pub fn read_config<A: Allocator + Copy>(
     alloc: A,
     text: &str,
     file: u32,
 ) -> Result<Config<A>, SettingError<A>>
-    // The text is settings, and the answer is what they set.
+    // On success the text is a server's settings, and the result has their values.
     ensures set { IfOk result
         (λ config. IsConfigText text.now file config.port (string_bytes config.name) config.verbose) }
-    // Whatever settings a text is, they are the answer, or an allocation failed.
+    // If the text is a server's settings, the result has their values, or an allocation failed.
     ensures exactly { (port : ℕ) (name : List ℕ) (verbose : Bool)
         → IsConfigText text.now file port name verbose → IsConfigOrMemory port name verbose result }
 {

@@ -1,4 +1,4 @@
-//! A map from literals to how often they stand in a text.
+//! A map from literals to the number of times that they occur in a text.
 
 ghost use Rattle.std.specs.Prelude.{List, IfOk, IfErr};
 ghost use Rattle.std.specs.Str.{chars};
@@ -13,10 +13,10 @@ use std::alloc::Allocator;
 use std::collections::HashMap;
 use std::hash::{BuildHasherDefault, FoldHasher};
 
-/// How often each literal stands in a text.
+/// A map from each literal of a text to the number of times that the literal occurs in the text.
 pub type Counts<A> = HashMap<Lit<A>, usize, BuildHasherDefault<FoldHasher>, A>;
 
-/// How often each of the literals stands among them.
+/// Returns a map from each of `literals` to the number of times that it occurs in `literals`.
 fn tally<A: Allocator + Copy>(alloc: A, literals: Vec<Lit<A>, A>) -> Result<Counts<A>, Error<A>>
     ensures counts { IfOk result (AreCounts literals.items) }
     ensures memory { IfErr result (IsShortOf literals.items) }
@@ -32,23 +32,23 @@ fn tally<A: Allocator + Copy>(alloc: A, literals: Vec<Lit<A>, A>) -> Result<Coun
     Ok(counts)
 }
 
-/// How often each literal stands in the text. Literals are equal where their kinds and texts are,
-/// as `==` says. The text is nothing but literals, white space and plain comments.
+/// Counts how often each literal occurs in `text`, which may contain only literals, white space and plain comments. Two
+/// literals count as the same if their kinds and their texts as written are equal, as `==` compares them.
 ///
 /// # Errors
 ///
-/// What [`read_all`] rejects of the text, with the same error. `Memory` after that at the literal
-/// whose allocation failed.
+/// Returns the error of [`read_all`] for the text. If an allocation fails for the map, returns `Memory` at the literal
+/// for which memory was needed.
 pub fn count_literals<A: Allocator + Copy>(
     alloc: A,
     text: &str,
     file: u32,
 ) -> Result<Counts<A>, Error<A>>
-    // The text reads as literals. The map holds under each how often it stands there, and nothing else.
+    // On success the text consists of literals, and the map has exactly these, each with the number of times that it
+    // occurs.
     ensures counts { IfOk result (λ counts. (list : List (Lit A))
         × AreRead (chars text.now) file list × AreCounts list counts) }
-    // What `read_all` rejects of the text, or an allocation failed for one of its literals, which the
-    // error is reported at.
+    // The returned error is that of `read_all`, or an allocation failure at one of the literals.
     ensures rejected { IfErr result (RejectsTextOrMemory text.now file) }
 {
     let literals = read_all(alloc, text, file)?;

@@ -1,5 +1,5 @@
-//! The examples of the libraries' public items, as their documentation and the pages show them: each whole, over a short
-//! text. What they return is in the stored run of `rl_rows`.
+//! The examples in the documentation of the libraries' public items. Each example is a whole function. The stored tests
+//! of the crate `rl_rows` have the results for short texts.
 
 pub mod attributes;
 pub mod buffers;

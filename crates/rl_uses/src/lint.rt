@@ -1,4 +1,4 @@
-//! A linter: strings whose value has control characters.
+//! A linter that finds string literals whose decoded value contains a control character.
 
 ghost use Rattle.std.specs.Prelude.{◌≡◌, List, IfOk, IfErr};
 ghost use Rattle.std.specs.Char.{is_control};
@@ -15,14 +15,14 @@ use rl_tokens::{Error, Span};
 use rust_literals::{Lit, LitStr, read_all};
 use std::alloc::Allocator;
 
-/// Whether a control character stands in the text.
+/// Whether `text` contains a control character.
 fn holds_control(text: &str) -> bool
     ensures { result ≡ list_any is_control (chars text.now) }
 {
     text.chars().any(|c| c.is_control())
 }
 
-/// Whether the string's value has a control character.
+/// Whether the decoded value of the string literal `string` contains a control character.
 fn has_control<A: Allocator + Copy>(alloc: A, string: &LitStr<A>) -> Result<bool, Error<A>>
     ensures tells { IfOk result (ReportsControl string.now) }
     ensures memory { IfErr result (λ e. e ≡ memory_at string.now.span) }
@@ -34,7 +34,7 @@ fn has_control<A: Allocator + Copy>(alloc: A, string: &LitStr<A>) -> Result<bool
     Ok(holds_control(value.as_str()))
 }
 
-/// Whether the literal is a string whose value has a control character.
+/// Whether `literal` is a string literal whose decoded value contains a control character.
 fn is_bad<A: Allocator + Copy>(alloc: A, literal: &Lit<A>) -> Result<bool, Error<A>>
     ensures tells { IfOk result (ReportsLintError literal.now) }
     ensures memory { IfErr result (λ e. e ≡ memory_at (lit_span literal.now)) }
@@ -45,7 +45,7 @@ fn is_bad<A: Allocator + Copy>(alloc: A, literal: &Lit<A>) -> Result<bool, Error
     }
 }
 
-/// The spans of the literals that are strings with control characters.
+/// Returns the spans of the string literals among `literals` whose decoded value contains a control character.
 fn bad_spans<A: Allocator + Copy>(alloc: A, literals: &[Lit<A>]) -> Result<Vec<Span, A>, Error<A>>
     ensures found { IfOk result (λ spans. AreErrors literals.now spans.items) }
     ensures memory { IfErr result (IsShortOf literals.now) }
@@ -61,24 +61,24 @@ fn bad_spans<A: Allocator + Copy>(alloc: A, literals: &[Lit<A>]) -> Result<Vec<S
     Ok(spans)
 }
 
-/// Where the strings stand whose value has a control character (below U+0020, or from U+007F to
-/// U+009F), in the text's order: each span is the file and the bytes of the literal. The text is
-/// nothing but literals, white space and plain comments.
+/// Returns the spans of the string literals of `text` whose decoded value contains a control character (below U+0020,
+/// or from U+007F to U+009F), in the order of the text. A span is `file` and the literal's byte range. The text may
+/// contain only literals, white space and plain comments.
 ///
 /// # Errors
 ///
-/// What [`read_all`] rejects of the text, with the same error. `Memory` after that at the literal
-/// whose allocation failed.
+/// Returns the error of [`read_all`] for the text. If an allocation fails afterwards, returns `Memory` at the literal
+/// for which memory was needed.
 pub fn control_strings<A: Allocator + Copy>(
     alloc: A,
     text: &str,
     file: u32,
 ) -> Result<Vec<Span, A>, Error<A>>
-    // The text reads as literals, and these are the spans of the strings with control characters among them.
+    // On success the text consists of literals, and the spans are those of the string literals with control characters
+    // among them.
     ensures found { IfOk result (λ spans. (list : List (Lit A))
         × AreRead (chars text.now) file list × AreErrors list spans.items) }
-    // What `read_all` rejects of the text, or an allocation failed for one of its literals, which the
-    // error is reported at.
+    // The returned error is that of `read_all`, or an allocation failure at one of the literals.
     ensures rejected { IfErr result (RejectsTextOrMemory text.now file) }
 {
     let literals = read_all(alloc, text, file)?;

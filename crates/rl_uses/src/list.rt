@@ -1,4 +1,4 @@
-//! Lists of integers and strings.
+//! The parser of a list of integers and strings in square brackets.
 
 ghost use Rattle.std.specs.Prelude.{◌≡◌, ◌∷◌, [], ◌<◌, length, OnOk, OnErr, IfOk, IfErr, codes};
 ghost use Rattle.rl_tokens.specs.declared.token.Delimiter.TheVariants.{Bracket};
@@ -11,17 +11,17 @@ use rl_tokens::{Delimiter, Error, Group, Parse, ParseBuffer, attempt};
 use rust_literals::LitInt;
 use std::alloc::{Allocator, Global};
 
-/// What stands in a list.
+/// An item of a list: an integer or a string literal.
 #[derive(Drop)]
 pub enum Item<A: Allocator = Global> {
-    /// An integer.
+    /// An integer literal.
     Int(LitInt<A>),
-    /// A string.
+    /// A string literal.
     Str(LitStr<A>),
 }
 
-/// Takes the integer or string literal that stands next. Another token is rejected with the words of both; an error
-/// leaves the buffer.
+/// Parses the integer or string literal at the start of a buffer. If another token is next, the error's message is
+/// `expected integer literal or string literal`. On an error the buffer is unchanged.
 impl<A: Allocator + Copy> Parse<A> for Item<A> {
     ghost use Rattle.rl_uses.specs.Lists.{RunsItem};
 
@@ -40,14 +40,15 @@ impl<A: Allocator + Copy> Parse<A> for Item<A> {
     }
 }
 
-/// A list in square brackets: `[1, "two", -3]`. A comma may stand after the last item too.
+/// A list of integers and strings in square brackets: `[1, "two", -3]`. A comma may follow the last item.
 #[derive(Drop)]
 pub struct ItemList<A: Allocator = Global> {
-    /// The items, in their order.
+    /// The list's items, in the order of the text.
     pub items: Vec<Item<A>, A>,
 }
 
-/// Takes an item, and the comma after it where anything stands there.
+/// Consumes an item at the start of `input`, and the comma after it. The comma may be missing at the end of the token
+/// trees.
 fn parse_listed<A: Allocator + Copy>(
     alloc: A,
     input: &mut ParseBuffer<'_, A>,
@@ -65,7 +66,7 @@ fn parse_listed<A: Allocator + Copy>(
     Ok(item)
 }
 
-/// Takes items up to the end.
+/// Consumes all token trees of `input` as items with commas between them.
 fn parse_items<A: Allocator + Copy>(
     alloc: A,
     input: &mut ParseBuffer<'_, A>,
@@ -84,7 +85,8 @@ fn parse_items<A: Allocator + Copy>(
     Ok(items)
 }
 
-/// Takes a group in square brackets. Where none stands next, it is rejected, and the buffer stays.
+/// Consumes the group in square brackets at the start of `input`. If another token tree is next, the function returns
+/// an error, and the buffer is unchanged.
 fn take_brackets<'a, A: Allocator>(input: &mut ParseBuffer<'a, A>) -> Result<&'a Group<A>, Error<A>>
     ensures taken { IfOk result
         (λ g. trees_in input.old
@@ -107,7 +109,8 @@ fn take_brackets<'a, A: Allocator>(input: &mut ParseBuffer<'a, A>) -> Result<&'a
     }
 }
 
-/// Takes a list. An error may leave the buffer after the group.
+/// Consumes a list in square brackets at the start of `input`. On an error, the group in square brackets may have been
+/// consumed.
 fn parse_list<A: Allocator + Copy>(
     alloc: A,
     input: &mut ParseBuffer<'_, A>,
@@ -123,9 +126,9 @@ fn parse_list<A: Allocator + Copy>(
     Ok(ItemList { items })
 }
 
-/// Takes a group in square brackets, of items with commas between them. Rejected is, at its place, what is no such group
-/// (`square brackets`), what is no item (`integer literal or string literal`), and what stands after an item and is no
-/// comma (`` `,` ``). An error leaves the buffer.
+/// Parses a list at the start of a buffer: a group in square brackets with items and commas between them. The error is
+/// at the first part that is missing, and its message names it: the group (`square brackets`), an item
+/// (`integer literal or string literal`), or a comma after an item (`` `,` ``). On an error the buffer is unchanged.
 impl<A: Allocator + Copy> Parse<A> for ItemList<A> {
     ghost use Rattle.rl_uses.specs.Lists.{RunsList};
 

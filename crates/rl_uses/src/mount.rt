@@ -1,4 +1,4 @@
-//! A mount: a setting that has to be set, and one with a default.
+//! A mount's settings: the required setting `path`, and the setting `read_only` with a default.
 
 ghost use Rattle.std.specs.Prelude.{List, ℕ, Bool, IfOk, string_bytes};
 ghost use Rattle.rl_attributes.specs.TextSettings.{list_of};
@@ -7,28 +7,28 @@ ghost use Rattle.rl_uses.specs.Mounts.{IsMount, IsMountText, IsMountOrMemory};
 use rl_attributes::{Attrs, Setting, SettingError, read};
 use std::alloc::{Allocator, Global};
 
-/// The path, which has to be set.
+/// The setting `path`, which is required.
 const PATH: Setting = Setting {
     name: "path",
     expected: "a string",
 };
 
-/// Whether nothing may be written, `false` by default.
+/// The setting `read_only`, whose default is `false`.
 const READ_ONLY: Setting = Setting {
     name: "read_only",
     expected: "`true` or `false`",
 };
 
-/// A mount.
+/// A mount's settings.
 #[derive(Drop)]
 pub struct Mount<A: Allocator = Global> {
-    /// Its path.
+    /// The mount's path.
     pub path: String<A>,
-    /// Whether nothing may be written.
+    /// Whether the mount is read-only.
     pub read_only: bool,
 }
 
-/// The mount that attributes set.
+/// Returns the mount's settings that the attributes `attrs` set.
 fn mount_of<A: Allocator + Copy>(alloc: A, attrs: &Attrs<A>) -> Result<Mount<A>, SettingError<A>>
     ensures set { IfOk result (λ m. IsMount (list_of attrs.now) (string_bytes m.path) m.read_only) }
     ensures exactly { (path : List ℕ) (read_only : Bool)
@@ -48,11 +48,11 @@ fn mount_of<A: Allocator + Copy>(alloc: A, attrs: &Attrs<A>) -> Result<Mount<A>,
     }
 }
 
-/// The mount that all of a text sets, as `path = "/data", read_only = true`.
+/// Parses the whole text `text` as a mount's settings, for example `path = "/data", read_only = true`.
 ///
 /// # Errors
 ///
-/// The errors of [`read`], [`Attrs::check`], [`Attrs::required_string`] and [`Attrs::truth_or`].
+/// Returns the errors of [`read`], [`Attrs::check`], [`Attrs::required_string`] and [`Attrs::truth_or`].
 pub fn read_mount<A: Allocator + Copy>(alloc: A, text: &str) -> Result<Mount<A>, SettingError<A>>
     ensures set { IfOk result (λ m. IsMountText text.now (string_bytes m.path) m.read_only) }
     ensures exactly { (path : List ℕ) (read_only : Bool)

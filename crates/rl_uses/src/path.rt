@@ -1,4 +1,4 @@
-//! A path as a setting, which is written without backslashes: where in the file one stands.
+//! The check that a setting's path contains no backslash, with the position of the first backslash in the file.
 
 ghost use Rattle.std.specs.Prelude.{◌≡◌, IfOk};
 ghost use Rattle.std.specs.List.{position};
@@ -10,20 +10,21 @@ use rl_tokens::Span;
 use rust_literals::{Lit, LitStr};
 use std::alloc::Allocator;
 
-/// Where files are looked for.
+/// The setting `path`, a path without backslashes.
 const PATH: Setting = Setting {
     name: "path",
     expected: "a path without backslashes",
 };
 
-/// The first backslash of a text.
+/// Returns the byte offset of the first backslash in `text`, or `None` if there is none.
 fn first_backslash(text: &[u8]) -> Option<usize>
     ensures { result ≡ position is_backslash text.now }
 {
     text.iter().position(|b| *b == b'\\')
 }
 
-/// What in the file gives the first backslash of the string: it may be an escape.
+/// Returns the span in the file from which the first backslash in the decoded value of the string literal `literal`
+/// comes, or `None` if there is no backslash. The span may be that of an escape.
 fn backslash_of<A: Allocator + Copy>(
     alloc: A,
     literal: &LitStr<A>,
@@ -37,7 +38,8 @@ fn backslash_of<A: Allocator + Copy>(
     }
 }
 
-/// What in the file gives the first backslash of the path that is set.
+/// Returns the span in the file from which the first backslash of the path comes that the attributes `attrs` set.
+/// Returns `None` if there is no backslash, or if `path` isn't set.
 fn backslash_set<A: Allocator + Copy>(
     alloc: A,
     attrs: &Attrs<A>,
@@ -51,12 +53,12 @@ fn backslash_set<A: Allocator + Copy>(
     }
 }
 
-/// Which bytes of the file give the first backslash of the path that the settings of a text set; `None` where there is
-/// none, and where no path is set.
+/// Returns the span in the file from which the first backslash of the path comes that the settings in `text` set.
+/// Returns `None` if there is no backslash, or if `path` isn't set.
 ///
 /// # Errors
 ///
-/// As [`read`] reports them; a `path` that is no string is `Kind`, at the value.
+/// Returns the errors of [`read`]. Returns `Kind` at the value of `path` if it isn't a string.
 pub fn backslash_in_path<A: Allocator + Copy>(
     alloc: A,
     text: &str,

@@ -1,14 +1,15 @@
-//! A string literal written as a raw one.
+//! The function that rewrites a string literal as a raw string literal.
 
 ghost use Rattle.std.specs.Prelude.{IfSome, take};
 ghost use Rattle.rl_uses.specs.Raws.{IsSameString};
 
-use rl_forms::Kind;
-use rl_reading::find;
+use rl_lenient::find;
+use rl_syntax::Kind;
 use rl_writing::{raw_hashes, write_raw_into};
 
-/// Writes a string literal as a raw one, and returns its length in bytes. `None` if the text isn't a string literal without
-/// suffix, if it can't be raw, and if `room` or `out` is too short.
+/// Rewrites the string literal `literal` as a raw string literal in `out`, and returns the new literal's length in
+/// bytes. The decoded value is written to `room` first. Returns `None` if the text isn't a string literal without
+/// suffix, if no raw string literal can represent the value, or if `room` or `out` is too short.
 pub fn write_raw(literal: &str, room: &mut [u8], out: &mut [u8]) -> Option<usize>
     ensures same { IfSome result (λ n. IsSameString literal.now (take n out.new)) }
 {

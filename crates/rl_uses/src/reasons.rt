@@ -1,37 +1,37 @@
-//! A linter: why literals have no value in Rust.
+//! A linter that explains why literals have no value in Rust.
 
 ghost use Rattle.std.specs.Prelude.{List, IfOk, IfErr, IfSome, IfNone};
 ghost use Rattle.std.specs.Str.{chars};
-ghost use Rattle.rl_reasons.specs.Limits.{ExplainsValue};
+ghost use Rattle.rl_strict.specs.Limits.{ExplainsValue};
 ghost use Rattle.rust_literals.specs.Literals.{token_of};
 ghost use Rattle.rust_literals.specs.declared.lit.Lit.{Lit};
 ghost use Rattle.rust_literals.specs.Parsing.{AreRead};
 ghost use Rattle.rl_uses.specs.Shortage.{IsShortOf, RejectsTextOrMemory};
 ghost use Rattle.rl_uses.specs.Reasons.{HasValue, IsReasonOf, AreReasons};
 
-use rl_grammar::{Flaw, FlawKind, explain_value};
+use rl_grammar::{Flaw, FlawKind, LineEnds, explain_value};
 use rl_tokens::{Error, Span};
 use rust_literals::{Lit, read_all};
 use std::alloc::Allocator;
 
-/// Why a literal has no value in Rust.
+/// The reason why a literal of a text has no value in Rust.
 #[derive(Clone, Copy)]
 pub struct Reason {
-    /// The file and the bytes of the character that is wrong.
+    /// The span of the invalid part of the literal: a file, and a range of bytes in that file.
     pub span: Span,
-    /// What is wrong.
+    /// The kind of the literal's flaw.
     pub kind: FlawKind,
 }
 
-/// Returns the flaw of a literal's text, or `None` where the literal has a value.
+/// Returns the flaw in the literal's text, or `None` if the literal has a value in Rust.
 fn flaw_of<A: Allocator>(literal: &Lit<A>) -> Option<Flaw>
     ensures none { IfNone result (HasValue literal.now) }
     ensures some { IfSome result (ExplainsValue (chars (token_of literal.now).text)) }
 {
-    explain_value(literal.text())
+    explain_value(literal.text(), LineEnds::Text, true)
 }
 
-/// Why a literal has no value; `None` where it has one.
+/// Returns the reason why `literal` has no value in Rust, or `None` if it has one.
 fn reason_of<A: Allocator>(literal: &Lit<A>) -> Option<Reason>
     ensures none { IfNone result (HasValue literal.now) }
     ensures some { IfSome result (IsReasonOf literal.now) }
@@ -43,7 +43,7 @@ fn reason_of<A: Allocator>(literal: &Lit<A>) -> Option<Reason>
     })
 }
 
-/// Why those of the literals that have no value have none.
+/// Returns the reason for each of `literals` that has no value in Rust.
 fn reasons_of<A: Allocator>(alloc: A, literals: &[Lit<A>]) -> Result<Vec<Reason, A>, Error<A>>
     ensures found { IfOk result (λ reasons. AreReasons literals.now reasons.items) }
     ensures memory { IfErr result (IsShortOf literals.now) }
@@ -59,23 +59,23 @@ fn reasons_of<A: Allocator>(alloc: A, literals: &[Lit<A>]) -> Result<Vec<Reason,
     Ok(reasons)
 }
 
-/// Why literals of the text have no value in Rust, in the text's order: each with the file and the bytes of the character
-/// that is wrong. The text is nothing but literals, white space and plain comments.
+/// Returns the reason for each literal of `text` that has no value in Rust, in the order of the text. A reason's span
+/// is `file` and the byte range of the literal's invalid part. The text may contain only literals, white space and
+/// plain comments.
 ///
 /// # Errors
 ///
-/// What [`read_all`] rejects of the text, with the same error. `Memory` after that at the literal
-/// whose allocation failed.
+/// Returns the error of [`read_all`] for the text. If an allocation fails afterwards, returns `Memory` at the literal
+/// for which memory was needed.
 pub fn bad_literals<A: Allocator + Copy>(
     alloc: A,
     text: &str,
     file: u32,
 ) -> Result<Vec<Reason, A>, Error<A>>
-    // The text reads as literals, and these are the reasons of those among them that have no value.
+    // On success the text consists of literals, and the reasons are those of the literals without a value among them.
     ensures found { IfOk result (λ reasons. (list : List (Lit A))
         × AreRead (chars text.now) file list × AreReasons list reasons.items) }
-    // What `read_all` rejects of the text, or an allocation failed for one of its literals, which the
-    // error is reported at.
+    // The returned error is that of `read_all`, or an allocation failure at one of the literals.
     ensures rejected { IfErr result (RejectsTextOrMemory text.now file) }
 {
     let literals = read_all(alloc, text, file)?;

@@ -1,8 +1,8 @@
-//! A formatter: quoted literals are written anew from their values.
+//! A formatter that rewrites quoted literals from their values.
 
 ghost use Rattle.std.specs.Prelude.{◌≡◌, ◌++◌, List, OnOk, IfOk, IfErr, codes, string_bytes};
 ghost use Rattle.std.specs.Str.{chars};
-ghost use Rattle.rl_forms.specs.declared.kind.Kind.TheVariants.{Str as StrKind, ByteStr as ByteStrKind, CStr as CStrKind, Byte as ByteKind, Char as CharKind};
+ghost use Rattle.rl_syntax.specs.declared.kind.Kind.TheVariants.{Str as StrKind, ByteStr as ByteStrKind, CStr as CStrKind, Byte as ByteKind, Char as CharKind};
 ghost use Rattle.rl_tokens.specs.Errors.{memory_at};
 ghost use Rattle.rust_literals.specs.declared.lit.Lit.{Lit};
 ghost use Rattle.rust_literals.specs.Parsing.{AreRead};
@@ -14,7 +14,7 @@ use rl_tokens::{Error, Span};
 use rust_literals::{Lit, LitByte, LitByteStr, LitCStr, LitChar, LitStr, read_all};
 use std::alloc::Allocator;
 
-/// The string, written anew where it has no suffix.
+/// Returns the string literal rewritten from its decoded value, or a copy if it has a suffix.
 fn string_rewritten<A: Allocator + Copy>(
     alloc: A,
     literal: &LitStr<A>,
@@ -29,7 +29,7 @@ fn string_rewritten<A: Allocator + Copy>(
     LitStr::new(alloc, value.as_str(), literal.span())
 }
 
-/// The byte string, written anew where it has no suffix.
+/// Returns the byte string literal rewritten from its decoded value, or a copy if it has a suffix.
 fn byte_string_rewritten<A: Allocator + Copy>(
     alloc: A,
     literal: &LitByteStr<A>,
@@ -44,7 +44,7 @@ fn byte_string_rewritten<A: Allocator + Copy>(
     LitByteStr::new(alloc, value.as_slice(), literal.span())
 }
 
-/// The C string, written anew where it has no suffix.
+/// Returns the C string literal rewritten from its decoded value, or a copy if it has a suffix.
 fn c_string_rewritten<A: Allocator + Copy>(
     alloc: A,
     literal: &LitCStr<A>,
@@ -59,7 +59,7 @@ fn c_string_rewritten<A: Allocator + Copy>(
     LitCStr::new(alloc, &value, literal.span())
 }
 
-/// The byte, written anew where it has no suffix.
+/// Returns the byte literal rewritten from its decoded value, or a copy if it has a suffix.
 fn byte_rewritten<A: Allocator + Copy>(
     alloc: A,
     literal: &LitByte<A>,
@@ -73,7 +73,7 @@ fn byte_rewritten<A: Allocator + Copy>(
     LitByte::new(alloc, literal.value(), literal.span())
 }
 
-/// The character, written anew where it has no suffix.
+/// Returns the character literal rewritten from its decoded value, or a copy if it has a suffix.
 fn character_rewritten<A: Allocator + Copy>(
     alloc: A,
     literal: &LitChar<A>,
@@ -87,13 +87,13 @@ fn character_rewritten<A: Allocator + Copy>(
     LitChar::new(alloc, literal.value(), literal.span())
 }
 
-/// The literal as strict text: a string, byte string, C string, byte or character with no suffix is
-/// written anew from its value, as its struct's `new` writes it; any other literal is copied as it
-/// stands. The span stays.
+/// Returns the literal rewritten from its decoded value if it is a string, byte string, C string, byte or character
+/// without suffix. The new text is as the type's `new` writes it, and is valid in Rust's grammar. For any other literal
+/// the result is a copy. The new literal's span is that of `literal`.
 ///
 /// # Errors
 ///
-/// `Memory` at the literal's span.
+/// Returns `Memory` at the literal's span if an allocation fails.
 pub fn rewritten<A: Allocator + Copy>(alloc: A, literal: &Lit<A>) -> Result<Lit<A>, Error<A>>
     ensures rewritten { IfOk result (IsRewrite literal.now) }
     ensures memory { IfErr result (λ e. e ≡ memory_at (lit_span literal.now)) }
@@ -111,7 +111,7 @@ pub fn rewritten<A: Allocator + Copy>(alloc: A, literal: &Lit<A>) -> Result<Lit<
     }
 }
 
-/// Writes the text and LF at the end. An allocation failure is reported at the span.
+/// Appends `text` and LF to `out`. An allocation failure is reported at `span`.
 fn push_text<A: Allocator>(out: &mut String<A>, text: &str, span: Span) -> Result<(), Error<A>>
     ensures line { OnOk result
         (string_bytes out.new ≡ string_bytes out.old ++ (text.now ++ codes "\n")) }
@@ -123,7 +123,7 @@ fn push_text<A: Allocator>(out: &mut String<A>, text: &str, span: Span) -> Resul
     Ok(())
 }
 
-/// Writes the literal's rewriting and LF at the end.
+/// Appends the text of the rewritten `literal` and LF to `out`.
 fn push_line<A: Allocator + Copy>(
     alloc: A,
     out: &mut String<A>,
@@ -139,7 +139,7 @@ fn push_line<A: Allocator + Copy>(
     pushed
 }
 
-/// Writes the literals' lines.
+/// Returns the texts of the rewritten `literals`, each with LF after it.
 fn lines<A: Allocator + Copy>(alloc: A, literals: &[Lit<A>]) -> Result<String<A>, Error<A>>
     ensures lines { IfOk result (λ printed. AreLines literals.now (string_bytes printed)) }
     ensures memory { IfErr result (IsShortOf literals.now) }
@@ -151,19 +151,18 @@ fn lines<A: Allocator + Copy>(alloc: A, literals: &[Lit<A>]) -> Result<String<A>
     Ok(out)
 }
 
-/// The literals of the text as [`rewritten`] makes them, one on each line. The text is nothing but
-/// literals, white space and plain comments.
+/// Formats `text`: returns the text of each of its literals, rewritten by [`rewritten`], one on each line. The text may
+/// contain only literals, white space and plain comments.
 ///
 /// # Errors
 ///
-/// What [`read_all`] rejects of the text, with the same error. `Memory` after that at the literal
-/// whose allocation failed.
+/// Returns the error of [`read_all`] for the text. If an allocation fails afterwards, returns `Memory` at the literal
+/// for which memory was needed.
 pub fn format<A: Allocator + Copy>(alloc: A, text: &str, file: u32) -> Result<String<A>, Error<A>>
-    // The text reads as literals, and the lines are their rewritings, each with LF after it.
+    // On success the text consists of literals, and the result is the rewritten literals, each with LF after it.
     ensures printed { IfOk result (λ printed. (list : List (Lit A))
         × AreRead (chars text.now) file list × AreLines list (string_bytes printed)) }
-    // What `read_all` rejects of the text, or an allocation failed for one of its literals, which the
-    // error is reported at.
+    // The returned error is that of `read_all`, or an allocation failure at one of the literals.
     ensures rejected { IfErr result (RejectsTextOrMemory text.now file) }
 {
     let literals = read_all(alloc, text, file)?;

@@ -1,4 +1,4 @@
-//! A number that is set by a text, as in a configuration.
+//! The parser of a text that consists of one number, as the value of a setting.
 
 ghost use Rattle.std.specs.Prelude.{IfOk, IfErr};
 ghost use Rattle.rl_uses.specs.Settings.{IsSetTo, RejectsSetting};
@@ -9,14 +9,14 @@ use std::alloc::Allocator;
 use std::fmt::Display;
 use std::str::FromStr;
 
-/// The number that a text sets: one integer literal, or a minus and one, with white space and
-/// comments around it.
+/// Parses `text`, which must be one integer literal or a minus and an integer literal, as a value of the number type
+/// `N`. White space and plain comments may surround the literal.
 ///
 /// # Errors
 ///
-/// A text that isn't one integer literal is rejected as by [`parse_all`], with the word `integer
-/// literal`. Digits that the type rejects are `Number`, in the type's own words, at the literal's
-/// bytes of the file; `Memory` for these words is reported there too.
+/// Returns the error of [`parse_all`] if the text isn't one integer literal. Its message names `integer literal`. If
+/// the number type rejects the digits, returns `Number` with the type's own message, at the byte range of the literal
+/// in the file. If an allocation fails for the message, returns `Memory` at that byte range.
 pub fn read_number<N: FromStr, A: Allocator + Copy>(
     alloc: A,
     text: &str,

@@ -1,24 +1,24 @@
-//! Sums of products of integers, as `1 + -2 * 0x10`: a parser on the cursor over tokens, which evaluates.
+//! A function that evaluates sums of products of integers, as `1 + -2 * 0x10`, while it reads the tokens of a text.
 
 ghost use Rattle.std.specs.Prelude.{◌≡◌, ◌<◌, IfOk, IfSome, IsTrue, IsFalse, OnOk, length, MatchBool};
 ghost use Rattle.rl_uses.specs.Sums.{Tree, IsProduct, IsSum, IsExpression, TakesInteger, TakesOperator, eval};
 ghost use Rattle.rl_lexer.specs.Cursors.{CursorState};
 
+use rl_lenient::next_literal;
 use rl_lexer::{Form, Tokens};
-use rl_reading::next_literal;
 
-/// Why a text has no value.
+/// The reason why a text isn't a sum of products of integers, or has no value of 64 bits.
 #[derive(Clone, Copy, PartialEq, Eq, Debug)]
 pub enum SumError {
-    /// An integer without suffix is expected.
+    /// An integer without suffix was expected.
     NoInteger,
-    /// A number doesn't fit 64 bits.
+    /// A number of the expression, or a result, doesn't fit 64 bits.
     TooLarge,
-    /// Something follows the expression.
+    /// Something other than white space and comments follows the expression.
     Rest,
 }
 
-/// Takes an integer without suffix.
+/// Consumes the integer literal at the start of `tokens`, which must have no suffix, and returns its value.
 fn take_integer(tokens: &mut Tokens<'_>) -> Result<i64, SumError>
     ensures taken { IfOk result (λ value. TakesInteger tokens.old value tokens.new) }
     ensures shorter { OnOk result (length tokens.new.rest < length tokens.old.rest) }
@@ -35,7 +35,7 @@ fn take_integer(tokens: &mut Tokens<'_>) -> Result<i64, SumError>
     }
 }
 
-/// Takes a punctuation character, if it is the next token.
+/// Consumes the next token if it is the punctuation character `mark`, and returns whether it is.
 fn take_mark(tokens: &mut Tokens<'_>, mark: char) -> bool
     ensures taken { IsTrue result → TakesOperator mark tokens.old tokens.new }
     ensures shorter { IsTrue result → length tokens.new.rest < length tokens.old.rest }
@@ -54,7 +54,7 @@ fn take_mark(tokens: &mut Tokens<'_>, mark: char) -> bool
     }
 }
 
-/// Takes a product of integers.
+/// Consumes the product of integers at the start of `tokens`, and returns its value.
 fn take_product(tokens: &mut Tokens<'_>) -> Result<i64, SumError>
     ensures taken { IfOk result (λ value. (tree : Tree) × IsProduct tree tokens.old tokens.new × (value ≡ eval tree)) }
     ensures shorter { OnOk result (length tokens.new.rest < length tokens.old.rest) }
@@ -70,7 +70,7 @@ fn take_product(tokens: &mut Tokens<'_>) -> Result<i64, SumError>
     Ok(value)
 }
 
-/// Takes a sum of products.
+/// Consumes the sum of products of integers at the start of `tokens`, and returns its value.
 fn take_sum(tokens: &mut Tokens<'_>) -> Result<i64, SumError>
     ensures taken { IfOk result (λ value. (tree : Tree) × IsSum tree tokens.old tokens.new × (value ≡ eval tree)) }
 {
@@ -85,12 +85,12 @@ fn take_sum(tokens: &mut Tokens<'_>) -> Result<i64, SumError>
     Ok(value)
 }
 
-/// The value of the expression that all of a text is.
+/// Evaluates the whole text `text`, which must be a sum of products of integers, and returns the value.
 ///
 /// # Errors
 ///
-/// Returns an error where an integer without suffix is expected, where a number doesn't fit an `i64`, and where something
-/// follows the expression.
+/// Returns an error if an integer without suffix is missing, if an integer or a result doesn't fit an `i64`, or if
+/// something follows the expression.
 pub fn evaluate(text: &str) -> Result<i64, SumError>
     ensures { IfOk result (IsExpression text.now) }
 {

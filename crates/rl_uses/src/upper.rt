@@ -1,4 +1,4 @@
-//! Literals with their hexadecimal digits in upper case.
+//! The function that writes a literal with its hexadecimal digits in upper case.
 
 ghost use Rattle.std.specs.Prelude.{◌≤◌, ◌+◌, ◌*◌, IfSome, length, take};
 ghost use Rattle.std.specs.Str.{chars};
@@ -6,8 +6,8 @@ ghost use Rattle.rl_uses.specs.Uppers.{IsSameToken};
 
 use rl_style::{Case, Style, rewrite_into};
 
-/// Writes a literal with the digits after `0x` in upper case, and returns its length in bytes. `None` if the text isn't a literal
-/// token.
+/// Writes the literal token `text` to `out`, with the digits after `0x` in upper case, and returns the new literal's
+/// length in bytes. Returns `None` if `text` isn't a literal token.
 pub fn write_upper(text: &str, out: &mut [u8]) -> Option<usize>
     requires { 4 * length text.now + 1 ≤ length out.old }
     ensures same { IfSome result (λ n. IsSameToken (chars text.now) (chars (take n out.new))) }

@@ -1,18 +1,18 @@
--- What a text is written as in ASCII is strict, and reads as the text.
-use Rattle.rl_text.proofs.Common.{◌≡◌, ℕ, suc, ◌*◌, ◌/◌, ◌%◌, ◌<◌, ◌≤◌, ◌==◌, ◌&&◌, Bool, true, false, not, eqb, List, [], ◌∷◌, ◌++◌, length, refl, sym, ap, subst, ◌∙◌, inl, inr, arith, append_assoc, append-nil, nat_le, list_all, flat_map, scalar, and_parts, and_from, cases_lt, lt-ltb, eqb-true, not-true, agree_below_at, encode_utf8, chars, IsUtf8, length-encode, len_utf8_bounds, if◌then◌else◌}
+-- The ASCII literal of a text is a literal of both grammars, with that text as its value.
+use Rattle.rl_syntax.proofs.Common.{◌≡◌, ℕ, suc, ◌*◌, ◌/◌, ◌%◌, ◌<◌, ◌≤◌, ◌==◌, ◌&&◌, Bool, true, false, not, eqb, List, [], ◌∷◌, ◌++◌, length, refl, sym, ap, subst, ◌∙◌, inl, inr, arith, append_assoc, append-nil, nat_le, list_all, flat_map, scalar, and_parts, and_from, cases_lt, lt-ltb, eqb-true, not-true, agree_below_at, encode_utf8, chars, IsUtf8, length-encode, len_utf8_bounds, if◌then◌else◌}
 use Rattle.std.proofs.lemmas.Bool.{le-ltb, leb-true}
 use Rattle.std.proofs.lemmas.Grind.{flat_map-append}
 use Rattle.std.proofs.lemmas.Str.{scalars-chars}
 use Rattle.std.proofs.Math.Utf8.{scalars}
 use Rattle.std.specs.Char.{IsScalar}
 use Rattle.std.specs.Prelude.{encode_utf8_all}
-use Rattle.rl_forms.specs.declared.kind.Kind.{Kind}
-use Rattle.rl_forms.specs.declared.kind.Kind.TheVariants.{Str, Char}
-use Rattle.rl_forms.specs.Quoted.{holds_characters, opener, unit_text}
-use Rattle.rl_forms.specs.Reading.{quoted_contents}
-use Rattle.rl_forms.specs.Strict.{StrictUnit, Itself, QuoteEscape, PlainEscape, AsciiEscape, ByteEscape, UnicodeEscape, LineBreak, is_strict_unit, strict_text, strict_contents, strict_content_of, strict_opener, strict_closer, BlanksEnd, HasUnits, StrictCooked, Strict}
-use Rattle.rl_forms.specs.Written.{closer, is_written_as_number, upper_digit, written_unit}
-use Rattle.rl_forms.proofs.Agreeing.{strict_reads}
+use Rattle.rl_syntax.specs.declared.kind.Kind.{Kind}
+use Rattle.rl_syntax.specs.declared.kind.Kind.TheVariants.{Str, Char}
+use Rattle.rl_syntax.specs.Quoted.{holds_characters, opener, unit_text}
+use Rattle.rl_syntax.specs.Reading.{quoted_contents}
+use Rattle.rl_syntax.specs.Strict.{StrictUnit, Itself, QuoteEscape, PlainEscape, AsciiEscape, ByteEscape, UnicodeEscape, LineBreak, is_strict_unit, strict_text, strict_contents, strict_content_of, strict_opener, strict_closer, BlanksEnd, HasUnits, StrictCooked, Strict}
+use Rattle.rl_syntax.specs.Written.{closer, is_written_as_number, upper_digit, written_unit}
+use Rattle.rl_syntax.proofs.Agreeing.{strict_reads}
 use Rattle.rl_writing.specs.AsciiStrings.{ascii_literal, ascii_text, unicode_escape, IsAsciiForm}
 use Rattle.rl_writing.proofs.AsciiLemmas.{encoded_low, is_low, low_chars, low_join, low_utf8}
 use Rattle.rl_writing.proofs.UnicodeLemmas.{digits_of, escape_fits, escape_is, escape_low, escape_short, escape_text, escape_value}
@@ -32,7 +32,7 @@ same_lists (x ∷ xs) (y ∷ ys) h =
     let p = and_parts (eqb x y) (are_same xs ys) h in
     ap (λ z. z ∷ xs) (eqb-true x y p.0) ∙ ap (λ z. y ∷ z) (same_lists xs ys p.1)
 
--- the unit of the strict grammar that is written
+-- The written form of an ASCII character, as a character or escape of Rust's grammar.
 abbrev unit_of : Kind → ℕ → StrictUnit
 unit_of kind c =
     if c == 0 then PlainEscape 48 else
@@ -57,7 +57,7 @@ goes_on (AsciiEscape high low) us h b = b
 goes_on (ByteEscape high low) us h b = b
 goes_on (UnicodeEscape digits) us h b = b
 
--- the text and the contents of the unit are those of the character
+-- The character or escape of Rust's grammar has the text and the value of the written form.
 abbrev is_unit_of : Kind → ℕ → Bool
 is_unit_of k c =
     (is_strict_unit k (unit_of k c) && not (is_break (unit_of k c)))
@@ -70,7 +70,7 @@ is_short k c = list_all is_low (unit_text (written_unit k c)) && nat_le (length 
 abbrev low_test : Kind → ℕ → Bool
 low_test k c = is_unit_of k c && is_short k c
 
--- each of the 128 is tried
+-- The property is tested for each of the 128 ASCII characters.
 str_tests : (c : ℕ) → c < 128 → low_test Str c ≡ true
 unfolding written_unit
 str_tests c h = agree_below_at (low_test Str) (λ c. true) 128 c refl h
@@ -150,7 +150,7 @@ fine Str c h s = str_fine c s
 fine Char c h s = char_fine c s
 fine kind c h s = absurd (cc)
 
--- ---- a run of them
+-- ---- a sequence of characters
 
 pub record FineRow (k : Kind) (v : List ℕ) : Type 0 where
   pub units : List StrictUnit
@@ -211,7 +211,7 @@ char_form v s one =
     inl (cooked Char v r (r.count ∙ one) refl refl) in
     record { text_is = refl; ascii = low_join (flat_map (ascii_text Char) v) (39 ∷ []) r.low refl; reads = strict_reads _ Char _ [] strict tt; strict = strict }
 
--- ---- the bytes that are put
+-- ---- the written bytes
 
 pub form_of : (k : Kind) (v whole : List ℕ) → IsAsciiForm k v (ascii_literal k v) → whole ≡ ascii_literal k v
     → IsAsciiForm k v (chars whole)
@@ -223,7 +223,7 @@ pub form_utf8 : (k : Kind) (v whole : List ℕ) → IsAsciiForm k v (ascii_liter
     → IsUtf8 whole
 form_utf8 k v whole f e = low_utf8 whole (ap (list_all is_low) e ∙ f.ascii)
 
--- the bytes of what a character in ASCII is written as
+-- The bytes of an ASCII character's written form.
 pub low_bytes : (k : Kind) (c : ℕ) (bytes : List ℕ) → holds_characters k ≡ true → IsScalar c → c < 128
     → bytes ≡ encode_utf8_all (unit_text (written_unit k c)) → bytes ≡ ascii_text k c
 low_bytes k c bytes h s small e =
@@ -231,7 +231,7 @@ low_bytes k c bytes h s small e =
     let text = text_low k c small in
     e ∙ ap encode_utf8_all (sym text) ∙ encoded_low (ascii_text k c) f.low
 
--- the pieces, one after another
+-- The opening delimiter, the written forms and the closing delimiter, joined, are the literal.
 pub literal_pieces : (k : Kind) (v b whole : List ℕ) → b ≡ opener k ++ flat_map (ascii_text k) v
     → whole ≡ b ++ (closer k ∷ []) → whole ≡ ascii_literal k v
 literal_pieces k v b whole b_is whole_is = whole_is ∙ ap (λ z. z ++ (closer k ∷ [])) b_is
@@ -252,11 +252,11 @@ piece_more k xs a b c a_is b_is =
     b_is ∙ ap (λ z. z ++ ascii_text k c) a_is ∙ append_assoc (opener k) (flat_map (ascii_text k) xs) (ascii_text k c)
     ∙ ap (λ z. opener k ++ z) (sym all)
 
--- the first of a text's characters is one
+-- The first of a text's characters is a scalar value.
 pub first_scalar : (text rest : List ℕ) (c : ℕ) → IsUtf8 text → chars text ≡ c ∷ rest → IsScalar c
 first_scalar text rest c u e = (and_parts (scalar c) (scalars rest) (ap scalars (sym e) ∙ scalars-chars text u)).0
 
--- all characters were passed
+-- If all characters were passed, the written forms are those of the whole text.
 pub whole_pieces : (k : Kind) (xs rest v a whole : List ℕ) → v ≡ xs ++ rest → rest ≡ []
     → a ≡ opener k ++ flat_map (ascii_text k) xs → whole ≡ a ++ (closer k ∷ []) → whole ≡ ascii_literal k v
 whole_pieces k xs rest v a whole v_is none a_is whole_is =

@@ -1,5 +1,5 @@
 -- Texts in ASCII.
-use Rattle.rl_text.proofs.Common.{◌≡◌, ℕ, Bool, true, List, [], ◌∷◌, ◌++◌, refl, ap, ◌∙◌, nat_lt, list_all, list_all-append, and_parts, and_from, ltb-true, encode_ascii, chars, chars-append, chars-IsAscii, IsAscii, IsUtf8}
+use Rattle.rl_syntax.proofs.Common.{◌≡◌, ℕ, Bool, true, List, [], ◌∷◌, ◌++◌, refl, ap, ◌∙◌, nat_lt, list_all, list_all-append, and_parts, and_from, ltb-true, encode_ascii, chars, chars-append, chars-IsAscii, IsAscii, IsUtf8}
 use Rattle.std.specs.Prelude.{encode_utf8_all}
 use Rattle.std.proofs.lemmas.Str.{IsUtf8-append, IsUtf8-from_ascii}
 use Rattle.std.proofs.lemmas.Str.Ascii.{IsAscii-cons, IsAscii-nil}
@@ -22,7 +22,7 @@ low_chars t h = chars-IsAscii t (low_ascii t h)
 pub low_join : (a b : List ℕ) → list_all is_low a ≡ true → list_all is_low b ≡ true → list_all is_low (a ++ b) ≡ true
 low_join a b h k = list_all-append is_low a b ∙ and_from _ _ h k
 
--- a text between two in ASCII
+-- A UTF-8 text between two ASCII texts is UTF-8.
 pub framed_utf8 : (a b t : List ℕ) → list_all is_low a ≡ true → list_all is_low b ≡ true → IsUtf8 t
     → IsUtf8 (a ++ (t ++ b))
 framed_utf8 a b t h k u = IsUtf8-append a (t ++ b) (low_utf8 a h) (IsUtf8-append t b u (low_utf8 b k))
@@ -32,7 +32,7 @@ pub framed_chars : (a b t : List ℕ) → list_all is_low a ≡ true → list_al
 framed_chars a b t h k u = chars-append a (t ++ b) (low_utf8 a h) ∙ ap (λ z. z ++ chars (t ++ b)) (low_chars a h)
     ∙ ap (λ z. a ++ z) (chars-append t b u ∙ ap (λ z. chars t ++ z) (low_chars b k))
 
--- ASCII is its own encoding
+-- The encoding of ASCII characters is these characters.
 pub encoded_low : (t : List ℕ) → list_all is_low t ≡ true → encode_utf8_all t ≡ t
 encoded_low [] h = refl
 encoded_low (c ∷ t) h =

@@ -1,17 +1,17 @@
--- Digits in groups: what holds of the digits holds of the groups.
-use Rattle.rl_text.proofs.Common.{◌≡◌, ℕ, ◌*◌, ◌-◌, ◌<◌, ◌≤◌, Bool, true, false, not, cond, List, [], ◌∷◌, ◌++◌, length, take, refl, ap, ◌∙◌, inl, inr, arith, nat_lt, list_all, and_parts, and_from, cases_Bool, if◌then◌else◌}
+-- Grouped digits: if all digits have a property, so have the groups.
+use Rattle.rl_syntax.proofs.Common.{◌≡◌, ℕ, ◌*◌, ◌-◌, ◌<◌, ◌≤◌, Bool, true, false, not, cond, List, [], ◌∷◌, ◌++◌, length, take, refl, ap, ◌∙◌, inl, inr, arith, nat_lt, list_all, and_parts, and_from, cases_Bool, if◌then◌else◌}
 use Rattle.std.specs.Prelude.{reverse}
 use Rattle.std.proofs.Common.{length-take}
 use Rattle.std.proofs.lemmas.Bool.{and_left, and_right, le-ltb, lt-ltb}
 use Rattle.std.proofs.lemmas.List.{length-reverse, length-take-le}
-use Rattle.rl_text.specs.Texts.{is_underscore}
-use Rattle.rl_forms.specs.Spelling.{without_underscores}
+use Rattle.rl_syntax.specs.Texts.{is_underscore}
+use Rattle.rl_syntax.specs.Spelling.{without_underscores}
 use Rattle.rl_writing.specs.Integers.{ends_group, group_size, grouped}
 
--- a digit without and with an underscore after it
-pub without_mark : (size d : ℕ) (ds : List ℕ) → ends_group size (length ds) ≡ false
+-- A digit that no underscore follows.
+pub without_byte_order_mark : (size d : ℕ) (ds : List ℕ) → ends_group size (length ds) ≡ false
     → grouped size (d ∷ ds) ≡ d ∷ grouped size ds
-without_mark size d ds e = ap (λ b. d ∷ ((if b then 95 ∷ [] else []) ++ grouped size ds)) e
+without_byte_order_mark size d ds e = ap (λ b. d ∷ ((if b then 95 ∷ [] else []) ++ grouped size ds)) e
 
 pub with_mark : (size d : ℕ) (ds : List ℕ) → ends_group size (length ds) ≡ true
     → grouped size (d ∷ ds) ≡ d ∷ 95 ∷ grouped size ds
@@ -25,10 +25,10 @@ grouped_all test size (d ∷ ds) mark h =
     let more = grouped_all test size ds mark p.1 in
     elim (cases_Bool (ends_group size (length ds))) [
       | inl e ↦ ap (list_all test) (with_mark size d ds e) ∙ and_from _ _ p.0 (and_from _ _ mark more)
-      | inr e ↦ ap (list_all test) (without_mark size d ds e) ∙ and_from _ _ p.0 more
+      | inr e ↦ ap (list_all test) (without_byte_order_mark size d ds e) ∙ and_from _ _ p.0 more
     ]
 
--- the digits are left where the underscores are left out
+-- Grouped digits without their underscores are the digits.
 pub grouped_digits : (size : ℕ) (ds : List ℕ) → list_all (λ c. not (is_underscore c)) ds ≡ true
     → without_underscores (grouped size ds) ≡ ds
 grouped_digits size [] h = refl
@@ -39,39 +39,39 @@ grouped_digits size (d ∷ ds) h =
     λ xs. ap (λ b. cond b (d ∷ without_underscores xs) (without_underscores xs)) p.0 in
     elim (cases_Bool (ends_group size (length ds))) [
       | inl e ↦ ap without_underscores (with_mark size d ds e) ∙ stays (95 ∷ grouped size ds) ∙ ap (λ z. d ∷ z) more
-      | inr e ↦ ap without_underscores (without_mark size d ds e) ∙ stays (grouped size ds) ∙ ap (λ z. d ∷ z) more
+      | inr e ↦ ap without_underscores (without_byte_order_mark size d ds e) ∙ stays (grouped size ds) ∙ ap (λ z. d ∷ z) more
     ]
 
--- ---- how long they are
+-- ---- the length of grouped digits
 
 pub grouped_length : (size : ℕ) (ds : List ℕ) → length (grouped size ds) ≤ 2 * length ds - 1
 grouped_length size [] = omega arith
 grouped_length size (d ∷ []) = omega (
   arith,
-  ap length (without_mark size d []
+  ap length (without_byte_order_mark size d []
       (and_left _ _ (and_right (nat_lt 0 size) false refl))),
 )
 grouped_length size (d ∷ e ∷ ds) =
     let more = grouped_length size (e ∷ ds) in
     elim (cases_Bool (ends_group size (length (e ∷ ds)))) [
       | inl h ↦ omega (arith, more, ap length (with_mark size d (e ∷ ds) h))
-      | inr h ↦ omega (arith, more, ap length (without_mark size d (e ∷ ds) h))
+      | inr h ↦ omega (arith, more, ap length (without_byte_order_mark size d (e ∷ ds) h))
     ]
 
 pub grouped_short : (size n k : ℕ) (room : List ℕ) → n ≤ k → length (grouped size (reverse (take n room))) ≤ 2 * k - 1
 grouped_short size n k room h =
     omega (arith, h, grouped_length size (reverse (take n room)), length-reverse (take n room), length-take n room)
 
--- how many digits were put
+-- The number of digits that were written, last digit first.
 pub count_is : (n : ℕ) (room : List ℕ) → n ≤ length room → length (reverse (take n room)) ≡ n
 count_is n room h = length-reverse (take n room) ∙ length-take-le n room h
 
--- of size 0 is no group
+-- With group size 0, digits have no underscores.
 pub ungrouped : (ds : List ℕ) → grouped 0 ds ≡ ds
 ungrouped [] = refl
 ungrouped (d ∷ ds) = ap (λ z. d ∷ z) (ungrouped ds)
 
--- ---- how many there are at least
+-- ---- the least number of digits
 
 pub few_ungrouped : (group least : ℕ) (ds : List ℕ) → length ds < least
     → grouped (group_size group least (length ds)) ds ≡ ds

@@ -1,19 +1,19 @@
--- How many hashes a raw string needs, by what follows its quotes.
-use Rattle.rl_text.proofs.Common.{◌≡◌, ℕ, zero, suc, ◌+◌, ◌<◌, ◌≤◌, ◌&&◌, Bool, true, false, cond, eqb, List, [], ◌∷◌, ◌++◌, replicate, refl, sym, ap, subst, ◌∙◌, inl, inr, arith, eqb-true, cases_Bool, cases_lt, nat_lt, lt-ltb, if◌then◌else◌}
+-- The number of hashes that a raw string needs, from the hashes after its quotes.
+use Rattle.rl_syntax.proofs.Common.{◌≡◌, ℕ, zero, suc, ◌+◌, ◌<◌, ◌≤◌, ◌&&◌, Bool, true, false, cond, eqb, List, [], ◌∷◌, ◌++◌, replicate, refl, sym, ap, subst, ◌∙◌, inl, inr, arith, eqb-true, cases_Bool, cases_lt, nat_lt, lt-ltb, if◌then◌else◌}
 use Rattle.std.specs.Prelude.{max}
 use Rattle.rl_writing.specs.Mirrors.RawSteps.{hashes_opened}
 
--- the hashes in front
+-- The number of hashes at the start of a text.
 abbrev pub run : List ℕ → ℕ
 run [] = 0
 run (c ∷ t) = cond (eqb c 35) (suc (run t)) 0
 
--- one more than the hashes after a quote, at most
+-- The number of hashes that a raw string with this text needs: one more than the most hashes after a quote.
 abbrev pub needed_in : List ℕ → ℕ
 needed_in [] = 0
 needed_in (c ∷ t) = cond (eqb c 34) (max (suc (run t)) (needed_in t)) (needed_in t)
 
--- ---- a quote and as many hashes stand there
+-- ---- the text contains a quote and this number of hashes
 
 run_more : (n : ℕ) (t : List ℕ) → n ≤ run (replicate n 35 ++ t)
 run_more zero t = omega arith
@@ -42,7 +42,7 @@ run_front (suc n) (c ∷ t) h =
           absurd (omega (arith, h, same))
     ]
 
--- a quote and so many hashes stand in the text
+-- The text contains a quote and this number of hashes.
 abbrev pub Closes : ℕ → List ℕ → Type 0
 Closes n t = (front : List ℕ) × (rest : List ℕ) × (t ≡ (front ++ (34 ∷ replicate n 35)) ++ rest)
 
@@ -70,12 +70,13 @@ needed_closes n (c ∷ t) h =
 
 -- ---- one character after another
 
--- what a quote and hashes at the end of what was passed need, with the hashes that follow
+-- The number of hashes that a quote and hashes at the end of the passed text require, together with the hashes that
+-- follow.
 abbrev pub pending : ℕ → List ℕ → ℕ
 pending zero t = 0
 pending (suc k) t = suc k + run t
 
--- what is needed, by what was needed so far
+-- The number of hashes that the whole text needs, from the number for the passed text.
 abbrev pub needed_from : ℕ → ℕ → List ℕ → ℕ
 needed_from needed opened t = max needed (max (pending opened t) (needed_in t))
 

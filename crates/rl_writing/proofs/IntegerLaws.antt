@@ -1,18 +1,18 @@
--- What an integer is written as is strict, and reads as the value.
-use Rattle.rl_text.proofs.Common.{◌≡◌, ℕ, ◌^◌, ◌<◌, ◌≤◌, ◌||◌, ◌&&◌, Bool, true, false, not, eqb, List, [], ◌∷◌, ◌++◌, length, Option, ◌⊎◌, refl, sym, ap, subst, ◌∙◌, inl, inr, arith, append_assoc, nat_lt, digit_value, is_ascii_digit, list_all, list_any, and_parts, or_parts, or_from, or_left, or_right, chars, IsUtf8, if◌then◌else◌}
+-- The integer literal that is written for a value is a literal of both grammars, with that value.
+use Rattle.rl_syntax.proofs.Common.{◌≡◌, ℕ, ◌^◌, ◌<◌, ◌≤◌, ◌||◌, ◌&&◌, Bool, true, false, not, eqb, List, [], ◌∷◌, ◌++◌, length, Option, ◌⊎◌, refl, sym, ap, subst, ◌∙◌, inl, inr, arith, append_assoc, nat_lt, digit_value, is_ascii_digit, list_all, list_any, and_parts, or_parts, or_from, or_left, or_right, chars, IsUtf8, if◌then◌else◌}
 use Rattle.std.proofs.lemmas.Bool.{and_right}
 use Rattle.std.specs.Fmt.{decimal}
-use Rattle.rl_text.specs.Texts.{first_passes, begins, is_underscore, is_run_part}
-use Rattle.rl_text.proofs.Basics.{all_weaker, all_same, apart, digit_is_ten}
-use Rattle.rl_forms.specs.Numbers.{Base, Binary, Octal, Decimal, Hexadecimal, NoSign, prefix, radix, begins_base, limit}
-use Rattle.rl_forms.specs.Spelling.{place_value, without_underscores}
-use Rattle.rl_forms.specs.Reading.{Digits, ReadsInt}
-use Rattle.rl_forms.specs.Strict.{dec, BasedPrefix, IsDecimalText, IsDigits, StrictInt}
-use Rattle.rl_forms.proofs.Dec.{dec_is_decimal}
-use Rattle.rl_forms.proofs.StrictNumbers.{strict_int}
-use Rattle.rl_writing.specs.declared.integer_type.IntegerType.{IntegerType}
+use Rattle.rl_syntax.specs.Texts.{first_passes, begins, is_underscore, is_run_part}
+use Rattle.rl_syntax.proofs.Basics.{all_weaker, all_same, apart, digit_is_ten}
+use Rattle.rl_syntax.specs.Numbers.{Base, Binary, Octal, Decimal, Hexadecimal, NoSign, prefix, radix, begins_base, limit}
+use Rattle.rl_syntax.specs.Spelling.{place_value, without_underscores}
+use Rattle.rl_syntax.specs.Reading.{Digits, ReadsInt}
+use Rattle.rl_syntax.specs.Strict.{dec, BasedPrefix, IsDecimalText, IsDigits, StrictInt}
+use Rattle.rl_syntax.proofs.Dec.{dec_is_decimal}
+use Rattle.rl_syntax.proofs.StrictNumbers.{strict_int}
+use Rattle.rl_syntax.specs.declared.integer_type.IntegerType.{IntegerType}
 use Rattle.rl_writing.specs.declared.integers.IntegerStyle.{IntegerStyle}
-use Rattle.rl_writing.specs.Integers.{base_of, ends_group, group_size, grouped, numeral, suffix_text}
+use Rattle.rl_writing.specs.Integers.{argument_len, ends_group, group_size, grouped, numeral, suffix_text}
 use Rattle.rl_writing.specs.WrittenIntegers.{IsWrittenInteger, grouped_numeral, written_integer}
 use Rattle.rl_writing.proofs.AsciiLemmas.{is_low, low_chars, low_join, low_utf8}
 use Rattle.rl_writing.proofs.GroupLemmas.{grouped_all, grouped_digits}
@@ -36,7 +36,7 @@ radix_high Hexadecimal = omega arith
 abbrev has_value : ℕ → ℕ → Bool
 has_value base c = nat_lt (digit_value c) base
 
--- a run of digits and underscores that begins with a digit
+-- A sequence of digits and underscores that begins with a digit and represents the value.
 pub record IsRun (base value : ℕ) (run : List ℕ) : Type 0 where
   pub first : ℕ
   pub more : List ℕ
@@ -83,10 +83,10 @@ row_is b upper size value =
           ∙ numeral_value base upper value (radix_low b) (radix_high b);
     }
 
--- in a style
-styled_run : (value : ℕ) (style : IntegerStyle) → IsRun (radix (base_of style.base)) value (grouped_numeral value style)
+-- The digits that are written in a style are a sequence of digits and underscores.
+styled_run : (value : ℕ) (style : IntegerStyle) → IsRun (radix (argument_len style.base)) value (grouped_numeral value style)
 styled_run value style =
-    let b = base_of style.base in
+    let b = argument_len style.base in
     row_is b style.upper (group_size style.group style.least (length (numeral (radix b) style.upper value))) value
 
 -- ---- decimal digits
@@ -100,7 +100,7 @@ decimal_digits value run r = (
   sym (all_same (is_run_part (has_value 10)) (is_run_part is_ascii_digit) decimal_part run) ∙ r.each,
 )
 
--- no prefix's letter follows a digit where digits and a suffix do
+-- A digit or underscore isn't the letter of a prefix.
 part_no_letter : (c : ℕ) → is_run_part (has_value 10) c ≡ true → is_base_letter c ≡ false
 part_no_letter c h =
     let other : (k : ℕ) → is_run_part (has_value 10) k ≡ false → eqb c k
@@ -139,7 +139,7 @@ decimal_text value run x r n =
 
 -- ---- the whole
 
--- how the text begins, by its base
+-- The start of a written integer, by its base.
 abbrev IsFront : Base → List ℕ → List ℕ → Type 0
 IsFront b run x =
     ((prefix b ≡ []) × (radix b ≡ 10) × IsDigits run × IsDecimalText (prefix b ++ (run ++ x)))
@@ -179,7 +179,7 @@ dec_value n = numeral_value 10 false n (omega arith) (omega arith)
 same_digits : (a b : List ℕ) → Digits a ≡ Digits b → a ≡ b
 same_digits a b e = cc
 
--- what is strict reads as the same value
+-- An integer literal of Rust's grammar has an equal value by `syn`'s grammar.
 integer_reads : (t x : List ℕ) (value : ℕ) → value ≤ limit → StrictInt t (Digits (decimal value)) x
     → ReadsInt t (Digits (decimal value)) x
 integer_reads t x value h s =
@@ -193,7 +193,7 @@ integer_reads t x value h s =
 pub integer_written : (value : ℕ) (style : IntegerStyle) (suffix : Option IntegerType) → value ≤ limit
     → IsWrittenInteger value style suffix (written_integer value style suffix)
 integer_written value style suffix h =
-    let b = base_of style.base in
+    let b = argument_len style.base in
     let run = grouped_numeral value style in
     let x = suffix_text suffix in
     let strict = integer_strict b value run x h (styled_run value style) (suffix_is suffix) in
@@ -216,18 +216,18 @@ prefix_short Hexadecimal text e = omega (arith, ap length e)
 written_low : (value : ℕ) (style : IntegerStyle) (suffix : Option IntegerType)
     → list_all is_low (written_integer value style suffix) ≡ true
 written_low value style suffix =
-    let b = base_of style.base in
+    let b = argument_len style.base in
     let run = grouped_numeral value style in
     let x = suffix_text suffix in
     low_join (prefix b) (run ++ x) (prefix_low b)
     (low_join run x (styled_run value style).ascii (suffix_is suffix).ascii)
 
--- ---- the bytes that are put
+-- ---- the bytes that are written
 
 pub written_bytes : (value : ℕ) (style : IntegerStyle) (suffix : Option IntegerType)
     (whole inner front digits x : List ℕ)
     (base size count : ℕ) → whole ≡ inner ++ x → inner ≡ front ++ grouped size digits
-    → front ≡ prefix (base_of style.base) → digits ≡ numeral base style.upper value → base ≡ radix (base_of style.base)
+    → front ≡ prefix (argument_len style.base) → digits ≡ numeral base style.upper value → base ≡ radix (argument_len style.base)
     → size ≡ group_size style.group style.least count → length digits ≡ count → x ≡ suffix_text suffix
     → whole ≡ written_integer value style suffix
 written_bytes value style suffix whole inner front digits x base size count is_whole is_inner is_front are_digits
@@ -239,8 +239,8 @@ written_bytes value style suffix whole inner front digits x base size count is_w
     ∙ ap styled (are_digits ∙ ap (λ z. numeral z style.upper value) is_base) in
     is_whole ∙ ap (λ z. z ++ x) is_inner ∙ append_assoc front (grouped size digits) x
     ∙ ap (λ z. z ++ (grouped size digits ++ x)) is_front
-    ∙ ap (λ z. prefix (base_of style.base) ++ (z ++ x)) are_grouped
-    ∙ ap (λ z. prefix (base_of style.base) ++ (grouped_numeral value style ++ z)) is_x
+    ∙ ap (λ z. prefix (argument_len style.base) ++ (z ++ x)) are_grouped
+    ∙ ap (λ z. prefix (argument_len style.base) ++ (grouped_numeral value style ++ z)) is_x
 
 whole_low : (value : ℕ) (style : IntegerStyle) (suffix : Option IntegerType) (whole : List ℕ)
     → whole ≡ written_integer value style suffix → list_all is_low whole ≡ true

@@ -1,19 +1,19 @@
--- Digits of numbers of any size, and the number that they spell.
-use Rattle.rl_text.proofs.Common.{◌≡◌, ℕ, zero, suc, ◌+◌, ◌*◌, ◌/◌, ◌%◌, ◌^◌, ◌<◌, ◌≤◌, ◌⊎◌, ◌&&◌, Bool, true, false, not, cond, eqb, List, [], ◌∷◌, ◌++◌, length, refl, sym, ap, subst, ◌∙◌, inl, inr, arith, nat_lt, digit_value, list_all, eqb-true, eq-eqb, ne_eqb, lt-ltb, and_parts, and_from, cases_Bool, cases_lt, agree_below_at}
+-- Digits of numbers of any size, and the number that they represent.
+use Rattle.rl_syntax.proofs.Common.{◌≡◌, ℕ, zero, suc, ◌+◌, ◌*◌, ◌/◌, ◌%◌, ◌^◌, ◌<◌, ◌≤◌, ◌⊎◌, ◌&&◌, Bool, true, false, not, cond, eqb, List, [], ◌∷◌, ◌++◌, length, refl, sym, ap, subst, ◌∙◌, inl, inr, arith, nat_lt, digit_value, list_all, eqb-true, eq-eqb, ne_eqb, lt-ltb, and_parts, and_from, cases_Bool, cases_lt, agree_below_at}
 use Rattle.std.proofs.lemmas.Bool.{eqb-false}
 use Rattle.std.proofs.lemmas.Nat.{div-add-mod'}
 use Rattle.std.proofs.Math.Nat.{pow-suc, pow-zero, mod-lt, mul-le-mul_left, mul-le-mul_right, pow-le-pow_right}
 use Rattle.std.specs.Prelude.{reverse}
 use Rattle.std.proofs.lemmas.List.{reverse-append}
 use Rattle.std.specs.Fmt.{digit_glyph, digits_onto}
-use Rattle.rl_text.specs.Texts.{begins_char}
-use Rattle.rl_text.proofs.Basics.{all_weaker}
-use Rattle.rl_forms.specs.Spelling.{place_value}
+use Rattle.rl_syntax.specs.Texts.{begins_char}
+use Rattle.rl_syntax.proofs.Basics.{all_weaker}
+use Rattle.rl_syntax.specs.Spelling.{place_value}
 use Rattle.rl_writing.specs.Integers.{numeral}
 
 -- ---- one digit
 
--- a digit of a base, in ASCII, and no underscore
+-- The character is an ASCII digit of the base, and not an underscore.
 abbrev pub is_glyph : ℕ → ℕ → Bool
 is_glyph base c = (nat_lt c 128 && nat_lt (digit_value c) base) && not (eqb c 95)
 
@@ -42,7 +42,7 @@ glyph_is base upper d high h =
 
 -- ---- all digits
 
--- a quotient is half of what was divided, at most
+-- A quotient is at most half of the dividend.
 pub halved : (n base : ℕ) → 2 ≤ base → n / base * 2 ≤ n
 halved n base low = omega (arith, div-add-mod' n base, mul-le-mul_left (n / base) low)
 
@@ -62,7 +62,7 @@ goes_on k base upper n acc e =
 no_quotient : (n base : ℕ) → 2 ≤ base → n ≤ 0 → eqb (n / base) 0 ≡ true
 no_quotient n base low h = eq-eqb (n / base) 0 (omega (arith, halved n base low))
 
--- more room changes nothing
+-- More room for digits doesn't change the digits.
 room : (base : ℕ) (upper : Bool) → 2 ≤ base → (k j n : ℕ) (acc : List ℕ) → n ≤ k → n ≤ j
     → digits_onto (suc k) base upper n acc ≡ digits_onto (suc j) base upper n acc
 room base upper low zero j n acc h l =
@@ -82,7 +82,7 @@ room base upper low (suc k) (suc j) n acc h l =
           ∙ sym (goes_on (suc j) base upper n acc e)
     ]
 
--- the digits of a number before what stands there
+-- The digits of a number before other digits.
 pub digits_before : ℕ → Bool → ℕ → List ℕ → List ℕ
 digits_before base upper n acc = digits_onto (suc n) base upper n acc
 
@@ -105,9 +105,9 @@ last_digit base upper (suc m) acc low some =
     ∙ room base upper low m (suc m / base) (suc m / base) (now base upper (suc m) acc) (omega (arith, half))
     (omega arith)
 
--- ---- what they spell
+-- ---- the number that they represent
 
--- what is spelled by digits of which some are known
+-- The number that the digits of n and further digits represent together.
 abbrev spelled : ℕ → ℕ → List ℕ → ℕ
 spelled base n acc = n * base ^ length acc + place_value base acc
 
@@ -154,7 +154,7 @@ numeral_value base upper n low high =
     let bare : n * base ^ 0 + 0 ≡ n = omega (arith, ap (λ p. n * p) (pow-zero base)) in
     value_onto base upper low high n n [] (omega arith) ∙ bare
 
--- ---- what they are
+-- ---- the digits
 
 glyphs_onto : (base : ℕ) (upper : Bool) → 2 ≤ base → base ≤ 16 → (k n : ℕ) (acc : List ℕ)
     → list_all (is_glyph base) acc ≡ true → list_all (is_glyph base) (digits_onto k base upper n acc) ≡ true
@@ -173,7 +173,7 @@ pub numeral_glyphs : (base : ℕ) (upper : Bool) (n : ℕ) → 2 ≤ base → ba
 unfolding numeral
 numeral_glyphs base upper n low high = glyphs_onto base upper low high (suc n) n [] refl
 
--- some digit comes first
+-- The list of digits isn't empty.
 pub record IsSome (ds : List ℕ) : Type 0 where
   pub first : ℕ
   pub more : List ℕ
@@ -205,7 +205,7 @@ numeral_digits base n upper low high =
     (and_parts (nat_lt c 128 && nat_lt (digit_value c) base) (not (eqb c 95)) h).0).1) (numeral base upper n)
     (numeral_glyphs base upper n low high)
 
--- ---- the first of them
+-- ---- the first digit
 
 glyph_no_zero : (upper : Bool) (d : ℕ) → d < 16 → 0 < d → eqb (digit_glyph upper d) 48 ≡ false
 glyph_no_zero upper d h some = ne_eqb (digit_glyph upper d) 48 (λ e.
@@ -235,9 +235,9 @@ pub numeral_no_zero : (base n : ℕ) (upper : Bool) → 2 ≤ base → base ≤ 
 unfolding numeral
 numeral_no_zero base n upper low high some = first_no_zero base upper low high n n [] (omega arith) some
 
--- ---- how many they are
+-- ---- the number of digits
 
--- a number of so many bits that was divided so often is less than so much
+-- If a number fits its bits after some divisions, it does so after one more.
 pub fits_more : (n rest base count more bits : ℕ) → 2 ≤ base → rest ≡ n / base → more ≡ count + 1
     → n * 2 ^ count < 2 ^ bits → rest * 2 ^ more < 2 ^ bits
 fits_more n rest base count more bits low rest_is is h =
@@ -258,18 +258,18 @@ count_left n count bits some h (inl more) =
           absurd (omega (arith, h, large, one))
     ]
 
--- ---- digits that were put, the last first
+-- ---- digits that were written, the last first
 
 reversed : (xs ys : List ℕ) (d : ℕ) → ys ≡ xs ++ (d ∷ []) → reverse ys ≡ d ∷ reverse xs
 reversed xs ys d e = ap reverse e ∙ reverse-append xs (d ∷ [])
 
--- the digit that was put before the others
+-- The digit that is written now is before the digits that were written.
 now_first : (base : ℕ) (upper : Bool) (left last d : ℕ) (xs ys : List ℕ) → last ≡ left % base → ys ≡ xs ++ (d ∷ [])
     → d ≡ digit_glyph upper last → reverse ys ≡ digit_glyph upper (left % base) ∷ reverse xs
 now_first base upper left last d xs ys last_is bytes is =
     reversed xs ys d bytes ∙ ap (λ z. z ∷ reverse xs) (is ∙ ap (digit_glyph upper) last_is)
 
--- the last that is put is the first
+-- The digit that is written last is the number's first digit.
 pub put_first : (base : ℕ) (upper : Bool) (left rest last d : ℕ) (xs ys whole : List ℕ) → rest ≡ left / base
     → last ≡ left % base → ys ≡ xs ++ (d ∷ []) → d ≡ digit_glyph upper last → rest ≡ 0
     → digits_before base upper left (reverse xs) ≡ whole → reverse ys ≡ whole

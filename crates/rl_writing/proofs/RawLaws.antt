@@ -1,37 +1,37 @@
--- When a raw literal stands for its characters.
-use Rattle.rl_text.proofs.Common.{◌≡◌, ℕ, zero, suc, ◌<◌, ◌≤◌, ◌&&◌, Bool, true, false, not, eqb, List, [], ◌∷◌, ◌++◌, length, replicate, refl, sym, ap, subst, ◌∙◌, inl, inr, arith, append_assoc, append-nil, nat_lt, list_all, and_parts, and_from, both_ways, cases_lt, chars, chars_from_encodes, encodes-chars, IsUtf8}
+-- Raw strings whose value is the text between their quotes.
+use Rattle.rl_syntax.proofs.Common.{◌≡◌, ℕ, zero, suc, ◌<◌, ◌≤◌, ◌&&◌, Bool, true, false, not, eqb, List, [], ◌∷◌, ◌++◌, length, replicate, refl, sym, ap, subst, ◌∙◌, inl, inr, arith, append_assoc, append-nil, nat_lt, list_all, and_parts, and_from, both_ways, cases_lt, chars, chars_from_encodes, encodes-chars, IsUtf8}
 use Rattle.std.specs.Prelude.{encode_utf8_all}
 use Rattle.std.proofs.lemmas.Str.{chars-encodes}
 use Rattle.std.proofs.Math.Utf8.{scalars}
-use Rattle.rl_text.specs.Texts.{first_passes}
-use Rattle.rl_text.proofs.Basics.{all_weaker, hashes_all, word_without}
-use Rattle.rl_forms.specs.declared.kind.Kind.{Kind}
-use Rattle.rl_forms.specs.declared.kind.Kind.TheVariants.{Str, ByteStr, CStr}
-use Rattle.rl_forms.specs.Quoted.{holds_characters, is_raw, is_string, raw_opener, Raw}
-use Rattle.rl_forms.specs.Reading.{Bytes, Characters, Contents, Reads}
-use Rattle.rl_forms.specs.Strict.{IsRawInside, IsStrictSuffix, Strict, StrictRaw, strict_closer, strict_opener, strict_raw_opener}
-use Rattle.rl_forms.proofs.Agreeing.{strict_reads}
-use Rattle.rl_forms.proofs.OneQuoted.{raw_once, same_tail}
-use Rattle.rl_forms.proofs.StrictNumbers.{same_run}
-use Rattle.rl_writing.specs.Mirrors.RawSteps.{stands_raw}
+use Rattle.rl_syntax.specs.Texts.{first_passes}
+use Rattle.rl_syntax.proofs.Basics.{all_weaker, hashes_all, word_without}
+use Rattle.rl_syntax.specs.declared.kind.Kind.{Kind}
+use Rattle.rl_syntax.specs.declared.kind.Kind.TheVariants.{Str, ByteStr, CStr}
+use Rattle.rl_syntax.specs.Quoted.{holds_characters, is_raw, is_string, raw_opener, Raw}
+use Rattle.rl_syntax.specs.Reading.{Bytes, Characters, Contents, Reads}
+use Rattle.rl_syntax.specs.Strict.{IsRawInside, IsStrictSuffix, Strict, StrictRaw, strict_closer, strict_opener, strict_raw_opener}
+use Rattle.rl_syntax.proofs.Agreeing.{strict_reads}
+use Rattle.rl_syntax.proofs.OneQuoted.{raw_once, same_tail}
+use Rattle.rl_syntax.proofs.StrictNumbers.{same_run}
+use Rattle.rl_writing.specs.Mirrors.RawSteps.{raw_may_contain}
 use Rattle.rl_writing.specs.RawStrings.{raw_contents, raw_text, HasFewestHashes, HasNoRaw}
 use Rattle.rl_writing.proofs.AsciiLemmas.{encoded_low, is_low, framed_chars, framed_utf8, low_join}
 use Rattle.rl_writing.proofs.HashLemmas.{closes_needed, needed_closes, needed_in}
 
--- ---- which characters
+-- ---- the allowed characters
 
-stands_bare : (k : Kind) (c : ℕ) → is_string k ≡ true → stands_raw k c ≡ true → not (eqb c 13) ≡ true
+stands_bare : (k : Kind) (c : ℕ) → is_string k ≡ true → raw_may_contain k c ≡ true → not (eqb c 13) ≡ true
 stands_bare Str c s h = h
 stands_bare ByteStr c s h = (and_parts (not (eqb c 13)) (nat_lt c 128) h).0
 stands_bare CStr c s h = (and_parts (not (eqb c 13)) (not (eqb c 0)) h).0
 stands_bare kind c s h = absurd (cc)
 
-allowed : (k : Kind) (inside : List ℕ) → is_string k ≡ true → list_all (stands_raw k) inside ≡ true
+allowed : (k : Kind) (inside : List ℕ) → is_string k ≡ true → list_all (raw_may_contain k) inside ≡ true
     → IsRawInside k inside
 allowed Str inside s h = tt
-allowed ByteStr inside s h = all_weaker (stands_raw ByteStr) (λ c. nat_lt c 128)
+allowed ByteStr inside s h = all_weaker (raw_may_contain ByteStr) (λ c. nat_lt c 128)
     (λ c p. (and_parts (not (eqb c 13)) (nat_lt c 128) p).1) inside h
-allowed CStr inside s h = all_weaker (stands_raw CStr) (λ c. not (eqb c 0))
+allowed CStr inside s h = all_weaker (raw_may_contain CStr) (λ c. not (eqb c 0))
     (λ c p. (and_parts (not (eqb c 13)) (not (eqb c 0)) p).1) inside h
 allowed kind inside s h = absurd (cc)
 
@@ -43,9 +43,9 @@ both f g (c ∷ cs) h k =
     let q = and_parts (g c) (list_all g cs) k in
     and_from _ _ (and_from _ _ p.0 q.0) (both f g cs p.1 q.1)
 
--- all that is allowed may stand there
+-- All allowed characters may be between the quotes of a raw string.
 all_stand : (k : Kind) (inside : List ℕ) → is_string k ≡ true → IsRawInside k inside
-    → list_all (λ c. not (eqb c 13)) inside ≡ true → list_all (stands_raw k) inside ≡ true
+    → list_all (λ c. not (eqb c 13)) inside ≡ true → list_all (raw_may_contain k) inside ≡ true
 all_stand Str inside s a h = h
 all_stand ByteStr inside s a h = both (λ c. not (eqb c 13)) (λ c. nat_lt c 128) inside h a
 all_stand CStr inside s a h = both (λ c. not (eqb c 13)) (λ c. not (eqb c 0)) inside h a
@@ -59,7 +59,7 @@ same_opener ByteStr s = refl
 same_opener CStr s = refl
 same_opener kind s = absurd (cc)
 
--- what stands after the opener
+-- The text of a raw string after its prefix.
 abbrev after_opener : ℕ → List ℕ → List ℕ → List ℕ
 after_opener n inside x = replicate n 35 ++ (34 ∷ (inside ++ (34 ∷ (replicate n 35 ++ x))))
 
@@ -78,16 +78,16 @@ strict_text k n inside s =
     (sym (same_opener k s))
     ∙ sym (joined (strict_raw_opener k) inside [] n)
 
--- ---- what stands for the characters
+-- ---- the value of a raw literal
 
-raw_is : (k : Kind) (n : ℕ) (inside : List ℕ) → is_string k ≡ true → list_all (stands_raw k) inside ≡ true → n < 256
+raw_is : (k : Kind) (n : ℕ) (inside : List ℕ) → is_string k ≡ true → list_all (raw_may_contain k) inside ≡ true → n < 256
     → needed_in inside ≤ n → StrictRaw (raw_text k n inside) k (raw_contents k inside) []
 raw_is k n inside s stand few enough = record {
   hashes = n;
   inside = inside;
   few = few;
   allowed = allowed k inside s stand;
-  no_carriage_return = all_weaker (stands_raw k) (λ c. not (eqb c 13)) (λ c h. stands_bare k c s h) inside stand;
+  no_carriage_return = all_weaker (raw_may_contain k) (λ c. not (eqb c 13)) (λ c h. stands_bare k c s h) inside stand;
   first_close = λ front rest e.
       let closes = closes_needed n front rest in
       let Needs : List ℕ → Type 0 = λ z. n < needed_in z in
@@ -107,14 +107,14 @@ raw_strict ByteStr n inside s r = (inr r, strict_reads _ ByteStr _ [] (inr r) tt
 raw_strict CStr n inside s r = (inr r, strict_reads _ CStr _ [] (inr r) tt)
 raw_strict kind n inside s r = absurd (cc)
 
--- ---- what that needs
+-- ---- the number of hashes
 
 pub record Needs (k : Kind) (n : ℕ) (inside : List ℕ) : Type 0 where
   pub few : n < 256
-  pub stand : list_all (stands_raw k) inside ≡ true
+  pub stand : list_all (raw_may_contain k) inside ≡ true
   pub enough : needed_in inside ≤ n
 
--- a raw literal is no literal with escapes
+-- A raw string isn't a string with escapes.
 abbrev first_quote : List ℕ → Bool
 first_quote t = first_passes (λ c. eqb c 34) t
 
@@ -141,7 +141,7 @@ all_raw : (cs : List ℕ) → list_all (is_raw Str) cs ≡ true
 all_raw [] = refl
 all_raw (c ∷ cs) = all_raw cs
 
--- after the same opener, hashes and what stands inside are the same
+-- After equal opening delimiters, the hashes and the text between the quotes are equal.
 raw_at : (n : ℕ) (inside x : List ℕ) → list_all (λ c. not (eqb c 34)) x ≡ true
     → Raw Str (114 ∷ after_opener n inside x) inside x
 raw_at n inside x h = record { hashes = n; inside = inside; string = refl; each = all_raw inside; no_quote = h; text_is = refl; value_is = refl }
@@ -166,7 +166,7 @@ raw_needs k n inside x v s r =
     let Few : ℕ → Type 0 = λ z. z < 256 in
     record {
       few = subst Few (sym parts.0) r.few;
-      stand = ap (list_all (stands_raw k)) parts.1 ∙ all_stand k r.inside s r.allowed r.no_carriage_return;
+      stand = ap (list_all (raw_may_contain k)) parts.1 ∙ all_stand k r.inside s r.allowed r.no_carriage_return;
       enough = elim (cases_lt n (needed_in inside)) [
         | inl a ↦
             let closes = needed_closes n inside a in
@@ -188,7 +188,7 @@ strict_needs kind n inside x v s r = absurd (cc)
 
 -- ---- the laws
 
-pub fewest_hashes : (k : Kind) (n : ℕ) (inside : List ℕ) → is_string k ≡ true → list_all (stands_raw k) inside ≡ true
+pub fewest_hashes : (k : Kind) (n : ℕ) (inside : List ℕ) → is_string k ≡ true → list_all (raw_may_contain k) inside ≡ true
     → needed_in inside ≡ n → n < 256 → HasFewestHashes k inside n
 fewest_hashes k n inside s stand is few =
     let both = raw_strict k n inside s (raw_is k n inside s stand few (omega (arith, is))) in
@@ -199,9 +199,9 @@ fewest_hashes k n inside s stand is few =
           (arith, less, is, needs.enough);
     }
 
-pub none_stands : (k : Kind) (inside : List ℕ) → is_string k ≡ true → list_all (stands_raw k) inside ≡ false
+pub none_stands : (k : Kind) (inside : List ℕ) → is_string k ≡ true → list_all (raw_may_contain k) inside ≡ false
     → HasNoRaw k inside
-none_stands k inside s h n v x r = both_ways (list_all (stands_raw k) inside) h (strict_needs k n inside x v s r).stand
+none_stands k inside s h n v x r = both_ways (list_all (raw_may_contain k) inside) h (strict_needs k n inside x v s r).stand
 
 pub none_suffices : (k : Kind) (n : ℕ) (inside : List ℕ) → is_string k ≡ true → needed_in inside ≡ n → 256 ≤ n
     → HasNoRaw k inside
@@ -209,12 +209,12 @@ none_suffices k n inside s is many m v x r =
     let needs = strict_needs k m inside x v s r in
     omega (arith, is, many, needs.few, needs.enough)
 
--- what holds bytes holds those of the text
+-- The value of a byte string or C string is the bytes of its text.
 pub bytes_held : (k : Kind) (n : ℕ) (text value : List ℕ) → is_string k ≡ true → holds_characters k ≡ false
     → text ≡ value → IsUtf8 value → HasFewestHashes k (chars text) n → raw_contents k (chars text) ≡ Bytes value
 bytes_held ByteStr n text value s h same u f =
     let stand = (strict_needs ByteStr n (chars text) [] _ s f.strict).stand in
-    let low = all_weaker (stands_raw ByteStr) is_low (λ c p. (and_parts (not (eqb c 13)) (nat_lt c 128) p).1)
+    let low = all_weaker (raw_may_contain ByteStr) is_low (λ c p. (and_parts (not (eqb c 13)) (nat_lt c 128) p).1)
     (chars text)
     stand in
     ap Bytes (sym (encoded_low (chars text) low) ∙ ap (λ z. encode_utf8_all (chars z)) same ∙ encodes-chars value u)
@@ -222,7 +222,7 @@ bytes_held CStr n text value s h same u f = ap Bytes (ap (λ z. encode_utf8_all 
 bytes_held Str n text value s h same u f = absurd (cc)
 bytes_held kind n text value s h same u f = absurd (cc)
 
--- what holds the same has the same inside
+-- Raw strings with equal values have equal texts between their quotes.
 same_characters : (a b : List ℕ) → Characters a ≡ Characters b → a ≡ b
 same_characters a b e = cc
 
@@ -238,16 +238,16 @@ one_inside CStr inside other s h l e =
     ∙ chars-encodes other l
 one_inside kind inside other s h l e = absurd (cc)
 
--- the same of what has these bytes
+-- Raw strings with equal bytes have equal texts between their quotes.
 pub no_other : (k : Kind) (text value inside : List ℕ) → text ≡ value → IsUtf8 value → HasNoRaw k (chars text)
     → encode_utf8_all inside ≡ value → HasNoRaw k inside
 no_other k text value inside same u none e =
     let is : inside ≡ chars text = chars_from_encodes inside value u e ∙ ap chars (sym same) in
     subst (HasNoRaw k) (sym is) none
 
--- ---- the bytes that are put
+-- ---- the written bytes
 
--- what stands before the text
+-- The text before the text between the quotes.
 abbrev front_of : List ℕ → ℕ → List ℕ
 front_of opener n = (opener ++ replicate n 35) ++ (34 ∷ [])
 
@@ -265,7 +265,7 @@ front_low : (k : Kind) (n : ℕ) → is_string k ≡ true → list_all is_low (f
 front_low k n s = low_join (raw_opener k ++ replicate n 35) (34 ∷ [])
     (low_join (raw_opener k) (replicate n 35) (opener_low k s) (hashes_low n)) refl
 
--- the pieces, one after another
+-- The prefix, the hashes, the quotes and the text of a raw string, joined, are the written bytes.
 pub raw_pieces : (k : Kind) (n : ℕ) (opener text a b d e f whole : List ℕ) → opener ≡ raw_opener k → a ≡ opener
     → b ≡ a ++ replicate n 35 → d ≡ b ++ (34 ∷ []) → e ≡ d ++ text → f ≡ e ++ (34 ∷ []) → whole ≡ f ++ replicate n 35
     → whole ≡ front_of (raw_opener k) n ++ (text ++ (34 ∷ replicate n 35))

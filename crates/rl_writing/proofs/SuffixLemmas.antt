@@ -1,19 +1,19 @@
 -- The names of integer types are suffixes of numbers, and lengthen none of their digits.
-use Rattle.rl_text.proofs.Common.{◌≡◌, ℕ, ◌||◌, ◌&&◌, Bool, true, false, not, eqb, List, [], ◌∷◌, Option, Some, None, refl, ap, ◌∙◌, inl, inr, is_ascii_alphabetic, is_ascii_alphanumeric, is_ascii_hexdigit, list_all, and_from, and_parts, or_right, both_ways, or_parts, ltb-true, not-true, is_xid_continue, is_xid_start, is_xid_continue-ascii, is_xid_start-ascii}
-use Rattle.rl_text.specs.Texts.{first_passes, is_underscore, is_white, IsWord}
-use Rattle.rl_text.proofs.Basics.{apart}
-use Rattle.rl_forms.specs.Numbers.{is_exponent_letter}
-use Rattle.rl_forms.specs.Strict.{IsStrictSuffix}
-use Rattle.rl_writing.specs.declared.integer_type.IntegerType.{IntegerType}
-use Rattle.rl_writing.specs.declared.integer_type.IntegerType.TheVariants.{U8, U16, U32, U64, U128, Usize, I8, I16, I32, I64, I128, Isize}
+use Rattle.rl_syntax.proofs.Common.{◌≡◌, ℕ, ◌||◌, ◌&&◌, Bool, true, false, not, eqb, List, [], ◌∷◌, Option, Some, None, refl, ap, ◌∙◌, inl, inr, is_ascii_alphabetic, is_ascii_alphanumeric, is_ascii_hexdigit, list_all, and_from, and_parts, or_right, both_ways, or_parts, ltb-true, not-true, is_xid_continue, is_xid_start, is_xid_continue-ascii, is_xid_start-ascii}
+use Rattle.rl_syntax.specs.Texts.{first_passes, is_underscore, is_white, IsWord}
+use Rattle.rl_syntax.proofs.Basics.{apart}
+use Rattle.rl_syntax.specs.Numbers.{is_exponent_letter}
+use Rattle.rl_syntax.specs.Strict.{IsStrictSuffix}
+use Rattle.rl_syntax.specs.declared.integer_type.IntegerType.{IntegerType}
+use Rattle.rl_syntax.specs.declared.integer_type.IntegerType.TheVariants.{U8, U16, U32, U64, U128, Usize, I8, I16, I32, I64, I128, Isize}
 use Rattle.rl_writing.specs.Integers.{suffix_text}
 use Rattle.rl_writing.proofs.AsciiLemmas.{is_low}
 
--- the letters of the prefixes
+-- The letters of the prefixes of integers.
 abbrev pub is_base_letter : ℕ → Bool
 is_base_letter c = (eqb c 98 || eqb c 111) || eqb c 120
 
--- what no suffix of an integer type begins with
+-- A character that begins the name of no integer type.
 abbrev goes_wrong : ℕ → Bool
 goes_wrong c = (is_underscore c || is_exponent_letter c) || (is_ascii_hexdigit c || is_base_letter c)
 

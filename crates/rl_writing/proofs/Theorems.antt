@@ -1,5 +1,5 @@
--- The laws (src/laws.rt), as lemmas that callers may cite.
-use Rattle.rl_writing.specs.Laws.{ANumeralHasDigitsOfItsBase, ANumeralSpellsItsNumber, ANumeralHasNoZeroInFront, FewDigitsAreNotGrouped, EnoughDigitsAreGrouped, ARawStringHasOneTextInside}
+-- The laws of src/laws.rt, as lemmas that callers can cite.
+use Rattle.rl_writing.specs.Laws.{ANumeralHasDigitsOfItsBase, ANumeralRepresentsItsNumber, ANumeralHasNoZeroInFront, FewDigitsAreNotGrouped, EnoughDigitsAreGrouped, ARawStringHasOneTextInside}
 use Rattle.rl_writing.proofs.NumeralLemmas.{numeral_digits, numeral_value, numeral_no_zero}
 use Rattle.rl_writing.proofs.GroupLemmas.{few_ungrouped, others_grouped}
 use Rattle.rl_writing.proofs.RawLaws.{one_inside}
@@ -7,8 +7,8 @@ use Rattle.rl_writing.proofs.RawLaws.{one_inside}
 pub a_numeral_has_digits_of_its_base : ANumeralHasDigitsOfItsBase
 a_numeral_has_digits_of_its_base = numeral_digits
 
-pub a_numeral_spells_its_number : ANumeralSpellsItsNumber
-a_numeral_spells_its_number = λ base n upper low high. numeral_value base upper n low high
+pub a_numeral_represents_its_number : ANumeralRepresentsItsNumber
+a_numeral_represents_its_number = λ base n upper low high. numeral_value base upper n low high
 
 pub a_numeral_has_no_zero_in_front : ANumeralHasNoZeroInFront
 a_numeral_has_no_zero_in_front = numeral_no_zero

@@ -1,21 +1,21 @@
 -- Escapes of characters by their numbers.
-use Rattle.rl_text.proofs.Common.{◌≡◌, ℕ, zero, suc, ◌+◌, ◌*◌, ◌/◌, ◌%◌, ◌^◌, ◌<◌, ◌≤◌, ◌&&◌, Bool, true, false, not, cond, eqb, List, [], ◌∷◌, ◌++◌, length, map, refl, sym, ap, ◌∙◌, inl, inr, arith, append_assoc, nat_lt, digit_value, is_ascii_hexdigit, all_scalars, scalar, list_all, flat_map, and_parts, and_from, eq-eqb, lt-ltb, cases_Bool, cases_lt, encode_utf8, length-append, length-encode}
+use Rattle.rl_syntax.proofs.Common.{◌≡◌, ℕ, zero, suc, ◌+◌, ◌*◌, ◌/◌, ◌%◌, ◌^◌, ◌<◌, ◌≤◌, ◌&&◌, Bool, true, false, not, cond, eqb, List, [], ◌∷◌, ◌++◌, length, map, refl, sym, ap, ◌∙◌, inl, inr, arith, append_assoc, nat_lt, digit_value, is_ascii_hexdigit, all_scalars, scalar, list_all, flat_map, and_parts, and_from, eq-eqb, lt-ltb, cases_Bool, cases_lt, encode_utf8, length-append, length-encode}
 use Rattle.std.proofs.lemmas.Bool.{le-leb, le-ltb}
 use Rattle.std.proofs.lemmas.Nat.{div_below}
 use Rattle.std.proofs.Math.Nat.{pow-suc, pow-zero, one-mul}
 use Rattle.std.proofs.Math.Utf8.{scalar_cases}
 use Rattle.std.specs.Char.{IsScalar, len_utf8}
 use Rattle.std.specs.Fmt.{digit_glyph, digits_onto}
-use Rattle.rl_text.proofs.Basics.{all_weaker, hex_is_sixteen}
-use Rattle.rl_forms.specs.Spelling.{place_value}
-use Rattle.rl_forms.specs.Strict.{UnicodeEscape, is_unicode_escape, spaced_digit, spaced_value, strict_text}
+use Rattle.rl_syntax.proofs.Basics.{all_weaker, hex_is_sixteen}
+use Rattle.rl_syntax.specs.Spelling.{place_value}
+use Rattle.rl_syntax.specs.Strict.{UnicodeEscape, is_unicode_escape, spaced_digit, spaced_value, strict_text}
 use Rattle.rl_writing.specs.AsciiStrings.{unicode_escape}
 use Rattle.rl_writing.specs.Integers.{grouped, numeral}
 use Rattle.rl_writing.proofs.AsciiLemmas.{is_low, low_join}
 use Rattle.rl_writing.proofs.GroupLemmas.{ungrouped}
 use Rattle.rl_writing.proofs.NumeralLemmas.{is_glyph, numeral_glyphs, numeral_some, numeral_value}
 
--- ---- how many digits
+-- ---- the number of digits
 
 digits_short : (k base : ℕ) (upper : Bool) (i n : ℕ) (acc : List ℕ) → 0 < base → n < base ^ suc i
     → length (digits_onto k base upper n acc) ≤ length acc + suc i
@@ -48,14 +48,14 @@ escape_short c h = elim (scalar_cases c h) [
   | inr a ↦ omega (arith, escape_length c, numeral_short 5 c (omega (arith, a.1)))
 ]
 
--- how many bytes a character past ASCII has
+-- The number of bytes of a non-ASCII character.
 abbrev by_four : Bool → ℕ
 by_four less = cond less 3 4
 
 abbrev by_three : Bool → ℕ → ℕ
 by_three less c = cond less 2 (by_four (nat_lt c 0x1_0000))
 
--- four bytes for each, at most
+-- The escape has at most four bytes for each byte of the character.
 pub escape_fits : (c : ℕ) → IsScalar c → 128 ≤ c → length (unicode_escape c) ≤ 4 * length (encode_utf8 c)
 escape_fits c h wide =
     let wider : len_utf8 c ≡ by_three (nat_lt c 0x800) c =
@@ -76,9 +76,9 @@ escape_fits c h wide =
           ]
     ]
 
--- ---- what it stands for
+-- ---- the value of an escape
 
--- digits without underscores
+-- Digits without underscores.
 abbrev pub plain_digits : List ℕ → List (ℕ × ℕ)
 plain_digits ds = map (λ d. (d, 0)) ds
 
@@ -138,9 +138,9 @@ escape_low c = low_join (numeral 16 false c) (125 ∷ [])
     (all_weaker (is_glyph 16) is_low glyph_low (numeral 16 false c)
     (numeral_glyphs 16 false c (omega arith) (omega arith))) refl
 
--- ---- the bytes that are put
+-- ---- the written bytes
 
--- the digits that were put in one group
+-- The digits that were written without underscores.
 digits_put : (c n : ℕ) (ds : List ℕ) → ds ≡ numeral 16 false n → n ≡ c → grouped 0 ds ≡ numeral 16 false c
 digits_put c n ds e same = ungrouped ds ∙ e ∙ ap (numeral 16 false) same
 

@@ -1,12 +1,12 @@
--- Characters that turn or hide text. A character is its code.
+-- Tests for invisible and bidirectional characters. A character is represented by its code.
 use Rattle.std.specs.Prelude.{ℕ, ◌==◌, Bool, ◌||◌, ◌&&◌, nat_le}
 use Rattle.std.specs.Char.{is_control}
 
--- The character turns the direction of text, or has no width: what Unicode lists as ignorable by
--- default (but for the variation selectors from FE00 to FE0F, which choose a glyph), the separators of
--- lines and paragraphs, and the marks of annotations, FFF9 to FFFB.
-abbrev pub is_hiding : ℕ → Bool
-is_hiding c =
+-- The character changes the direction of text, or has no width. These are the characters that Unicode lists as
+-- ignorable by default (except the variation selectors from FE00 to FE0F, which select a glyph), the line and paragraph
+-- separators, and the annotation characters FFF9 to FFFB.
+abbrev pub is_invisible_or_bidi : ℕ → Bool
+is_invisible_or_bidi c =
     (c == 0xAD) || (c == 0x34F) || (c == 0x61C)
     || (nat_le 0x115F c && nat_le c 0x1160)
     || (nat_le 0x17B4 c && nat_le c 0x17B5)
@@ -20,6 +20,6 @@ is_hiding c =
     || (nat_le 0x1D173 c && nat_le c 0x1D17A)
     || (nat_le 0xE0000 c && nat_le c 0xE0FFF)
 
--- the character is printed as an escape: a control character, and one that turns or hides text
+-- The character is displayed as an escape: it is a control character, or an invisible or bidirectional one.
 abbrev pub needs_escape : ℕ → Bool
-needs_escape c = is_control c || is_hiding c
+needs_escape c = is_control c || is_invisible_or_bidi c

@@ -1,26 +1,27 @@
--- What integers are written as.
+-- The integer literals that are written for values, in a style.
 use Rattle.std.specs.Prelude.{◌≡◌, ℕ, List, ◌++◌, length, Option}
 use Rattle.std.specs.Fmt.{decimal}
-use Rattle.rl_forms.specs.declared.kind.Kind.TheVariants.{Int}
-use Rattle.rl_forms.specs.Numbers.{prefix, radix}
-use Rattle.rl_forms.specs.Reading.{Digits, Reads}
-use Rattle.rl_forms.specs.Strict.{Strict}
-use Rattle.rl_writing.specs.declared.integer_type.IntegerType.{IntegerType}
+use Rattle.rl_syntax.specs.declared.kind.Kind.TheVariants.{Int}
+use Rattle.rl_syntax.specs.Numbers.{prefix, radix}
+use Rattle.rl_syntax.specs.Reading.{Digits, Reads}
+use Rattle.rl_syntax.specs.Strict.{Strict}
+use Rattle.rl_syntax.specs.declared.integer_type.IntegerType.{IntegerType}
 use Rattle.rl_writing.specs.declared.integers.IntegerStyle.{IntegerStyle}
-use Rattle.rl_writing.specs.Integers.{base_of, group_size, grouped, numeral, suffix_text}
+use Rattle.rl_writing.specs.Integers.{argument_len, group_size, grouped, numeral, suffix_text}
 
--- the digits of a value in groups, where they are enough for some
+-- The digits of a value, in the base and in the groups of the style.
 abbrev pub grouped_numeral : ℕ → IntegerStyle → List ℕ
 grouped_numeral value style =
-    let digits = numeral (radix (base_of style.base)) style.upper value in
+    let digits = numeral (radix (argument_len style.base)) style.upper value in
     grouped (group_size style.group style.least (length digits)) digits
 
--- the literal of a value: prefix, digits in groups, suffix
+-- The integer literal of a value: prefix, digits in groups, and suffix.
 abbrev pub written_integer : ℕ → IntegerStyle → Option IntegerType → List ℕ
 written_integer value style suffix =
-    prefix (base_of style.base) ++ (grouped_numeral value style ++ suffix_text suffix)
+    prefix (argument_len style.base) ++ (grouped_numeral value style ++ suffix_text suffix)
 
--- The text is what the integer is written as: it is strict, and reads as the value with that suffix.
+-- The text is the integer literal that is written for the value. By `syn`'s and by Rust's grammar it has that value and
+-- that suffix.
 pub record IsWrittenInteger (value : ℕ) (style : IntegerStyle) (suffix : Option IntegerType)
     (text : List ℕ) : Type 0 where
   pub text_is : text ≡ written_integer value style suffix

@@ -1,19 +1,19 @@
-//! How strings and characters are written in ASCII alone.
+//! Functions that write string and character literals in ASCII, with `\u{..}` for each non-ASCII character.
 
 ghost use Rattle.std.specs.Prelude.{◌≡◌, ◌+◌, ◌*◌, ◌∷◌, ◌++◌, ◌≤◌, [], IsTrue, length, take};
 ghost use Rattle.std.specs.Str.{chars, IsUtf8};
-ghost use Rattle.rl_forms.specs.declared.kind.Kind.TheVariants.{Char, Str};
-ghost use Rattle.rl_forms.specs.Quoted.{holds_characters};
+ghost use Rattle.rl_syntax.specs.declared.kind.Kind.TheVariants.{Char, Str};
+ghost use Rattle.rl_syntax.specs.Quoted.{holds_characters};
 ghost use Rattle.rl_writing.specs.AsciiStrings.{ascii_text, unicode_escape, IsAsciiForm};
 
 use crate::numerals::{put_grouped, put_reversed};
-use rl_forms::Kind;
-use rl_forms::written_unit::escape;
-use rl_text::room::{put, put_byte, put_text};
-use rl_text::text::split_char;
+use rl_syntax::Kind;
+use rl_syntax::slice_writer::{put, put_byte, put_text};
+use rl_syntax::text::split_char;
+use rl_syntax::written_unit::escape;
 
-/// Puts `\u{..}` after the first `at` bytes of the slice, with the number of the character in base 16, in lower case, and
-/// returns where it ends.
+/// Writes the escape `\u{..}` of the character `c` after the first `at` bytes of the slice `out`, and returns the
+/// offset after the escape. The character's number is in base 16, in lower case.
 pub fn put_unicode(out: &mut [u8], at: usize, c: char) -> usize
     requires { at + length (unicode_escape c) ≤ length out.old }
     ensures end { result ≡ at + length (unicode_escape c) }
@@ -27,8 +27,8 @@ pub fn put_unicode(out: &mut [u8], at: usize, c: char) -> usize
     put_byte(out, at, b'}')
 }
 
-/// Puts a character after the first `at` bytes of the slice, as it stands in a literal of the kind in ASCII, and returns
-/// where it ends.
+/// Writes the character `c` in ASCII, as in a literal of the kind, after the first `at` bytes of the slice `out`.
+/// Returns the offset after the written bytes.
 fn put_ascii(out: &mut [u8], at: usize, kind: Kind, c: char) -> usize
     requires kind { IsTrue (holds_characters kind) }
     requires room { at + length (ascii_text kind c) ≤ length out.old }
@@ -45,8 +45,10 @@ fn put_ascii(out: &mut [u8], at: usize, kind: Kind, c: char) -> usize
     }
 }
 
-/// Writes the string literal that stands for the text, in ASCII alone: as `write_str_into` of `rl_forms`, but that each
-/// character past ASCII is `\u{..}`. Returns how many bytes it is long: at most four for each byte of the text, and two.
+/// Writes an ASCII string literal whose value is `value` to the start of `out`, and returns its length in bytes.
+///
+/// The literal is that of `write_str_into` of `rl_syntax`, except that each non-ASCII character is written as `\u{..}`.
+/// It is at most four bytes long for each byte of `value`, plus two. `out` must have room for this length.
 pub fn write_str_ascii_into(value: &str, out: &mut [u8]) -> usize
     requires { 4 * length value.now + 2 ≤ length out.old }
     ensures written { IsAsciiForm Str (chars value.now) (chars (take result out.new)) }
@@ -62,8 +64,8 @@ pub fn write_str_ascii_into(value: &str, out: &mut [u8]) -> usize
     put_byte(out, at, b'"')
 }
 
-/// Writes the character literal that stands for the character, in ASCII alone. Returns how many bytes it is long: at most
-/// twelve.
+/// Writes an ASCII character literal whose value is `value` to the start of `out`, and returns its length in bytes, at
+/// most twelve. `out` must have room for twelve.
 pub fn write_char_ascii_into(value: char, out: &mut [u8]) -> usize
     requires { 12 ≤ length out.old }
     ensures written { IsAsciiForm Char (value ∷ []) (chars (take result out.new)) }

@@ -1,26 +1,26 @@
-//! The bases that integers are written in.
+//! The bases in which integers can be written.
 
 ghost use Rattle.std.specs.Prelude.{◌≡◌};
-ghost use Rattle.rl_forms.specs.Numbers.{prefix, radix};
-ghost use Rattle.rl_writing.specs.Integers.{base_of};
+ghost use Rattle.rl_syntax.specs.Numbers.{prefix, radix};
+ghost use Rattle.rl_writing.specs.Integers.{argument_len};
 
-/// The base of an integer's digits.
+/// The base of an integer literal's digits.
 #[derive(Clone, Copy)]
 pub enum Base {
-    /// Base two: `0b1`.
+    /// Base two, as in `0b1`.
     Binary,
-    /// Base eight: `0o7`.
+    /// Base eight, as in `0o7`.
     Octal,
-    /// Base ten: `9`.
+    /// Base ten, as in `9`.
     Decimal,
-    /// Base sixteen: `0xf`.
+    /// Base sixteen, as in `0xf`.
     Hexadecimal,
 }
 
 impl Base {
-    /// The base as a number: 2, 8, 10 or 16.
+    /// Returns the base as a number: 2, 8, 10 or 16.
     pub fn radix(self) -> u8
-        ensures { result ≡ radix (base_of self) }
+        ensures { result ≡ radix (argument_len self) }
     {
         match self {
             Base::Binary => 2,
@@ -30,9 +30,9 @@ impl Base {
         }
     }
 
-    /// What stands before the digits: `0b`, `0o`, `0x`, or nothing.
+    /// Returns the prefix of an integer literal in the base: `0b`, `0o`, `0x`, or an empty string for base ten.
     pub fn prefix(self) -> &'static str
-        ensures { result.now ≡ prefix (base_of self) }
+        ensures { result.now ≡ prefix (argument_len self) }
     {
         match self {
             Base::Binary => "0b",

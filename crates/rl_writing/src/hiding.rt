@@ -1,10 +1,11 @@
-//! Characters that turn or hide text.
+//! Tests for characters that aren't visible as they are: invisible, bidirectional and control characters.
 
 ghost use Rattle.std.specs.Prelude.{◌≡◌};
-ghost use Rattle.rl_writing.specs.Hiding.{is_hiding as hiding, needs_escape as escaped};
+ghost use Rattle.rl_writing.specs.Hiding.{is_invisible_or_bidi as hiding, needs_escape as escaped};
 
-/// Whether a character turns the direction of text or has no width, so that what is shown isn't what is there.
-pub fn is_hiding(c: char) -> bool
+/// Returns `true` if the character has no width or changes the direction of text. A text with this character isn't
+/// displayed as it is written.
+pub fn is_invisible_or_bidi(c: char) -> bool
     ensures { result ≡ hiding c }
 {
     matches!(
@@ -28,9 +29,10 @@ pub fn is_hiding(c: char) -> bool
     )
 }
 
-/// Whether a character is printed as an escape: a control character, and one that turns or hides text.
+/// Returns `true` if the character is displayed as an escape: a control character, or an invisible or bidirectional
+/// one.
 pub fn needs_escape(c: char) -> bool
     ensures { result ≡ escaped c }
 {
-    c.is_control() || is_hiding(c)
+    c.is_control() || is_invisible_or_bidi(c)
 }

@@ -1,26 +1,27 @@
-//! Laws of the definitions: each function does nothing, and its contract is the law.
+//! Laws of the definitions of written literals. Each function does nothing, and its contract is the law.
 
-ghost use Rattle.rl_writing.specs.Laws.{ANumeralHasDigitsOfItsBase, ANumeralSpellsItsNumber, ANumeralHasNoZeroInFront, FewDigitsAreNotGrouped, EnoughDigitsAreGrouped, ARawStringHasOneTextInside};
+ghost use Rattle.rl_writing.specs.Laws.{ANumeralHasDigitsOfItsBase, ANumeralRepresentsItsNumber, ANumeralHasNoZeroInFront, FewDigitsAreNotGrouped, EnoughDigitsAreGrouped, ARawStringHasOneTextInside};
 
-/// The digits of a number are digits of the base, and spell the number.
-pub fn a_numeral_spells_its_number()
+/// The written digits of a number are digits of the base, and represent the number.
+pub fn a_numeral_represents_its_number()
     ensures digits { ANumeralHasDigitsOfItsBase }
-    ensures value { ANumeralSpellsItsNumber }
+    ensures value { ANumeralRepresentsItsNumber }
 {}
 
-/// No zero stands in front of the digits of a number, but of 0 itself.
+/// The written digits of a number don't begin with a zero, except for the number 0.
 pub fn a_numeral_has_no_zero_in_front()
     ensures { ANumeralHasNoZeroInFront }
 {}
 
-/// Digits that are fewer than the least stand in no groups; others stand in groups as if no least were set.
-pub fn few_digits_stand_in_no_groups()
+/// An integer with fewer digits than the style's field `least` is written without underscores. An integer with that
+/// many digits or more is written as if `least` were 0.
+pub fn few_digits_are_not_grouped()
     ensures few { FewDigitsAreNotGrouped }
     ensures others { EnoughDigitsAreGrouped }
 {}
 
-/// Raw strings of a kind that hold the same have the same text inside: so where none has this text inside, none holds
-/// what it holds.
+/// All raw strings of one kind and value have the same text between the quotes. If no raw string can contain that text,
+/// no raw string has the value.
 pub fn a_raw_string_has_one_text_inside()
     ensures { ARawStringHasOneTextInside }
 {}

@@ -1,20 +1,20 @@
-//! How texts are written as raw strings.
+//! Functions that write raw string literals, as `r#"a"#`, with the fewest hashes.
 
 ghost use Rattle.std.specs.Prelude.{◌≡◌, ◌+◌, ◌*◌, ◌++◌, ◌≤◌, ℕ, List, IfNone, IfSome, IsFalse, IsTrue, encode_utf8_all, length, replicate, take};
 ghost use Rattle.std.specs.Str.{all_scalars, chars, IsUtf8};
-ghost use Rattle.rl_text.specs.Texts.{code};
-ghost use Rattle.rl_forms.specs.Quoted.{holds_characters, is_string, raw_opener};
-ghost use Rattle.rl_forms.specs.Reading.{Bytes};
-ghost use Rattle.rl_writing.specs.Mirrors.RawSteps.{hashes_opened, stands_raw};
+ghost use Rattle.rl_syntax.specs.Texts.{code};
+ghost use Rattle.rl_syntax.specs.Quoted.{holds_characters, is_string, raw_opener};
+ghost use Rattle.rl_syntax.specs.Reading.{Bytes};
+ghost use Rattle.rl_writing.specs.Mirrors.RawSteps.{hashes_opened, raw_may_contain};
 ghost use Rattle.rl_writing.specs.RawStrings.{raw_contents, raw_text, HasFewestHashes, HasNoRaw};
 
-use rl_forms::Kind;
-use rl_text::room::{put_byte, put_text};
-use rl_text::text::split_char;
+use rl_syntax::Kind;
+use rl_syntax::slice_writer::{put_byte, put_text};
+use rl_syntax::text::split_char;
 
-/// Whether the character may stand in a raw string of the kind.
-fn stands_raw(kind: Kind, c: char) -> bool
-    ensures { result ≡ stands_raw kind c }
+/// Whether a raw string of the kind may contain the character `c`.
+fn raw_may_contain(kind: Kind, c: char) -> bool
+    ensures { result ≡ raw_may_contain kind c }
 {
     match kind {
         Kind::ByteStr => c != '\r' && c < '\u{80}',
@@ -23,8 +23,9 @@ fn stands_raw(kind: Kind, c: char) -> bool
     }
 }
 
-/// How many hashes a raw string needs that goes on after this character, if the characters up to it end in a quote and hashes;
-/// 0 if they don't. Up to the character before it, that was `opened`.
+/// Returns the number of hashes that a raw string needs so that it doesn't end after the character `c`: 1 after a
+/// quote, one more after each hash that follows a quote directly, and 0 after any other text. `opened` is the result
+/// for the character before `c`.
 fn hashes_opened(opened: usize, c: char) -> usize
     requires { opened + 1 ≤ usize.MAX }
     ensures { result ≡ hashes_opened opened c }
@@ -36,12 +37,12 @@ fn hashes_opened(opened: usize, c: char) -> usize
     }
 }
 
-/// The fewest hashes with which the raw string of the kind stands for the text: none where no quote stands in it, else one more
-/// than follow a quote, at most.
+/// Returns the fewest hashes with which a raw string of the kind can contain `text`: 0 if the text contains no quote,
+/// and otherwise one more than the longest sequence of hashes after a quote.
 ///
-/// `None` where no raw string stands for the text: a CR stands in it, in a byte string a character past ASCII, in a C string a
-/// NUL, or it needs more than 255 hashes (the Rust Reference, sections Raw string literals, Raw byte string literals, Raw C
-/// string literals).
+/// Returns `None` if no raw string of the kind can contain the text: if it contains a CR, in a byte string a non-ASCII
+/// character, in a C string a NUL, or if it needs more than 255 hashes (the Rust Reference, sections Raw string
+/// literals, Raw byte string literals, Raw C string literals).
 pub fn raw_hashes(kind: Kind, text: &str) -> Option<usize>
     requires { IsTrue (is_string kind) }
     ensures some { IfSome result (HasFewestHashes kind (chars text.now)) }
@@ -51,7 +52,7 @@ pub fn raw_hashes(kind: Kind, text: &str) -> Option<usize>
     let mut opened = 0;
     let mut rest = text;
     while let Some((c, after)) = split_char(rest) {
-        if !stands_raw(kind, c) {
+        if !raw_may_contain(kind, c) {
             return None;
         }
         opened = hashes_opened(opened, c);
@@ -61,9 +62,11 @@ pub fn raw_hashes(kind: Kind, text: &str) -> Option<usize>
     if needed < 256 { Some(needed) } else { None }
 }
 
-/// The text that stands inside the raw byte string or raw C string for these bytes, and the fewest hashes with which it does, as
-/// [`raw_hashes`] finds them. `None` where no raw string stands for them: they aren't UTF-8, which all literals are, or
-/// `raw_hashes` returns none.
+/// Returns the text between the quotes of the raw byte string or raw C string whose value is the bytes `value`, and the
+/// fewest hashes for it, as [`raw_hashes`] returns them.
+///
+/// Returns `None` if no raw string has this value: the bytes aren't UTF-8, which every literal is, or `raw_hashes`
+/// returns `None` for them.
 pub fn raw_form(kind: Kind, value: &[u8]) -> Option<(&str, usize)>
     requires string { IsTrue (is_string kind) }
     requires bytes { IsFalse (holds_characters kind) }
@@ -82,7 +85,7 @@ pub fn raw_form(kind: Kind, value: &[u8]) -> Option<(&str, usize)>
     }
 }
 
-/// Puts so many hashes after the first `at` bytes of the slice, and returns where they end.
+/// Writes `hashes` hashes after the first `at` bytes of the slice `out`, and returns the offset after them.
 fn put_hashes(out: &mut [u8], at: usize, hashes: usize) -> usize
     requires { at + hashes ≤ length out.old }
     ensures end { result ≡ at + hashes }
@@ -96,7 +99,7 @@ fn put_hashes(out: &mut [u8], at: usize, hashes: usize) -> usize
     end
 }
 
-/// What stands before the hashes of a raw string of the kind.
+/// Returns the prefix of a raw string of the kind, before its hashes: `r`, `br` or `cr`.
 fn raw_opener(kind: Kind) -> &'static str
     requires { IsTrue (is_string kind) }
     ensures text { result.now ≡ raw_opener kind }
@@ -110,8 +113,11 @@ fn raw_opener(kind: Kind) -> &'static str
     }
 }
 
-/// Writes the raw string of the kind with this text inside and so many hashes, which [`raw_hashes`] finds. Returns how many bytes
-/// it is long: at most the bytes of the text, the hashes twice, and four.
+/// Writes the raw string of the kind that contains `text`, with `hashes` hashes, to the start of `out`. [`raw_hashes`]
+/// returns the fewest hashes for a text.
+///
+/// Returns the literal's length in bytes: at most that of the text, plus twice the hashes, plus four. `out` must have
+/// room for this length.
 pub fn write_raw_into(kind: Kind, hashes: usize, text: &str, out: &mut [u8]) -> usize
     requires kind { IsTrue (is_string kind) }
     requires room { length text.now + 2 * hashes + 4 ≤ length out.old }

@@ -1,19 +1,19 @@
--- The texts of literals that were read once read as the same, whatever stands between them.
-use Rattle.rl_reading.proofs.Names.{HasReading, SpannedText, byte_len}
-use Rattle.rl_text.proofs.Common.{AllByRecursion, List, Result, [], ap, chars, drop, encode_utf8_all, refl, subst, sym, ℕ, ◌++◌, ◌+◌, ◌∙◌, ◌∷◌, ◌≡◌, ◌≢◌}
+-- The texts of literals that were parsed before are parsed as the same literals, with any separators between them.
+use Rattle.rl_lenient.proofs.Names.{HasReading, SpannedText, byte_len}
+use Rattle.rl_syntax.proofs.Common.{AllByRecursion, List, Result, [], ap, chars, drop, encode_utf8_all, refl, subst, sym, ℕ, ◌++◌, ◌+◌, ◌∙◌, ◌∷◌, ◌≡◌, ◌≢◌}
 use Rattle.std.specs.Prelude.{Vec}
 use Rattle.std.proofs.lemmas.Str.{scalars-chars}
 use Rattle.rl_tokens.specs.declared.error.Error.{Error}
-use Rattle.rl_forms.specs.Trivia.{IsTrivia}
+use Rattle.rl_syntax.specs.Trivia.{IsTrivia}
 use Rattle.rl_tokens.specs.Trees.{Tree, IdentTree, PunctTree, LiteralTree}
 use Rattle.rl_fronts.specs.Fronts.{IsFront}
-use Rattle.rl_forms.specs.Printed.{Item, WordItem, LiteralItem, MinusItem, item_text, Entry, printed_text, token_at}
+use Rattle.rl_syntax.specs.Printed.{Item, WordItem, LiteralItem, MinusItem, item_text, Entry, printed_text, token_at}
 use Rattle.rl_tokens.specs.PrintedTrees.{printed_trees, IsLexedItem, Reprinted}
 use Rattle.rl_tokens.proofs.CutTrees.{IsCutTree, lexed_trees}
 use Rattle.rl_tokens.proofs.PrintedLaws.{reprinted_lexes}
-use Rattle.rl_reading.proofs.MinusLemmas.{minus_chars}
+use Rattle.rl_lenient.proofs.MinusLemmas.{minus_chars}
 use Rattle.rust_literals.specs.declared.lit.Lit.{Lit}
-use Rattle.rl_forms.specs.Reading.{IsReadAs}
+use Rattle.rl_syntax.specs.Reading.{IsReadAs}
 use Rattle.rust_literals.specs.Literals.{kind_of, token_of, IsReadFrom}
 use Rattle.rust_literals.specs.LitParts.{IsSameAt}
 use Rattle.rust_literals.specs.Parsing.{IsLitFront, ReadsLiterals, AreRead}
@@ -23,11 +23,11 @@ use Rattle.rust_literals.proofs.LitLemmas.{SpellsWords, read_lit}
 use Rattle.rust_literals.proofs.ItemFronts.{IsFrontItem, minus_bytes, AreReadAt, items_lead, spells_words}
 use Rattle.rust_literals.proofs.PrintedLemmas.{holds_exactly}
 
--- What a literal is printed as is the text of its token.
+-- The text of a parsed literal is the text of its token.
 lit_text_is : {A : Type 0} (token : SpannedText) (lit : Lit A) → IsReadFrom token lit → lit_text lit ≡ chars token.text
 lit_text_is token lit (is, r) = ap (λ (t : SpannedText). chars t.text) is
 
--- A token at another place, which has the same text, is the same literal.
+-- The literal `lit` with another span: it is parsed from the token `other`.
 abbrev MovedLit : {A : Type 0} → SpannedText → Lit A → Type 0
 MovedLit {A} other lit = (moved : Lit A) × IsReadFrom other moved × IsSameAt lit other.span moved
 
@@ -41,7 +41,8 @@ moved_lit {A} token other lit words same (is, r) =
     (λ (x : List ℕ). let t : SpannedText = record { text = x; span = other.span } in t) text_is in
     (moved, read, record { kind = kind_is; token = read.0 ∙ there })
 
--- The literal is that of an item, as it was cut.
+-- The literal is parsed from an item of a printed list of literals: a literal token of some text, `true` or `false`, or
+-- a minus and a literal token.
 record IsCutLit {A : Type 0} (lit : Lit A) : Type 0 where
   pub item : Item
   pub is_cut : IsLexedItem item
@@ -110,7 +111,8 @@ leads_cut trees (l ∷ ls) cut (after, front, leads) =
     let (first, following) = front_cut trees l after cut front in
     (first, leads_cut after ls following leads)
 
--- The items of literals, each with its gap.
+-- The entries of the printed list for some literals and separators: each literal's item, and the separator before
+-- it.
 entries_of : {A : Type 0} (spaced : List (Spaced A)) → AllByRecursion IsCutLit (lits_of spaced) → List Entry
 entries_of [] cuts = []
 entries_of (s ∷ ss) (c, cuts) = record { gap = s.gap; item = c.item } ∷ entries_of ss cuts
@@ -165,7 +167,8 @@ items_moved file at (s ∷ ss) (c, cuts) =
     let (lits, are, moved) = items_moved file (at + byte_len s.gap + byte_len (item_text c.item)) ss cuts in
     (lit ∷ lits, (read, are), ((token.span, there), moved))
 
--- The answer to the texts of literals that were read once.
+-- The result of `read_all` for the texts of literals that were parsed before is the same literals, except for their
+-- spans, or an allocation failure.
 pub again_read : {A B : Type 0} (text : List ℕ) (file : ℕ) (r : Result (Vec (Lit A) B) (Error A))
     → ((list : List (Lit A)) → AreRead (chars text) file list → HoldsOrMemory (λ found. found ≡ list) r)
     → (spaced : List (Spaced A)) (last : List ℕ) → IsReprint (chars text) spaced last

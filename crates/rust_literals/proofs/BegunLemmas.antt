@@ -1,8 +1,8 @@
--- Where the trees of a text go on after the literals at its front.
+-- Lemmas about the token trees after the literals at the start of a text.
 use Rattle.std.proofs.Common.{arith, ◌≡◌, ◌<◌, ℕ, ◌+◌, suc, List, [], ◌∷◌, ◌++◌, length, get_or, drop, drop-cons, add-one, map, Option, Some, None, refl, sym, ◌∙◌, ap, subst}
 use Rattle.std.specs.Prelude.{IfSome, IfNone}
 use Rattle.std.specs.List.{AllByRecursion}
-use Rattle.rl_text.specs.Texts.{SpannedText}
+use Rattle.rl_syntax.specs.Texts.{SpannedText}
 use Rattle.rl_tokens.specs.Trees.{Tree, GroupTree, IdentTree, PunctTree, LiteralTree, FlatToken, flat_trees}
 use Rattle.rl_tokens.specs.Lexing.{flat_token, Lexes}
 use Rattle.rl_fronts.specs.Fronts.{IsFront, HasNoFront}
@@ -12,7 +12,8 @@ use Rattle.rust_literals.specs.declared.lit.Lit.{Lit}
 use Rattle.rust_literals.specs.Parsing.{ReadsLiterals}
 use Rattle.rust_literals.specs.Flat.{IsNoGroup, AreBegun}
 
--- trees that begin with tokens, seen flat, begin with their trees
+-- If the flat form of token trees begins with that of other token trees without groups, the token trees begin with
+-- those.
 front_trees : (front trees : List Tree) (more : List FlatToken) → AllByRecursion IsNoGroup front → flat_trees trees
     ≡ flat_trees front ++ more → (following : List Tree) × (trees ≡ front ++ following)
 front_trees [] trees more h e = (trees, refl)
@@ -34,7 +35,7 @@ front_trees (LiteralTree i ∷ front) (LiteralTree j ∷ trees) more (_, h) e =
     (further.0, ap (λ x. LiteralTree x ∷ trees) same ∙ ap (λ xs. LiteralTree i ∷ xs) further.1)
 front_trees (tree ∷ front) trees more h e = absurd (cc)
 
--- The trees of a text that begins with these literals go on after theirs.
+-- If a text begins with the literals `list`, its token trees are those of these literals, followed by others.
 pub goes_on : {A : Type 0} (text : List ℕ) (file : ℕ) (list : List (Lit A)) (trees : List Tree)
     → AreBegun text file list → Lexes text file trees → (following : List Tree) × ReadsLiterals trees list following
 goes_on text file list trees begun lexes =
@@ -45,7 +46,7 @@ goes_on text file list trees begun lexes =
     let (following, is) = front_trees read.trees trees (map (flat_token file) more) read.cuts.no_groups flat in
     (following, subst (λ (ts : List Tree). ReadsLiterals ts list following) (sym is) (read.leads following))
 
--- One of the literals that lead on is passed.
+-- If one more of the literals at the start of a text is consumed, the remaining literals begin one later.
 pub pass_one : {A : Type 0} {F : Type 0} (token_in : F → SpannedText) (old new : List Tree) (literals : List (Lit A))
     (i : ℕ) (rest : List Tree) (front : Option F) → i < length literals
     → IfSome front (λ f. IsFront old (token_in f) new) → IfNone front (HasNoFront old)

@@ -1,9 +1,9 @@
--- A literal more of a text without groups, and all of them.
-use Rattle.rl_reading.proofs.Names.{HasNoReading, HasNoTruth, HasReading, SpannedText, truth_text}
-use Rattle.rl_text.proofs.Common.{AllByRecursion, Bool, List, None, Option, Some, [], ap, append_assoc, arith, chars, if◌then◌else◌, inr, length, map-append, nat_tests, refl, subst, sym, true, ℕ, ◌++◌, ◌==◌, ◌∙◌, ◌∷◌, ◌≡◌, ◌≢◌, ◌⊎◌}
+-- Lemmas about reading the literals of a text without groups, token by token.
+use Rattle.rl_lenient.proofs.Names.{HasNoReading, HasNoTruth, HasReading, SpannedText, truth_text}
+use Rattle.rl_syntax.proofs.Common.{AllByRecursion, Bool, List, None, Option, Some, [], ap, append_assoc, arith, chars, if◌then◌else◌, inr, length, map-append, nat_tests, refl, subst, sym, true, ℕ, ◌++◌, ◌==◌, ◌∙◌, ◌∷◌, ◌≡◌, ◌≢◌, ◌⊎◌}
 use Rattle.std.proofs.lemmas.List.{nil_from_length}
 use Rattle.std.specs.Prelude.{min, max, IfNone, IfSome, OnSome}
-use Rattle.rl_text.specs.declared.span.Span.{Span}
+use Rattle.rl_syntax.specs.declared.span.Span.{Span}
 use Rattle.rl_lexer.specs.declared.cursor.Lexeme.{Lexeme as BorrowedLexeme}
 use Rattle.rl_lexer.specs.Lexemes.{LexemeForm, LiteralForm, IdentifierForm, MarkForm}
 use Rattle.rl_lexer.specs.Cursors.{form_view, CursorState, TakesNext}
@@ -20,17 +20,17 @@ use Rattle.rust_literals.specs.declared.lit.Lit.{Lit}
 use Rattle.rust_literals.specs.declared.lit.Lit.TheVariants.{Bool as BoolLit}
 use Rattle.rust_literals.specs.Literals.{IsReadFrom}
 use Rattle.rust_literals.specs.Parsing.{ReadsLiterals, AreRead}
-use Rattle.rl_reading.specs.NextLiterals.{BeginsNone, HasNoNumber, HasNoNextLiteral}
+use Rattle.rl_lenient.specs.NextLiterals.{BeginsNone, HasNoNumber, HasNoNextLiteral}
 use Rattle.rust_literals.specs.Flat.{IsNoGroup, LexesTreesUpTo, ReadsNext, AddsNext, AreReadUpTo}
 use Rattle.rl_tokens.proofs.LexLaws.{one_list}
 use Rattle.rust_literals.proofs.LitLemmas.{read_truth}
 use Rattle.rust_literals.proofs.LeadsLemmas.{leads_step, one_list_of}
 
--- a text of no length
+-- A text of length 0 is empty.
 pub empty_text : (t : List ℕ) → (length t == 0) ≡ true → t ≡ []
 empty_text t h = nil_from_length t (let q : length t ≡ 0 = grind (arith, nat_tests) in q)
 
--- where a token stands
+-- The span of a lexed token in the file.
 abbrev pub span_at : ℕ → BorrowedLexeme → Span
 span_at file l = record { file = file; lo = l.lo; hi = l.hi }
 
@@ -42,7 +42,7 @@ all_more : (P : Tree → Type 0) (trees : List Tree) (tree : Tree) → AllByRecu
 all_more P [] tree h p = (p, tt)
 all_more P (t ∷ trees) tree (q, h) p = (q, all_more P trees tree h p)
 
--- one tree more, which is no group
+-- If one more token that isn't a delimiter is consumed, the text is lexed into one more token tree.
 pub tree_more : (file : ℕ) (old new : CursorState) (l : BorrowedLexeme) (form : LexemeForm) (tree : Tree) (done : List Tree)
     → TakesNext old l new → form_view l.form ≡ form → after_form [] form l.lo ≡ Some [] → flat_trees (tree ∷ [])
     ≡ flat_form form l.text.now (span_at file l) ∷ [] → IsNoGroup tree
@@ -67,7 +67,7 @@ tree_more file old new l form tree done t form_is none flat_is no_group c =
       no_groups = all_more IsNoGroup done tree c.no_groups no_group;
     }
 
--- a literal token
+-- If the next token is a literal token, the literal that is parsed from it is the next literal.
 pub literal_next : {A : Type 0} (file : ℕ) (old new : CursorState) (l : BorrowedLexeme) (lit : Lit A) → TakesNext old l new
     → form_view l.form ≡ LiteralForm → IsReadFrom (token_at file l) lit → ReadsNext file old lit new
 literal_next file old new l lit t form_is read =
@@ -78,7 +78,7 @@ literal_next file old new l lit t form_is read =
       same = t.same;
     }
 
--- the word of a truth value
+-- If the next token is the identifier `true` or `false`, the next literal is that `bool`.
 pub truth_next : {A : Type 0} (file : ℕ) (old new : CursorState) (l : BorrowedLexeme) (lit : Lit A) (b : Bool)
     → TakesNext old l new → form_view l.form ≡ IdentifierForm → l.text.now ≡ truth_text b → lit
     ≡ BoolLit (record { value = b; span = span_at file l }) → ReadsNext file old lit new
@@ -93,7 +93,7 @@ truth_next {A} file old new l lit b t form_is word_is lit_is =
       same = t.same;
     }
 
--- a minus and a literal token
+-- If the next two tokens are a minus and a literal token that together are one literal, that literal is the next one.
 pub negative_next : {A : Type 0} (file : ℕ) (old between new : CursorState) (m l : BorrowedLexeme) (lit : Lit A) (span : Span)
     → TakesNext old m between → TakesNext between l new → form_view m.form ≡ MarkForm 45 → form_view l.form
     ≡ LiteralForm → span ≡ joined_span (span_at file m) (span_at file l) → HasReading (45 ∷ chars l.text.now)
@@ -131,7 +131,7 @@ same_file file m l span e = e ∙ sym (ap (λ b. if b then record { file = file;
     same : (n : ℕ) → (n == n) ≡ true
     same n = grind (arith, nat_tests)
 
--- the span that was joined
+-- The span of a minus and a number in one file is from the first byte of both to the last byte of both.
 pub joined_at : (file : ℕ) (m l : BorrowedLexeme) (a b span : Span) → a ≡ span_at file m → b ≡ span_at file l → span
     ≡ record { file = a.file; lo = min a.lo b.lo; hi = max a.hi b.hi } → span
     ≡ record { file = file; lo = min m.lo l.lo; hi = max m.hi l.hi }
@@ -147,19 +147,20 @@ pub read_negative : {A : Type 0} (file : ℕ) (old between new : CursorState) (m
 read_negative file old between new m l lit span t u m_is l_is span_is together read =
     negative_next file old between new m l lit span t u m_is l_is (same_file file m l span span_is) together read
 
--- no token that makes a literal with a minus before it
+-- If the next token isn't a literal token, or isn't a literal together with a minus, no number follows a minus before
+-- that token.
 pub none_number : (old new : CursorState) (l : BorrowedLexeme) → TakesNext old l new → (form_view l.form ≢ LiteralForm)
     ⊎ HasNoReading (45 ∷ chars l.text.now) → HasNoNumber old
 none_number old new l t h = inr (l, new, t, h)
 
--- a word, and none of a truth value
+-- If the next token is an identifier other than `true` and `false`, the tokens don't begin with a literal.
 pub none_word : (old between : CursorState) (m : BorrowedLexeme) → TakesNext old m between → form_view m.form ≡ IdentifierForm
     → ((b : Bool) → chars m.text.now ≡ truth_text b → ⊥) → HasNoNextLiteral old
 none_word old between m t is differs =
     let h : HasNoTruth (chars m.text.now) = λ contents suffix r. differs r.truth r.text_is in
     inr (m, between, t, subst (λ (f : LexemeForm). BeginsNone f m.text.now between) (sym is) h)
 
--- an option whose form is known
+-- If an option is `None`, a property of that case holds.
 pub no_some : {T P : Type 0} (o : Option T) → o ≡ None → IfNone o P → P
 no_some None e h = h
 no_some (Some x) e h = absurd (cc)
@@ -170,7 +171,7 @@ the_some {T} P o x e h = subst (λ (y : Option T). IfSome y P) e h
 pub when_some : {T P : Type 0} (o : Option T) (x : T) → o ≡ Some x → OnSome o P → P
 when_some {T} {P} o x e h = subst (λ (y : Option T). OnSome y P) e h
 
--- nothing is read yet
+-- The invariant of the loop over literals holds before any literal is read.
 pub read_none : {A : Type 0} (text : List ℕ) (file : ℕ) (rest : List ℕ) → LexesUpTo 0 text [] rest
     → AreReadUpTo {A = A} text file [] rest
 read_none text file rest skips = record {
@@ -185,7 +186,7 @@ read_start {A} text file rest list none skips =
     subst (λ (ls : List (Lit A)). AreReadUpTo (chars text) file ls (chars rest)) (sym none)
     (read_none (chars text) file (chars rest) skips)
 
--- one literal more
+-- The invariant of the loop over literals holds after one more literal.
 pub read_more : {A : Type 0} (text : List ℕ) (file : ℕ) (old new : CursorState) (list longer : List (Lit A)) → old.text
     ≡ text → AreReadUpTo (chars text) file list (chars old.rest) → AddsNext file old list new longer
     → AreReadUpTo (chars text) file longer (chars new.rest)
@@ -206,7 +207,7 @@ read_more text file old new list longer same read added =
           (read.leads (next.trees ++ following)) (next.front following));
     })
 
--- all is read
+-- If no text remains, the whole text consists of the literals that were read.
 pub read_whole : {A : Type 0} (text : List ℕ) (file : ℕ) (list : List (Lit A)) (rest : List ℕ) → rest ≡ []
     → AreReadUpTo text file list rest → AreRead text file list
 read_whole text file list rest ends read = record {
@@ -224,7 +225,7 @@ read_whole text file list rest ends read = record {
     nil_behind [] = refl
     nil_behind (t ∷ ts) = ap (λ z. t ∷ z) (nil_behind ts)
 
--- a text is read as one list
+-- If a text consists of two lists of literals, the two lists are equal.
 pub one_read : {A : Type 0} (text : List ℕ) (file : ℕ) (found list : List (Lit A)) → AreRead text file found
     → AreRead text file list → found ≡ list
 one_read text file found list r q =

@@ -1,8 +1,9 @@
--- What a parser makes of the literal that begins a buffer's trees, as it was taken from a copy of the buffer.
-use Rattle.rl_reading.proofs.Names.{Kind, Reads, ReadsAs, SpannedText, Truth}
-use Rattle.rl_text.proofs.Common.{Bool, Err, List, [], ap, chars, inl, inr, refl, subst, sym, ℕ, ◌∙◌, ◌≡◌}
-use Rattle.rl_text.specs.declared.span.Span.{Span}
-use Rattle.rl_forms.specs.declared.kind.Kind.TheVariants.{Bool as BoolKind}
+-- Lemmas about the result of parsing the literal at the start of a buffer. The parser consumed the literal from a copy
+-- of the buffer.
+use Rattle.rl_lenient.proofs.Names.{Kind, Reads, ReadsAs, SpannedText, Truth}
+use Rattle.rl_syntax.proofs.Common.{Bool, Err, List, [], ap, chars, inl, inr, refl, subst, sym, ℕ, ◌∙◌, ◌≡◌}
+use Rattle.rl_syntax.specs.declared.span.Span.{Span}
+use Rattle.rl_syntax.specs.declared.kind.Kind.TheVariants.{Bool as BoolKind}
 use Rattle.rl_tokens.specs.declared.error.Error.{Error}
 use Rattle.rl_tokens.specs.Errors.{memory_at}
 use Rattle.rl_tokens.specs.Trees.{Tree}
@@ -21,7 +22,7 @@ front_here trees copy rest token same front = subst (λ ts. IsFront ts token res
 none_here : (trees copy : List Tree) → copy ≡ trees → HasNoFront copy → HasNoFront trees
 none_here trees copy same none = subst HasNoFront same none
 
--- ---- a literal of any kind
+-- ---- lemmas about a literal of any kind
 
 pub lit_front : {A : Type 0} (trees copy rest : List Tree) (token held : SpannedText) (lit : Lit A) → copy ≡ trees
     → IsFront copy token rest → held ≡ token → IsReadFrom held lit → IsLitFront trees lit rest
@@ -41,7 +42,7 @@ lit_memory trees copy rest token scope at e same front is place =
           { error = is ∙ ap memory_at place; stays = refl },
     )
 
--- ---- a truth value
+-- ---- lemmas about a `bool` literal
 
 pub truth_front : (trees copy rest : List Tree) (token : SpannedText) (literal : LitBool) (value : Bool) (at : Span)
     → copy ≡ trees → IsFront copy token rest → Reads (chars token.text) BoolKind (Truth value) [] → literal

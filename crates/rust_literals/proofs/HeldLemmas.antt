@@ -1,30 +1,31 @@
--- What a number struct holds.
-use Rattle.rl_reading.proofs.Names.{Byte, ByteStr, CStr, Char, Float, HasSuffix, Int, Kind, Reads, SpannedText, Str}
-use Rattle.rl_text.proofs.Common.{Err, IsUtf8, List, Ok, Result, append_cancel_right, arith, chars, inl, inr, refl, subst, sym, take, take-append-drop, true, ℕ, ◌++◌, ◌∙◌, ◌≡◌, ◌≢◌, ◌⊎◌}
+-- Lemmas about the parts that a number stores: its digits and the byte offset of its suffix.
+use Rattle.rl_lenient.proofs.Names.{Byte, ByteStr, CStr, Char, Float, HasSuffix, Int, Kind, Reads, SpannedText, Str}
+use Rattle.rl_syntax.proofs.Common.{Err, IsUtf8, List, Ok, Result, append_cancel_right, arith, chars, inl, inr, refl, subst, sym, take, take-append-drop, true, ℕ, ◌++◌, ◌∙◌, ◌≡◌, ◌≢◌, ◌⊎◌}
 use Rattle.std.specs.Prelude.{IfErr}
-use Rattle.rl_forms.specs.declared.kind.Kind.TheVariants.{Bool}
+use Rattle.rl_syntax.specs.declared.kind.Kind.TheVariants.{Bool}
 use Rattle.rl_tokens.specs.declared.error.ErrorKind.{ErrorKind}
 use Rattle.rl_tokens.specs.declared.error.ErrorKind.TheVariants.{Expected, EndOfInput, Unexpected, Lex, Suffix, NotInteger, TooLarge, NotFloat, Repeated, Number, Memory}
 use Rattle.rl_tokens.specs.declared.error.Error.{Error}
 use Rattle.rl_tokens.specs.declared.kept.Kept.{Kept}
-use Rattle.rl_text.specs.declared.span.Span.{Span}
+use Rattle.rl_syntax.specs.declared.span.Span.{Span}
 use Rattle.rl_tokens.specs.Errors.{memory_at}
-use Rattle.rl_forms.proofs.OneNumber.{int_once}
-use Rattle.rl_reading.specs.declared.found.Found.{Found}
-use Rattle.rl_reading.specs.Founds.{IsFound, IsFoundFloat, IsFoundNumber, body_in, suffix_in}
-use Rattle.rl_reading.specs.NumberShapes.{AreDigits, IsNumber}
-use Rattle.rl_reading.specs.WholeShapes.{IsSplit, IsPlain}
+use Rattle.rl_syntax.proofs.OneNumber.{int_once}
+use Rattle.rl_lenient.specs.declared.found.Found.{Found}
+use Rattle.rl_lenient.specs.Founds.{IsFound, IsFoundFloat, IsFoundNumber, body_in, suffix_in}
+use Rattle.rl_lenient.specs.NumberShapes.{AreDigits, IsNumber}
+use Rattle.rl_lenient.specs.WholeShapes.{IsSplit, IsPlain}
 use Rattle.rl_fronts.proofs.NumberFoundLemmas.{number_integer, number_float, number_stands, plain_digits}
 use Rattle.rust_literals.specs.Held.{HasDigits, HasOwnSuffix, HoldsNumber}
 use Rattle.rust_literals.specs.Rejections.{IsNoNumber, IsRejectedAs}
 
--- a number that was found, by its kind: an integer, or a float by the rule of floats
+-- The parse result of a number, by its kind: an integer is parsed among literals of all kinds, and a float by the rule
+-- for floats only.
 abbrev IsOfKind : Kind → List ℕ → Found → Type 0
 IsOfKind Int text found = IsFound text found
 IsOfKind Float text found = IsFoundFloat text found
 IsOfKind _ text found = ⊥
 
--- what was found of a number kind is a number
+-- A parse result of the kind of integers or floats is that of a number.
 pub is_found_number : (kind : Kind) (text : List ℕ) (found : Found) → (kind ≡ Int) ⊎ (kind ≡ Float) → found.kind ≡ kind
     → IsFound text found → IsFoundNumber text found
 is_found_number kind text found (inl i) e h = inl (h, inl (e ∙ i))
@@ -50,7 +51,7 @@ of_kind Byte text found utf8 e h = not_both Byte (λ x. cc) (λ x. cc) text foun
 of_kind Char text found utf8 e h = not_both Char (λ x. cc) (λ x. cc) text found e h
 of_kind Bool text found utf8 e h = not_both Bool (λ x. cc) (λ x. cc) text found e h
 
--- its suffix, and the digits that are printed of it
+-- Lemmas about the suffix and the digits of a number, from its parse result.
 found_suffix : (kind : Kind) (text : List ℕ) (found : Found) → found.kind ≡ kind → IsOfKind kind text found
     → HasOwnSuffix kind (chars text) (chars (suffix_in text found.body))
 found_suffix Int text found e h = subst (λ k. HasSuffix k (chars text) (chars (suffix_in text found.body))) e h.reads
@@ -69,7 +70,7 @@ found_digits Float text digits found e h d =
     (n, x, h.reads, d n x h.reads)
 found_digits kind text digits found e h d = absurd h
 
--- what is held of a number that was found
+-- The digits and the byte offset of the suffix that a number stores are those of its text.
 pub holds_number : (kind : Kind) (text digits : List ℕ) (found : Found) → IsUtf8 text → IsFoundNumber text found
     → found.kind ≡ kind → AreDigits found.kind (chars text) (chars digits)
     → HoldsNumber kind text digits found.body.suffix_at
@@ -81,7 +82,7 @@ holds_number kind text digits found utf8 h e d =
       boundary = (number_stands text found h).following;
     }
 
--- a body is all that stands before the suffix
+-- A number's text is its body, followed by its suffix.
 body_cut : (kind : Kind) (text : List ℕ) (found : Found) → found.kind ≡ kind → IsOfKind kind text found → text
     ≡ body_in text found.body ++ suffix_in text found.body
 body_cut Int text found e h = subst (λ k. IsSplit k text (body_in text found.body) (suffix_in text found.body)) e h.cut
@@ -93,7 +94,7 @@ body_is : (text : List ℕ) (found : Found) → text ≡ body_in text found.body
 body_is text found cut = append_cancel_right (body_in text found.body) (take found.body.suffix_at text)
     (suffix_in text found.body) (sym cut ∙ sym (take-append-drop found.body.suffix_at text))
 
--- it is the digits where the number is plain
+-- If a number is plain, its digits are the text before its suffix.
 pub holds_lent : (kind : Kind) (text : List ℕ) (found : Found) → IsUtf8 text → IsFoundNumber text found → found.kind
     ≡ kind → found.body.plain ≡ true → HoldsNumber kind text (take found.body.suffix_at text) found.body.suffix_at
 holds_lent kind text found utf8 h e plain =
@@ -101,7 +102,7 @@ holds_lent kind text found utf8 h e plain =
     subst (λ z. HoldsNumber kind text z found.body.suffix_at) body
     (holds_number kind text (body_in text found.body) found utf8 h e (plain_digits text found utf8 plain h))
 
--- what was found is a number of the kind
+-- If a text's parse result is a number of a kind, the text is a number of that kind.
 pub found_number : (kind : Kind) (text : List ℕ) (found : Found) → IsUtf8 text → IsFoundNumber text found → found.kind
     ≡ kind → IsNumber kind (chars text)
 found_number kind text found utf8 h e = go kind e (of_kind kind text found utf8 e h)
@@ -111,13 +112,13 @@ found_number kind text found utf8 h e = go kind e (of_kind kind text found utf8 
     go Float e h = (chars (body_in text found.body), chars (suffix_in text found.body), h.reads)
     go kind e h = absurd h
 
--- an allocation failure, as an error
+-- `Memory` at a span is one of the errors for a text that is a number.
 pub wants_memory : {A : Type 0} (kind : Kind) (text : List ℕ) (e : Error A) (span : Span) → e ≡ memory_at span
     → IsNumber kind text → (e.span ≡ span) × IsRejectedAs kind text e.kind
 wants_memory {A} kind text e span is number =
     let P : Error A → Type 0 = λ x. (x.span ≡ span) × IsRejectedAs kind text x.kind in subst P (sym is) (refl, number)
 
--- what is plain is no text that is rejected
+-- A text whose digits are the text before its suffix isn't rejected as a number.
 pub no_number_plain : {A : Type 0} (kind : Kind) (text : List ℕ) (reason : ErrorKind A)
     → IsNoNumber kind (chars text) reason → IsPlain kind text → ⊥
 no_number_plain Int text NotInteger none p = none p.reads.sign p.reads.magnitude p.suffix p.reads.reads
@@ -150,7 +151,7 @@ no_number_plain Float text (Number w) none p = absurd none
 no_number_plain Float text Memory none p = absurd none
 no_number_plain kind text reason none p = absurd none
 
--- why a text is no number, as an error
+-- The reason why a text isn't a number is one of the errors for the text.
 pub no_number_rejected : {A : Type 0} (kind : Kind) (text : List ℕ) (reason : ErrorKind A) → IsNoNumber kind text reason
     → IsRejectedAs kind text reason
 no_number_rejected kind text (Expected w) none = none
@@ -166,7 +167,7 @@ no_number_rejected kind text (Number w) none = none
 no_number_rejected Int text Memory none = absurd none
 no_number_rejected kind text Memory none = absurd none
 
--- where an allocation failed for a number, it is reported as that
+-- If the result for a number is an error with `Memory` at a span, it is one of the errors for the number's text.
 pub memory_rejected : {T A : Type 0} (kind : Kind) (text : List ℕ) (span : Span) (r : Result T (Kept SpannedText A))
     → IfErr r (λ k. k.error ≡ memory_at span) → IsNumber kind text
     → IfErr r (λ k. (k.error.span ≡ span) × IsRejectedAs kind text k.error.kind)

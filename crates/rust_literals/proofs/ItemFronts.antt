@@ -1,32 +1,32 @@
--- The trees of an item begin with it as one literal.
-use Rattle.rl_reading.proofs.Names.{HasReading, ReadsAs, SpannedText, byte_len, truth_text}
-use Rattle.rl_text.proofs.Common.{AllByRecursion, Bool, List, [], ap, arith, chars, encode_utf8_all, false, if◌then◌else◌, length, lit<, nat_tests, refl, subst, suc, sym, true, ℕ, ⊤, ◌++◌, ◌+◌, ◌==◌, ◌∙◌, ◌∷◌, ◌≡◌}
+-- Lemmas about the token trees of an item of a printed list of literals, which begin with one literal.
+use Rattle.rl_lenient.proofs.Names.{HasReading, ReadsAs, SpannedText, byte_len, truth_text}
+use Rattle.rl_syntax.proofs.Common.{AllByRecursion, Bool, List, [], ap, arith, chars, encode_utf8_all, false, if◌then◌else◌, length, lit<, nat_tests, refl, subst, suc, sym, true, ℕ, ⊤, ◌++◌, ◌+◌, ◌==◌, ◌∙◌, ◌∷◌, ◌≡◌}
 use Rattle.std.proofs.Common.{min, max}
 use Rattle.std.proofs.lemmas.Str.{chars-encodes}
-use Rattle.rl_text.specs.declared.span.Span.{Span}
-use Rattle.rl_forms.specs.declared.kind.Kind.TheVariants.{Bool as BoolKind}
+use Rattle.rl_syntax.specs.declared.span.Span.{Span}
+use Rattle.rl_syntax.specs.declared.kind.Kind.TheVariants.{Bool as BoolKind}
 use Rattle.rl_tokens.specs.Trees.{Tree}
 use Rattle.rl_fronts.specs.Fronts.{joined_span, joined, IsFront}
-use Rattle.rl_forms.specs.Printed.{Item, WordItem, LiteralItem, MinusItem, item_text, Entry, token_at}
+use Rattle.rl_syntax.specs.Printed.{Item, WordItem, LiteralItem, MinusItem, item_text, Entry, token_at}
 use Rattle.rl_tokens.specs.PrintedTrees.{item_trees, printed_trees}
-use Rattle.rl_text.proofs.LowBytes.{low_front}
+use Rattle.rl_syntax.proofs.LowBytes.{low_front}
 use Rattle.rl_fronts.proofs.FrontLemmas.{truth_reads}
 use Rattle.rust_literals.proofs.LitLemmas.{SpellsWords}
 use Rattle.rust_literals.specs.declared.lit.Lit.{Lit}
 use Rattle.rust_literals.specs.Literals.{IsReadFrom}
 use Rattle.rust_literals.specs.Parsing.{ReadsLiterals}
 
--- the bytes of the words are their characters
+-- The UTF-8 bytes of the words `true` and `false` equal their characters.
 word_bytes : (b : Bool) → encode_utf8_all (truth_text b) ≡ truth_text b
 unfolding lib.Utf8.encode
 word_bytes true = refl
 word_bytes false = refl
 
--- so the bytes of characters spell them
+-- If the characters of an encoded text are `true` or `false`, so are its bytes.
 pub spells_words : (text : List ℕ) → chars (encode_utf8_all text) ≡ text → SpellsWords (encode_utf8_all text)
 spells_words text same b e = ap encode_utf8_all (sym same ∙ e) ∙ word_bytes b
 
--- a minus and a text read together
+-- The item's token trees are one literal: a minus and a text together are a literal, and any other item is one token.
 abbrev pub IsFrontItem : Item → Type 0
 IsFrontItem (WordItem truth) = ⊤
 IsFrontItem (LiteralItem text) = ⊤
@@ -40,7 +40,7 @@ word_reads false = truth_reads (chars (encode_utf8_all (truth_text false))) fals
 pub minus_bytes : (text : List ℕ) → encode_utf8_all (45 ∷ text) ≡ 45 ∷ encode_utf8_all text
 minus_bytes text = low_front 45 text (lit< tt)
 
--- a minus and the text after it, as one token
+-- Lemmas about a minus and the literal after it as one token.
 one_file : (file : ℕ) (a b : Span) → (if file == file then a else b) ≡ a
 one_file file a b = let same : (file == file) ≡ true = grind (arith, nat_tests) in ap (λ t. if t then a else b) same
 
@@ -70,7 +70,8 @@ item_front file at (LiteralItem text) rest is = (refl, refl)
 item_front file at (MinusItem text) rest (reads, same) =
     (refl, subst (λ (x : List ℕ). HasReading (45 ∷ x)) (sym same) reads, sym (minus_joined file at text), refl)
 
--- The literals are read from the tokens of the entries one by one.
+-- The literals are parsed from the items of a printed list of literals one by one. The list begins at the byte offset
+-- `at` of the file.
 abbrev pub AreReadAt : {A : Type 0} → (file at : ℕ) → List Entry → List (Lit A) → Type 0
 AreReadAt file at [] lits = lits ≡ []
 AreReadAt file at (e ∷ es) [] = ⊥
@@ -78,7 +79,7 @@ AreReadAt file at (e ∷ es) (l ∷ ls) =
     IsReadFrom (token_at file (at + byte_len e.gap) (item_text e.item)) l
     × AreReadAt file (at + byte_len e.gap + byte_len (item_text e.item)) es ls
 
--- The trees of entries are these literals.
+-- The token trees of a printed list of literals consist of the literals that are parsed from its items.
 pub items_lead : {A : Type 0} (file at : ℕ) (entries : List Entry) (lits : List (Lit A))
     → AllByRecursion (λ e. IsFrontItem e.item) entries → AreReadAt file at entries lits
     → ReadsLiterals (printed_trees file at entries) lits []

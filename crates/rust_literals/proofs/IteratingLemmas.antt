@@ -1,5 +1,5 @@
--- What an iterator over the literals of a text returns.
-use Rattle.rl_text.proofs.Common.{List, None, Ok, Option, Some, [], ap, append_assoc, arith, chars, chars-nil, length, length-append, refl, subst, sym, ℕ, ◌++◌, ◌+◌, ◌<◌, ◌^◌, ◌∙◌, ◌∷◌, ◌≡◌}
+-- Lemmas about the results of an iterator over the literals of a text.
+use Rattle.rl_syntax.proofs.Common.{List, None, Ok, Option, Some, [], ap, append_assoc, arith, chars, chars-nil, length, length-append, refl, subst, sym, ℕ, ◌++◌, ◌+◌, ◌<◌, ◌^◌, ◌∙◌, ◌∷◌, ◌≡◌}
 use Rattle.std.proofs.lemmas.List.{append-nil, nil_from_length}
 use Rattle.std.specs.Option.{option_to_list, OnSome}
 use Rattle.std.specs.Vec.Iter.{into_iter_items, into_iter_len, into_iter_steps}
@@ -12,7 +12,7 @@ use Rattle.rust_literals.specs.Flat.{ReadsNext, AreReadUpTo, AreFirst}
 use Rattle.rust_literals.specs.Iterating.{GoesOnAfter, HasReturned, ReturnsNext, left_with, left_of}
 use Rattle.rust_literals.proofs.FlatLemmas.{read_more, read_whole}
 
--- the iterator at this place of its text, in place of where it was
+-- If the fields of an iterator are those after the literals `taken`, the iterator has returned `taken`.
 placed : {A : Type 0} (text : List ℕ) (file : ℕ) (taken : List (Lit A)) (new : Literals A)
     (waiting : Option (IntoIter (Lit A) A)) → new.text.now ≡ text → new.file ≡ file → new.tokens.text ≡ text
     → new.waiting ≡ waiting → GoesOnAfter (chars text) file taken new.count (chars new.tokens.rest) waiting
@@ -24,7 +24,8 @@ placed text file taken new waiting t f s w h = record {
   goes_on = subst (GoesOnAfter (chars text) file taken new.count (chars new.tokens.rest)) (sym w) h;
 }
 
--- the literals that wait: the first of them, or none
+-- If the iterator keeps a list of literals that it still has to return, its next result is the first of these, or
+-- `None`.
 pub waiting_next : {A : Type 0} (text : List ℕ) (file : ℕ) (taken : List (Lit A)) (new : Literals A)
     (was is : IntoIter (Lit A) A) (first : Option (Lit A)) → AreRead (chars text) file (taken ++ into_iter_items was)
     → into_iter_len was ≡ length (into_iter_items was) → into_iter_steps was first is → new.text.now ≡ text → new.file
@@ -48,7 +49,8 @@ waiting_next text file taken new was is None read len (before, after) t f s w no
       ),
     )
 
--- the literals after those that the tokens gave
+-- If the iterator lexes the whole text after the literals that it read token by token, its next result is the first
+-- literal after these, or `None`.
 pub waiting_first : {A : Type 0} (text : List ℕ) (file : ℕ) (taken more : List (Lit A)) (old new : Literals A)
     (was is : IntoIter (Lit A) A) (first : Option (Lit A)) → HasReturned text file taken old
     → AreRead (chars old.text.now) old.file (taken ++ more) → into_iter_items was ≡ more → into_iter_len was
@@ -62,7 +64,7 @@ waiting_first text file taken more old new was is first h read items len steps t
     (len ∙ ap length (sym items)) steps (ap (λ x. x.now) t ∙ h.text_is) (f ∙ h.file_is)
     (ap (λ (x : CursorState). x.text) s ∙ h.same) w none
 
--- where none waits, those that were returned are the first of the text
+-- If the iterator still reads token by token, the returned literals are the first literals of the text.
 pub are_first : {A : Type 0} (text : List ℕ) (file : ℕ) (taken : List (Lit A)) (old : Literals A) → old.waiting ≡ None
     → HasReturned text file taken old → AreFirst (chars old.text.now) old.file old.count taken
 are_first text file taken old none h =
@@ -72,19 +74,19 @@ are_first text file taken old none h =
     subst (λ u. AreFirst (chars u) old.file old.count taken) (sym h.text_is)
     (subst (λ k. AreFirst (chars text) k old.count taken) (sym h.file_is) first)
 
--- no token is left
+-- If no text remains, the next result of the iterator is `None`.
 pub none_left : {A : Type 0} (text : List ℕ) (file : ℕ) (taken : List (Lit A)) (old : Literals A) → old.waiting ≡ None
     → HasReturned text file taken old → old.tokens.rest ≡ [] → ReturnsNext text file taken (Ok None) old
 none_left text file taken old none h empty =
     let p = subst (GoesOnAfter (chars text) file taken old.count (chars old.tokens.rest)) none h.goes_on in
     (read_whole (chars text) file taken (chars old.tokens.rest) (ap chars empty ∙ chars-nil) p.0, h)
 
--- the literal that the next tokens are
-pub cut_next : {A : Type 0} (text : List ℕ) (file : ℕ) (taken : List (Lit A)) (old new : Literals A) (lit : Lit A)
+-- If the iterator reads one more literal token by token, it has returned that literal too.
+pub lex_next : {A : Type 0} (text : List ℕ) (file : ℕ) (taken : List (Lit A)) (old new : Literals A) (lit : Lit A)
     (ahead : CursorState) → old.waiting ≡ None → HasReturned text file taken old
     → ReadsNext old.file old.tokens lit ahead → new.text ≡ old.text → new.file ≡ old.file → new.tokens ≡ ahead
     → new.count ≡ old.count + 1 → new.waiting ≡ old.waiting → HasReturned text file (taken ++ lit ∷ []) new
-cut_next text file taken old new lit ahead none h next t f s n w =
+lex_next text file taken old new lit ahead none h next t f s n w =
     let p = subst (GoesOnAfter (chars text) file taken old.count (chars old.tokens.rest)) none h.goes_on in
     let reads : ReadsNext file old.tokens lit ahead = subst (λ (k : ℕ). ReadsNext k old.tokens lit ahead) h.file_is next
     in
@@ -97,7 +99,7 @@ cut_next text file taken old new lit ahead none h next t f s n w =
     placed text file (taken ++ lit ∷ []) new None (ap (λ x. x.now) t ∙ h.text_is) (f ∙ h.file_is)
     (ap (λ (x : CursorState). x.text) s ∙ next.same ∙ h.same) (w ∙ none) (upto, count)
 
--- what is left after a literal
+-- The number that each returned literal lowers is lower after the iterator has lexed the whole text.
 pub waiting_lower : {A : Type 0} (old : Literals A) (is : IntoIter (Lit A) A) (first : Option (Lit A)) → old.waiting
     ≡ None → into_iter_len is < 2 ^ 64 → OnSome first (into_iter_len is < left_of old)
 waiting_lower old is None none h = tt

@@ -1,6 +1,6 @@
--- Trees are the literals of one list at most.
+-- Lemmas about token trees as lists of literals: token trees are the literals of at most one list.
 use Rattle.std.proofs.Common.{◌≡◌, ◌≢◌, ◌<◌, List, [], ◌∷◌, ◌++◌, length, refl, sym, ◌∙◌, ap, subst}
-use Rattle.rl_text.specs.Texts.{SpannedText}
+use Rattle.rl_syntax.specs.Texts.{SpannedText}
 use Rattle.rl_tokens.specs.Trees.{Tree}
 use Rattle.rl_fronts.specs.Fronts.{HasNoFront}
 use Rattle.rl_fronts.proofs.FrontLemmas.{one_front, front_shorter}
@@ -9,29 +9,29 @@ use Rattle.rust_literals.specs.Literals.{IsReadFrom}
 use Rattle.rust_literals.specs.Parsing.{IsLitFront, ReadsLiterals}
 use Rattle.rust_literals.proofs.LitLemmas.{one_lit}
 
--- one literal begins the trees
+-- If token trees begin with two literals, the two are equal, and so are the token trees after them.
 pub one_lit_front : {A : Type 0} (trees : List Tree) (a b : Lit A) (r s : List Tree) → IsLitFront trees a r
     → IsLitFront trees b s → (a ≡ b) × (r ≡ s)
 one_lit_front trees a b r s h k =
     let one = one_front trees h.token k.token r s h.front k.front in
     (one_lit k.token a b (subst (λ (t : SpannedText). IsReadFrom t a) one.0 h.read) k.read, one.1)
 
--- what stands after a literal is shorter
+-- The list of the token trees after the literal at the start is shorter than the whole list.
 pub lit_shorter : {A : Type 0} (trees : List Tree) (lit : Lit A) (rest : List Tree) → IsLitFront trees lit rest
     → length rest < length trees
 lit_shorter trees lit rest h = front_shorter trees h.token rest h.front
 
--- one literal more
+-- If token trees begin with literals and one more literal follows, they begin with all of these.
 pub leads_step : {A : Type 0} (a : List Tree) (ls : List (Lit A)) (b : List Tree) (l : Lit A) (c : List Tree)
     → ReadsLiterals a ls b → IsLitFront b l c → ReadsLiterals a (ls ++ (l ∷ [])) c
 leads_step a [] b l c h k = (c, subst (λ (t : List Tree). IsLitFront t l c) (sym h) k, refl)
 leads_step a (x ∷ ls) b l c (m, f, h) k = (m, f, leads_step m ls b l c h k)
 
--- no literal begins no trees
+-- An empty list of token trees doesn't begin with a literal.
 empty_front : {A : Type 0} (l : Lit A) (rest : List Tree) → IsLitFront [] l rest → ⊥
 empty_front l rest h = h.front
 
--- trees are used up by one list
+-- If all token trees are the literals of two lists, the two lists are equal.
 pub one_list_of : {A : Type 0} (trees : List Tree) (xs ys : List (Lit A)) → ReadsLiterals trees xs []
     → ReadsLiterals trees ys [] → xs ≡ ys
 one_list_of trees [] [] h k = refl
@@ -42,7 +42,8 @@ one_list_of trees (x ∷ xs) (y ∷ ys) (m, f, h) (n, e, k) =
     ap (λ z. z ∷ xs) one.0 ∙ ap (λ zs. y ∷ zs) (one_list_of m xs ys h
     (subst (λ (t : List Tree). ReadsLiterals t ys []) (sym one.1) k))
 
--- trees that literals use up lead nowhere else
+-- If all token trees are literals, the token trees after some of these literals begin with a literal, or there are
+-- none.
 pub never_stops : {A : Type 0} (trees : List Tree) (xs ys : List (Lit A)) (rest : List Tree) → ReadsLiterals trees xs []
     → ReadsLiterals trees ys rest → rest ≢ [] → HasNoFront rest → ⊥
 never_stops trees [] [] rest h k some none = some (sym k ∙ h)

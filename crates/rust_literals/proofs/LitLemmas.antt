@@ -1,26 +1,26 @@
--- Literals by their kind and token.
-use Rattle.rl_reading.proofs.Names.{HasReading, HasSuffix, Kind, Reads, ReadsAs, SpannedText, Truth, first_passes, truth_text}
+-- Lemmas about literals, their kinds and their tokens.
+use Rattle.rl_lenient.proofs.Names.{HasReading, HasSuffix, Kind, Reads, ReadsAs, SpannedText, Truth, first_passes, truth_text}
 use Rattle.std.proofs.Common.{◌≡◌, ℕ, ◌==◌, Bool as Truths, true, false, List, [], ◌∷◌, Option, Some, None, refl, sym, ◌∙◌, ap, subst}
 use Rattle.std.specs.Prelude.{Result, Ok, Err, IfSome, OnOk, OnErr}
 use Rattle.std.proofs.lemmas.Option.{MatchOption-at_some}
 use Rattle.std.specs.Str.{chars}
-use Rattle.rl_forms.specs.declared.kind.Kind.TheVariants.{Str as StrKind, ByteStr as ByteStrKind, CStr as CStrKind, Byte as ByteKind, Char as CharKind, Int as IntKind, Float as FloatKind, Bool as BoolKind}
-use Rattle.rl_text.specs.declared.span.Span.{Span}
-use Rattle.rl_forms.proofs.OneReading.{one_reading}
-use Rattle.rl_reading.specs.declared.found.Found.{Found}
-use Rattle.rl_reading.specs.Founds.{IsFound, suffix_in}
-use Rattle.rl_reading.specs.WholeShapes.{IsPlain}
+use Rattle.rl_syntax.specs.declared.kind.Kind.TheVariants.{Str as StrKind, ByteStr as ByteStrKind, CStr as CStrKind, Byte as ByteKind, Char as CharKind, Int as IntKind, Float as FloatKind, Bool as BoolKind}
+use Rattle.rl_syntax.specs.declared.span.Span.{Span}
+use Rattle.rl_syntax.proofs.OneReading.{one_reading}
+use Rattle.rl_lenient.specs.declared.found.Found.{Found}
+use Rattle.rl_lenient.specs.Founds.{IsFound, suffix_in}
+use Rattle.rl_lenient.specs.WholeShapes.{IsPlain}
 use Rattle.rl_lexer.proofs.TruthWords.{truth_chars}
-use Rattle.rl_reading.proofs.MinusLemmas.{minus_chars}
+use Rattle.rl_lenient.proofs.MinusLemmas.{minus_chars}
 use Rattle.rust_literals.specs.declared.lit.Lit.{Lit}
 use Rattle.rust_literals.specs.declared.lit.Lit.TheVariants.{Str, ByteStr, CStr, Byte, Char, Int, Float, Bool, Verbatim}
-use Rattle.rl_forms.specs.Reading.{IsReadAs}
+use Rattle.rl_syntax.specs.Reading.{IsReadAs}
 use Rattle.rust_literals.specs.Literals.{kind_of, token_of, IsReadFrom}
 use Rattle.rust_literals.specs.LitParts.{ReadsPlain}
 
 -- ---- kind and token determine a literal
 
--- the truth value of a word
+-- The value of the word `true` or `false`, by its first character.
 is_true_word : List ℕ → Truths
 is_true_word text = first_passes (λ c. c == 116) text
 
@@ -55,20 +55,21 @@ lit_is (Verbatim l) = refl
 pub same_lit : {A : Type 0} (a b : Lit A) → kind_of a ≡ kind_of b → token_of a ≡ token_of b → a ≡ b
 same_lit a b k t = lit_is a ∙ ap (λ o. lit_of o (token_of a)) k ∙ ap (λ x. lit_of (kind_of b) x) t ∙ sym (lit_is b)
 
--- ---- the readings of a token
+-- ---- lemmas about the parse result of a token
 
--- a text is read as one kind, or none
+-- If a text is parsed as two kinds, or as none and a kind, the two are equal.
 pub one_kind : (text : List ℕ) (k l : Option Kind) → IsReadAs k text → IsReadAs l text → k ≡ l
 one_kind text None None n m = refl
 one_kind text None (Some l) n (w, y, s) = absurd (n l w y s)
 one_kind text (Some k) None (v, x, r) m = absurd (m k v x r)
 one_kind text (Some k) (Some l) (v, x, r) (w, y, s) = ap Some (one_reading text k l v w x y r s).0
 
--- a token is one literal
+-- If two literals are parsed from one token, they are equal.
 pub one_lit : {A : Type 0} (token : SpannedText) (a b : Lit A) → IsReadFrom token a → IsReadFrom token b → a ≡ b
 one_lit token a b (e, h) (f, k) = same_lit a b (one_kind (chars token.text) (kind_of a) (kind_of b) h k) (e ∙ sym f)
 
--- A word's characters are its bytes: of a text where that holds, there is a literal.
+-- If the characters of the text are `true` or `false`, its bytes equal them. For a text with this property a literal
+-- exists.
 abbrev pub SpellsWords : List ℕ → Type 0
 SpellsWords text = (b : Truths) → chars text ≡ truth_text b → text ≡ truth_text b
 
@@ -91,13 +92,13 @@ read_lit A token (Some BoolKind) w (v, x, r) =
     (Bool (record { value = r.truth; span = token.span }), (is, (v, x, r)), refl)
 read_lit A token None w n = (Verbatim token, (refl, n), refl)
 
--- ---- truth values
+-- ---- lemmas about `bool` literals
 
--- a truth value by the word that it is
+-- The text `true` or `false` is parsed as the `bool` of that value.
 pub truth_reads : (t : List ℕ) (b : Truths) → t ≡ truth_text b → Reads (chars t) BoolKind (Truth b) []
 truth_reads t b e = record { truth = b; text_is = truth_chars t b e; suffix_is = refl; contents_is = refl }
 
--- so it reads from a token
+-- A `bool` literal is parsed from a token with the text `true` or `false`.
 pub read_truth : (token : SpannedText) (b : Truths) (span : Span) → token.text ≡ truth_text b → span ≡ token.span
     → (record { text = truth_text b; span = span } ≡ token) × ReadsAs BoolKind (chars token.text)
 read_truth token b span e s =
@@ -106,18 +107,18 @@ read_truth token b span e s =
     ∙ ap (λ z. let t : SpannedText = record { text = token.text; span = z } in t) s in
     (is, (Truth b, [], truth_reads token.text b e))
 
--- ---- by the kind
+-- ---- lemmas about the kind of a parse result
 
--- the reading that was found, by its kind
+-- If a text is a literal of a kind with some suffix, it is parsed as that kind.
 pub reads_as : (t x : List ℕ) (k kind : Kind) → HasSuffix k t x → k ≡ kind → ReadsAs kind t
 reads_as t x k kind r e = (r.0, x, subst (λ z. Reads t z r.0 x) e r.1)
 
--- what was found after a minus has a reading there
+-- If a minus and a text have a parse result, the two together are a literal.
 pub found_behind : (bytes : List ℕ) (found : Found) → IsFound (45 ∷ bytes) found → HasReading (45 ∷ chars bytes)
 found_behind bytes found h =
     subst HasReading (minus_chars bytes) (found.kind, (h.reads.0, chars (suffix_in (45 ∷ bytes) found.body), h.reads.1))
 
--- ---- a literal by what was found
+-- ---- lemmas about a literal and its parse result
 
 pub found_lent : (kind : Kind) (text : List ℕ) (found : Found) → IsFound text found → found.kind ≡ kind
     → (IsPlain kind text → ⊥) → ReadsPlain text → ⊥
@@ -129,7 +130,7 @@ pub some_found : (text : List ℕ) (o : Option Found) (found : Found) → o ≡ 
     → IsFound text found
 some_found text o found is h = MatchOption-at_some _ (IsFound text) found is h
 
--- the text reads as the kind of what was found
+-- If a text has a parse result of a kind, the text is parsed as that kind.
 pub found_as : (kind : Kind) (text : List ℕ) (o : Option Found) (found : Found) → o ≡ Some found
     → IfSome o (IsFound text) → found.kind ≡ kind → ReadsAs kind (chars text)
 found_as kind text o found is h e =

@@ -1,8 +1,8 @@
--- A peek is true exactly where the parser succeeds, if memory is found.
-use Rattle.rl_reading.proofs.Names.{Kind, SpannedText, Truth}
-use Rattle.rl_text.proofs.Common.{Err, List, Ok, Result, [], ap, inl, inr, subst, ℕ, ◌∷◌, ◌≡◌}
-use Rattle.rl_text.specs.declared.span.Span.{Span}
-use Rattle.rl_forms.specs.declared.kind.Kind.TheVariants.{Bool as BoolKind}
+-- Proofs that `peek` is `true` exactly if the parser succeeds, provided that no allocation fails.
+use Rattle.rl_lenient.proofs.Names.{Kind, SpannedText, Truth}
+use Rattle.rl_syntax.proofs.Common.{Err, List, Ok, Result, [], ap, inl, inr, subst, ℕ, ◌∷◌, ◌≡◌}
+use Rattle.rl_syntax.specs.declared.span.Span.{Span}
+use Rattle.rl_syntax.specs.declared.kind.Kind.TheVariants.{Bool as BoolKind}
 use Rattle.rl_tokens.specs.declared.error.Error.{Error}
 use Rattle.rl_tokens.specs.declared.error.ErrorKind.{ErrorKind}
 use Rattle.rl_tokens.specs.declared.error.ErrorKind.TheVariants.{Memory}
@@ -15,7 +15,7 @@ use Rattle.rust_literals.specs.declared.lit_bool.LitBool.{LitBool}
 use Rattle.rust_literals.specs.Parsing.{RunsLit, RunsTruth}
 use Rattle.rust_literals.specs.Peeking.{SucceedsOrMemory, PeekReports}
 
--- an error by a word isn't an allocation failure
+-- A parser's error that names an expected token isn't an allocation failure.
 never_memory : (A : Type 0) (trees : List Tree) (word : List ℕ) → MissesWord {A = A} trees word Memory → ⊥
 never_memory A [] word h = h
 never_memory A (t ∷ ts) word h = h
@@ -25,7 +25,8 @@ word_is_not_memory : {A : Type 0} (trees : List Tree) (word : List ℕ) (kind : 
 word_is_not_memory {A = A} trees word kind h e = never_memory A trees word
     (subst (λ (k : ErrorKind A). MissesWord trees word k) e h)
 
--- where a parser of one kind returns an allocation failure, its peek is true
+-- Lemmas about the parser of literals of one kind. If it returns an allocation failure, `peek` is `true`. If `peek` is
+-- `true`, it returns a literal or an allocation failure.
 typed_wants : {A : Type 0} (kind : Kind) (word : List ℕ) (trees : List Tree) (scope : Span) (e : Error A)
     (rest : List Tree) → RunsAs kind word trees scope (Err e) rest → e.kind ≡ Memory → HasFrontOf kind trees
 typed_wants kind word trees scope e rest (inl m) is = m.0
@@ -45,7 +46,8 @@ typed_tells kind word = record {
   wants = typed_wants kind word;
 }
 
--- the same of truth values
+-- Lemmas about the parser of `bool` literals. If `peek` is `true`, it returns a literal. If `peek` is `false`, its
+-- error isn't an allocation failure.
 truth_finds : {A : Type 0} (trees : List Tree) (scope : Span) (answer : Result LitBool (Error A)) (rest : List Tree)
     → RunsTruth trees scope answer rest → HasFrontOf BoolKind trees → SucceedsOrMemory answer
 truth_finds trees scope (Ok literal) rest runs has = tt
@@ -67,7 +69,8 @@ truth_tells = record {
   wants = truth_wants;
 }
 
--- the same of literals of any kind
+-- Lemmas about the parser of literals of any kind. If `peek` is `true`, it returns a literal or an allocation failure.
+-- If it returns an allocation failure, `peek` is `true`.
 literal_finds : {A : Type 0} (trees : List Tree) (scope : Span) (answer : Result (Lit A) (Error A)) (rest : List Tree)
     → RunsLit trees scope answer rest → HasFront trees → SucceedsOrMemory answer
 literal_finds trees scope (Ok literal) rest runs has = tt

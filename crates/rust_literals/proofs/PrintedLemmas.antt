@@ -1,15 +1,15 @@
--- A print of strict literals is read as the readings of its items.
-use Rattle.rl_reading.proofs.Names.{HasReading, Reads, ReadsAs, byte_len, truth_text}
-use Rattle.rl_text.proofs.Common.{AllByRecursion, Err, IsUtf8, List, Ok, Result, Some, [], ap, chars, encode_utf8_all, refl, subst, sym, true, ℕ, ◌++◌, ◌+◌, ◌∙◌, ◌∷◌, ◌≡◌}
+-- A printed list of literals by Rust's grammar is parsed as the list's items.
+use Rattle.rl_lenient.proofs.Names.{HasReading, Reads, ReadsAs, byte_len, truth_text}
+use Rattle.rl_syntax.proofs.Common.{AllByRecursion, Err, IsUtf8, List, Ok, Result, Some, [], ap, chars, encode_utf8_all, refl, subst, sym, true, ℕ, ◌++◌, ◌+◌, ◌∙◌, ◌∷◌, ◌≡◌}
 use Rattle.std.specs.Prelude.{Vec}
 use Rattle.std.proofs.Math.Utf8.{scalars}
 use Rattle.std.proofs.lemmas.Str.{chars-encodes, scalars-chars}
-use Rattle.rl_forms.specs.declared.kind.Kind.TheVariants.{Bool as BoolKind}
+use Rattle.rl_syntax.specs.declared.kind.Kind.TheVariants.{Bool as BoolKind}
 use Rattle.rl_tokens.specs.declared.error.Error.{Error}
-use Rattle.rl_forms.specs.Trivia.{IsTrivia}
-use Rattle.rl_forms.specs.Printed.{Item, WordItem, LiteralItem, MinusItem, item_text, Entry, printed_text, token_at, IsStrictItem, Printed}
+use Rattle.rl_syntax.specs.Trivia.{IsTrivia}
+use Rattle.rl_syntax.specs.Printed.{Item, WordItem, LiteralItem, MinusItem, item_text, Entry, printed_text, token_at, IsStrictItem, Printed}
 use Rattle.rl_tokens.specs.PrintedTrees.{printed_trees}
-use Rattle.rl_text.proofs.Basics.{scalars_parts}
+use Rattle.rl_syntax.proofs.Basics.{scalars_parts}
 use Rattle.rl_tokens.proofs.PrintedLaws.{printed_lexes}
 use Rattle.rl_fronts.proofs.FrontLemmas.{truth_reads}
 use Rattle.rust_literals.specs.declared.lit.Lit.{Lit}
@@ -19,7 +19,8 @@ use Rattle.rust_literals.proofs.LitLemmas.{read_lit}
 use Rattle.rust_literals.proofs.ItemFronts.{IsFrontItem, AreReadAt, items_lead, spells_words}
 use Rattle.rust_literals.proofs.StrictLits.{lit_from, item_is}
 
--- A strict item reads, after a minus too.
+-- Each item of a printed list of literals, a literal by Rust's grammar or a minus and a number, is also a literal of
+-- the lenient grammar.
 item_reads : (item : Item) → IsStrictItem item → HasReading (item_text item)
 item_reads (WordItem truth) is = (BoolKind, truth_reads (truth_text truth) truth refl)
 item_reads (LiteralItem text) (kind, other, strict, reads) = reads
@@ -46,12 +47,12 @@ item_lit A file at item is h =
         read = read;
         characters = same;
         kind = (kind, kind_is, reads);
-        is_of = λ k v x of. lit_from (token_at file at (item_text item)) lit k v x read
+        is_of_kind = λ k v x of. lit_from (token_at file at (item_text item)) lit k v x read
             (subst (λ (t : List ℕ). Reads t k v x) (sym same) (item_is item is k v x of));
       },
     )
 
--- all items in turn
+-- The literals that are parsed from the items of a printed list of literals, one by one.
 abbrev ItemLits : Type 0 → (file at : ℕ) → List Entry → Type 0
 ItemLits A file at entries = (lits : List (Lit A)) × AreItems file at entries lits
     × AllByRecursion (λ (e : Entry). IsFrontItem e.item) entries
@@ -78,14 +79,15 @@ items_read_at file at (e ∷ es) (l ∷ ls) (read, are) = (
       (at + byte_len e.gap + byte_len (item_text e.item)) es ls are,
 )
 
--- A list of literals holds, and is the answer or an allocation failed.
+-- If the list `list` has the property `holds`, and the result is this list or an allocation failure, the result has the
+-- property or is an allocation failure.
 pub holds_exactly : {A B : Type 0} (holds : List (Lit A) → Type 0) (list : List (Lit A))
     (r : Result (Vec (Lit A) B) (Error A)) → holds list → HoldsOrMemory (λ found. found ≡ list) r
     → HoldsOrMemory holds r
 holds_exactly holds list (Ok found) h same = subst holds (sym same) h
 holds_exactly holds list (Err e) h same = same
 
--- The answer to a print.
+-- The result of `read_all` for a printed list of literals is the literals of its items, or an allocation failure.
 pub printed_read : {A B : Type 0} (text : List ℕ) (file : ℕ) (r : Result (Vec (Lit A) B) (Error A)) → IsUtf8 text
     → ((list : List (Lit A)) → AreRead (chars text) file list → HoldsOrMemory (λ found. found ≡ list) r)
     → (entries : List Entry) (last : List ℕ) → Printed (chars text) entries last

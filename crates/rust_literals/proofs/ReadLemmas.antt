@@ -1,7 +1,8 @@
--- What a text is read as, from the lexer's answer and what its trees are read as.
+-- Lemmas about the function `read_all`: its results follow from the lexer's result and the literals among the token
+-- trees.
 use Rattle.std.proofs.Common.{◌≡◌, ◌≢◌, ◌⊎◌, inl, inr, ℕ, List, [], ◌++◌, ap, subst}
 use Rattle.std.specs.Prelude.{Result, Ok, Err, IfOk, IfErr, Vec}
-use Rattle.rl_text.specs.declared.span.Span.{Span}
+use Rattle.rl_syntax.specs.declared.span.Span.{Span}
 use Rattle.rl_tokens.specs.declared.error.Error.{Error}
 use Rattle.rl_tokens.specs.declared.error.ErrorKind.TheVariants.{Memory as MemoryError}
 use Rattle.rl_lexer.specs.declared.lex_error.LexKind.{LexKind}
@@ -20,7 +21,7 @@ use Rattle.rust_literals.specs.ReadBack.{HoldsOrMemory}
 abbrev at_span : ℕ → ℕ → Span
 at_span file at = record { file = file; lo = at; hi = at }
 
--- a text that has trees is rejected only by an allocation failure
+-- If a text is lexed into token trees, the lexer rejects it only for an allocation failure.
 pub lex_memory : {A : Type 0} (text : List ℕ) (file : ℕ) (trees : List Tree) (kind : LexKind) (at : ℕ) (e : Error A)
     → NeverBoth → Lexes text file trees → e ≡ lex_rejection kind (at_span file at) → Rejects text kind at → e.kind
     ≡ MemoryError
@@ -38,7 +39,7 @@ lex_memory text file trees UnclosedGroup at e never lexes is r = absurd (never t
 lex_memory text file trees TooDeep at e never lexes is r = absurd (never text file trees TooDeep at lexes r)
 lex_memory text file trees Memory at e never lexes is r = ap (λ x. x.kind) is
 
--- The parser's error, after a list that led here.
+-- The parser's error after the literals `list` at the start of all token trees is an error of all token trees.
 pub rejected_next : {A : Type 0} (all trees rest : List Tree) (scope : Span) (list : List (Lit A)) (e : Error A)
     → ReadsLiterals all list trees → trees ≢ [] → RunsLit trees scope (Err e) rest → RejectsNextLiteral all scope e
     ⊎ LacksMemory all scope e
@@ -47,14 +48,14 @@ rejected_next all trees rest scope list e leads some (inl (front, wants)) = inr
 rejected_next all trees rest scope list e leads some (inr none) = inl
     (record { list = list; rest = trees; leads = leads; some = some; none = none.none; rejection = none.rejection })
 
--- what the trees are read as, after literals that were let go, the text is
+-- If the token trees of a text consist of the dropped literals `gone` and those of the result, so does the text.
 pub text_read : {A B : Type 0} (text : List ℕ) (file : ℕ) (trees : List Tree) (gone : List (Lit A))
     (r : Result (Vec (Lit A) B) (Error A)) → Lexes text file trees
     → IfOk r (λ l. ReadsLiterals trees (gone ++ l.items) []) → IfOk r (λ l. AreRead text file (gone ++ l.items))
 text_read text file trees gone (Ok l) lexes h = record { trees = trees; lexes = lexes; leads = h }
 text_read text file trees gone (Err x) lexes h = tt
 
--- what is rejected of the trees, is rejected of the text
+-- An error of a text's token trees is an error of the text.
 pub text_rejected : {A B : Type 0} (text : List ℕ) (file end : ℕ) (trees : List Tree) (scope : Span)
     (r : Result (Vec (Lit A) B) (Error A)) → Lexes text file trees → scope ≡ at_span file end
     → IfErr r (λ e. RejectsNextLiteral trees scope e ⊎ LacksMemory trees scope e) → IfErr r (RejectsText text file end)
@@ -70,7 +71,7 @@ short_memory : {A : Type 0} (trees : List Tree) (scope : Span) (e : Error A) →
     ≡ MemoryError
 short_memory trees scope e h = elim h.memory [ inl m ↦ ap (λ x. x.kind) m.1 | inr m ↦ ap (λ x. x.kind) m ]
 
--- a text that reads as a list is read as this list, or an allocation failed
+-- If a text consists of the literals `list`, the result is this list, or an allocation failure.
 pub text_exactly : {A B : Type 0} (text : List ℕ) (file end : ℕ) (r : Result (Vec (Lit A) B) (Error A))
     → IfOk r (λ l. AreRead text file l.items) → IfErr r (RejectsText text file end) → (list : List (Lit A))
     → AreRead text file list → HoldsOrMemory (λ found. found ≡ list) r

@@ -1,18 +1,18 @@
--- The literal of a strict text is of the kind, contents and suffix that the text has.
-use Rattle.rl_reading.proofs.Names.{Byte, ByteStr, CStr, Char, Contents, Digits, Float, HasReading, Int, IntReads, IsPast, Kind, Minus, NoSign, Reads, Sign, SpannedText, Str, first_passes, limit, truth_text}
-use Rattle.rl_text.proofs.Common.{Bool, List, Result, Some, [], cases_lt, chars, false, inl, inr, is_ascii_digit, refl, subst, sym, true, ℕ, ◌<◌, ◌==◌, ◌||◌, ◌∷◌, ◌≡◌, ◌≤◌, ◌⊎◌}
+-- If a text is a literal by Rust's grammar, its literal has the kind, value and suffix that Rust's grammar gives it.
+use Rattle.rl_lenient.proofs.Names.{Byte, ByteStr, CStr, Char, Contents, Digits, Float, HasReading, Int, IntReads, IsPast, Kind, Minus, NoSign, Reads, Sign, SpannedText, Str, first_passes, limit, truth_text}
+use Rattle.rl_syntax.proofs.Common.{Bool, List, Result, Some, [], cases_lt, chars, false, inl, inr, is_ascii_digit, refl, subst, sym, true, ℕ, ◌<◌, ◌==◌, ◌||◌, ◌∷◌, ◌≡◌, ◌≤◌, ◌⊎◌}
 use Rattle.std.specs.Prelude.{IfOk}
 use Rattle.std.proofs.lemmas.Result.{IfOk-weaker}
-use Rattle.rl_forms.specs.declared.kind.Kind.TheVariants.{Bool as BoolKind}
-use Rattle.rl_forms.specs.Strict.{Strict}
-use Rattle.rl_forms.specs.Agreeing.{IsWithinLimit}
-use Rattle.rl_forms.specs.Printed.{Item, WordItem, LiteralItem, MinusItem, item_text, IsStrictItem}
-use Rattle.rl_forms.proofs.Agreeing.{strict_reads, strict_minus}
-use Rattle.rl_forms.proofs.OneNumber.{int_once, int_front, begins_number}
-use Rattle.rl_forms.proofs.StrictNumbers.{strict_int, minus_int}
-use Rattle.rl_reading.specs.WholeShapes.{is_number_front}
-use Rattle.rl_reading.proofs.NumberLemmas.{past_number}
-use Rattle.rl_reading.proofs.ReadingLemmas.{only_number}
+use Rattle.rl_syntax.specs.declared.kind.Kind.TheVariants.{Bool as BoolKind}
+use Rattle.rl_syntax.specs.Strict.{Strict}
+use Rattle.rl_syntax.specs.Agreeing.{IsWithinLimit}
+use Rattle.rl_syntax.specs.Printed.{Item, WordItem, LiteralItem, MinusItem, item_text, IsStrictItem}
+use Rattle.rl_syntax.proofs.Agreeing.{strict_reads, strict_minus}
+use Rattle.rl_syntax.proofs.OneNumber.{int_once, int_front, begins_number}
+use Rattle.rl_syntax.proofs.StrictNumbers.{strict_int, minus_int}
+use Rattle.rl_lenient.specs.WholeShapes.{is_number_front}
+use Rattle.rl_lenient.proofs.NumberLemmas.{past_number}
+use Rattle.rl_lenient.proofs.ReadingLemmas.{only_number}
 use Rattle.rl_fronts.proofs.FrontLemmas.{truth_reads}
 use Rattle.rust_literals.specs.declared.lit.Lit.{Lit}
 use Rattle.rust_literals.specs.Literals.{kind_of, IsReadFrom, IsLitOf}
@@ -36,7 +36,7 @@ pub found_agrees : {A E : Type 0} (token : SpannedText) (result : Result (Lit A)
     → IfOk result (AgreesWithStrict (chars token.text))
 found_agrees token result read = IfOk-weaker result _ _ (λ lit h. agrees token lit h) read
 
--- ---- what reads is within the limit
+-- ---- lemmas about the limit of 128 bits: a parsed integer is within it
 
 swapped : (a b : Bool) → (a || b) ≡ true → (b || a) ≡ true
 swapped true true h = refl
@@ -90,7 +90,7 @@ within_minus Char t contents suffix strict reads = tt
 within_minus Float t contents suffix strict reads = tt
 within_minus BoolKind t contents suffix strict reads = tt
 
--- ---- items
+-- ---- a lemma about the items of a printed list
 
 pub item_is : (item : Item) → IsStrictItem item → (kind : Kind) (contents : Contents) (suffix : List ℕ)
     → IsItemOf kind contents suffix item → Reads (item_text item) kind contents suffix

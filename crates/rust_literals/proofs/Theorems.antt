@@ -1,5 +1,5 @@
--- The laws (src/laws.rt), as lemmas that callers may cite.
-use Rattle.rust_literals.specs.Laws.{APeekTellsALiteral, APeekTellsATruthValue, APeekTellsTheKind, KindAndTokenMakeTheLiteral, ALiteralLeavesFewerTrees}
+-- The theorems of src/laws.rt, as lemmas that callers may cite.
+use Rattle.rust_literals.specs.Laws.{APeekTellsALiteral, APeekTellsABool, APeekTellsTheKind, KindAndTokenMakeTheLiteral, ALiteralLeavesFewerTrees}
 use Rattle.rust_literals.proofs.PeekLemmas.{literal_tells, truth_tells, typed_tells}
 use Rattle.rust_literals.proofs.LitLemmas.{same_lit}
 use Rattle.rust_literals.proofs.LeadsLemmas.{lit_shorter}
@@ -7,8 +7,8 @@ use Rattle.rust_literals.proofs.LeadsLemmas.{lit_shorter}
 pub a_peek_tells_a_literal : {A : Type 0} → APeekTellsALiteral A
 a_peek_tells_a_literal = literal_tells
 
-pub a_peek_tells_a_truth_value : {A : Type 0} → APeekTellsATruthValue A
-a_peek_tells_a_truth_value = truth_tells
+pub a_peek_tells_a_bool : {A : Type 0} → APeekTellsABool A
+a_peek_tells_a_bool = truth_tells
 
 pub a_peek_tells_the_kind : {A : Type 0} → APeekTellsTheKind A
 a_peek_tells_the_kind = typed_tells

@@ -1,4 +1,4 @@
--- What is read of a text without groups, as its tokens are cut.
+-- Reading the literals of a text token by token. The text has no groups.
 use Rattle.std.specs.Prelude.{◌≡◌, ℕ, List, [], ◌∷◌, ◌++◌, length, map, Some, ⊤}
 use Rattle.std.specs.List.{AllByRecursion}
 use Rattle.std.specs.Str.{chars}
@@ -9,12 +9,13 @@ use Rattle.rl_lexer.specs.Cursors.{CursorState}
 use Rattle.rust_literals.specs.declared.lit.Lit.{Lit}
 use Rattle.rust_literals.specs.Parsing.{IsLitFront, ReadsLiterals}
 
--- the tree is one token
+-- The token tree isn't a group: it is one token.
 abbrev pub IsNoGroup : Tree → Type 0
 IsNoGroup (GroupTree delimiter inside span) = ⊥
 IsNoGroup _ = ⊤
 
--- The text is cut into these trees up to the rest, where no group is open; none of them is a group.
+-- The text is lexed into the token trees `trees`, up to the remaining text `rest`. No group is open there, and no token
+-- tree is a group.
 pub record LexesTreesUpTo (text : List ℕ) (file : ℕ) (trees : List Tree) (rest : List ℕ)
     : Type 0 where
   pub cuts : List LexedToken
@@ -23,7 +24,8 @@ pub record LexesTreesUpTo (text : List ℕ) (file : ℕ) (trees : List Tree) (re
   pub flat_is : map (flat_token file) cuts ≡ flat_trees trees
   pub no_groups : AllByRecursion IsNoGroup trees
 
--- The trees that are cut off make the literal, whatever stands after them.
+-- The tokens between the cursors `old` and `new` are the literal `lit`, and no token that follows them could change
+-- that.
 pub record ReadsNext {A : Type 0} (file : ℕ) (old : CursorState) (lit : Lit A) (new : CursorState)
     : Type 0 where
   pub trees : List Tree
@@ -32,26 +34,27 @@ pub record ReadsNext {A : Type 0} (file : ℕ) (old : CursorState) (lit : Lit A)
   pub front : (following : List Tree) → IsLitFront (trees ++ following) lit following
   pub same : new.text ≡ old.text
 
--- The list grows by the literal that is cut off.
+-- The tokens between the cursors `old` and `new` are a literal, and `longer` is `list` with that literal appended.
 pub record AddsNext {A : Type 0} (file : ℕ) (old : CursorState) (list : List (Lit A))
     (new : CursorState) (longer : List (Lit A)) : Type 0 where
   pub lit : Lit A
   pub next : ReadsNext file old lit new
   pub longer_is : longer ≡ list ++ lit ∷ []
 
--- The text up to the rest is these literals, whatever trees stand after.
+-- The text up to the remaining text `rest` consists of the literals `list`, and no token that follows could change
+-- that.
 pub record AreReadUpTo {A : Type 0} (text : List ℕ) (file : ℕ) (list : List (Lit A)) (rest : List ℕ)
     : Type 0 where
   pub trees : List Tree
   pub cuts : LexesTreesUpTo text file trees rest
   pub leads : (following : List Tree) → ReadsLiterals (trees ++ following) list following
 
--- The text begins with these literals.
+-- The text begins with the literals `list`.
 pub record AreBegun {A : Type 0} (text : List ℕ) (file : ℕ) (list : List (Lit A)) : Type 0 where
   pub rest : List ℕ
   pub read : AreReadUpTo text file list rest
 
--- The text begins with these literals, which are so many.
+-- The text begins with the literals `list`, and `count` is the number of these literals.
 pub record AreFirst {A : Type 0} (text : List ℕ) (file count : ℕ) (list : List (Lit A))
     : Type 0 where
   pub begun : AreBegun text file list

@@ -1,17 +1,18 @@
--- What a peek tells of the parser.
+-- The relation of a type's functions `peek` and `parse`.
 use Rattle.std.specs.Prelude.{◌≡◌, List, Result, Ok, Err, ⊤}
-use Rattle.rl_text.specs.declared.span.Span.{Span}
+use Rattle.rl_syntax.specs.declared.span.Span.{Span}
 use Rattle.rl_tokens.specs.declared.error.Error.{Error}
 use Rattle.rl_tokens.specs.declared.error.ErrorKind.TheVariants.{Memory}
 use Rattle.rl_tokens.specs.Trees.{Tree}
 
--- the answer is a value, or an allocation failed
+-- The parser's result is a value, or the error for an allocation failure.
 abbrev pub SucceedsOrMemory : {T A : Type 0} → Result T (Error A) → Type 0
 SucceedsOrMemory (Ok value) = ⊤
 SucceedsOrMemory (Err e) = e.kind ≡ Memory
 
--- A peek is true exactly before the trees on which the parser answers a value, if memory is found;
--- before others the parser wants no memory.
+-- `peek` is `true` exactly for the token trees from which the parser returns a value, provided that no allocation
+-- fails. For other token trees the parser's error isn't an allocation failure. `peeks` is the meaning of `peek`, and
+-- `runs` that of the parser.
 pub record PeekReports {T A : Type 0}
     (runs : List Tree → Span → Result T (Error A) → List Tree → Type 0) (peeks : List Tree → Type 0)
     : Type 0 where

@@ -1,23 +1,26 @@
-//! Laws of the definitions: each function does nothing, and its contract is the law.
+//! Theorems about literals and their parsers. Each function here does nothing when it is called: its contract is a
+//! theorem.
 
-ghost use Rattle.rust_literals.specs.Laws.{APeekTellsALiteral, APeekTellsATruthValue, APeekTellsTheKind, KindAndTokenMakeTheLiteral, ALiteralLeavesFewerTrees};
+ghost use Rattle.rust_literals.specs.Laws.{APeekTellsALiteral, APeekTellsABool, APeekTellsTheKind, KindAndTokenMakeTheLiteral, ALiteralLeavesFewerTrees};
 
 use std::alloc::Allocator;
 
-/// A peek of the nine types is true exactly where the type's parser returns a literal, if memory is found; elsewhere the
-/// parser rejects after an allocation failure.
-pub fn peeks_tell<A: Allocator>()
+/// Proves that for each of the nine literal types, `peek` is `true` exactly if the type's parser returns a literal. The
+/// condition is that no allocation fails. If `peek` is `false`, the parser's error isn't an allocation failure.
+pub fn peek_agrees_with_the_parsers<A: Allocator>()
     ensures literal { APeekTellsALiteral A }
-    ensures truth { APeekTellsATruthValue A }
+    ensures truth { APeekTellsABool A }
     ensures typed { APeekTellsTheKind A }
 {}
 
-/// Its kind and its token determine a literal: a copy, and a literal at another place, too.
-pub fn kind_and_token_tell<A: Allocator>()
+/// Proves that two literals with the same kind and the same token are equal in all parts. So the kind and the token
+/// also determine a copy of a literal, and a literal with another span.
+pub fn kind_and_token_make_the_literal<A: Allocator>()
     ensures { KindAndTokenMakeTheLiteral A }
 {}
 
-/// After a literal of any kind fewer trees stand than before it.
+/// Proves that a literal at the start of a list of token trees consists of one token tree or more: the list of the
+/// token trees after the literal is shorter.
 pub fn literal_is_taken<A: Allocator>()
     ensures { ALiteralLeavesFewerTrees A }
 {}

@@ -1,4 +1,22 @@
-//! Rust's literals: the type `Lit`, its nine variants, and the literal types.
+//! The types of Rust's literals: `Lit` with its nine variants, and the types of numbers and of `bool`. Functions that
+//! read all literals of a text. The crate is modelled on `src/lit.rs` of the crate `syn` 3.0.9.
+//!
+//! # Example
+//!
+//! ```
+//! use rust_literals::{Lit, Literals};
+//! use std::alloc::Global;
+//!
+//! pub fn second_string(alloc: Global, text: &str) -> Option<String> {
+//!     let mut literals = Literals::new(alloc, text, 0);
+//!     literals.next().ok()?;
+//!     match literals.next().ok()?? {
+//!         Lit::Str(literal) => literal.value(alloc).ok(),
+//!         _ => None,
+//!     }
+//! }
+//! // second_string(alloc, "1 \"a\" 'b'") == Some("a")
+//! ```
 #![tactic(auto)]
 
 mod flat;

@@ -1,10 +1,10 @@
-//! `Lit`, and what its nine variants have in common.
+//! The type `Lit` of literals of any kind.
 
 ghost use Rattle.std.specs.Prelude.{◌≡◌, IfOk, IfErr, IfSome, IfNone, Some};
 ghost use Rattle.std.specs.Str.{chars};
 ghost use Rattle.rl_tokens.specs.Errors.{memory_at};
-ghost use Rattle.rl_forms.specs.Reading.{HasNoReading, HasSuffix};
-ghost use Rattle.rl_reading.specs.Founds.{IsFound};
+ghost use Rattle.rl_syntax.specs.Reading.{HasNoReading, HasSuffix};
+ghost use Rattle.rl_lenient.specs.Founds.{IsFound};
 ghost use Rattle.rl_fronts.specs.FrontTokens.{front_token};
 ghost use Rattle.rust_literals.specs.Held.{HasOwnSuffix};
 ghost use Rattle.rust_literals.specs.Literals.{IsReadFrom};
@@ -15,14 +15,14 @@ use crate::lit_bool::{LitBool, word};
 use crate::lit_float::LitFloat;
 use crate::lit_int::LitInt;
 use crate::number::{Number, NumberKind};
-use rl_forms::Kind;
 use rl_fronts::Front;
+use rl_lenient::{Found, find};
 use rl_quoted::{LitByte, LitByteStr, LitCStr, LitChar, LitStr, Quoted, QuotedKind};
-use rl_reading::{Found, find};
+use rl_syntax::Kind;
 use rl_tokens::{Error, Kept, Literal, Parse, ParseBuffer, Span, Token};
 use std::alloc::{Allocator, Global};
 
-/// A literal of Rust: what a token's text reads as, with the token.
+/// A literal of Rust of any kind: a token, and its parsed parts.
 ///
 /// # Example
 ///
@@ -45,28 +45,28 @@ use std::alloc::{Allocator, Global};
 /// ```
 #[derive(Drop)]
 pub enum Lit<A: Allocator = Global> {
-    /// A string: `"foo"`, `r"foo"`.
+    /// A string literal: `"foo"`, `r"foo"`.
     Str(LitStr<A>),
-    /// A byte string: `b"foo"`, `br"foo"`.
+    /// A byte string literal: `b"foo"`, `br"foo"`.
     ByteStr(LitByteStr<A>),
-    /// A C string: `c"foo"`, `cr"foo"`.
+    /// A C string literal: `c"foo"`, `cr"foo"`.
     CStr(LitCStr<A>),
-    /// A byte: `b'f'`.
+    /// A byte literal: `b'f'`.
     Byte(LitByte<A>),
-    /// A character: `'a'`.
+    /// A character literal: `'a'`.
     Char(LitChar<A>),
-    /// An integer: `1`, `1u16`. So is `1f64`, with the suffix `f64`.
+    /// An integer literal: `1`, `1u16`. `1f64` is an integer literal too, with the suffix `f64`.
     Int(LitInt<A>),
-    /// A float: `1.0e10f64`. A text is one only where it has no integer reading of any magnitude, so `1f64` is none. The
-    /// size of a float isn't judged.
+    /// A float literal: `1.0e10f64`. A text that is also an integer of any magnitude isn't a float literal, so `1f64`
+    /// isn't one. The size of a float isn't checked.
     Float(LitFloat<A>),
-    /// A truth value: `true`, `false`.
+    /// A `bool` literal: `true`, `false`.
     Bool(LitBool),
-    /// A token with any other text; so is an integer past 128 bits.
+    /// A token that isn't a literal of the other eight kinds, for example an integer above 128 bits.
     Verbatim(Literal<A>),
 }
 
-/// What literals of every kind have. The kind is none for `Verbatim`.
+/// The parts that literals of every kind have: kind, text, suffix and span. The kind of `Lit::Verbatim` is `None`.
 #[derive(Clone, Copy)]
 struct View<'a> {
     kind: Option<Kind>,
@@ -76,7 +76,7 @@ struct View<'a> {
 }
 
 impl<'a> View<'a> {
-    /// Of a quoted literal.
+    /// Returns the kind, text, suffix and span of a quoted literal.
     #[inline(always)]
     fn of_quoted<K: QuotedKind, A: Allocator>(literal: &'a Quoted<K, A>) -> View<'a>
         ensures kind { result.kind ≡ Some K.KIND }
@@ -92,7 +92,7 @@ impl<'a> View<'a> {
         }
     }
 
-    /// Of a number.
+    /// Returns the kind, text, suffix and span of an integer or float literal.
     #[inline(always)]
     fn of_number<K: NumberKind, A: Allocator>(literal: &'a Number<K, A>) -> View<'a>
         ensures kind { result.kind ≡ Some K.KIND }
@@ -112,22 +112,23 @@ impl<'a> View<'a> {
 impl<A: Allocator> Lit<A> {
     ghost use Rattle.rust_literals.specs.Literals.{IsReadFrom};
     ghost use Rattle.rust_literals.specs.LitParts.{ReadsAsNumber, ReadsPlain, KeepsStrict, KeepsStrictAfterMinus, AgreesWithStrict};
-    ghost use Rattle.rl_reading.specs.StrictBytes.{KeepsBytesStrict};
+    ghost use Rattle.rl_lenient.specs.StrictBytes.{KeepsBytesStrict};
 
-    /// The literal that the token's text reads as; `Verbatim` exactly where it has no reading. The
-    /// token stays as it is, text and span.
+    /// Parses the text of the literal token `token`. The result is `Verbatim` exactly if the text isn't a valid literal
+    /// or is an integer above 128 bits. The literal keeps the token's text and span unchanged.
     ///
-    /// Of a strict text, an integer within 128 bits, the literal is of the kind, contents and
-    /// suffix that the text has there (`strict_found`): it reads so (`strict`), and a strict number
-    /// after a minus too. A text without CR is a byte, or a byte string with escapes, and its
-    /// suffix empty or a word, exactly where it is a strict one (`strict_bytes`).
+    /// The parser agrees with Rust's own grammar. If the text is a literal by Rust's grammar, and an integer isn't
+    /// above 128 bits, the literal has the kind, decoded value and suffix that Rust's grammar gives the text
+    /// (`strict_found`, `strict`). This holds also for a minus and a number of Rust's grammar (`strict_after_minus`). A
+    /// text without CR is parsed as a byte, or as a byte string with escapes, with an empty suffix or an identifier as
+    /// suffix, exactly if it is such a literal by Rust's grammar (`strict_bytes`).
     ///
     /// See the example of [`Lit`].
     ///
     /// # Errors
     ///
-    /// `Memory` alone, at the token's span, where there is none for the digits of a number whose
-    /// body isn't its digits; the token is handed back. Other texts take no memory.
+    /// Returns an error only if an allocation fails: `Memory` at the token's span, with the token. Memory is needed
+    /// only for a number whose digits in base ten differ from the text before its suffix.
     pub fn new(alloc: A, token: Literal<A>) -> Result<Lit<A>, Kept<Literal<A>, A>>
         ensures strict_found { IfOk result (AgreesWithStrict (chars token.text)) }
         ensures reads { IfOk result (IsReadFrom token) }
@@ -143,7 +144,8 @@ impl<A: Allocator> Lit<A> {
         Lit::of_found(alloc, token, found)
     }
 
-    /// The literal of this token, in whose text this was found; `Verbatim` where nothing was.
+    /// Creates the literal of the literal token `token` from the parse result `found` of the token's text. If `found`
+    /// is `None`, the literal is `Verbatim`.
     #[inline(always)]
     pub(crate) fn of_found(
         alloc: A,
@@ -178,7 +180,7 @@ impl<A: Allocator> Lit<A> {
     ghost use Rattle.rust_literals.specs.LitParts.{HasLitSuffix, IsSameAt, lit_span};
     ghost use Rattle.rust_literals.specs.Literals.{kind_of, token_of};
 
-    /// The literal's parts, whatever its variant.
+    /// Returns the kind, text, suffix and span of the literal, for each of its variants.
     #[inline(always)]
     fn view(&self) -> View<'_>
         ensures kind { result.kind ≡ kind_of self.now }
@@ -209,36 +211,36 @@ impl<A: Allocator> Lit<A> {
         }
     }
 
-    /// The kind that the literal is of; `None` for `Verbatim`.
+    /// Returns the literal's kind, or `None` if the literal is `Verbatim`.
     pub fn kind(&self) -> Option<Kind>
         ensures { result ≡ kind_of self.now }
     {
         self.view().kind
     }
 
-    /// The token's text, suffix included; of a truth value its word. Of a number after a minus it is shorter than the
-    /// span where white space or comments stand between them.
+    /// Returns the literal's text as written, with its suffix. The text of a `bool` is `true` or `false`. The text of a
+    /// number after a minus is shorter than its span if white space or comments are between the minus and the number.
     pub fn text(&self) -> &str
         ensures { result.now ≡ (token_of self.now).text }
     {
         self.view().text
     }
 
-    /// What stands after the literal proper, borrowed: empty for a truth value and for `Verbatim`.
+    /// Returns the literal's suffix, borrowed. The suffix of a `bool` or a `Verbatim` literal is empty.
     pub fn suffix(&self) -> &str
         ensures { HasLitSuffix self.now (chars result.now) }
     {
         self.view().suffix
     }
 
-    /// Where the literal stands, as its token was given.
+    /// Returns the literal's span: the span of its token, or the one that was set last.
     pub fn span(&self) -> Span
         ensures { result ≡ lit_span self.now }
     {
         self.view().span
     }
 
-    /// Puts the literal elsewhere: its span becomes this one, and all else stays.
+    /// Sets the literal's span to `span`. Kind and text are unchanged.
     pub fn set_span(&mut self, span: Span)
         ensures { IsSameAt self.old span self.new }
     {
@@ -256,7 +258,8 @@ impl<A: Allocator> Lit<A> {
     }
 }
 
-/// The literal that was taken; `None` after an allocation failure. A truth value asks for no memory.
+/// Returns the literal that the tokens of `front` represent, or `None` if an allocation fails. A `bool` literal needs
+/// no allocation.
 fn of_front<A: Allocator + Copy>(alloc: A, front: &Front<'_, A>) -> Option<Lit<A>>
     ensures { IfSome result (IsReadFrom (front_token front.now)) }
 {
@@ -272,9 +275,10 @@ fn of_front<A: Allocator + Copy>(alloc: A, front: &Front<'_, A>) -> Option<Lit<A
     }
 }
 
-/// Takes the literal that stands next, of any kind, `Verbatim` too: a literal token, the word `true` or `false`, or a
-/// minus and a literal token that read together. Else it is rejected with the word `literal`; an error leaves the
-/// buffer.
+/// Parses the literal of any kind at the start of a buffer: a literal token, the identifier `true` or `false`, or a
+/// minus and a number token that together are one literal. A literal token with an invalid text, or with an integer
+/// above 128 bits, becomes `Verbatim`. If the buffer doesn't begin with a literal, the error's message names `literal`.
+/// On an error the buffer is unchanged.
 impl<A: Allocator + Copy> Parse<A> for Lit<A> {
     ghost use Rattle.rust_literals.specs.Parsing.{RunsLit};
 
@@ -295,7 +299,7 @@ impl<A: Allocator + Copy> Parse<A> for Lit<A> {
     }
 }
 
-/// True exactly where the parser succeeds, if memory is found.
+/// `peek` returns `true` exactly if the parser would succeed, provided that no allocation fails.
 impl<A: Allocator> Token for Lit<A> {
     ghost use Rattle.std.specs.Prelude.{codes};
     ghost use Rattle.rl_fronts.specs.Fronts.{HasFront};

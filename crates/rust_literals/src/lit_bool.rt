@@ -1,28 +1,28 @@
-//! Truth values.
+//! The type of the literals `true` and `false`.
 
 ghost use Rattle.std.specs.Prelude.{◌≡◌, IfOk, IfErr};
 ghost use Rattle.rl_tokens.specs.Errors.{memory_at};
-ghost use Rattle.rl_forms.specs.Reading.{truth_text};
+ghost use Rattle.rl_syntax.specs.Reading.{truth_text};
 
 mod copies;
 
-use rl_forms::Kind;
-use rl_fronts::{Front, next_is};
+use rl_fronts::{Front, begins_with_kind};
+use rl_syntax::Kind;
 use rl_tokens::{Error, Ident, Parse, ParseBuffer, Span, Token};
 use std::alloc::Allocator;
 
-/// A truth value: `true` or `false`. It takes no memory.
+/// A `bool` literal: `true` or `false`. The type needs no allocation.
 ///
 /// See the example of [`Lit`].
 #[derive(Drop)]
 pub struct LitBool {
-    /// The truth value.
+    /// The literal's value.
     pub value: bool,
-    /// Where it stands.
+    /// The literal's span.
     pub span: Span,
 }
 
-/// The word of a truth value.
+/// Returns the text `true` or `false` for the value `value`.
 pub(crate) fn word(value: bool) -> &'static str
     ensures { result.now ≡ truth_text value }
 {
@@ -30,39 +30,39 @@ pub(crate) fn word(value: bool) -> &'static str
 }
 
 impl LitBool {
-    /// The literal of this truth value, at this span. It takes no memory.
+    /// Creates the `bool` literal of the value `value`, with the span `span`. Nothing is allocated.
     pub fn new(value: bool, span: Span) -> LitBool
         ensures { result ≡ record { value = value; span = span } }
     {
         LitBool { value, span }
     }
 
-    /// The truth value, as the field has it.
+    /// Returns the value of the `bool` literal, as the field `value` does.
     pub fn value(&self) -> bool
         ensures { result ≡ self.now.value }
     {
         self.value
     }
 
-    /// Where it stands: its file, and its bytes in it.
+    /// Returns the literal's span: a file, and a range of bytes in that file.
     pub fn span(&self) -> Span
         ensures { result ≡ self.now.span }
     {
         self.span
     }
 
-    /// Puts it elsewhere: its span becomes this one.
+    /// Sets the literal's span to `span`.
     pub fn set_span(&mut self, span: Span)
         ensures { self.new ≡ record self.old { span = span } }
     {
         *self = LitBool::new(self.value, span);
     }
 
-    /// The word `true` or `false`, at the span.
+    /// Returns the literal as a new identifier token `true` or `false`, with the literal's span.
     ///
     /// # Errors
     ///
-    /// `Memory` at the literal's span.
+    /// Returns `Memory` at the literal's span if an allocation fails.
     pub fn token<A: Allocator>(&self, alloc: A) -> Result<Ident<A>, Error<A>>
         ensures ok { IfOk result
             (λ i. i ≡ record { text = truth_text self.now.value; span = self.now.span }) }
@@ -72,8 +72,8 @@ impl LitBool {
     }
 }
 
-/// Takes the truth value that stands next, a word or a token. It is rejected as `rl_grammar::take_kind` says, and takes
-/// no memory.
+/// Parses the `bool` literal at the start of a buffer, which is an identifier or a literal token with the text `true`
+/// or `false`. The errors are those of `rl_grammar::take_literal_of_kind`. Nothing is allocated.
 impl<A: Allocator> Parse<A> for LitBool {
     ghost use Rattle.rust_literals.specs.Parsing.{RunsTruth};
 
@@ -94,10 +94,10 @@ impl<A: Allocator> Parse<A> for LitBool {
     }
 }
 
-/// True exactly where the parser succeeds.
+/// `peek` returns `true` exactly if the parser would succeed.
 impl Token for LitBool {
     ghost use Rattle.std.specs.Prelude.{codes};
-    ghost use Rattle.rl_forms.specs.declared.kind.Kind.TheVariants.{Bool as BoolKind};
+    ghost use Rattle.rl_syntax.specs.declared.kind.Kind.TheVariants.{Bool as BoolKind};
     ghost use Rattle.rl_fronts.specs.Fronts.{HasFrontOf};
 
     ghost peeks = { HasFrontOf BoolKind };
@@ -105,7 +105,7 @@ impl Token for LitBool {
     ghost shown = { codes "boolean literal" };
 
     fn peek<B: Allocator>(input: &ParseBuffer<'_, B>) -> bool {
-        next_is(input, Kind::Bool)
+        begins_with_kind(input, Kind::Bool)
     }
 
     fn display() -> &'static str {

@@ -1,25 +1,25 @@
-//! Float literals.
+//! The type of float literals.
 
 ghost use Rattle.std.specs.Prelude.{◌≡◌, IfOk, IfErr, refl};
 ghost use Rattle.std.proofs.Common.{inr};
 ghost use Rattle.std.specs.Str.{chars};
-ghost use Rattle.rl_forms.specs.declared.kind.Kind.TheVariants.{Float};
-ghost use Rattle.rl_reading.specs.Founds.{IsFoundNumber};
+ghost use Rattle.rl_syntax.specs.declared.kind.Kind.TheVariants.{Float};
+ghost use Rattle.rl_lenient.specs.Founds.{IsFoundNumber};
 ghost use Rattle.rust_literals.specs.Rejections.{IsNoNumber};
 
 use crate::number::{Number, NumberKind};
-use rl_forms::Kind;
-use rl_reading::{Found, find_float};
+use rl_lenient::{Found, find_float};
+use rl_syntax::Kind;
 use rl_tokens::ErrorKind;
 use std::alloc::{Allocator, Global};
 
-/// The kind of floats, as a type: what distinguishes `LitFloat` from `LitInt`.
+/// The type that represents the kind of floats. It makes `LitFloat` and `LitInt` different types.
 pub struct FloatKind;
 
-/// A float literal: `1.5`, `1e5`, `2.0f32`. Its size isn't judged.
+/// A float literal: `1.5`, `1e5`, `2.0f32`. The number's size isn't checked.
 ///
-/// `LitFloat::new` reads by the float rule alone, so it takes `1f64` too, which `Lit::new` reads as
-/// an integer with the suffix `f64`.
+/// `LitFloat::new` parses a text by the rule for floats only. So it accepts `1f64` too, which `Lit::new` parses as an
+/// integer with the suffix `f64`.
 ///
 /// # Example
 ///

@@ -1,22 +1,22 @@
-//! Integer literals.
+//! The type of integer literals.
 
 ghost use Rattle.std.specs.Prelude.{◌≡◌, IfOk, IfErr, refl};
 ghost use Rattle.std.proofs.Common.{inl};
 ghost use Rattle.std.specs.Str.{chars};
-ghost use Rattle.rl_forms.specs.declared.kind.Kind.TheVariants.{Int};
-ghost use Rattle.rl_reading.specs.Founds.{IsFoundNumber};
+ghost use Rattle.rl_syntax.specs.declared.kind.Kind.TheVariants.{Int};
+ghost use Rattle.rl_lenient.specs.Founds.{IsFoundNumber};
 ghost use Rattle.rust_literals.specs.Rejections.{IsNoNumber};
 
 use crate::number::{Number, NumberKind};
-use rl_forms::Kind;
-use rl_reading::{Found, find_int};
+use rl_lenient::{Found, find_int};
+use rl_syntax::Kind;
 use rl_tokens::ErrorKind;
 use std::alloc::{Allocator, Global};
 
-/// The kind of integers, as a type: what distinguishes `LitInt` from `LitFloat`.
+/// The type that represents the kind of integers. It makes `LitInt` and `LitFloat` different types.
 pub struct IntKind;
 
-/// An integer literal: `1`, `-0x1F`, `1_000u16`. Its magnitude is at most 2 to the 128th, less 1.
+/// An integer literal: `1`, `-0x1F`, `1_000u16`. The greatest magnitude is 2 to the 128th power, less 1.
 ///
 /// See the example of [`parse_all`].
 pub type LitInt<A = Global> = Number<IntKind, A>;

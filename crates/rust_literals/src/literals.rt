@@ -1,4 +1,4 @@
-//! The literals of a text, one after another.
+//! An iterator over the literals of a text.
 
 ghost use Rattle.std.proofs.Props.{props};
 ghost use Rattle.std.specs.Prelude.{◌≤◌, ◌+◌, length};
@@ -10,11 +10,11 @@ use rl_tokens::{Error, Tokens};
 use std::alloc::{Allocator, Global};
 use std::vec::IntoIter;
 
-/// The literals of a text, which is nothing but literals, white space and plain comments, one after another: what
-/// [`read_all`](crate::read_all) returns, without a list that holds them.
+/// An iterator over the literals of a text, which may contain only literals, white space and plain comments. The
+/// iterator returns the literals that [`read_all`](crate::read_all) returns, without a list of them in memory.
 ///
-/// A loop `while let Some(literal) = literals.next()?` ends, since each literal lowers `left_of` (`Iterating.antt`): that is its
-/// measure.
+/// It is proved that a loop `while let Some(literal) = literals.next()?` ends: each literal lowers the number `left_of`
+/// (`Iterating.antt`).
 ///
 /// # Example
 ///
@@ -38,9 +38,10 @@ pub struct Literals<'t, A: Allocator = Global> {
     text: &'t str,
     file: u32,
     tokens: Tokens<'t>,
-    // how many the tokens gave
+    // The number of literals that were read token by token so far.
     count: usize,
-    // where the tokens gave none, and an allocation failed before: those that the trees of the text gave
+    // The literals that the iterator still has to return, if it had to lex the whole text into token trees. It does so
+    // after an allocation failed, or if the next tokens aren't a literal.
     waiting: Option<IntoIter<Lit<A>, A>>,
     ghost room: { count + length tokens.rest ≤ length text.now } by { Prim.hlevel props },
 }
@@ -50,9 +51,10 @@ impl<'t, A: Allocator + Copy> Literals<'t, A> {
     ghost use Rattle.rust_literals.specs.declared.lit.Lit.{Lit};
     ghost use Rattle.rust_literals.specs.Iterating.{HasReturned, ReturnsNext, left_of};
 
-    /// The literals of a text, from its front. Their spans have this file and the bytes of the text.
+    /// Creates an iterator over the literals of `text`, from its start. The spans of the literals are `file` and byte
+    /// ranges of the text.
     pub fn new(alloc: A, text: &'t str, file: u32) -> Literals<'t, A>
-        // It has returned none yet.
+        // The new iterator hasn't returned any literal.
         ensures { HasReturned text.now file [] result }
     {
         Literals {
@@ -65,8 +67,9 @@ impl<'t, A: Allocator + Copy> Literals<'t, A> {
         }
     }
 
-    /// The literals that the trees of the text are after those that the tokens gave: the first of them, and the others wait.
-    fn read_waiting(&mut self) -> Result<Option<Lit<A>>, Error<A>>
+    /// Lexes the whole text into token trees, and returns the first literal after those that the iterator has returned.
+    /// The iterator keeps the literals after that one.
+    fn take_waiting(&mut self) -> Result<Option<Lit<A>>, Error<A>>
         ensures returns { self.old.waiting ≡ None → (text : List ℕ) (file : ℕ) (taken : List (Lit A))
             → HasReturned text file taken self.old → ReturnsNext text file taken result self.new }
         ensures shorter { self.old.waiting ≡ None → IfOk result (λ found.
@@ -78,8 +81,9 @@ impl<'t, A: Allocator + Copy> Literals<'t, A> {
         Ok(first)
     }
 
-    /// The literal that the next tokens are.
-    fn cut_next(&mut self) -> Result<Option<Lit<A>>, Error<A>>
+    /// Reads the next literal token by token and returns it. If the next tokens aren't a literal, or if an allocation
+    /// fails, the whole text is lexed into token trees instead.
+    fn lex_next(&mut self) -> Result<Option<Lit<A>>, Error<A>>
         ensures returns { self.old.waiting ≡ None → (text : List ℕ) (file : ℕ) (taken : List (Lit A))
             → HasReturned text file taken self.old → ReturnsNext text file taken result self.new }
         ensures shorter { self.old.waiting ≡ None → IfOk result (λ found.
@@ -95,26 +99,27 @@ impl<'t, A: Allocator + Copy> Literals<'t, A> {
                 self.count += 1;
                 Ok(Some(literal))
             }
-            _ => self.read_waiting(),
+            _ => self.take_waiting(),
         }
     }
 
-    /// The next literal; `None` after the last one.
+    /// Returns the next literal of the text, or `None` after the last one.
     ///
     /// # Errors
     ///
-    /// The error that [`read_all`](crate::read_all) of the text returns, after the literals that stand before it. The next
-    /// call returns it again.
+    /// Returns the error of [`read_all`](crate::read_all) for the text, after all literals before the error. The next
+    /// call returns the error again.
     pub fn next(&mut self) -> Result<Option<Lit<A>>, Error<A>>
-        // Whatever it has returned: the next literal, or that there is none, or the text's error.
+        // The result is the literal after those that the iterator has returned, or `None` if the text contains no more,
+        // or the text's error.
         ensures returns { (text : List ℕ) (file : ℕ) (taken : List (Lit A)) → HasReturned text file taken self.old
             → ReturnsNext text file taken result self.new }
-        // So a loop over them ends.
+        // Each returned literal lowers the number `left_of`, so a loop over the literals ends.
         ensures shorter { IfOk result (λ found. OnSome found (left_of self.new < left_of self.old)) }
     {
         match &mut self.waiting {
             Some(waiting) => Ok(waiting.next()),
-            None => self.cut_next(),
+            None => self.lex_next(),
         }
     }
 }

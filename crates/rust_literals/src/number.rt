@@ -1,40 +1,43 @@
-//! What integers and floats have in common: a token, its digits, and the place of its suffix.
+//! The type `Number`, of which `LitInt` and `LitFloat` are instances: a token, its digits in base ten, and the byte
+//! offset of its suffix.
 
 ghost use Rattle.std.specs.Fmt.{padded};
 ghost use Rattle.std.specs.Prelude.{◌≡◌, ◌⊎◌, OnOk, IfOk, IfErr, Some, option_map, string_bytes};
 ghost use Rattle.std.specs.Str.{chars};
-ghost use Rattle.rl_forms.specs.declared.kind.Kind.{Kind};
-ghost use Rattle.rl_forms.specs.declared.kind.Kind.TheVariants.{Float, Int};
+ghost use Rattle.rl_syntax.specs.declared.kind.Kind.{Kind};
+ghost use Rattle.rl_syntax.specs.declared.kind.Kind.TheVariants.{Float, Int};
 ghost use Rattle.rl_tokens.specs.Errors.{memory_at};
-ghost use Rattle.rl_reading.specs.Founds.{IsFoundNumber};
-ghost use Rattle.rl_reading.specs.NumberShapes.{IsNumber};
-ghost use Rattle.rl_reading.specs.WholeShapes.{IsPlain};
+ghost use Rattle.rl_lenient.specs.Founds.{IsFoundNumber};
+ghost use Rattle.rl_lenient.specs.NumberShapes.{IsNumber};
+ghost use Rattle.rl_lenient.specs.WholeShapes.{IsPlain};
 ghost use Rattle.rust_literals.specs.Held.{HasDigits, HasOwnSuffix, HoldsNumber, digits_in};
 ghost use Rattle.rust_literals.specs.Rejections.{IsNoNumber, IsRejectedAs};
 
 mod base10;
 mod copies;
 
-use rl_forms::Kind;
-use rl_fronts::{digits_of_found, next_is, take_kind};
-use rl_reading::Found;
+use rl_fronts::{begins_with_kind, digits_of_found, take_literal_of_kind};
+use rl_lenient::Found;
+use rl_syntax::Kind;
 use rl_tokens::{Error, ErrorKind, Kept, Literal, Parse, ParseBuffer, Span, Token};
 use std::alloc::{Allocator, Global};
 use std::fmt;
 use std::marker::{Model, PhantomData};
 
-/// A kind of numbers, as a type. It has two implementations; callers need none of their own.
+/// A type that represents a kind of numbers. The two implementations are `IntKind` and `FloatKind`. Callers need no
+/// others.
 pub trait NumberKind {
     ghost KIND: { Kind };
 
-    /// The kind that its texts are of.
+    /// The kind of literals that the type represents.
     const KIND: Kind;
 
-    /// What reading the text as a number of the kind finds.
+    /// Parses `text` as a number of the kind: an integer or a float.
     ///
     /// # Errors
     ///
-    /// Why it is none: `NotInteger` or `TooLarge`, of floats `NotFloat`.
+    /// For integers, returns `NotInteger` if the text isn't an integer, and `TooLarge` if the integer is above 128
+    /// bits. For floats, returns `NotFloat` if the text isn't a float.
     fn find<A: Allocator>(text: &str) -> Result<Found, ErrorKind<A>>
         ensures found { IfOk result (IsFoundNumber text.now) }
         ensures kind { IfOk result (λ f. f.kind ≡ Self.KIND) }
@@ -43,7 +46,8 @@ pub trait NumberKind {
     ghost is_number: { (KIND ≡ Int) ⊎ (KIND ≡ Float) };
 }
 
-/// The digits of a number that was found in the text, where they aren't its body.
+/// Returns the digits in base ten of the number `text`, whose parse result is `found`, as a new string. The result is
+/// `None` if the digits equal the text before the suffix.
 #[inline(always)]
 fn own_digits<A: Allocator>(
     alloc: A,
@@ -63,22 +67,24 @@ fn own_digits<A: Allocator>(
     Ok(Some(digits_of_found(alloc, text, found)?))
 }
 
-/// A number of a kind. Programs name it as [`LitInt`](crate::LitInt) or [`LitFloat`](crate::LitFloat).
+/// A number literal of the kind `K`. Programs use it under the name [`LitInt`](crate::LitInt) or
+/// [`LitFloat`](crate::LitFloat).
 #[derive(Drop)]
 pub struct Number<K: NumberKind, A: Allocator = Global> {
     token: Literal<A>,
-    /// A text of their own where the body isn't the digits. `None` costs a number no more than a word of room, and says
-    /// plainly that the digits are borrowed; an empty text could say so too, but then each reader of this field has to know
-    /// that no number is without digits.
+    /// The number's digits in base ten, or `None` if they equal the text before the suffix, from which they are
+    /// borrowed then. An empty string could represent that case too, but then each function that uses this field would
+    /// have to know that every number has digits. `None` takes only one machine word in each number.
     digits: Option<String<A>>,
     suffix_at: usize,
     of: PhantomData<K>,
 }
 
-/// The token's text is a number of the kind.
+/// The value of a [`Number`] in contracts is its token. The invariant: the token's text is a number of the kind `K`,
+/// with the stored digits and suffix.
 impl<K: NumberKind, A: Allocator> Model for Number<K, A> {
     ghost use Rattle.std.specs.Prelude.{string_bytes, option_map};
-    ghost use Rattle.rl_text.specs.Texts.{SpannedText};
+    ghost use Rattle.rl_syntax.specs.Texts.{SpannedText};
     ghost use Rattle.rust_literals.specs.Held.{HoldsNumber, digits_in};
 
     ghost Value = { SpannedText };
@@ -90,13 +96,14 @@ impl<K: NumberKind, A: Allocator> Model for Number<K, A> {
 }
 
 impl<K: NumberKind, A: Allocator + Copy> Number<K, A> {
-    /// The literal with this text and span.
+    /// Parses `repr` as a number of the kind `K`, with the span `span`.
     ///
     /// # Errors
     ///
-    /// All at the span. Of [`LitInt`](crate::LitInt) `NotInteger` where the text has no integer reading, `TooLarge` where
-    /// it has one past 128 bits; of [`LitFloat`](crate::LitFloat) `NotFloat` where the text has no float reading, whether
-    /// or not it has an integer one. `Memory` where memory is wanted.
+    /// Returns an error at `span`. For [`LitInt`](crate::LitInt) it is `NotInteger` if the text isn't an integer, and
+    /// `TooLarge` if the text is an integer above 128 bits. For [`LitFloat`](crate::LitFloat) it is `NotFloat` if the
+    /// text isn't a float. An integer with a suffix as `f64` counts as a float too. The error is `Memory` if an
+    /// allocation fails.
     pub fn new(alloc: A, repr: &str, span: Span) -> Result<Number<K, A>, Error<A>>
         ensures ok { IfOk result (λ l. l ≡ record { text = repr.now; span = span }) }
         ensures reads { OnOk result (IsNumber K.KIND (chars repr.now)) }
@@ -119,11 +126,13 @@ impl<K: NumberKind, A: Allocator + Copy> Number<K, A> {
 }
 
 impl<K: NumberKind, A: Allocator> Number<K, A> {
-    /// The literal of this token. A rejected one is returned as it was.
+    /// Parses the text of the literal token `token` as a number of the kind `K`. On an error the unchanged token is
+    /// returned with the error.
     ///
     /// # Errors
     ///
-    /// Those of [`new`](Number::new), at the token's span; `Memory` only where the body isn't the digits.
+    /// Returns the errors of [`new`](Number::new), at the token's span. `Memory` occurs only if the number's digits in
+    /// base ten differ from the text before its suffix.
     pub fn from_token(alloc: A, token: Literal<A>) -> Result<Number<K, A>, Kept<Literal<A>, A>>
         ensures ok { IfOk result (λ l. l ≡ token) }
         ensures reads { OnOk result (IsNumber K.KIND (chars token.text)) }
@@ -148,9 +157,9 @@ impl<K: NumberKind, A: Allocator> Number<K, A> {
         }
     }
 
-    /// The literal of this token, in whose text this number of the kind was found. An allocation
-    /// failure for digits that aren't the body is reported at the token's span; the token is handed
-    /// back.
+    /// Creates the number of the literal token `token` from the parse result `found` of the token's text. Memory is
+    /// needed only if the number's digits in base ten differ from the text before its suffix. If an allocation fails,
+    /// the error is at the token's span, and the token is returned with the error.
     #[inline(always)]
     pub(crate) fn of_found(
         alloc: A,
@@ -182,11 +191,11 @@ impl<K: NumberKind, A: Allocator> Number<K, A> {
         }
     }
 
-    /// The digits in base ten. Of an integer its magnitude without leading zeros, after a minus
-    /// where the text begins with one; of a float what stands before the suffix, without
-    /// underscores and pluses, and with `E` as `e`.
+    /// Returns the number's digits in base ten. An integer's digits are its magnitude without leading zeros, after a
+    /// minus if the text begins with one. A float's digits are the text before the suffix, without underscores and
+    /// pluses, and with `E` as `e`.
     ///
-    /// They are borrowed from the text where they are all that stands before the suffix.
+    /// The digits are borrowed from the number's text if they equal the text before the suffix.
     ///
     /// See the example of [`LitFloat`].
     pub fn base10_digits(&self) -> &str
@@ -198,39 +207,39 @@ impl<K: NumberKind, A: Allocator> Number<K, A> {
         }
     }
 
-    /// What stands after the digits, borrowed: empty, or a word.
+    /// Returns the number's suffix, borrowed: an identifier, or an empty string.
     pub fn suffix(&self) -> &str
         ensures { HasOwnSuffix K.KIND (chars self.now.text) (chars result.now) }
     {
         &self.token.text()[self.suffix_at..]
     }
 
-    /// The token's text, sign, prefix, underscores and suffix included.
+    /// Returns the number's text as written, with its sign, prefix, underscores and suffix.
     pub fn text(&self) -> &str
         ensures { result.now ≡ self.now.text }
     {
         self.token.text()
     }
 
-    /// Where the literal stands: its file, and its bytes in it.
+    /// Returns the number's span: a file, and a range of bytes in that file.
     pub fn span(&self) -> Span
         ensures { result ≡ self.now.span }
     {
         self.token.span()
     }
 
-    /// Puts the literal elsewhere: its span becomes this one, and its text stays.
+    /// Sets the number's span to `span`. The number's text is unchanged.
     pub fn set_span(&mut self, span: Span)
         ensures { self.new ≡ record self.old { span = span } }
     {
         self.token.set_span(span);
     }
 
-    /// The token, with text and span as held.
+    /// Returns a new literal token with the number's text and span.
     ///
     /// # Errors
     ///
-    /// `Memory` at the literal's span.
+    /// Returns `Memory` at the number's span if an allocation fails.
     pub fn token<B: Allocator>(&self, alloc: B) -> Result<Literal<B>, Error<B>>
         ensures ok { IfOk result (λ l. l ≡ self.now) }
         ensures memory { IfErr result (λ e. e ≡ memory_at self.now.span) }
@@ -239,7 +248,7 @@ impl<K: NumberKind, A: Allocator> Number<K, A> {
     }
 }
 
-/// The token's text; a width pads it, as it pads a `str`.
+/// Writes the number's text as written. A width in the format pads the text, as it pads a `str`.
 impl<K: NumberKind, A: Allocator> fmt::Display for Number<K, A> {
     ghost output = { λ l. Some l.text };
 
@@ -250,16 +259,16 @@ impl<K: NumberKind, A: Allocator> fmt::Display for Number<K, A> {
     }
 }
 
-/// Takes the number of the kind that stands next. It is rejected as [`take_kind`] says.
+/// Parses the number at the start of a buffer, which must be of the type's kind. The errors are those of [`take_literal_of_kind`].
 impl<K: NumberKind, A: Allocator + Copy> Parse<A> for Number<K, A> {
     ghost use Rattle.rl_fronts.specs.Fronts.{RunsAs};
-    ghost use Rattle.rl_forms.specs.Words.{kind_word};
+    ghost use Rattle.rl_syntax.specs.Words.{kind_word};
 
     ghost runs = { RunsAs K.KIND (kind_word K.KIND) };
 
     fn parse(alloc: A, input: &mut ParseBuffer<'_, A>) -> Result<Number<K, A>, Error<A>> {
         let before = input.fork();
-        let (token, found) = match take_kind(alloc, input, K::KIND, K::KIND.word()) {
+        let (token, found) = match take_literal_of_kind(alloc, input, K::KIND, K::KIND.word()) {
             Ok(taken) => taken,
             Err(error) => return Err(error),
         };
@@ -273,17 +282,17 @@ impl<K: NumberKind, A: Allocator + Copy> Parse<A> for Number<K, A> {
     }
 }
 
-/// True exactly where the parser succeeds, if memory is found.
+/// `peek` returns `true` exactly if the type's parser would succeed, provided that no allocation fails.
 impl<K: NumberKind, A: Allocator> Token for Number<K, A> {
     ghost use Rattle.rl_fronts.specs.Fronts.{HasFrontOf};
-    ghost use Rattle.rl_forms.specs.Words.{kind_shown};
+    ghost use Rattle.rl_syntax.specs.Words.{kind_shown};
 
     ghost peeks = { HasFrontOf K.KIND };
 
     ghost shown = { kind_shown K.KIND };
 
     fn peek<B: Allocator>(input: &ParseBuffer<'_, B>) -> bool {
-        next_is(input, K::KIND)
+        begins_with_kind(input, K::KIND)
     }
 
     fn display() -> &'static str {

@@ -1,10 +1,10 @@
-//! The literals of a text.
+//! The function that returns all literals of a text.
 
 ghost use Rattle.std.specs.Prelude.{◌≡◌, ◌⊎◌, ℕ, List, [], ◌++◌, length, IfOk, IfErr};
 ghost use Rattle.std.specs.Str.{chars};
 ghost use Rattle.rl_tokens.specs.Buffers.{trees_in, scope_of};
 ghost use Rattle.rl_tokens.specs.Trees.{Tree};
-ghost use Rattle.rl_forms.specs.Printed.{Entry, Printed};
+ghost use Rattle.rl_syntax.specs.Printed.{Entry, Printed};
 ghost use Rattle.rust_literals.specs.declared.lit.Lit.{Lit};
 ghost use Rattle.rust_literals.specs.Parsing.{ReadsLiterals, RejectsNextLiteral, LacksMemory, AreRead, RejectsText};
 ghost use Rattle.rust_literals.specs.Flat.{AreFirst};
@@ -14,10 +14,10 @@ ghost use Rattle.rust_literals.specs.Reprints.{Spaced, lits_of, IsReprint, SameB
 use crate::flat::read_flat;
 use crate::lit::Lit;
 use rl_fronts::Front;
-use rl_tokens::{Error, ParseBuffer, Span, trees_of_text};
+use rl_tokens::{Error, ParseBuffer, Span, lex_for_parsing};
 use std::alloc::{Allocator, Global};
 
-/// Passes the trees of so many literals.
+/// Consumes the first `count` literals of `input`.
 fn pass<A: Allocator>(input: &mut ParseBuffer<'_, A>, count: usize)
     ensures passed { (passed : List (Lit A)) (rest : List Tree) → length passed ≡ count
         → ReadsLiterals (trees_in input.old) passed rest → trees_in input.new ≡ rest }
@@ -28,13 +28,14 @@ fn pass<A: Allocator>(input: &mut ParseBuffer<'_, A>, count: usize)
     }
 }
 
-/// The literals of the list, and after them those that the trees are, one after another, up to their end.
+/// Parses all remaining token trees of `input` as literals, and returns `list` with these appended.
 fn read_on<A: Allocator + Copy>(
     alloc: A,
     input: &mut ParseBuffer<'_, A>,
     mut list: Vec<Lit<A>, A>,
 ) -> Result<Vec<Lit<A>, A>, Error<A>>
-    // Whatever trees the list led through to these, after literals that were let go.
+    // The contract also covers literals `gone` that precede `list` and were dropped: the whole sequence `all` of token
+    // trees consists of the literals `gone`, those of `list`, and the remaining token trees.
     ensures read { (all : List Tree) (gone : List (Lit A))
         → ReadsLiterals all (gone ++ list.items) (trees_in input.old)
         → IfOk result (λ found. ReadsLiterals all (gone ++ found.items) []) }
@@ -46,7 +47,8 @@ fn read_on<A: Allocator + Copy>(
     while !input.is_empty() {
         let literal = input.parse::<Lit<A>>(alloc)?;
         if let Err(failed) = list.push(literal) {
-            // By a call, as in `read_next`.
+            // The literal is dropped by a function call, because dropping it in place would double the number of steps
+            // to prove.
             drop(failed);
             return Err(Error::memory(Span::call_site()));
         }
@@ -54,7 +56,8 @@ fn read_on<A: Allocator + Copy>(
     Ok(list)
 }
 
-/// The literals of the list, and after them those of the text after so many: those that were let go, and the list's.
+/// Returns `list`, and appends the literals of `text` after its first `count` ones. The literals of `list` are the last
+/// of these `count`. Those before may have been dropped.
 fn read_from<A: Allocator + Copy>(
     alloc: A,
     text: &str,
@@ -68,21 +71,21 @@ fn read_from<A: Allocator + Copy>(
         → AreFirst (chars text.now) file count (gone ++ list.items)
         → IfErr result (RejectsText (chars text.now) file (length text.now)) }
 {
-    let stream = trees_of_text(alloc, text, file)?;
+    let stream = lex_for_parsing(alloc, text, file)?;
     let end = Span::new(file, text.len(), text.len());
     let mut input = ParseBuffer::new(stream.trees(), end);
     pass(&mut input, count);
     read_on(alloc, &mut input, list)
 }
 
-/// The literals of a text after its first `count`.
+/// Returns the literals of `text` after its first `count` literals.
 pub(crate) fn read_after<A: Allocator + Copy>(
     alloc: A,
     text: &str,
     file: u32,
     count: usize,
 ) -> Result<Vec<Lit<A>, A>, Error<A>>
-    // The text is the first literals and these.
+    // The text consists of its first literals and the returned ones.
     ensures read { (first : List (Lit A)) → AreFirst (chars text.now) file count first
         → IfOk result (λ more. AreRead (chars text.now) file (first ++ more.items)) }
     ensures rejected { (first : List (Lit A)) → AreFirst (chars text.now) file count first
@@ -91,32 +94,33 @@ pub(crate) fn read_after<A: Allocator + Copy>(
     read_from(alloc, text, file, count, Vec::new(alloc))
 }
 
-/// The literals of a text, which is nothing but literals, white space and plain comments. Each is
-/// what [`Lit::parse`] takes from the trees of the text, `Verbatim` too; its span is the file and
-/// the bytes of its text, of a number after a minus from the minus to its last byte.
+/// Returns the literals of `text`, which may contain only literals, white space and plain comments.
 ///
-/// One error, and there are no literals: who wants those before it, or each error of a list, goes over
-/// [`Tokens`](rl_tokens::Tokens) by [`read_next`](crate::read_next).
+/// The text is lexed into token trees, and each literal is parsed from these as [`Lit::parse`] does. The result may
+/// contain `Verbatim` literals. A literal's span is `file` and the byte range of its text. The span of a number after a
+/// minus is from the minus to the number's last byte.
+///
+/// On an error the literals before the error aren't returned. A caller that needs them, or each error of a list, can
+/// call [`read_next`](crate::read_next) with [`Tokens`](rl_tokens::Tokens).
 ///
 /// # Errors
 ///
-/// The first error is returned: the lexer's error as `Lex`, with the span of no bytes at its
-/// place; or `Expected` at the first tree that no literal begins. `Memory` is reported where it was
-/// met, in the text or at a literal; and where the list itself can't grow, which is at no place of
-/// the text, at `Span::call_site`.
+/// Returns the lexer's first error as `Lex`, with an empty span at its byte offset. Otherwise returns `Expected` at the
+/// first token tree that isn't a literal. Returns `Memory` if an allocation fails, at the literal or the position in
+/// the text for which memory was needed. If the list can't grow, `Memory` is at `Span::call_site`.
 ///
 /// # Example
 ///
 /// ```
-/// use rl_grammar::explain_value;
+/// use rl_grammar::{LineEnds, explain_value};
 /// use rust_literals::read_all;
 /// use std::alloc::Global;
 ///
 /// pub fn first_flaw(alloc: Global, text: &str) -> Option<(&'static str, usize)> {
 ///     let literals = read_all(alloc, text, 0).ok()?;
 ///     let literal = literals.as_slice().first()?;
-///     let flaw = explain_value(literal.text())?;
-///     Some((flaw.kind.words(), flaw.in_span(literal.span()).lo))
+///     let flaw = explain_value(literal.text(), LineEnds::Text, true)?;
+///     Some((flaw.kind.message(), flaw.in_span(literal.span()).lo))
 /// }
 /// // first_flaw(alloc, "\"a\\q\" 1") == Some(("unknown escape", 3))
 /// ```
@@ -125,17 +129,20 @@ pub fn read_all<A: Allocator + Copy>(
     text: &str,
     file: u32,
 ) -> Result<Vec<Lit<A>, A>, Error<A>>
-    // The text is cut into the trees of these literals, and nothing is left of it.
+    // The whole text is lexed into the token trees of the returned literals.
     ensures read { IfOk result (λ list. AreRead (chars text.now) file list.items) }
-    // Else the text's first error; or, of its trees, the first that begins no literal; or an allocation failed.
+    // The returned error is the text's first error, or that of the first token tree that isn't a literal, or an
+    // allocation failure.
     ensures rejected { IfErr result (RejectsText (chars text.now) file (length text.now)) }
-    // What a text reads as is the answer, or an allocation failed.
+    // If the text consists of literals, the result is a list of these, or an allocation failed.
     ensures exactly { (list : List (Lit A)) → AreRead (chars text.now) file list
         → HoldsOrMemory (λ found. found ≡ list) result }
-    // A print of strict literals reads as its items, each at its range, or an allocation failed.
+    // If the text is a printed list (literals that Rust's grammar accepts, with separators between them), the result is
+    // the list's items, each with its byte range, or an allocation failed.
     ensures printed { (entries : List Entry) (last : List ℕ) → Printed (chars text.now) entries last
         → HoldsOrMemory (AreItems file 0 entries) result }
-    // The texts of literals that were read once, strict or not, read as the same, whatever trivia stands between them.
+    // If the text is the texts of literals that were read before, with any white space or comments between them, the
+    // result is the same literals, or an allocation failed. The literals needn't be valid by Rust's grammar.
     ensures again { (spaced : List (Spaced A)) (last : List ℕ)
         → IsReprint (chars text.now) spaced last
         → HoldsOrMemory (SameButSpans (lits_of spaced)) result }

@@ -1,6 +1,6 @@
-//! How the time grows with the input of a macro.
+//! Measures how the time of the package's calls grows with the length of a macro's input.
 
-use navyspindle::{macro_settings, next_literal, LitStr, MacroText};
+use navyspindle::{next_literal, parse_macro_settings, LitStr, MacroError, MacroInput, Meta};
 use proc_macro::TokenStream;
 use std::time::{Duration, Instant};
 use std::{fs, thread};
@@ -8,20 +8,36 @@ use std::{fs, thread};
 const SHORT: usize = 100;
 const LONG: usize = 32 * SHORT;
 
-/// A call that is passed a macro's input.
+/// A call of the package that reads a macro's input.
 type Call = fn(TokenStream);
 
 fn read_settings(input: TokenStream) {
-    assert!(macro_settings(input).is_ok_and(|entries| entries.len() >= SHORT));
+    assert!(parse_macro_settings(input).is_ok_and(|entries| entries.len() >= SHORT));
 }
 
-/// Asks for the place of each setting of the text, as its errors do.
+/// Converts the range of each setting of the text to spans, as the errors of settings do.
 fn place_settings(input: TokenStream) {
-    let text = MacroText::of(input);
+    let text = MacroInput::of(input);
     let settings = text.settings().expect("settings");
     for entry in settings.entries() {
         let _ = text.spans(entry.value_range.clone());
     }
+}
+
+fn read_entries(input: TokenStream) {
+    assert!(Meta::parse_all(input).is_ok_and(|metas| metas.len() >= SHORT));
+}
+
+/// Creates an error for each token, and combines these errors into one.
+fn join_errors(input: TokenStream) {
+    let errors = input
+        .into_iter()
+        .map(|tree| MacroError::new("no", tree.span()));
+    let all = errors.reduce(|mut all, error| {
+        all.combine(error);
+        all
+    });
+    assert!(all.is_some());
 }
 
 fn read_literals(input: TokenStream) {
@@ -32,22 +48,23 @@ fn read_literals(input: TokenStream) {
     }
 }
 
-/// The tokens of so many settings.
+/// Returns the tokens of `count` settings with the value `value`.
 fn input(count: usize, value: &str) -> TokenStream {
     let settings: String = (0..count).map(|at| format!("a{at} = {value},")).collect();
     settings.parse().expect("tokens")
 }
 
-/// How long this thread has run, where Linux tells: so what else runs doesn't count. Elsewhere how long it is since the beginning.
+/// Returns the time for which this thread has run, if Linux reports it, so that other threads don't count. On other systems it is
+/// the time since `begin`.
 fn now(begin: Instant) -> Duration {
-    // Linux counts up to here then.
+    // Linux updates the thread's time when the thread yields.
     thread::yield_now();
     let told = fs::read_to_string("/proc/thread-self/schedstat").ok();
     let run = told.and_then(|told| told.split(' ').next()?.parse().ok());
     run.map_or_else(|| begin.elapsed(), Duration::from_nanos)
 }
 
-/// The time of so many calls.
+/// Returns the time of `times` calls.
 fn time(call: Call, input: &TokenStream, times: usize) -> Duration {
     let begin = Instant::now();
     let before = now(begin);
@@ -57,32 +74,71 @@ fn time(call: Call, input: &TokenStream, times: usize) -> Duration {
     now(begin) - before
 }
 
-/// Whether a long input takes at most five times what short ones of as many settings take, in the best of five rounds. It is 32 times
-/// as long, so by a walk over all tokens for each setting it would take about 32 times that.
-fn grows_in_step(call: Call, value: &str) -> bool {
+/// Returns the least time of the call on short inputs, and its least time on a long input with as many settings in total. There are
+/// up to five rounds, and fewer if `are_enough` returns `true` for the two times.
+fn least_times(
+    call: Call,
+    value: &str,
+    are_enough: impl Fn(Duration, Duration) -> bool,
+) -> (Duration, Duration) {
     let (short, long) = (input(SHORT, value), input(LONG, value));
     let (mut few, mut many) = (Duration::MAX, Duration::MAX);
-    (0..5).any(|_| {
+    for _ in 0..5 {
         few = few.min(time(call, &short, LONG / SHORT));
         many = many.min(time(call, &long, 1));
-        many <= few * 5
-    })
+        if are_enough(few, many) {
+            break;
+        }
+    }
+    (few, many)
 }
 
-/// The calls that take longer for each setting where there are many, as a string.
-pub fn slow_calls() -> TokenStream {
-    let calls: [(&str, Call); 3] = [
-        ("macro_settings", read_settings),
-        ("MacroText::spans", place_settings),
+/// Whether the time for a long input is at most five times the time for short inputs with as many settings in total. The long input
+/// is 32 times as long as a short one. If each setting took a walk over all tokens, the time would be about 32 times as long.
+fn grows_in_step(few: Duration, many: Duration) -> bool {
+    many <= few * 5
+}
+
+/// Iterates over the measured calls, each with each value that the settings of its input have.
+fn calls() -> impl Iterator<Item = (&'static str, Call, &'static str)> {
+    let calls: [(&str, Call); 5] = [
+        ("parse_macro_settings", read_settings),
+        ("MacroInput::spans", place_settings),
         ("next_literal", read_literals),
+        ("Meta::parse_all", read_entries),
+        ("MacroError::combine", join_errors),
     ];
     let values = ["1", "- 1", "\"a\\n\""];
-    let slow = calls.iter().flat_map(|(name, call)| {
-        let slow = values.iter().filter(|value| !grows_in_step(*call, value));
-        slow.map(move |value| format!("{name} of {value}; "))
-    });
-    let slow: String = slow.collect();
-    LitStr::new(&slow)
+    calls
+        .into_iter()
+        .flat_map(move |(name, call)| values.map(|value| (name, call, value)))
+}
+
+fn string(text: &str) -> TokenStream {
+    LitStr::new(text)
         .to_token_stream(proc_macro::Span::call_site())
         .expect("a string")
+}
+
+/// Returns a string literal with the names of the calls whose time per setting is longer for a long input.
+pub fn slow_calls() -> TokenStream {
+    let slow = calls().filter(|(_, call, value)| {
+        let (few, many) = least_times(*call, value, grows_in_step);
+        !grows_in_step(few, many)
+    });
+    let slow: String = slow
+        .map(|(name, _, value)| format!("{name} of {value}; "))
+        .collect();
+    string(&slow)
+}
+
+/// Returns a string literal with a line for each call: the call's name, the value of the settings, and the nanoseconds per setting
+/// for inputs of 100 and of 3,200 settings, separated by tabs.
+pub fn call_times() -> TokenStream {
+    let lines = calls().map(|(name, call, value)| {
+        let (few, many) = least_times(call, value, |_, _| false);
+        let each = |time: Duration| time.as_nanos() / LONG as u128;
+        format!("{name}\t{value}\t{}\t{}\n", each(few), each(many))
+    });
+    string(&lines.collect::<String>())
 }

@@ -1,27 +1,28 @@
-//! Procedural macros that read literals, for the tests.
+//! Procedural macros that read literals with the package, for the tests in `user`.
 
+mod attributes;
 mod growth;
 mod places;
 mod written;
 
 use navyspindle::{
-    macro_settings, next_literal, next_of, write_str, Key, Lit, LitInt, LitStr, MacroError,
-    MacroText,
+    next_literal, next_literal_of, parse_macro_settings, write_str, Key, Lit, LitInt, LitStr,
+    MacroError, MacroInput,
 };
 use proc_macro::{Punct, Spacing, Span, TokenStream, TokenTree};
 use std::iter::Peekable;
 
-/// What a macro makes of its input, or the call of `compile_error!`.
+/// Returns the output of a macro, or calls of `compile_error!` for its error.
 fn or_error(made: Result<TokenStream, MacroError>) -> TokenStream {
-    made.unwrap_or_else(|error| error.to_compile_error())
+    made.unwrap_or_else(MacroError::into_compile_error)
 }
 
-/// The tokens of a text.
+/// Parses a text as tokens.
 fn tokens_of(text: &str) -> TokenStream {
     text.parse().expect("tokens")
 }
 
-/// The literals of the input, with commas between.
+/// Reads the literals of the input, which are separated by commas, with their spans.
 fn literals_of(input: TokenStream) -> Result<Vec<(Lit<'static>, Span)>, MacroError> {
     let (mut tokens, mut literals) = (input.into_iter().peekable(), Vec::new());
     while tokens.peek().is_some() {
@@ -31,7 +32,7 @@ fn literals_of(input: TokenStream) -> Result<Vec<(Lit<'static>, Span)>, MacroErr
     Ok(literals)
 }
 
-/// Takes a comma, unless nothing is left.
+/// Consumes a comma, or nothing at the end of the input.
 fn take_comma(tokens: &mut Peekable<impl Iterator<Item = TokenTree>>) -> Result<(), MacroError> {
     match tokens.next() {
         None => Ok(()),
@@ -40,7 +41,7 @@ fn take_comma(tokens: &mut Peekable<impl Iterator<Item = TokenTree>>) -> Result<
     }
 }
 
-/// The kind, the suffix and the text of each literal, as an array of triples.
+/// Returns an array with a triple for each literal of the input: its kind, its suffix and its text.
 #[proc_macro]
 pub fn literals(input: TokenStream) -> TokenStream {
     or_error(literals_of(input).map(|literals| {
@@ -59,7 +60,8 @@ pub fn literals(input: TokenStream) -> TokenStream {
     }))
 }
 
-/// The bytes that pairs of hexadecimal digits in a string literal stand for, as an array; blanks between are dropped.
+/// Returns an array of the bytes that a string literal encodes as pairs of hexadecimal digits. White space between pairs is
+/// ignored.
 #[proc_macro]
 pub fn hex_bytes(input: TokenStream) -> TokenStream {
     or_error(bytes_of(input))
@@ -83,7 +85,7 @@ fn bytes_of(input: TokenStream) -> Result<TokenStream, MacroError> {
     }
 }
 
-/// The sum of integers.
+/// Returns the sum of the integers in the input.
 #[proc_macro]
 pub fn sum(input: TokenStream) -> TokenStream {
     or_error(sum_of(input))
@@ -92,7 +94,7 @@ pub fn sum(input: TokenStream) -> TokenStream {
 fn sum_of(input: TokenStream) -> Result<TokenStream, MacroError> {
     let (mut tokens, mut sum) = (input.into_iter().peekable(), 0_i128);
     while tokens.peek().is_some() {
-        let (int, span) = next_of::<LitInt>(&mut tokens)?;
+        let (int, span) = next_literal_of::<LitInt>(&mut tokens)?;
         let number = int.base10_parse::<i128>();
         sum += number.map_err(|error| MacroError::new(error, span))?;
         take_comma(&mut tokens)?;
@@ -100,7 +102,7 @@ fn sum_of(input: TokenStream) -> Result<TokenStream, MacroError> {
     LitInt::unsuffixed(sum).to_token_stream(Span::call_site())
 }
 
-/// The same literal again, by its text; `true` where the input is a truth value.
+/// Returns the input's literal, after parsing it and converting the result to tokens.
 #[proc_macro]
 pub fn again(input: TokenStream) -> TokenStream {
     or_error(
@@ -109,13 +111,27 @@ pub fn again(input: TokenStream) -> TokenStream {
     )
 }
 
-/// The message that the macro `sum` returns as its error, as a string.
+/// Returns a string literal with the printed form of the tokens that the input's literal is converted to.
+#[proc_macro]
+pub fn printed(input: TokenStream) -> TokenStream {
+    let tokens = again(input).to_string();
+    tokens_of(&write_str(&tokens))
+}
+
+/// Returns a string literal with the text that `MacroInput` makes of the input's tokens.
+#[proc_macro]
+pub fn text(input: TokenStream) -> TokenStream {
+    let text = MacroInput::of(input);
+    tokens_of(&write_str(text.text()))
+}
+
+/// Returns a string literal with the message of the error that the macro `sum` reports.
 #[proc_macro]
 pub fn sum_error(input: TokenStream) -> TokenStream {
     match sum_of(input) {
         Ok(sum) => sum,
         Err(error) => {
-            // What the compiler would be given.
+            // The tokens that the compiler would receive as the macro's output.
             assert!(error
                 .to_compile_error()
                 .to_string()
@@ -125,11 +141,11 @@ pub fn sum_error(input: TokenStream) -> TokenStream {
     }
 }
 
-/// The error of each literal of the input that is no string, commas between them; none where all are.
+/// Returns a combined error for the literals of the input that aren't strings. The literals are separated by commas.
 fn no_strings(input: TokenStream) -> Result<(), MacroError> {
     let (mut tokens, mut errors) = (input.into_iter().peekable(), Vec::new());
     while tokens.peek().is_some() {
-        errors.extend(next_of::<LitStr>(&mut tokens).err());
+        errors.extend(next_literal_of::<LitStr>(&mut tokens).err());
         take_comma(&mut tokens)?;
     }
     let all = errors.into_iter().reduce(|mut all, error| {
@@ -139,31 +155,34 @@ fn no_strings(input: TokenStream) -> Result<(), MacroError> {
     all.map_or(Ok(()), Err)
 }
 
-/// Nothing where each literal of the input is a string, or the errors of the others.
+/// Expands to nothing if each literal of the input is a string, and to the errors of the other literals otherwise.
 #[proc_macro]
 pub fn strings(input: TokenStream) -> TokenStream {
     or_error(no_strings(input).map(|()| TokenStream::new()))
 }
 
-/// The calls of `compile_error!` that the macro `strings` returns: of each the message, and the tokens of the input where its place
-/// begins and ends, as an array of triples.
+/// Returns an array with a triple for each call of `compile_error!` to which `strings` expands: its message, and the source text at
+/// the first and at the last token of the error.
 #[proc_macro]
 pub fn strings_errors(input: TokenStream) -> TokenStream {
     let trees: Vec<TokenTree> = strings(input).into_iter().collect();
     let source = |tree: &TokenTree| write_str(&tree.span().source_text().expect("a source"));
-    // `::core::compile_error!{..}` has eight trees.
+    // A call `::core::compile_error!{..}` consists of eight token trees.
     let shown = trees.chunks(8).map(|call| match call {
         [first, .., TokenTree::Group(message)] => {
             let (first, last) = (source(first), source(&call[7]));
-            format!("({}, {first}, {last}),", message.stream())
+            let text = message.stream().into_iter().next().expect("a message");
+            // If a compiler marks the message, it marks the last token of the error, because the message has that token's span.
+            assert_eq!(source(&text), last);
+            format!("({text}, {first}, {last}),")
         }
         _ => panic!("no call of compile_error"),
     });
     tokens_of(&format!("[{}]", shown.collect::<String>()))
 }
 
-/// Pairs of literals that stand for the same values, as a slice: as the compiler's own writers write them, and as the package does. The
-/// input names the kind or the type.
+/// Returns a slice of pairs of literals with the same value. The compiler's own functions write the first literal of a pair, and
+/// the package writes the second. The input names the literals' kind or type.
 #[proc_macro]
 pub fn written(input: TokenStream) -> TokenStream {
     let name = input.to_string();
@@ -174,19 +193,20 @@ pub fn written(input: TokenStream) -> TokenStream {
     or_error(pairs.map(|pairs| tokens_of(&pairs)))
 }
 
-/// The settings of the input, as an array: of each its name, its value, and the tokens of the input where the name, the minus and the
-/// value stand. In place of an error its message, and the tokens where it begins and ends.
+/// Returns an array with a tuple for each setting of the input: its name, its value, and the source texts of the name, the minus
+/// and the value. If the input is invalid, the result is the error's message, and the source text at its first and at its last
+/// token.
 #[proc_macro]
 pub fn settings(input: TokenStream) -> TokenStream {
     let shown = |text: &str| write_str(text);
     let source = |span: Span| shown(&span.source_text().expect("a source"));
-    match macro_settings(input) {
+    match parse_macro_settings(input) {
         Ok(entries) => {
             let entries = entries.iter().map(|entry| {
                 let (name, value) = (shown(&entry.name), shown(entry.value.text()));
-                let (name_at, value_at) = (source(entry.name_span), source(entry.value_span));
+                let (name_at, value_offset) = (source(entry.name_span), source(entry.value_span));
                 let minus_at = entry.minus_span.map_or("\"\"".into(), source);
-                format!("({name}, {value}, {name_at}, {minus_at}, {value_at}),")
+                format!("({name}, {value}, {name_at}, {minus_at}, {value_offset}),")
             });
             tokens_of(&format!("[{}]", entries.collect::<String>()))
         }
@@ -194,7 +214,7 @@ pub fn settings(input: TokenStream) -> TokenStream {
     }
 }
 
-/// The message of an error, and the tokens where it begins and ends.
+/// Returns an error's message, and the source text at its first and at its last token.
 fn shown_error(error: &MacroError) -> TokenStream {
     let source = |span: Span| write_str(&span.source_text().expect("a source"));
     let trees: Vec<TokenTree> = error.to_compile_error().into_iter().collect();
@@ -207,17 +227,17 @@ const NAME: Key = Key::new("name", "a string");
 const SIZE: Key = Key::new("size", "an integer from 0 to 255");
 
 fn named_size(input: TokenStream) -> Result<(String, u8), MacroError> {
-    let text = MacroText::of(input);
+    let text = MacroInput::of(input);
     let settings = text.settings()?;
     let error = |error| text.error(&error);
     settings.check(&[NAME, SIZE]).map_err(error)?;
     let name = settings.string(NAME).map_err(error)?;
-    let name = name.ok_or_else(|| error(settings.missing(NAME)))?;
+    let name = name.ok_or_else(|| error(settings.missing_error(NAME)))?;
     let size = settings.number(SIZE).map_err(error)?;
     Ok((name.into_owned(), size.unwrap_or(1)))
 }
 
-/// The name and the size that are set, or the error as of `settings`.
+/// Returns the values of the settings `name` and `size`, or the error in the form that `settings` returns.
 #[proc_macro]
 pub fn named(input: TokenStream) -> TokenStream {
     match named_size(input) {
@@ -226,36 +246,87 @@ pub fn named(input: TokenStream) -> TokenStream {
     }
 }
 
-/// The message for settings with two joined slashes among them, as no source has but a macro may make.
+/// Returns the error message for settings with two adjacent slash tokens. A source can't have these tokens, because they would be a
+/// comment, but a macro can create them.
 #[proc_macro]
 pub fn joined_slashes(_: TokenStream) -> TokenStream {
     let slash = |spacing| TokenTree::from(Punct::new('/', spacing));
     let slashes = [slash(Spacing::Joint), slash(Spacing::Alone)];
     let input = tokens_of("a = 1,").into_iter().chain(slashes);
     let input = input.chain(tokens_of("b = 2")).collect();
-    tokens_of(&write_str(&macro_settings(input).unwrap_err().to_string()))
+    tokens_of(&write_str(
+        &parse_macro_settings(input).unwrap_err().to_string(),
+    ))
 }
 
-/// The calls of the package that take more time for each setting of a long input than of a short one, as a string.
+/// Returns a string literal with the names of the package's calls that take more time per setting for a long input than for a short
+/// one.
 #[proc_macro]
 pub fn slow_calls(_: TokenStream) -> TokenStream {
     growth::slow_calls()
 }
 
-/// Of each literal its text, the source where it stands, and those of its own tokens there.
+/// Returns a string literal with a line for each call of the package: its time per setting for a short input and for a long one.
+#[proc_macro]
+pub fn call_times(_: TokenStream) -> TokenStream {
+    growth::call_times()
+}
+
+/// Returns an array with a triple for each literal of the input: its text, the source text at its span, and the source texts at the
+/// spans of the tokens that it is converted to.
 #[proc_macro]
 pub fn placed(input: TokenStream) -> TokenStream {
     or_error(places::literals(input))
 }
 
-/// The errors of trees that are no bytes, and all of them as one: of each the message, the source where it is, and how many it is.
+/// Returns the errors of the token trees that aren't byte literals, and all of them combined into one error. For each error the
+/// result has its message, the source text at its span, and the number of combined errors.
 #[proc_macro]
 pub fn byte_errors(input: TokenStream) -> TokenStream {
     places::errors(&input)
 }
 
-/// Errors that are made of the places of two trees, as those of `byte_errors`, and two messages in a width.
+/// Returns errors that are created from the spans of two token trees, in the form of `byte_errors`, and two messages printed with a
+/// width.
 #[proc_macro]
 pub fn made_errors(input: TokenStream) -> TokenStream {
     places::made_errors(input)
+}
+
+/// Returns a slice with a tuple for each entry of an attribute: its name, the source text at its span, its form, its tokens, and
+/// the source text of its literal. If the input is invalid, the result is the errors.
+#[proc_macro]
+pub fn entries(input: TokenStream) -> TokenStream {
+    attributes::entries(input)
+}
+
+/// Returns a tuple of the settings in the input of an attribute macro, read by name, or the errors.
+#[proc_macro]
+pub fn options(input: TokenStream) -> TokenStream {
+    attributes::options(input)
+}
+
+/// Returns a tuple of the settings in the content of `#[..]`, read by name, or the errors.
+#[proc_macro]
+pub fn attribute(input: TokenStream) -> TokenStream {
+    attributes::attribute(input)
+}
+
+/// Implements `description()` for a struct, from its attributes `#[described(..)]`.
+#[proc_macro_derive(Described, attributes(described))]
+pub fn derive_described(item: TokenStream) -> TokenStream {
+    attributes::derive(item)
+}
+
+/// Returns the error that `?` makes of an integer out of its type's range, and a copy of it that was moved to the input's last
+/// token.
+#[proc_macro]
+pub fn converted(input: TokenStream) -> TokenStream {
+    attributes::converted(input)
+}
+
+/// Returns an error at the value of each entry, in the form of the errors of `entries`.
+#[proc_macro]
+pub fn at_values(input: TokenStream) -> TokenStream {
+    attributes::at_values(input)
 }

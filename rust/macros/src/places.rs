@@ -1,15 +1,16 @@
-//! Where literals and errors stand.
+//! Macros that return the spans of literals and errors, as source texts.
 
 use crate::{take_comma, tokens_of};
 use navyspindle::{next_literal, write_str, Kind, LitByte, MacroError};
 use proc_macro::{Span, TokenStream};
 
-/// The source of a place, as a string.
+/// Returns the source text at a span, as a string literal.
 fn source(span: Span) -> String {
     write_str(&span.source_text().expect("a source"))
 }
 
-/// Of each literal its text, the source where it stands, and those of the tokens that it becomes there, as an array of triples.
+/// Returns an array with a triple for each literal of the input: its text, the source text at its span, and the source texts at the
+/// spans of the tokens that it is converted to.
 pub fn literals(input: TokenStream) -> Result<TokenStream, MacroError> {
     let (mut tokens, mut shown) = (input.into_iter().peekable(), String::new());
     while tokens.peek().is_some() {
@@ -23,7 +24,7 @@ pub fn literals(input: TokenStream) -> Result<TokenStream, MacroError> {
     Ok(tokens_of(&format!("[{shown}]")))
 }
 
-/// The error of each tree that is no byte.
+/// Returns an error for each token tree that isn't a byte literal.
 fn errors_of_bytes(input: &TokenStream) -> Vec<MacroError> {
     let trees = input.clone().into_iter();
     trees
@@ -31,15 +32,16 @@ fn errors_of_bytes(input: &TokenStream) -> Vec<MacroError> {
         .collect()
 }
 
-/// The message and the place of an error, and how many errors it is.
+/// Returns an error's message, the source text at its span, and the number of errors that are combined in it.
 fn shown(error: &MacroError) -> String {
-    // `::core::compile_error!{..}` has eight trees.
+    // A call `::core::compile_error!{..}` consists of eight token trees.
     let count = error.to_compile_error().into_iter().count() / 8;
     let message = write_str(&error.to_string());
     format!("({message}, {}, {count}),", source(error.span()))
 }
 
-/// The errors of trees that are no bytes, then all of them as one, which are put together from the last.
+/// Returns the errors of the token trees that aren't byte literals, and then all of them combined into one error, beginning with
+/// the last.
 pub fn errors(input: &TokenStream) -> TokenStream {
     let errors = errors_of_bytes(input);
     let each: String = errors.iter().map(shown).collect();
@@ -50,7 +52,7 @@ pub fn errors(input: &TokenStream) -> TokenStream {
     tokens_of(&format!("[{each}{}]", shown(&all.expect("an error"))))
 }
 
-/// The errors that a macro makes of two trees.
+/// Returns errors that a macro creates from the spans of two token trees.
 pub fn made_errors(input: TokenStream) -> TokenStream {
     let spans: Vec<Span> = input.into_iter().map(|tree| tree.span()).collect();
     let made = [

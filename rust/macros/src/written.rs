@@ -1,4 +1,4 @@
-//! Values as this package writes them, beside the compiler's own writers.
+//! Compares the literals that this package writes for values with those of the compiler's own functions.
 
 use navyspindle::{
     write_byte, write_byte_str, write_c_str, write_char, write_char_ascii, write_integer,
@@ -8,17 +8,17 @@ use navyspindle::{
 use proc_macro::Literal;
 use std::ffi::CString;
 
-/// Characters that are escaped, end a string, make a raw one need hashes, or are long.
+/// Characters that are escaped, that end a string, that require hashes in a raw string, or that take several bytes in UTF-8.
 const CHARACTERS: &str =
     "a\"#\\'\n\r\t\0\u{7f}\u{80}é\u{7ff}\u{800}\u{202e}\u{ffff}\u{10000}\u{10ffff}";
 
-/// Pairs of literals, as a slice.
+/// Returns the source text of a slice of pairs of literals.
 fn slice(pairs: &[(String, String)]) -> String {
     let pair = |(theirs, ours): &(String, String)| format!("({theirs}, {ours}),");
     format!("&[{}]", pairs.iter().map(pair).collect::<String>())
 }
 
-/// All texts of up to two of the characters, and some longer ones with hashes.
+/// Returns all texts of up to two of the characters, and some longer ones with hashes.
 fn texts() -> Vec<String> {
     let mut texts = vec![String::new()];
     for first in CHARACTERS.chars() {
@@ -85,20 +85,20 @@ fn bytes() -> String {
     slice(&(0..=255).map(of_byte).collect::<Vec<_>>())
 }
 
-/// Each style.
+/// Returns an integer style for each combination of the tested options.
 fn styles() -> Vec<IntegerStyle> {
     let mut styles = Vec::new();
     for base in [Base::Binary, Base::Octal, Base::Decimal, Base::Hexadecimal] {
         for group in [0, 1, 2, 3, 4, 8, 127, 128, usize::MAX] {
             let style = IntegerStyle::new().base(base).group(group);
-            styles.extend([false, true].map(|upper| style.upper(upper)));
+            styles.extend([false, true].map(|upper| style.uppercase(upper)));
         }
     }
     styles
 }
 
-/// The number as the compiler's own writer writes it, and in each style, with its suffix and without. The texts of the two writers
-/// are the same in base ten.
+/// Returns pairs of literals for the number: as the compiler's own function writes it, and as the package writes it in each style,
+/// with a suffix and without. In base ten the texts of a pair must be the same.
 fn of_integer<N: Integer>(
     value: N,
     suffixed: &Literal,
@@ -130,7 +130,8 @@ macro_rules! integers {
     }};
 }
 
-/// The bits of the number as the compiler's own writer writes it, and as ours does, with its suffix and without.
+/// Returns pairs of expressions for the bits of the number: of the literal that the compiler's own function writes, and of those
+/// that the package writes, with a suffix and without.
 fn of_float<N: Float>(value: N, theirs: &Literal, name: &str) -> Vec<(String, String)> {
     let ours = [LitFloat::suffixed(value), LitFloat::unsuffixed(value)];
     let bits = |text: &str| format!("{name}::to_bits({text})");
@@ -160,7 +161,8 @@ macro_rules! floats {
     }};
 }
 
-/// Pairs of literals of this kind or type, the compiler's own and ours.
+/// Returns pairs of literals of this kind or number type. The compiler's own functions write the first literal of a pair, and the
+/// package writes the second.
 pub fn written(name: &str) -> Option<String> {
     Some(match name {
         "str" => strings(),

@@ -1,4 +1,4 @@
-//! Translates the crates for development, of which the repository keeps no translation.
+//! Translates the Rattle crates of the program `rl_rows` to Rust. The repository doesn't contain this translation.
 
 use std::env;
 use std::path::Path;
@@ -16,7 +16,7 @@ fn main() {
         ran.is_ok_and(|status| status.success()),
         "tools/render, which needs Python 3, didn't render the rows"
     );
-    for name in ["rl_uses", "rl_failing", "rl_rows"] {
+    for name in ["rl_uses", "rl_rows"] {
         println!(
             "cargo::rerun-if-changed={}",
             top.join("crates").join(name).join("src").display()

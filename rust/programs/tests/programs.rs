@@ -1,4 +1,4 @@
-//! The translated programs print the stored output of the proved ones.
+//! Tests that the translated programs print the stored output of the proved programs.
 
 mod stored;
 

@@ -1,4 +1,4 @@
-//! What the programs do at the edges of the standard streams and of their arguments.
+//! Tests the programs with standard streams and arguments that are unusual, such as a full output device.
 #![cfg(target_os = "linux")]
 
 use std::ffi::OsStr;
@@ -15,19 +15,20 @@ fn rl_tool() -> Command {
     Command::new(env!("CARGO_BIN_EXE_rl_tool"))
 }
 
-/// The status, and the words on standard error.
+/// Runs the command. Returns its exit status and the text on standard error.
 fn ended(command: &mut Command) -> (Option<i32>, String) {
     let Output { status, stderr, .. } = command.output().expect("the program runs");
     (status.code(), String::from_utf8_lossy(&stderr).into_owned())
 }
 
-/// A file that takes no byte, for want of room.
+/// Returns an output stream that accepts no byte, because its device is full.
 fn full() -> Stdio {
     let full = OpenOptions::new().write(true).open("/dev/full");
     Stdio::from(full.expect("Linux has /dev/full"))
 }
 
-/// A path that ends with a NUL has no line's end, at which Rust's standard output would be written.
+/// Tests output that can't be written. With `-Z` a path ends with a NUL and not with a line end. At a line end, Rust's standard
+/// output would be flushed.
 #[test]
 fn output_without_room() {
     let path = Path::new(env!("CARGO_TARGET_TMPDIR")).join("one.rs");
@@ -66,7 +67,7 @@ fn arguments_that_are_not_texts() {
     }
 }
 
-/// An empty path is no file, and a second word is one too many.
+/// An empty path isn't a file, and a second argument is one too many.
 #[test]
 fn empty_arguments() {
     for (mut command, words, expected) in [

@@ -1,16 +1,16 @@
-//! Lanes of bytes in arrays, by loops of which the compiler makes vector instructions.
+//! Vectors of bytes as arrays, with loops for which the compiler generates vector instructions.
 //!
-//! Every loop goes over sixty-four lanes. A shorter one would be unrolled before vectors are looked for, and is done byte by byte
-//! then; of lanes that nobody reads the compiler leaves out what is done with them.
+//! Every loop has sixty-four iterations. The compiler would unroll a shorter loop before it looks for vector instructions, and
+//! would then generate code for single bytes. The compiler removes the computation of lanes that aren't read.
 
 use super::LOWEST;
 use core::marker::PhantomData;
 use core::ops::{BitAnd, BitOr, Sub};
 
-/// How many lanes there are at most, and in every loop.
+/// The number of items of the array, which is also the number of iterations of every loop.
 const ALL: usize = 64;
 
-/// The array whose item at each index is this, whatever N is.
+/// Builds an array of `ALL` items, by an expression for the item at index `$at`. The number of lanes `$n` isn't used.
 macro_rules! lanes {
     ($n:ident, $at:ident => $lane:expr) => {{
         let mut lanes = [0_u8; ALL];
@@ -21,10 +21,10 @@ macro_rules! lanes {
     }};
 }
 
-// All bits of a mask's lane are set, or none.
+// In a mask, a lane's byte is 0xFF if the lane is in the set, and 0 otherwise.
 lane_types!([u8; ALL], lanes);
 
-/// A lane of a mask.
+/// Returns the byte of a mask for one lane.
 #[inline(always)]
 fn all_if(set: bool) -> u8 {
     if set {
@@ -35,7 +35,7 @@ fn all_if(set: bool) -> u8 {
 }
 
 impl<const N: usize> Simd<u8, N> {
-    /// The first N bytes of the slice, which has to have as many.
+    /// Creates a vector from the first `N` bytes of the slice, which must have at least `N` bytes.
     #[inline(always)]
     pub(crate) fn from_slice(bytes: &[u8]) -> Self {
         const { assert!(N % 8 == 0 && N <= ALL) };
@@ -44,32 +44,32 @@ impl<const N: usize> Simd<u8, N> {
         Simd(lanes, PhantomData)
     }
 
-    /// The byte in each lane.
+    /// Creates a vector with the same byte in each lane.
     #[inline(always)]
     pub(crate) fn splat(byte: u8) -> Self {
         Simd([byte; ALL], PhantomData)
     }
 
-    /// Where the lanes of both are equal.
+    /// Returns the lanes that are equal in both vectors.
     #[inline(always)]
     pub(crate) fn simd_eq(self, other: Self) -> Mask<N> {
         Mask(lanes!(N, at => all_if(self.0[at] == other.0[at])))
     }
 
-    /// Where the lanes of both differ.
+    /// Returns the lanes that differ between the two vectors.
     #[inline(always)]
     pub(crate) fn simd_ne(self, other: Self) -> Mask<N> {
         Mask(lanes!(N, at => all_if(self.0[at] != other.0[at])))
     }
 
-    /// Where this side's lane is the greater one, or equal.
+    /// Returns the lanes in which `self` is greater than or equal to `other`.
     #[inline(always)]
     pub(crate) fn simd_ge(self, other: Self) -> Mask<N> {
         Mask(lanes!(N, at => all_if(self.0[at] >= other.0[at])))
     }
 }
 
-/// Each lane wraps around by itself.
+/// Subtracts lane by lane. Each lane wraps around on overflow.
 impl<const N: usize> Sub for Simd<u8, N> {
     type Output = Self;
 
@@ -82,7 +82,7 @@ impl<const N: usize> Sub for Simd<u8, N> {
     }
 }
 
-/// The eight bytes from this eighth on, as a number, the first lowest.
+/// Returns the eight bytes of the lanes from `8 * eighth` on as a number. The first byte is the lowest.
 #[inline(always)]
 fn eight_of(lanes: &[u8; ALL], eighth: usize) -> u64 {
     let mut eight = [0; 8];
@@ -90,7 +90,7 @@ fn eight_of(lanes: &[u8; ALL], eighth: usize) -> u64 {
     u64::from_le_bytes(eight)
 }
 
-/// Eight bytes of eight bits each, turned: bit i of byte k becomes bit k of byte i.
+/// Transposes eight bytes of eight bits each: bit `i` of byte `k` becomes bit `k` of byte `i`.
 #[inline(always)]
 fn turned(bits: u64) -> u64 {
     let swapped = |bits: u64, by: u32, which: u64| {
@@ -103,7 +103,7 @@ fn turned(bits: u64) -> u64 {
 }
 
 impl<const N: usize> Mask<N> {
-    /// A bit for each lane, the first lowest.
+    /// Returns a number with one bit for each lane of the mask. The first lane is the lowest bit.
     #[inline(always)]
     pub(crate) fn to_bitmask(self) -> u64 {
         if N > 16 {
@@ -113,7 +113,8 @@ impl<const N: usize> Mask<N> {
         }
     }
 
-    /// Each eight lanes by another bit, so that they go into one eight, which is then turned.
+    /// Returns the mask's bits for many lanes: each group of eight lanes is masked with a bit of its own, the groups are joined
+    /// into eight bytes, and these bytes are transposed.
     #[inline(always)]
     fn gathered(&self) -> u64 {
         let bits = lanes!(N, at => self.0[at] & (1 << (at / 8)));
@@ -129,7 +130,8 @@ impl<const N: usize> Mask<N> {
         turned(eight)
     }
 
-    /// Of eight lanes each by another bit, so that their sum is what they are together.
+    /// Returns the mask's bits for few lanes: in a group of eight lanes each lane is masked with a bit of its own, so that the sum
+    /// of the lanes is the group's byte.
     #[inline(always)]
     fn summed(&self) -> u64 {
         let bits = lanes!(N, at => self.0[at] & (1 << (at % 8)));

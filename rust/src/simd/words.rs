@@ -1,17 +1,19 @@
-//! Lanes of bytes, eight in a number.
+//! Vectors of bytes as numbers, with eight lanes in a `u64`.
 //!
-//! Of sixty-four lanes the compiler makes vector instructions, where the target has some; of fewer it makes instructions on
-//! 64 bits, the same everywhere.
+//! For sixty-four lanes the compiler generates vector instructions if the target has some. For fewer lanes it generates 64-bit
+//! instructions on every target.
 
 use super::{HIGHEST, LOWEST};
 use core::marker::PhantomData;
 use core::ops::{BitAnd, BitOr, Sub};
 
-/// What moves the highest bits into the highest byte, in their order.
+/// The factor that moves the highest bits of eight bytes into the highest byte, in the same order.
 const GATHER: u64 = 0x0002_0408_1020_4081;
 
-/// The numbers that hold N lanes, each made of its index, and 0 for those past N. They are written out: where nothing is
-/// optimized, a loop costs more, and so does each index that has to be tested.
+/// Builds the array of numbers for `$lanes` lanes, by an expression for the number at index `$at`. The numbers beyond these lanes
+/// are 0.
+///
+/// The items are written out, because in unoptimized builds a loop costs more, and so does each index whose bounds are tested.
 macro_rules! eights {
     ($lanes:ident, $at:ident => $eight:expr) => {
         [
@@ -36,11 +38,11 @@ macro_rules! eights {
     };
 }
 
-// The highest bit of a mask's lane says whether it is set; the other bits say nothing.
+// In a mask, only the highest bit of a lane's byte says whether the lane is in the set. The other bits can have any value.
 lane_types!([u64; 8], eights);
 
 impl<const N: usize> Simd<u8, N> {
-    /// The first N bytes of the slice, which has to have as many.
+    /// Creates a vector from the first `N` bytes of the slice, which must have at least `N` bytes.
     #[inline(always)]
     pub(crate) fn from_slice(bytes: &[u8]) -> Self {
         const { assert!(N % 8 == 0 && N <= 64) };
@@ -53,14 +55,15 @@ impl<const N: usize> Simd<u8, N> {
         Simd(lanes, PhantomData)
     }
 
-    /// The byte in each lane.
+    /// Creates a vector with the same byte in each lane.
     #[inline(always)]
     pub(crate) fn splat(byte: u8) -> Self {
         let eight = byte as u64 * LOWEST;
         Simd(eights!(N, _at => eight), PhantomData)
     }
 
-    /// Where the lanes of both are equal: where nothing is left of their difference, so that no carry reaches the highest bit.
+    /// Returns the lanes that are equal in both vectors. A lane is equal if the exclusive or of its two bytes is 0. The addition
+    /// leaves out the highest bits, so that no carry leaves a lane.
     #[inline(always)]
     pub(crate) fn simd_eq(self, other: Self) -> Mask<N> {
         Mask(eights!(N, at => {
@@ -69,14 +72,15 @@ impl<const N: usize> Simd<u8, N> {
         }))
     }
 
-    /// Where the lanes of both differ.
+    /// Returns the lanes that differ between the two vectors.
     #[inline(always)]
     pub(crate) fn simd_ne(self, other: Self) -> Mask<N> {
         let equal = self.simd_eq(other).0;
         Mask(eights!(N, at => !equal[at]))
     }
 
-    /// Where this side's lane is the greater one, or equal: by the highest bits, and where these are one by the others.
+    /// Returns the lanes in which `self` is greater than or equal to `other`. The highest bits are compared first, then the lower
+    /// bits by a subtraction.
     #[inline(always)]
     pub(crate) fn simd_ge(self, other: Self) -> Mask<N> {
         Mask(eights!(N, at => {
@@ -87,7 +91,7 @@ impl<const N: usize> Simd<u8, N> {
     }
 }
 
-/// Each lane wraps around by itself.
+/// Subtracts lane by lane. Each lane wraps around on overflow.
 impl<const N: usize> Sub for Simd<u8, N> {
     type Output = Self;
 
@@ -95,7 +99,8 @@ impl<const N: usize> Sub for Simd<u8, N> {
     fn sub(self, other: Self) -> Self {
         let lanes = eights!(N, at => {
             let (a, b) = (self.0[at], other.0[at]);
-            // The highest bits are left out, so that no borrow passes from lane to lane, and then put right.
+            // The subtraction leaves out the highest bits, so that no borrow passes from lane to lane. The next line corrects these
+            // bits.
             let rest = (a | HIGHEST) - (b & !HIGHEST);
             rest ^ ((a ^ !b) & HIGHEST)
         });
@@ -104,7 +109,7 @@ impl<const N: usize> Sub for Simd<u8, N> {
 }
 
 impl<const N: usize> Mask<N> {
-    /// A bit for each lane, the first lowest. That none is set is asked first.
+    /// Returns a number with one bit for each lane of the mask. The first lane is the lowest bit. An empty mask is tested first.
     #[inline(always)]
     pub(crate) fn to_bitmask(self) -> u64 {
         let mut all = 0;
@@ -135,7 +140,7 @@ impl<const N: usize> Mask<N> {
         bits
     }
 
-    /// Of many lanes, so that what is inlined stays short.
+    /// Returns the mask's bits for many lanes. This function isn't inlined, so that its callers' code stays short.
     #[inline(never)]
     fn gathered_elsewhere(&self) -> u64 {
         self.gathered()

@@ -1,16 +1,16 @@
-//! Which characters identifiers begin and go on with: Unicode's XID_Start and XID_Continue.
+//! Tests whether a character can begin or continue an identifier, by Unicode's properties XID_Start and XID_Continue.
 
 mod runs;
 
 use runs::RUNS;
 
-/// Identifiers go on with it.
+/// The class of a character that can continue an identifier, but can't begin one.
 const CONTINUE: u32 = 1;
 
-/// Identifiers begin with it too.
+/// The class of a character that can begin and continue an identifier.
 const START: u32 = 2;
 
-/// The class of a character past ASCII.
+/// Returns the class of a non-ASCII character: `START`, `CONTINUE`, or 0 if it can't be in an identifier.
 fn class_of(c: char) -> u32 {
     let passed = RUNS.partition_point(|run| run >> 2 <= u32::from(c));
     match passed.checked_sub(1) {
@@ -41,7 +41,8 @@ pub(crate) fn is_xid_continue(c: char) -> bool {
 mod tests {
     use super::*;
 
-    /// What tools/unicode_runs counted, by class, and the sum of all classes in base 31.
+    /// The number of characters in each class, and a hash of all classes (a sum in base 31). `tools/unicode_runs` prints these
+    /// values.
     const COUNTED: ([u32; 3], u64) = ([949983, 3365, 158716], 0x558fb9f0992ba5e1);
 
     #[test]

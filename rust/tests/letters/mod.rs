@@ -1,4 +1,5 @@
-//! What rows of `tools/style_model.py` name: styles by letters, and texts in hexadecimal. `tools/restyled` has it too.
+//! Decodes the rows of `oracle/style_rows.py`: styles that are encoded as letters, and texts in hexadecimal. `oracle/restyled` uses
+//! this file too.
 
 use navyspindle::{Case, DigitGroups, Separator, Style};
 
@@ -6,14 +7,14 @@ const GROUPS: DigitGroups = DigitGroups::new()
     .binary(4)
     .decimal(3)
     .hexadecimal(4)
-    .least(5);
+    .min_digits(5);
 const ALL_GROUPS: DigitGroups = DigitGroups::new()
     .binary(8)
     .octal(3)
     .decimal(2)
     .hexadecimal(1);
 
-/// The style that the letters name.
+/// Returns the style that the letters encode.
 pub fn style_of(letters: &str) -> Style {
     letters.chars().fold(Style::new(), |style, c| match c {
         'x' => style.hex_digits(Case::Lower),
@@ -36,12 +37,12 @@ pub fn style_of(letters: &str) -> Style {
         'q' => style.drop_quote_escapes(true),
         'h' => style.fewest_hashes(true),
         'r' => style.drop_raw(true),
-        'i' => style.escape_hidden(true),
+        'i' => style.escape_invisible(true),
         _ => style,
     })
 }
 
-/// The text of these hexadecimal digits; `-` is the empty one.
+/// Decodes a text from hexadecimal digits. `-` encodes the empty text.
 pub fn decoded(digits: &str) -> String {
     if digits == "-" {
         return String::new();

@@ -1,7 +1,7 @@
-//! A stand-in for the crate of this name, which Debian doesn't have. rustc's lexer asks it of characters past ASCII that stand in no
-//! identifier, comment or quote; the files that are lexed here have none there.
+//! A replacement for the crate `unic_emoji_char`, which Debian doesn't have. rustc's lexer calls it for non-ASCII characters
+//! outside of identifiers, comments and quotes. The files of the benchmarks have no such characters there.
 
-/// Whether the character is an emoji: none is.
+/// Returns `false`, as if no character were an emoji.
 pub fn is_emoji(_: char) -> bool {
     false
 }

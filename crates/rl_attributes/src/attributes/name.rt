@@ -1,4 +1,4 @@
-//! Names that were taken, in an order of their own.
+//! Names of attributes, as elements of an ordered set.
 
 ghost use Rattle.std.specs.Prelude.{◌≡◌};
 ghost use Rattle.std.proofs.Common.{rules};
@@ -9,15 +9,15 @@ ghost use Rattle.rl_attributes.specs.Names.{name_key, name_cmp};
 
 use std::cmp::Ordering;
 
-/// A name as it stands in the trees, and the number that its last eight bytes are. Most names are told apart by their numbers
-/// alone, so these are compared first.
+/// An attribute's name as written, and the last eight bytes of the name as a number. Most names differ in their
+/// numbers, so the numbers are compared first.
 #[derive(Clone, Copy, PartialEq, Eq)]
 pub(crate) struct Name<'a> {
     key: u64,
     text: &'a str,
 }
 
-/// The last eight bytes of a name, as a number; 0 where there are fewer.
+/// Returns the last eight bytes of `name` as a big-endian number, or 0 if the name is shorter.
 fn key_of(name: &str) -> u64
     ensures { result ≡ name_key name.now }
 {
@@ -28,7 +28,7 @@ fn key_of(name: &str) -> u64
 }
 
 impl<'a> Name<'a> {
-    /// The name with this text.
+    /// Creates the ordered name with the text `text`.
     pub(crate) fn new(text: &'a str) -> Name<'a>
         ensures key { result.key ≡ name_key text.now }
         ensures text { result.text.now ≡ text.now }
@@ -50,7 +50,7 @@ impl PartialOrd for Name<'_> {
     }
 }
 
-/// By the numbers, and where these are the same by the bytes.
+/// Compares two names by the numbers of their last eight bytes, and names with equal numbers by all their bytes.
 impl Ord for Name<'_> {
     ghost cmp = { name_cmp };
 

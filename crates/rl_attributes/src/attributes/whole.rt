@@ -1,4 +1,5 @@
-//! The attributes of a text, read setting after setting as its tokens are cut.
+//! The function that reads the list of attributes of a text. It lexes the text token by token, and doesn't build token
+//! trees unless there is an error.
 
 ghost use Rattle.std.specs.Prelude.{◌≡◌, All, List, length, IfSome, IfOk, IfErr, IsTrue, IsFalse};
 ghost use Rattle.std.specs.Str.{chars};
@@ -13,14 +14,14 @@ ghost use Rattle.rl_attributes.specs.NextEntries.{value_token, IsEntryOf};
 
 use super::name::Name;
 use super::{Attrs, Entry};
-use rl_reading::NextLiteral;
+use rl_lenient::NextLiteral;
 use rl_settings::{NextSetting, SettingStep, first_error, settings_step};
 use rl_tokens::{Error, Literal, Span, Tokens, parse_all};
 use rust_literals::Lit;
 use std::alloc::{AllocError, Allocator};
 use std::collections::BTreeSet;
 
-/// The literal that was cut off a text.
+/// Returns the literal `next`, which was lexed from a text, as a parsed literal with a span in the file `file`.
 fn literal_of<A: Allocator + Copy>(
     alloc: A,
     next: NextLiteral<'_>,
@@ -42,7 +43,7 @@ fn literal_of<A: Allocator + Copy>(
     }
 }
 
-/// The attribute that was cut off a text as a setting.
+/// Returns the setting `next`, which was lexed from a text, as an attribute with spans in the file `file`.
 fn entry_of<A: Allocator + Copy>(
     alloc: A,
     next: NextSetting<'_>,
@@ -59,7 +60,8 @@ fn entry_of<A: Allocator + Copy>(
     })
 }
 
-/// Adds a name to those that were taken, and says whether it did: not where it is one of them, or an allocation failed.
+/// Adds `name` to the set `names`, and returns `true`. The result is `false` if the set contains the name already, or
+/// if an allocation fails.
 fn add_name<'a, A: Allocator + Copy>(names: &mut BTreeSet<Name<'a>, A>, name: &'a str) -> bool
     ensures anew { IsTrue result → IsFalse (has_name names.old name.now) }
     ensures adds { IsTrue result → AddsName names.old names.new name.now }
@@ -70,7 +72,7 @@ fn add_name<'a, A: Allocator + Copy>(names: &mut BTreeSet<Name<'a>, A>, name: &'
     }
 }
 
-/// The attributes of a text; `None` where it is none, and where an allocation fails.
+/// Returns the attributes of `text`, or `None` if the text isn't a list of attributes or an allocation fails.
 fn read_flat<A: Allocator + Copy>(alloc: A, text: &str, file: u32) -> Option<Attrs<A>>
     ensures attributes { IfSome result
         (λ attrs. AreAttributesOf (chars text.now) file (attributes_of (entries_of attrs))) }
@@ -91,7 +93,8 @@ fn read_flat<A: Allocator + Copy>(alloc: A, text: &str, file: u32) -> Option<Att
             return None;
         };
         if let Err(failed) = entries.push(entry) {
-            // By a call: dropping an entry here is as many steps again to prove.
+            // The attribute is dropped by a function call, because dropping it in place would double the number of
+            // steps to prove.
             drop(failed);
             return None;
         }
@@ -102,7 +105,8 @@ fn read_flat<A: Allocator + Copy>(alloc: A, text: &str, file: u32) -> Option<Att
     })
 }
 
-/// The attributes of a text by its trees, or why it is none. The lexer's error is reported before a tree is made.
+/// Parses the attributes of `text` from its token trees, and returns them or the error. An error of the lexer is
+/// reported before token trees are built.
 fn read_trees<A: Allocator + Copy>(alloc: A, text: &str, file: u32) -> Result<Attrs<A>, Error<A>>
     ensures attributes { IfOk result
         (λ attrs. AreAttributesOf (chars text.now) file (attributes_of (entries_of attrs))) }
@@ -119,27 +123,28 @@ fn read_trees<A: Allocator + Copy>(alloc: A, text: &str, file: u32) -> Result<At
     }
 }
 
-/// The attributes that a text is. Spans have the file and the bytes of the text.
+/// Parses `text` as a list of attributes `name = literal` with commas between them. Spans are `file` and byte ranges of
+/// the text.
 ///
 /// See the example of [`Attrs::get`].
 ///
 /// # Errors
 ///
-/// The lexer's error as `Lex`, with the span of no bytes at its place, and its allocation
-/// failure as `Memory` there; else what the parser of [`Attrs`] rejects, which reports the text's end
-/// by the span of no bytes there.
+/// Returns the lexer's error as `Lex`, with an empty span at the error's byte offset. Returns `Memory` with an empty
+/// span if an allocation fails while the text is lexed. Otherwise returns the error of the parser of [`Attrs`], which
+/// runs with the empty span at the text's end as scope.
 pub fn read<A: Allocator + Copy>(alloc: A, text: &str, file: u32) -> Result<Attrs<A>, Error<A>>
-    // The text is cut into the trees of these attributes.
+    // The whole text is lexed into the token trees of the returned attributes.
     ensures attributes { IfOk result
         (λ attrs. AreAttributesOf (chars text.now) file (attributes_of (entries_of attrs))) }
-    // They end where the text does.
+    // The span for missing names, `Attrs::end`, is the empty span at the text's end.
     ensures end { IfOk result (λ attrs. attrs_end attrs ≡ place_at file (length text.now)) }
-    // Each value is what its literal reads as.
+    // Each attribute's value is parsed from the text of its literal.
     ensures values { IfOk result (λ attrs. All IsReadEntry (entries_of attrs)) }
-    // Else the text's first error; or, of its trees, what is missed first, or a name that stood before; or an
-    // allocation failed.
+    // The returned error is the text's first lexing error, or that of the first missing part or repeated name, or an
+    // allocation failure.
     ensures rejected { IfErr result (RejectsAttributeText (chars text.now) file (length text.now)) }
-    // What attributes a text is, these are the answer, or an allocation failed.
+    // If the text is a list of attributes, the result is that list, or an allocation failed.
     ensures exactly { (list : List Attribute) → AreAttributesOf (chars text.now) file list
         → IsListOrMemory list result }
 {

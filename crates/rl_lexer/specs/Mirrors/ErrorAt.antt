@@ -1,13 +1,13 @@
--- A mirror of the code, for proofs alone: why no lexeme begins a text.
+-- An executable model of private code: the kind of the lexer's error at the start of a text. Only proofs use it.
 use Rattle.std.specs.Prelude.{ℕ, codes, if◌then◌else◌, List}
 use Rattle.rl_lexer.specs.declared.lex_error.LexKind.{LexKind}
 use Rattle.rl_lexer.specs.declared.lex_error.LexKind.TheVariants.{DocComment, UnclosedComment, UnclosedQuote, Lifetime, RawIdentifier, StrayCharacter}
-use Rattle.rl_text.specs.Texts.{begins}
+use Rattle.rl_syntax.specs.Texts.{begins}
 use Rattle.rl_lexer.specs.Lexemes.{begins_raw_identifier}
 use Rattle.rl_lexer.specs.Cuts.{begins_doc_comment, begins_lifetime}
 use Rattle.rl_lexer.specs.Mirrors.LexemeAt.{begins_quote}
 
--- why no lexeme begins the text
+-- The kind of the lexer's error at the start of a text that begins with no lexeme.
 abbrev pub error_kind : List ℕ → LexKind
 error_kind r =
     if begins_doc_comment r then DocComment else

@@ -1,16 +1,16 @@
--- A mirror of the code, for proofs alone: the lexeme at the front of a text as the code finds it,
--- by the first characters: its form, and the rest after it.
+-- Executable models of private code: the form of the lexeme at the start of a text, by its first characters, and the
+-- text after the lexeme. Only proofs use them.
 use Rattle.std.specs.Prelude.{◌≡◌, ℕ, Bool, false, not, ◌&&◌, ◌||◌, ◌==◌, List, [], ◌∷◌, ◌++◌, drop, cond, codes, nat_le}
 use Rattle.std.proofs.Common.{suc, zero, Option, Some, None}
 use Rattle.std.specs.Char.{is_ascii_digit}
 use Rattle.std.specs.Option.{option_map}
 use Prim.Native.Char.{code}
-use Rattle.rl_text.specs.Texts.{is_underscore, is_among, first_passes, begins, is_run_part, is_start, is_continue, begins_char}
+use Rattle.rl_syntax.specs.Texts.{is_underscore, is_among, first_passes, begins, is_run_part, is_start, is_continue, begins_char}
 use Rattle.rl_lexer.specs.Lexemes.{is_base_letter, delimiters, marks, begins_hashes, begins_dot, LexemeForm, LiteralForm, IdentifierForm, DelimiterForm, MarkForm, form_of, Lexeme, lexeme_text, IsLexeme, is_punct}
 use Rattle.rl_lexer.specs.Cuts.{begins_lifetime}
-use Rattle.rl_text.specs.Classes.{after_run, is_hash}
+use Rattle.rl_syntax.specs.Classes.{after_run, is_hash}
 
--- hashes, perhaps none, and a quote
+-- The text begins with any number of hashes, and a quote.
 abbrev pub begins_hashed_quote : List ℕ → Bool
 begins_hashed_quote t = begins_char (code "\"") (after_run is_hash t)
 
@@ -24,14 +24,15 @@ begins_raw (c ∷ cs) =
     (c == code "r" && begins_hashed_quote cs)
     || begins_raw_after cs (c == code "b" || c == code "c")
 
--- a quoted or raw opener, `b'`, or `'` without an identifier start after it
+-- The text begins with the opening delimiter of a quoted or raw literal, or with an apostrophe that doesn't begin a
+-- lifetime.
 abbrev pub begins_quote : List ℕ → Bool
 begins_quote r =
     begins (codes "\"") r || begins (codes "b\"") r || begins (codes "c\"") r || begins_raw r
     || begins (codes "b'") r
     || (begins (codes "'") r && not (begins_lifetime r))
 
--- the text begins like a literal with a prefix, or like a raw identifier
+-- The text begins like a literal with a prefix, or like a raw identifier.
 abbrev pub begins_otherwise : List ℕ → Bool
 begins_otherwise [] = false
 begins_otherwise (c ∷ t) =
@@ -46,12 +47,12 @@ begins_otherwise (c ∷ t) =
     && (begins_hashed_quote t
     || (begins_char (code "#") t && first_passes is_start (drop 1 t)))))
 
--- what follows a sign, where one begins the text
+-- The text after a leading `+` or `-`, or else the text itself.
 abbrev pub after_sign : List ℕ → List ℕ
 after_sign [] = []
 after_sign (c ∷ t) = cond (c == code "+" || c == code "-") t (c ∷ t)
 
--- an exponent begins the text: `e` or `E`, perhaps a sign, underscores and a digit
+-- The text begins with an exponent: `e` or `E`, a sign or no sign, any number of underscores, and a digit.
 abbrev pub begins_exponent : List ℕ → Bool
 begins_exponent [] = false
 begins_exponent (c ∷ t) =
@@ -62,7 +63,8 @@ abbrev pub after_suffix : List ℕ → List ℕ
 after_suffix [] = []
 after_suffix (c ∷ t) = cond (is_start c) (after_run is_continue t) (c ∷ t)
 
--- what follows the quote that ends a body
+-- The text after the quote that closes a string literal, or `None` if it isn't closed. A character after a backslash
+-- doesn't close it.
 abbrev pub after_quote : List ℕ → Option (List ℕ)
 after_quote [] = None
 after_quote (c ∷ []) = cond (c == code "\"") (Some []) None
@@ -70,23 +72,25 @@ after_quote (c ∷ e ∷ t) =
     cond (c == code "\"") (Some (e ∷ t))
     (cond (c == code "\\") (after_quote t) (after_quote (e ∷ t)))
 
--- how many hashes begin the text
+-- The number of hashes at the start of a text.
 abbrev pub hashes : List ℕ → ℕ
 hashes [] = zero
 hashes (c ∷ t) = cond (c == code "#") (suc (hashes t)) zero
 
--- what follows the quote and the n hashes that end a raw body
+-- The text after the quote and the n hashes that close a raw literal, or `None` if it isn't closed.
 abbrev pub after_raw : ℕ → List ℕ → Option (List ℕ)
 after_raw n [] = None
 after_raw n (c ∷ t) = cond (c == code "\"" && begins_hashes n t) (Some (drop n t)) (after_raw n t)
 
--- what follows the quote that ends an escaped character
+-- The text after the apostrophe that closes a character literal with an escape, or `None` if an LF or the end of the
+-- text comes first.
 abbrev pub after_apostrophe : List ℕ → Option (List ℕ)
 after_apostrophe [] = None
 after_apostrophe (c ∷ t) =
     cond (c == code "'") (Some t) (cond (c == code "\n") None (after_apostrophe t))
 
--- what follows the quote that ends a character
+-- The text after the apostrophe that closes a character literal, or `None` if no apostrophe follows the character or
+-- the escape.
 abbrev pub after_single : List ℕ → Option (List ℕ)
 after_single [] = None
 after_single (c ∷ []) = None
@@ -119,7 +123,7 @@ raw_at t = option_map after_suffix (after_raw (hashes t) (drop 1 (after_run is_h
 abbrev pub single_at : List ℕ → Option (List ℕ)
 single_at t = option_map after_suffix (after_single t)
 
--- What the first character tells.
+-- A class of characters, by the lexemes that begin with them.
 pub data HeadClass : Type 0 where
   LetterBHead : HeadClass
   LetterCHead : HeadClass
@@ -152,23 +156,24 @@ other_class c =
 abbrev pub head_class : ℕ → HeadClass
 head_class c = cond (is_start c) (start_class c) (other_class c)
 
--- what a literal's prefix may begin with
+-- The character begins a literal's prefix: `b`, `c` or `r`.
 abbrev pub is_prefix_letter : ℕ → Bool
 is_prefix_letter c = c == code "b" || c == code "c" || c == code "r"
 
--- what begins an identifier whatever follows it
+-- The character begins an identifier, whatever follows it.
 abbrev pub begins_word : ℕ → Bool
 begins_word c = not (is_prefix_letter c) && is_start c
 
--- after such a letter: what begins no quote and no hashes, and goes on with no prefix
-abbrev pub goes_on_as_word : ℕ → Bool
-goes_on_as_word c = nat_le 64 c && not (c == code "r")
+-- After `b`, `c` or `r`, this character shows that the letter isn't a literal's prefix: it is at least `@`, and isn't
+-- `r`. Quotes and hashes are below `@`.
+abbrev pub continues_word : ℕ → Bool
+continues_word c = nat_le 64 c && not (c == code "r")
 
--- what is a delimiter or a mark whatever follows it
-abbrev pub is_mark_alone : ℕ → Bool
-is_mark_alone c = is_among delimiters c || is_among marks c
+-- The character is a delimiter or a punctuation character, whatever follows it.
+abbrev pub is_always_token : ℕ → Bool
+is_always_token c = is_among delimiters c || is_among marks c
 
--- what makes a comment of a slash before it
+-- The character makes a comment together with a slash before it: it is `/` or `*`.
 abbrev pub makes_comment : ℕ → Bool
 makes_comment c = c == code "/" || c == code "*"
 
@@ -181,7 +186,8 @@ literal_at rest = option_map (λ r. (LiteralForm, r)) rest
 abbrev pub word_at : List ℕ → Option (LexemeForm × List ℕ)
 word_at t = Some (IdentifierForm, after_run is_continue t)
 
--- by the first character's class, the character, and what stands after it
+-- The form of the lexeme that begins with the character `c`, and the text after it, by the class of `c`. The text `t`
+-- follows `c`.
 abbrev pub by_class : HeadClass → ℕ → List ℕ → Option (LexemeForm × List ℕ)
 by_class LetterBHead c t =
     cond (begins_char (code "\"") t) (literal_at (quoted_at (drop 1 t)))
@@ -209,7 +215,7 @@ abbrev pub lexeme_at : List ℕ → Option (LexemeForm × List ℕ)
 lexeme_at [] = None
 lexeme_at (c ∷ t) = by_class (head_class c) c t
 
--- A lexeme of this form begins the text, with the rest after it.
+-- A lexeme of this form begins the text `t`, and the text `rest` follows it.
 pub record FormBefore (t : List ℕ) (form : LexemeForm) (rest : List ℕ) : Type 0 where
   pub lexeme : Lexeme
   pub is_lexeme : IsLexeme lexeme rest

@@ -1,12 +1,13 @@
--- A mirror of the code, for proofs alone: skipping as the code does it, one piece after the other,
--- blocks by their depth.
+-- Executable models of private code that skips white space and comments one by one, nested block comments by their
+-- depth. Only proofs use them.
 use Rattle.std.specs.Prelude.{ℕ, ◌&&◌, ◌==◌, List, [], ◌∷◌, cond}
 use Rattle.std.proofs.Common.{suc, zero, Option, Some, None}
 use Prim.Native.Char.{code}
-use Rattle.rl_text.specs.Texts.{is_white}
-use Rattle.rl_forms.specs.Trivia.{is_comment_line, is_comment_block}
+use Rattle.rl_syntax.specs.Texts.{is_white}
+use Rattle.rl_syntax.specs.Trivia.{is_comment_line, is_comment_block}
 
--- What follows the end of a block comment at this depth.
+-- The text after the end of a block comment, inside which `depth` more block comments are open. `None` if it isn't
+-- closed.
 abbrev pub after_block : ℕ → List ℕ → Option (List ℕ)
 after_block depth [] = None
 after_block depth (c ∷ []) = None
@@ -18,12 +19,13 @@ after_block (suc d) (c ∷ e ∷ t) =
     (cond (c == code "/" && e == code "*") (after_block (suc (suc d)) t)
     (after_block (suc d) (e ∷ t)))
 
--- What follows the first LF.
+-- The text after its first LF, or an empty text without an LF.
 abbrev pub after_line : List ℕ → List ℕ
 after_line [] = []
 after_line (c ∷ t) = cond (c == code "\n") t (after_line t)
 
--- What follows a comment, by what stands after its first slash.
+-- The text after a plain comment, where its first slash precedes the given text. `None` if there is no plain comment,
+-- or a block that isn't closed.
 abbrev pub after_comment : List ℕ → Option (List ℕ)
 after_comment [] = None
 after_comment (c ∷ t) =
@@ -34,7 +36,7 @@ abbrev pub after_piece : List ℕ → Option (List ℕ)
 after_piece [] = None
 after_piece (c ∷ t) = cond (c == code "/") (after_comment t) (cond (is_white c) (Some t) None)
 
--- What follows a comment of any kind, a doc comment too, by what stands after its first slash.
+-- The text after a comment of any kind, doc comments included, where its first slash precedes the given text.
 abbrev pub after_any_comment : List ℕ → Option (List ℕ)
 after_any_comment [] = None
 after_any_comment (c ∷ t) =

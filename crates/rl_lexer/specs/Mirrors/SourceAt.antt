@@ -1,47 +1,47 @@
--- A mirror of the code, for proofs alone: what a source has beside lexemes at the front of a text,
--- as the code finds it.
+-- Executable models of private code: the tokens of a source that aren't lexemes, at the start of a text. Only proofs
+-- use them.
 use Rattle.std.specs.Prelude.{ℕ, Bool, not, ◌==◌, ◌||◌, ◌&&◌, List, [], ◌∷◌, drop, cond, codes, if◌then◌else◌}
 use Rattle.std.proofs.Common.{Option, Some, None}
 use Rattle.std.specs.Option.{option_map, option_and_then}
 use Prim.Native.Char.{code}
-use Rattle.rl_text.specs.Texts.{first_passes, begins, is_start, is_continue, begins_char}
+use Rattle.rl_syntax.specs.Texts.{first_passes, begins, is_start, is_continue, begins_char}
 use Rattle.rl_lexer.specs.declared.lex_error.LexKind.{LexKind}
 use Rattle.rl_lexer.specs.declared.lex_error.LexKind.TheVariants.{UnclosedComment, UnclosedQuote}
-use Rattle.rl_forms.specs.Trivia.{is_comment_line, is_comment_block}
+use Rattle.rl_syntax.specs.Trivia.{is_comment_line, is_comment_block}
 use Rattle.rl_lexer.specs.Lexemes.{begins_raw_identifier}
 use Rattle.std.specs.Char.{is_ascii_digit}
 use Rattle.rl_lexer.specs.Lexemes.{LiteralForm}
 use Rattle.rl_lexer.specs.Mirrors.LexemeAt.{begins_quote, after_suffix}
-use Rattle.rl_text.specs.Classes.{after_run}
+use Rattle.rl_syntax.specs.Classes.{after_run}
 use Rattle.rl_lexer.specs.Mirrors.SkippedAt.{after_block}
 use Rattle.rl_lexer.specs.Sources.{is_in_line, is_apostrophe, SourceKind, PlainKind, RawIdentifierKind, LifetimeKind, DocCommentKind, StrayKind}
 
--- what follows a doc comment, by what stands after its first slash
+-- The text after a doc comment, where its first slash precedes the given text.
 abbrev pub after_doc : List ℕ → Option (List ℕ)
 after_doc [] = None
 after_doc (c ∷ t) =
     cond (c == code "/") (cond (is_comment_line t) None (Some (after_run is_in_line t)))
     (cond (c == code "*") (cond (is_comment_block t) None (after_block 0 t)) None)
 
--- what follows an identifier
+-- The text after the identifier at its start, or `None` if it begins with no identifier.
 abbrev pub after_name : List ℕ → Option (List ℕ)
 after_name [] = None
 after_name (c ∷ t) = cond (is_start c) (Some (after_run is_continue t)) None
 
--- what follows a hash and an identifier
+-- The text after `#` and an identifier at its start, or `None` if it doesn't begin with them.
 abbrev pub after_marked : List ℕ → Option (List ℕ)
 after_marked [] = None
 after_marked (c ∷ t) = cond (c == code "#") (after_name t) None
 
--- what follows an identifier, which may be raw
+-- The text after the identifier at its start, which may be raw, or `None` if it begins with no identifier.
 abbrev pub after_any_name : List ℕ → Option (List ℕ)
 after_any_name t = cond (begins_raw_identifier t) (after_name (drop 2 t)) (after_name t)
 
--- nothing where an apostrophe follows
+-- The text itself, or `None` if it begins with an apostrophe.
 abbrev pub unless_quoted : List ℕ → Option (List ℕ)
 unless_quoted r = cond (first_passes is_apostrophe r) None (Some r)
 
--- what follows a lifetime, by what stands after its apostrophe
+-- The text after a lifetime, where its apostrophe precedes the given text.
 abbrev pub after_lifetime : List ℕ → Option (List ℕ)
 after_lifetime t = option_and_then unless_quoted (after_any_name t)
 
@@ -61,20 +61,21 @@ source_error_kind r = if begins (codes "/*") r then UnclosedComment else Unclose
 abbrev pub opens : List ℕ → Bool
 opens r = begins (codes "/*") r || (begins_quote r || begins_char (code "'") r)
 
--- what ends a quote before it is closed: a slash, and an LF without the quote right after it
+-- An invalid quoted literal has no end at this character: it is a slash, or an LF without an apostrophe right after it.
 abbrev pub stops_quote : ℕ → List ℕ → Bool
 stops_quote c t = c == code "/" || (c == code "\n" && not (begins_char (code "'") t))
 
--- what follows any character
+-- The text after its first character, or `None` if it is empty.
 abbrev pub after_any : List ℕ → Option (List ℕ)
 after_any [] = None
 after_any (c ∷ t) = Some t
 
--- what follows the part of a quote that begins with this character
+-- The text after one part of an invalid quoted literal: after a backslash and the next character, or after another
+-- character. `None` if the literal has no end there.
 abbrev pub after_part : ℕ → List ℕ → Option (List ℕ)
 after_part c t = cond (c == code "\\") (after_any t) (cond (stops_quote c t) None (Some t))
 
--- what follows the next quote
+-- The text after the apostrophe that ends an invalid quoted literal, or `None` if the literal has no end.
 abbrev pub after_next_quote : List ℕ → Option (List ℕ)
 after_next_quote [] = None
 after_next_quote (c ∷ []) = cond (c == code "'") (Some []) None
@@ -83,12 +84,14 @@ after_next_quote (c ∷ e ∷ t) =
     (cond (c == code "\\") (after_next_quote t)
     (cond (stops_quote c (e ∷ t)) None (after_next_quote (e ∷ t))))
 
--- what follows a quote up to the next and a suffix, by what stands after it
+-- The text after the next apostrophe and a suffix, which end an invalid quoted literal. Its opening apostrophe precedes
+-- the given text.
 abbrev pub after_other : List ℕ → Option (List ℕ)
 after_other t =
     cond (begins_char (code "\\") t) None (option_map after_suffix (after_next_quote t))
 
--- what follows the quote that has to stand there, and the one that may
+-- The text after the apostrophe at its start, or `None` if it doesn't begin with one. `past_closing` gives the text
+-- itself in place of `None`.
 abbrev pub after_closing : List ℕ → Option (List ℕ)
 after_closing [] = None
 after_closing (c ∷ t) = cond (c == code "'") (Some t) None
@@ -97,7 +100,7 @@ abbrev pub past_closing : List ℕ → List ℕ
 past_closing [] = []
 past_closing (c ∷ t) = cond (c == code "'") t (c ∷ t)
 
--- what follows a bad quote without prefix, by what stands after its apostrophe
+-- The text after an invalid quoted literal without a prefix, where its apostrophe precedes the given text.
 abbrev pub after_bare : List ℕ → Option (List ℕ)
 after_bare [] = None
 after_bare (c ∷ t) =
@@ -105,14 +108,14 @@ after_bare (c ∷ t) =
     (cond (is_start c) (option_and_then after_closing (after_any_name (c ∷ t)))
     (after_other (c ∷ t)))
 
--- what follows a bad quote
+-- The text after the invalid quoted literal at its start, or `None` if that has no end.
 abbrev pub after_bad_quote : List ℕ → Option (List ℕ)
 after_bad_quote [] = None
 after_bad_quote (c ∷ t) =
     cond (c == code "'") (after_bare t)
     (cond (c == code "b" && begins_char (code "'") t) (after_other (drop 1 t)) None)
 
--- a stray character, or a bad quote
+-- The kind of the stray character or the invalid quoted literal at the start of a text, and the text after it.
 abbrev pub stray_at : List ℕ → Option (SourceKind × List ℕ)
 stray_at [] = None
 stray_at (c ∷ t) =

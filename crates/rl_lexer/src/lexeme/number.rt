@@ -1,21 +1,21 @@
-//! Numbers.
-#![tactic(auto, using(rl_text::proofs::TailLemmas::tail_step))]
+//! Functions that lex numbers.
+#![tactic(auto, using(rl_syntax::proofs::TailLemmas::tail_step))]
 
 ghost use Rattle.std.specs.Prelude.{◌≡◌, ◌<◌, ◌==◌, ◌||◌, not, length, IsTrue, IfSome, IfNone};
 ghost use Rattle.std.specs.Char.{is_ascii_digit};
 ghost use Rattle.std.specs.Str.{chars};
-ghost use Rattle.rl_text.specs.Texts.{code, first_passes, IsTail};
+ghost use Rattle.rl_syntax.specs.Texts.{code, first_passes, IsTail};
 ghost use Rattle.rl_lexer.specs.Lexemes.{begins_dot};
-ghost use Rattle.rl_text.specs.Texts.{is_start};
+ghost use Rattle.rl_syntax.specs.Texts.{is_start};
 ghost use Rattle.rl_lexer.specs.Mirrors.LexemeAt.{after_lexed_fraction, after_lexed_exponent, after_decimal, after_sign};
-ghost use Rattle.rl_text.specs.Classes.{after_run};
+ghost use Rattle.rl_syntax.specs.Classes.{after_run};
 
 use super::suffix::after_suffix;
-use rl_text::characters::is_start;
-use rl_text::classes::{CharClass, skip_class};
-use rl_text::text::{split_ascii, split_char, without_first};
+use rl_syntax::characters::is_start;
+use rl_syntax::classes::{CharClass, skip_class};
+use rl_syntax::text::{split_ascii, split_char, without_first};
 
-/// What follows the decimal after some of whose digits the text stands.
+/// Returns the text after a decimal number, where `text` begins after some of the digits before its dot.
 #[inline(never)]
 pub(crate) fn after_decimal(text: &str) -> &str
     ensures rest { chars result.now ≡ after_decimal (chars text.now) }
@@ -24,7 +24,8 @@ pub(crate) fn after_decimal(text: &str) -> &str
     after_suffix(after_exponent(after_fraction(skip_class(CharClass::Numeral, text))))
 }
 
-/// What follows the longest run of digits, perhaps an empty one.
+/// Returns the text after the decimal digits at its start. If it begins with another character, the result is the text
+/// itself.
 #[inline(always)]
 pub(crate) fn after_digits(text: &str) -> &str
     ensures rest { chars result.now ≡ after_run is_ascii_digit (chars text.now) }
@@ -37,9 +38,9 @@ pub(crate) fn after_digits(text: &str) -> &str
     rest
 }
 
-/// The text after its first character, where that is a digit.
+/// Returns the text after its first character, or `None` if that isn't a decimal digit.
 #[inline(always)]
-#[tactic(auto, using(rl_text::proofs::TailLemmas::tail_step, crate::proofs::NumberEnds::no_digit))]
+#[tactic(auto, using(rl_syntax::proofs::TailLemmas::tail_step, crate::proofs::NumberEnds::no_digit))]
 fn without_digit(text: &str) -> Option<&str>
     ensures some { IfSome result (λ rest. after_run is_ascii_digit (chars text.now)
         ≡ after_run is_ascii_digit (chars rest.now)) }
@@ -53,7 +54,7 @@ fn without_digit(text: &str) -> Option<&str>
     }
 }
 
-/// Whether the text begins with a character of ASCII that goes on with no number.
+/// Whether the text begins with an ASCII character that doesn't continue a number.
 #[inline(always)]
 pub(crate) fn ends_number(text: &str) -> bool
     ensures { IsTrue result
@@ -65,7 +66,8 @@ pub(crate) fn ends_number(text: &str) -> bool
     }
 }
 
-/// What follows the dot part, where there is one.
+/// Returns the text after a number's dot and the digits after the dot. If the text doesn't begin with a dot of a
+/// number, the result is the text itself.
 fn after_fraction(text: &str) -> &str
     ensures rest { chars result.now ≡ after_lexed_fraction (chars text.now) }
     ensures following { IsTail text.now result.now }
@@ -77,7 +79,7 @@ fn after_fraction(text: &str) -> &str
     }
 }
 
-/// Whether the text begins with a dot that neither a dot nor an identifier follows.
+/// Whether the text begins with a dot of a number: neither another dot nor an identifier follows the dot.
 fn begins_dot(text: &str) -> bool
     ensures { result ≡ begins_dot (chars text.now) }
 {
@@ -90,7 +92,8 @@ fn begins_dot(text: &str) -> bool
     }
 }
 
-/// What follows the exponent, where there is one.
+/// Returns the text after a number's exponent, as `e+5`. If the text doesn't begin with an exponent, the result is the
+/// text itself.
 fn after_exponent(text: &str) -> &str
     ensures rest { chars result.now ≡ after_lexed_exponent (chars text.now) }
     ensures following { IsTail text.now result.now }
@@ -106,7 +109,7 @@ fn after_exponent(text: &str) -> &str
     text
 }
 
-/// What follows the sign, where there is one.
+/// Returns the text after a leading `+` or `-`, or else the text itself.
 fn after_sign(text: &str) -> &str
     ensures rest { chars result.now ≡ after_sign (chars text.now) }
     ensures following { IsTail text.now result.now }

@@ -1,19 +1,20 @@
-//! Quoted, raw and single-character literals.
-#![tactic(auto, using(rl_text::proofs::TailLemmas::tail_step))]
+//! Functions that find the end of a string, character, byte or raw literal.
+#![tactic(auto, using(rl_syntax::proofs::TailLemmas::tail_step))]
 
 ghost use Rattle.std.specs.Prelude.{◌≡◌, option_map, IfSome, IsTrue, length};
 ghost use Rattle.std.specs.List.{list_all};
 ghost use Rattle.std.specs.Str.{chars};
-ghost use Rattle.rl_text.specs.Texts.{IsTail};
+ghost use Rattle.rl_syntax.specs.Texts.{IsTail};
 ghost use Rattle.rl_lexer.specs.Mirrors.LexemeAt.{after_quote, after_raw, after_apostrophe, after_single, quoted_at, raw_at, single_at, begins_hashed_quote};
-ghost use Rattle.rl_text.specs.Classes.{is_hash};
+ghost use Rattle.rl_syntax.specs.Classes.{is_hash};
 
 use super::suffix::after_suffix;
-use rl_text::classes::skip_hashes;
-use rl_text::scan::{Marks, next_mark};
-use rl_text::text::{after_prefix, before, begins_with, split_char, without_first};
+use rl_syntax::classes::skip_hashes;
+use rl_syntax::scan::{Marks, next_mark};
+use rl_syntax::text::{after_prefix, before, begins_with, split_char, without_first};
 
-/// What follows the literal after whose opening `"` the text stands.
+/// Returns the text after a string literal and its suffix, where `text` follows the opening `"`. Returns `None` if the
+/// literal isn't closed.
 pub(crate) fn after_quoted(text: &str) -> Option<&str>
     ensures rest { option_map (λ rest. chars rest.now) result ≡ quoted_at (chars text.now) }
     ensures following { IfSome result (λ rest. IsTail text.now rest.now) }
@@ -22,7 +23,8 @@ pub(crate) fn after_quoted(text: &str) -> Option<&str>
     Some(after_suffix(rest))
 }
 
-/// What follows the character literal after whose opening `'` the text stands.
+/// Returns the text after a character or byte literal and its suffix, where `text` follows the opening `'`. Returns
+/// `None` if no `'` follows the one character or the escape.
 pub(crate) fn after_character(text: &str) -> Option<&str>
     ensures rest { option_map (λ rest. chars rest.now) result ≡ single_at (chars text.now) }
     ensures following { IfSome result (λ rest. IsTail text.now rest.now) }
@@ -31,7 +33,8 @@ pub(crate) fn after_character(text: &str) -> Option<&str>
     Some(after_suffix(rest))
 }
 
-/// What follows the raw literal after whose `r` the text stands.
+/// Returns the text after a raw literal and its suffix, where `text` follows the literal's `r`. Returns `None` if the
+/// literal isn't closed.
 #[tactic(auto, using(crate::proofs::HashLemmas::hashes_alone, crate::proofs::HashLemmas::hashes_counted))]
 pub(crate) fn after_raw_literal(text: &str) -> Option<&str>
     ensures rest { option_map (λ rest. chars rest.now) result ≡ raw_at (chars text.now) }
@@ -42,14 +45,15 @@ pub(crate) fn after_raw_literal(text: &str) -> Option<&str>
     Some(after_suffix(rest))
 }
 
-/// Whether hashes, perhaps none, and a `"` begin the text.
+/// Whether the text begins with any number of hashes and a `"`.
 pub(crate) fn begins_hashed_quote(text: &str) -> bool
     ensures { result ≡ begins_hashed_quote (chars text.now) }
 {
     begins_with(skip_hashes(text), '"')
 }
 
-/// What follows the `"` that ends a body.
+/// Returns the text after the `"` that closes a string literal, where `text` follows its opening `"`. A character after
+/// a backslash doesn't close it. Returns `None` if the literal isn't closed.
 #[inline(never)]
 fn after_quote(text: &str) -> Option<&str>
     ensures rest { option_map (λ rest. chars rest.now) result ≡ after_quote (chars text.now) }
@@ -66,7 +70,8 @@ fn after_quote(text: &str) -> Option<&str>
     None
 }
 
-/// What follows the `"` and as many hashes as these, which end a raw body.
+/// Returns the text after the `"` and the hashes that close a raw literal, where `text` follows the opening `"`.
+/// `hashes` are the hashes before that quote. Returns `None` if the literal isn't closed.
 #[inline(never)]
 fn after_raw<'t>(hashes: &str, text: &'t str) -> Option<&'t str>
     requires { IsTrue (list_all is_hash (chars hashes.now)) }
@@ -84,7 +89,8 @@ fn after_raw<'t>(hashes: &str, text: &'t str) -> Option<&'t str>
     None
 }
 
-/// What follows the `'` that ends a character, by what stands after the opening one.
+/// Returns the text after the `'` that closes a character literal, where `text` follows the opening `'`. Returns `None`
+/// if no `'` follows the one character or the escape.
 fn after_single(text: &str) -> Option<&str>
     ensures rest { option_map (λ rest. chars rest.now) result ≡ after_single (chars text.now) }
     ensures following { IfSome result (λ rest. IsTail text.now rest.now) }
@@ -100,7 +106,8 @@ fn after_single(text: &str) -> Option<&str>
     }
 }
 
-/// What follows the `'` that ends an escaped character, by what stands after the escaped one.
+/// Returns the text after the `'` that closes a character literal with an escape, where `text` follows the backslash
+/// and one more character. Returns `None` if an LF or the end of the text comes first.
 fn after_apostrophe(text: &str) -> Option<&str>
     ensures rest { option_map (λ rest. chars rest.now) result ≡ after_apostrophe (chars text.now) }
     ensures following { IfSome result (λ rest. IsTail text.now rest.now) }

@@ -1,15 +1,15 @@
-//! Suffixes of literals.
+//! Functions that lex the suffix of a literal.
 
 ghost use Rattle.std.specs.Prelude.{◌≡◌};
 ghost use Rattle.std.specs.Str.{chars};
-ghost use Rattle.rl_text.specs.Texts.{IsTail};
+ghost use Rattle.rl_syntax.specs.Texts.{IsTail};
 ghost use Rattle.rl_lexer.specs.Mirrors.LexemeAt.{after_suffix};
 
-use rl_text::characters::is_start;
-use rl_text::classes::{CharClass, skip_class};
-use rl_text::text::{split_ascii, split_char};
+use rl_syntax::characters::is_start;
+use rl_syntax::classes::{CharClass, skip_class};
+use rl_syntax::text::{split_ascii, split_char};
 
-/// What follows the suffix of a literal, perhaps an empty one.
+/// Returns the text after the suffix of a literal. If no suffix begins the text, the result is the text itself.
 #[inline(always)]
 pub(crate) fn after_suffix(text: &str) -> &str
     ensures rest { chars result.now ≡ after_suffix (chars text.now) }
@@ -21,7 +21,8 @@ pub(crate) fn after_suffix(text: &str) -> &str
     }
 }
 
-/// What follows the suffix of a literal, where one may stand.
+/// Returns the text after the suffix of a literal, or the text itself if no suffix begins it. [`after_suffix`] calls it
+/// for the texts whose first byte doesn't exclude a suffix.
 #[inline(never)]
 fn after_some_suffix(text: &str) -> &str
     ensures rest { chars result.now ≡ after_suffix (chars text.now) }

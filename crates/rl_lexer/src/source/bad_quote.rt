@@ -1,18 +1,20 @@
-//! Quotes that begin neither a lexeme nor a lifetime, and end all the same.
-#![tactic(auto, using(rl_text::proofs::TailLemmas::tail_step))]
+//! Functions that find the end of invalid quoted literals, as `''` and `'ab'`. Each begins neither as a valid character
+//! literal nor as a lifetime, but ends before the text does.
+#![tactic(auto, using(rl_syntax::proofs::TailLemmas::tail_step))]
 
 ghost use Rattle.std.specs.Prelude.{◌≡◌, ◌<◌, length, option_map, IfSome};
 ghost use Rattle.std.specs.Str.{chars};
-ghost use Rattle.rl_text.specs.Texts.{IsTail};
+ghost use Rattle.rl_syntax.specs.Texts.{IsTail};
 ghost use Rattle.rl_lexer.specs.Mirrors.SourceAt.{after_part, after_next_quote, after_other, after_closing, past_closing, after_bare, after_bad_quote};
 
 use super::after_any_name;
 use crate::lexeme::after_suffix;
-use rl_text::characters::is_start;
-use rl_text::classes::skip_word;
-use rl_text::text::{begins_with, split_ascii, split_char, without_first};
+use rl_syntax::characters::is_start;
+use rl_syntax::classes::skip_word;
+use rl_syntax::text::{begins_with, split_ascii, split_char, without_first};
 
-/// What follows the bad quote that the text begins with. `None` where none ends there.
+/// Returns the text after the invalid quoted literal at its start, as `'ab'` or `b'hello'`, or `None` if that has no
+/// end.
 #[inline(never)]
 pub(crate) fn after_bad_quote(text: &str) -> Option<&str>
     ensures rest { option_map (λ rest. chars rest.now) result ≡ after_bad_quote (chars text.now) }
@@ -28,8 +30,10 @@ pub(crate) fn after_bad_quote(text: &str) -> Option<&str>
     }
 }
 
-/// What follows a bad quote without prefix, after its apostrophe: a word in quotes, a digit and what goes on with it,
-/// perhaps closed, or all up to the next quote.
+/// Returns the text after an invalid quoted literal without prefix, where `text` follows its apostrophe.
+///
+/// The literal is an identifier between apostrophes; or a digit and the identifier characters after it, with or without
+/// a closing apostrophe; or everything up to the next apostrophe.
 fn after_bare(text: &str) -> Option<&str>
     ensures rest { option_map (λ rest. chars rest.now) result ≡ after_bare (chars text.now) }
     ensures following { IfSome result (λ rest. IsTail text.now rest.now) }
@@ -44,7 +48,8 @@ fn after_bare(text: &str) -> Option<&str>
     after_other(text)
 }
 
-/// What follows a quote up to the next one, and a suffix, after the first. An escape begins none.
+/// Returns the text after the next apostrophe and a suffix, which end an invalid quoted literal. `text` follows its
+/// opening apostrophe. Returns `None` if a backslash follows that apostrophe, or if the literal has no end.
 fn after_other(text: &str) -> Option<&str>
     ensures rest { option_map (λ rest. chars rest.now) result ≡ after_other (chars text.now) }
     ensures following { IfSome result (λ rest. IsTail text.now rest.now) }
@@ -56,7 +61,8 @@ fn after_other(text: &str) -> Option<&str>
     Some(after_suffix(rest))
 }
 
-/// What follows the next `'`. A slash, and an LF without one right after it, end the search.
+/// Returns the text after the next `'`, or `None` if a slash, the end of the text, or an LF without a `'` right after
+/// it comes first. A character after a backslash is skipped.
 fn after_next_quote(text: &str) -> Option<&str>
     ensures rest { option_map (λ rest. chars rest.now) result ≡ after_next_quote (chars text.now) }
     ensures following { IfSome result (λ rest. IsTail text.now rest.now) }
@@ -71,7 +77,9 @@ fn after_next_quote(text: &str) -> Option<&str>
     None
 }
 
-/// What follows the part of a quote that begins with the character, by what stands after that: a backslash takes two.
+/// Returns the text after one part of an invalid quoted literal, where the part begins with `c`, and `following` is the
+/// text after `c`. A backslash and the next character are one part. Returns `None` if the literal has no end: at a
+/// slash, and at an LF without a `'` right after it.
 fn after_part(c: char, following: &str) -> Option<&str>
     ensures rest { option_map (λ rest. chars rest.now) result
         ≡ after_part c (chars following.now) }
@@ -87,7 +95,7 @@ fn after_part(c: char, following: &str) -> Option<&str>
     Some(following)
 }
 
-/// What follows the `'` that the text begins with.
+/// Returns the text after the `'` at its start, or `None` if it doesn't begin with `'`.
 fn after_closing(text: &str) -> Option<&str>
     ensures rest { option_map (λ rest. chars rest.now) result ≡ after_closing (chars text.now) }
     ensures following { IfSome result (λ rest. IsTail text.now rest.now) }
@@ -98,7 +106,7 @@ fn after_closing(text: &str) -> Option<&str>
     }
 }
 
-/// The text without the `'` that it may begin with.
+/// Returns the text after the `'` at its start, or the text itself if it doesn't begin with `'`.
 fn past_closing(text: &str) -> &str
     ensures rest { chars result.now ≡ past_closing (chars text.now) }
     ensures following { IsTail text.now result.now }

@@ -1,50 +1,50 @@
-//! Calls that are no type's.
+//! Tests of functions that aren't methods.
 
-use crate::memory::tell::tell_answer;
+use crate::Page;
+use crate::memory::format_results::format_result;
 use crate::memory::trial::{Scarce, Trial};
-use rl_failing::Page;
-use rl_grammar::{Kind, Segments, bytes_of, digits_of, shape, spans_of, str_of};
+use rl_grammar::{Kind, Segments, byte_spans_of, bytes_of, digits_of, shape, str_of};
 use rl_sources::{Options, scan};
 use rl_tokens::{Span, lex};
 use rust_literals::read_all;
 
-/// Makes the call of this name, in the file 7, and puts its answer last.
+/// Calls the function with the name, and appends its result. The text has the file number 7 in spans.
 pub(crate) fn call<A: Scarce>(name: &str, trial: &Trial<A>, text: &str, page: &mut Page) {
     let scant = trial.begins();
     match name {
-        "lex" => tell_answer(lex(scant, text, 7), page),
-        "read_all" => tell_answer(read_all(scant, text, 7), page),
+        "lex" => format_result(lex(scant, text, 7), page),
+        "read_all" => format_result(read_all(scant, text, 7), page),
         "scan" => scanned(scant, text, page),
         "spans" => spans(scant, text, page),
         _ => contents_of(scant, text, page),
     }
 }
 
-/// `str_of`, `bytes_of` or `digits_of`, by the text's kind.
+/// Calls `str_of`, `bytes_of` or `digits_of`, by the kind of the literal, and appends the result.
 fn contents_of<A: Scarce>(scant: A, text: &str, page: &mut Page) {
     match shape(text) {
         Some(parts) => match parts.kind {
-            Kind::Str => tell_answer(str_of(scant, text), page),
-            Kind::ByteStr | Kind::CStr => tell_answer(bytes_of(scant, text), page),
-            Kind::Int | Kind::Float => tell_answer(digits_of(scant, parts.kind, text), page),
+            Kind::Str => format_result(str_of(scant, text), page),
+            Kind::ByteStr | Kind::CStr => format_result(bytes_of(scant, text), page),
+            Kind::Int | Kind::Float => format_result(digits_of(scant, parts.kind, text), page),
             _ => page.fail(),
         },
         None => page.fail(),
     }
 }
 
-/// Where in the file 7, of which the text is all, each byte that it stands for comes from.
+/// Appends the span that encodes each byte of the literal's value. The text has the file number 7 in spans.
 fn spans<A: Scarce>(scant: A, text: &str, page: &mut Page) {
     if let Some(segments) = Segments::of(text) {
         let base = Span::new(7, 0, text.len());
-        tell_answer(spans_of(scant, segments, base), page)
+        format_result(byte_spans_of(scant, segments, base), page)
     }
 }
 
-/// The scan of a source, and the bytes that it wrote.
+/// Scans a source with `scan`, and appends the result and the number of written bytes.
 fn scanned<A: Scarce>(scant: A, text: &str, page: &mut Page) {
     let mut written = Vec::new(page.alloc());
-    tell_answer(scan(scant, Options::default(), text, &mut written), page);
+    format_result(scan(scant, Options::default(), text, &mut written), page);
     page.put("; wrote ");
     page.put_number(written.len())
 }

@@ -1,24 +1,26 @@
-//! Calls that borrow a value: a literal, or a token.
+//! Tests of calls that borrow a literal or a token.
 
+use crate::Page;
+use crate::memory::format_results::{FormatResult, format_result};
 use crate::memory::inside;
-use crate::memory::tell::{Tell, tell_answer};
-use crate::memory::trial::{Scarce, Trial, tell_left, told_of};
+use crate::memory::trial::{Scarce, Trial, format_borrowed, formatted};
 use crate::noted::{HERE, noted};
-use rl_failing::Page;
 use rl_quoted::{Quoted, QuotedKind};
 use rl_tokens::{Parse, ParseBuffer, ToTokens, Token, TokenStream};
 use rust_literals::{Lit, LitBool, Number, NumberKind};
 
-/// A literal that calls borrow.
-pub(crate) trait Held<A: Scarce>: Parse<A> + Token + Tell {
-    /// The value that the text is, if it is one.
+/// A literal that the called functions borrow.
+pub(crate) trait Held<A: Scarce>: Parse<A> + Token + FormatResult {
+    /// Parses the text as a value of the type that implements the trait. Returns `None` if an allocation fails or the text is
+    /// invalid.
     fn of_text(trial: &Trial<A>, text: &str, page: &mut Page) -> Option<Self>;
 
-    /// Makes the call of this name, and puts its answer last.
+    /// Calls the function with the name, and appends its result.
     fn call(&self, name: &str, trial: &Trial<A>, page: &mut Page);
 }
 
-/// The call of this name of the value that the text is, and what is left of the value.
+/// Parses the text, calls the function with the name on the value, and appends its result. Then appends whether the value is
+/// unchanged.
 pub(crate) fn run_held<T: Held<A> + Drop, A: Scarce>(
     name: &str,
     trial: &Trial<A>,
@@ -31,11 +33,11 @@ pub(crate) fn run_held<T: Held<A> + Drop, A: Scarce>(
     }
 }
 
-/// The call of this name of a value, and what is left of the value.
+/// Calls the function with the name on a value, and appends its result. Then appends whether the value is unchanged.
 fn call_held<T: Held<A>, A: Scarce>(value: &T, name: &str, trial: &Trial<A>, page: &mut Page) {
-    let before = told_of(value, page);
+    let before = formatted(value, page);
     value.call(name, trial, page);
-    tell_left(value, &before, page)
+    format_borrowed(value, &before, page)
 }
 
 impl<K: QuotedKind, A: Scarce> Held<A> for Quoted<K, A> {
@@ -48,8 +50,8 @@ impl<K: QuotedKind, A: Scarce> Held<A> for Quoted<K, A> {
 
     fn call(&self, name: &str, trial: &Trial<A>, page: &mut Page) {
         match name {
-            "clone" => tell_answer(self.clone(trial.begins()), page),
-            "token" => tell_answer(self.token(trial.begins()), page),
+            "clone" => format_result(self.clone(trial.begins()), page),
+            "token" => format_result(self.token(trial.begins()), page),
             _ => appended(self, name, trial, page),
         }
     }
@@ -63,15 +65,15 @@ impl<K: NumberKind, A: Scarce> Held<A> for Number<K, A> {
 
     fn call(&self, name: &str, trial: &Trial<A>, page: &mut Page) {
         match name {
-            "clone" => tell_answer(self.clone(trial.begins()), page),
-            "token" => tell_answer(self.token(trial.begins()), page),
-            "base10_parse" => tell_answer(self.base10_parse::<i8, A>(trial.begins()), page),
+            "clone" => format_result(self.clone(trial.begins()), page),
+            "token" => format_result(self.token(trial.begins()), page),
+            "base10_parse" => format_result(self.base10_parse::<i8, A>(trial.begins()), page),
             _ => appended(self, name, trial, page),
         }
     }
 }
 
-/// True where the text is `true`.
+/// Returns the `bool` literal `true` if the text is `true`, else `false`.
 impl<A: Scarce> Held<A> for LitBool {
     fn of_text(_trial: &Trial<A>, text: &str, _page: &mut Page) -> Option<LitBool> {
         Some(LitBool::new(text == "true", HERE))
@@ -79,8 +81,8 @@ impl<A: Scarce> Held<A> for LitBool {
 
     fn call(&self, name: &str, trial: &Trial<A>, page: &mut Page) {
         match name {
-            "clone" => tell_answer(self.clone(trial.begins()), page),
-            "token" => tell_answer(self.token(trial.begins()), page),
+            "clone" => format_result(self.clone(trial.begins()), page),
+            "token" => format_result(self.token(trial.begins()), page),
             _ => appended(self, name, trial, page),
         }
     }
@@ -94,17 +96,18 @@ impl<A: Scarce> Held<A> for Lit<A> {
 
     fn call(&self, name: &str, trial: &Trial<A>, page: &mut Page) {
         match name {
-            "clone" => tell_answer(self.clone(trial.begins()), page),
+            "clone" => format_result(self.clone(trial.begins()), page),
             "to_tokens" => appended(self, name, trial, page),
             _ => inside::call(self, name, trial.begins(), page),
         }
     }
 }
 
-/// As many trees as a stream takes before it has to grow.
+/// A text with as many token trees as a stream stores before it must grow.
 const FULL: &str = "(1) a 2 +";
 
-/// `to_tokens` into a stream that is full, or under any other name into an empty one, and what is left of the stream.
+/// Calls `to_tokens`, and appends the result. Then appends whether the stream of token trees is unchanged. If the name is
+/// `to_tokens`, the stream has no space for another token tree, else it is empty.
 fn appended<T: ToTokens, A: Scarce>(literal: &T, name: &str, trial: &Trial<A>, page: &mut Page) {
     let trees = if name == "to_tokens" { FULL } else { "" };
     if let Some(mut stream) = trial.trees(trees, page) {
@@ -112,14 +115,14 @@ fn appended<T: ToTokens, A: Scarce>(literal: &T, name: &str, trial: &Trial<A>, p
     }
 }
 
-/// `to_tokens` into a stream, and what is left of the stream.
+/// Calls `to_tokens` with a stream of token trees, and appends the result. Then appends whether the stream is unchanged.
 fn append_to<T: ToTokens, A: Scarce>(
     literal: &T,
     stream: &mut TokenStream<A>,
     trial: &Trial<A>,
     page: &mut Page,
 ) {
-    let before = told_of(stream, page);
-    tell_answer(literal.to_tokens(trial.begins(), stream), page);
-    tell_left(stream, &before, page)
+    let before = formatted(stream, page);
+    format_result(literal.to_tokens(trial.begins(), stream), page);
+    format_borrowed(stream, &before, page)
 }

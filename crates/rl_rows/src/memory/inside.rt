@@ -1,15 +1,15 @@
-//! Calls of the three kinds of strings that go into what a string stands for.
+//! Tests of `value` and `parse` of strings, byte strings and C strings.
 
-use crate::memory::tell::{tell_answer, tell_trees};
+use crate::Page;
+use crate::memory::format_results::{format_result, format_trees};
 use crate::memory::trial::Scarce;
 use rl_attributes::Attrs;
-use rl_failing::Page;
 use rl_tokens::{Error, Literal, ParseBuffer, Parser};
 use rust_literals::{Lit, LitInt, LitStr};
 use std::alloc::Allocator;
 
-/// A parser of a copy of the literal token that stands next. Where an allocation for it fails it says so at that token, and
-/// has moved past it.
+/// A parser that returns a copy of the next literal token. If an allocation fails, the error has the token's span, and the parser
+/// has consumed the token.
 #[derive(Drop)]
 struct CopyOfToken;
 
@@ -28,7 +28,7 @@ impl<A: Allocator> Parser<A> for CopyOfToken {
     }
 }
 
-/// A parser of one group, which is told.
+/// A parser of one group that prints the group.
 #[derive(Drop)]
 struct GroupTold {
     page: Page,
@@ -46,7 +46,7 @@ impl<A: Allocator> Parser<A> for GroupTold {
         let mut page = self.page;
         match input.group() {
             Some(_) => {
-                tell_trees(trees, &mut page);
+                format_trees(trees, &mut page);
                 Ok(page)
             }
             None => Err(input.error("group")),
@@ -54,33 +54,33 @@ impl<A: Allocator> Parser<A> for GroupTold {
     }
 }
 
-/// Makes the call of this name, and puts its answer last.
+/// Calls the function with the name on a string, byte string or C string, and appends its result.
 pub(crate) fn call<A: Scarce>(literal: &Lit<A>, name: &str, scant: A, page: &mut Page) {
     match literal {
         Lit::Str(string) => in_string(string, name, scant, page),
-        Lit::ByteStr(string) => tell_answer(string.value(scant), page),
-        Lit::CStr(string) => tell_answer(string.value(scant), page),
+        Lit::ByteStr(string) => format_result(string.value(scant), page),
+        Lit::CStr(string) => format_result(string.value(scant), page),
         _ => page.fail(),
     }
 }
 
-/// Makes the call of this name of a string, and puts its answer last.
+/// Calls the function with the name on a string, and appends its result.
 fn in_string<A: Scarce>(string: &LitStr<A>, name: &str, scant: A, page: &mut Page) {
     match name {
-        "value" => tell_answer(string.value(scant), page),
-        "parse" => tell_answer(string.parse::<Lit<A>, _>(scant), page),
-        "parse_int" => tell_answer(string.parse::<LitInt<A>, _>(scant), page),
-        "parse_attrs" => tell_answer(string.parse::<Attrs<A>, _>(scant), page),
+        "value" => format_result(string.value(scant), page),
+        "parse" => format_result(string.parse::<Lit<A>, _>(scant), page),
+        "parse_int" => format_result(string.parse::<LitInt<A>, _>(scant), page),
+        "parse_attrs" => format_result(string.parse::<Attrs<A>, _>(scant), page),
         "parse_group" => in_group(string, scant, page),
-        "parse_with" => tell_answer(string.parse_with(scant, CopyOfToken), page),
-        _ => tell_answer(string.parse_in_file(scant, CopyOfToken), page),
+        "parse_with" => format_result(string.parse_with(scant, CopyOfToken), page),
+        _ => format_result(string.parse_in_file(scant, CopyOfToken), page),
     }
 }
 
-/// Puts last the group that a string holds.
+/// Parses the group that a string contains, and appends the result.
 fn in_group<A: Scarce>(string: &LitStr<A>, scant: A, page: &mut Page) {
     let parser = GroupTold {
         page: page.another(),
     };
-    tell_answer(string.parse_with(scant, parser), page)
+    format_result(string.parse_with(scant, parser), page)
 }

@@ -1,4 +1,5 @@
-//! Calls whose allocations fail: whose call it is, the call's name, and a text, with a space between.
+//! Runs tests of calls whose allocations fail. A row of such a test has a type, the name of a function, and a text, with spaces
+//! between.
 
 use crate::hostile::{put_times, put_unpictured};
 use crate::memory::held::{Held, run_held};
@@ -6,30 +7,30 @@ use crate::memory::tokens::parsed;
 use crate::memory::trial::{Scarce, Trial};
 use crate::memory::{free, made, runs, tokens};
 use crate::noted::parts_of;
-use rl_failing::{Failing, Page};
+use crate::{Failing, Page};
 use rust_literals::{
     Lit, LitBool, LitByte, LitByteStr, LitCStr, LitChar, LitFloat, LitInt, LitStr,
 };
 use std::cell::Cell;
 
-/// A call, and the text that it is tried on.
+/// A row of a test: a function to call, and the text that it is called with.
 #[derive(Clone, Copy)]
 pub(crate) struct Row<'t> {
-    /// Whose call it is.
+    /// The type of the function.
     pub(crate) of: &'t str,
-    /// The call's name.
+    /// The name of the function.
     pub(crate) call: &'t str,
-    /// The text.
+    /// The text that the function is called with.
     pub(crate) text: &'t str,
 }
 
 impl<'t> Row<'t> {
-    /// A row without a call's name.
+    /// Creates a row without the name of a function.
     pub(crate) fn of_text(of: &'t str, text: &'t str) -> Row<'t> {
         Row { of, call: "", text }
     }
 
-    /// The row that these words are, with a space between.
+    /// Parses a row: a type, the name of a function, and a text, with spaces between.
     pub(crate) fn of_words(words: &'t str) -> Row<'t> {
         let (of, rest) = parts_of(words, ' ');
         let (call, text) = parts_of(rest, ' ');
@@ -37,7 +38,7 @@ impl<'t> Row<'t> {
     }
 }
 
-/// Runs the call once, and puts last what came of it.
+/// Calls the function of a row once, and appends its result.
 fn run<A: Scarce>(row: Row<'_>, trial: &Trial<A>, page: &mut Page) {
     match row.of {
         "free" => free::call(row.call, trial, row.text, page),
@@ -50,7 +51,7 @@ fn run<A: Scarce>(row: Row<'_>, trial: &Trial<A>, page: &mut Page) {
     }
 }
 
-/// Runs a call of a literal, by its name.
+/// Calls a function of a literal once, by the function's name, and appends its result.
 fn run_named<A: Scarce>(row: Row<'_>, trial: &Trial<A>, page: &mut Page) {
     match row.call {
         "new" => made::new(row.of, trial, row.text, page),
@@ -61,7 +62,7 @@ fn run_named<A: Scarce>(row: Row<'_>, trial: &Trial<A>, page: &mut Page) {
     }
 }
 
-/// Runs a call of a literal of this type; a truth value is true where the text is `true`.
+/// Calls a function of a literal once, by the literal's type, and appends its result.
 fn run_literal<A: Scarce>(row: Row<'_>, trial: &Trial<A>, page: &mut Page) {
     let (call, text) = (row.call, row.text);
     match row.of {
@@ -77,7 +78,7 @@ fn run_literal<A: Scarce>(row: Row<'_>, trial: &Trial<A>, page: &mut Page) {
     }
 }
 
-/// Runs a call of a literal of one type, of which the text may be one.
+/// Calls a function of one type of literal, and appends its result. The text is parsed as that type.
 fn run_type<T: Held<A> + Drop, A: Scarce>(
     call: &str,
     trial: &Trial<A>,
@@ -91,7 +92,8 @@ fn run_type<T: Held<A> + Drop, A: Scarce>(
     }
 }
 
-/// What came of the call while these allocations failed; how many were asked for is stored.
+/// Returns the result of a row's call while the allocations from `first` to `last` fail. `asked` receives the number of requested
+/// allocations.
 pub(crate) fn tried(row: Row<'_>, first: u64, last: u64, asked: &Cell<u64>, page: &Page) -> Page {
     let failing = Failing::new(page.alloc());
     let mut told = page.another();
@@ -108,13 +110,13 @@ pub(crate) fn tried(row: Row<'_>, first: u64, last: u64, asked: &Cell<u64>, page
     told
 }
 
-/// Whether it is told that memory is wanted, and that all is left as it was.
+/// Whether a result is a failed allocation that left all borrowed values unchanged.
 fn is_failure(told: &str) -> bool {
     told.starts_with("out of memory") && !told.contains("; now") && !told.contains("; kept")
 }
 
-/// Puts last what is printed of the call while these allocations fail, but not again, where the call with ample memory told the
-/// other text.
+/// Appends a line with the result of a row's call while the allocations from `first` to `last` fail, unless `page` has that line.
+/// `ample` is the result without failures.
 pub(crate) fn put_tried(row: Row<'_>, first: u64, last: u64, ample: &str, page: &mut Page) {
     let told = tried(row, first, last, &Cell::new(0), page);
     let mut line = page.another();
@@ -130,14 +132,14 @@ pub(crate) fn put_tried(row: Row<'_>, first: u64, last: u64, ample: &str, page: 
     }
 }
 
-/// Puts a line last.
+/// Appends `front`, the result and a line end.
 pub(crate) fn put_line(front: &str, told: &str, page: &mut Page) {
     page.put(front);
     page.say(told, "\n")
 }
 
-/// Prints what came of the call with ample memory, and then with each allocation failing in turn, alone and with all after it, each
-/// answer once.
+/// Prints the result of a row's call without failures, and then while each allocation fails: this one only, and this one with all
+/// later ones. Equal results are printed once.
 pub(crate) fn told(words: &str, page: &mut Page) {
     let row = Row::of_words(words);
     let asked = Cell::new(0);
@@ -149,8 +151,8 @@ pub(crate) fn told(words: &str, page: &mut Page) {
     }
 }
 
-/// Prints how many bytes are told of the value of a string of the text ten thousand times over, and what comes of it where all
-/// allocations but the first fail.
+/// Prints the length of the value of a string, whose body is the text repeated ten thousand times. All allocations except the first
+/// fail.
 pub(crate) fn lent(text: &str, page: &mut Page) {
     let mut quoted = page.another();
     quoted.put("\"");
@@ -167,7 +169,7 @@ pub(crate) fn lent(text: &str, page: &mut Page) {
     put_tried(row, 2, u64::MAX, ample.text(), page)
 }
 
-/// Prints what came of the call with ample memory; in the row pictures stand for line ends, tabs and zeros.
+/// Prints the result of a row's call without failures. In the row, characters like `␊` represent control characters.
 pub(crate) fn ample(words: &str, page: &mut Page) {
     let mut text = page.another();
     put_unpictured(words, &mut text);

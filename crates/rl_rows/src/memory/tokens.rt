@@ -1,76 +1,76 @@
-//! Calls of `rl_tokens`.
+//! Tests of the crate `rl_tokens`.
 
+use crate::Page;
+use crate::memory::format_results::{format_result, format_trees};
 use crate::memory::held::Held;
-use crate::memory::tell::{tell_answer, tell_trees};
-use crate::memory::trial::{Scarce, Trial, tell_left, told_of};
+use crate::memory::trial::{Scarce, Trial, format_borrowed, formatted};
 use crate::noted::{HERE, noted};
-use rl_failing::Page;
 use rl_tokens::{CString, Ident, Literal, ParseBuffer, Span, TokenStream, TokenTree, ident, lex};
 use rust_literals::Lit;
 
-/// Calls of `Literal`.
+/// Calls a function of `Literal`, and appends its result.
 pub(crate) fn literal_call<A: Scarce>(name: &str, trial: &Trial<A>, text: &str, page: &mut Page) {
     let scant = trial.begins();
     match name {
-        "from_text" => tell_answer(Literal::from_text(scant, text, HERE), page),
-        "negative" => tell_answer(Literal::negative(scant, text, HERE), page),
-        "string" => tell_answer(Literal::string(scant, text), page),
-        "byte_string" => tell_answer(Literal::byte_string(scant, text.as_bytes()), page),
+        "from_text" => format_result(Literal::from_text(scant, text, HERE), page),
+        "negative" => format_result(Literal::negative(scant, text, HERE), page),
+        "string" => format_result(Literal::string(scant, text), page),
+        "byte_string" => format_result(Literal::byte_string(scant, text.as_bytes()), page),
         "c_string" => c_string(scant, text, page),
-        "byte_character" => tell_answer(Literal::byte_character(scant, first_byte(text)), page),
-        "character" => tell_answer(Literal::character(scant, first_character(text)), page),
+        "byte_character" => format_result(Literal::byte_character(scant, first_byte(text)), page),
+        "character" => format_result(Literal::character(scant, first_character(text)), page),
         _ => of_token(name, trial, text, page),
     }
 }
 
-/// `clone` or `after_minus` of a token of the text, and what is left of the token.
+/// Calls `clone` or `after_minus` on the text as a token, and appends its result. Then appends whether the token is unchanged.
 fn of_token<A: Scarce>(name: &str, trial: &Trial<A>, text: &str, page: &mut Page) {
     if let Some(token) = trial.token(text, page) {
         copied(name, &token, trial, page)
     }
 }
 
-/// `clone` or `after_minus` of a token, and what is left of the token.
+/// Calls `clone` or `after_minus` on a token, and appends its result. Then appends whether the token is unchanged.
 fn copied<A: Scarce>(name: &str, token: &Literal<A>, trial: &Trial<A>, page: &mut Page) {
-    let before = told_of(token, page);
+    let before = formatted(token, page);
     match name {
-        "clone" => tell_answer(token.clone(trial.begins()), page),
-        _ => tell_answer(token.after_minus(trial.begins(), HERE), page),
+        "clone" => format_result(token.clone(trial.begins()), page),
+        _ => format_result(token.after_minus(trial.begins(), HERE), page),
     }
-    tell_left(token, &before, page)
+    format_borrowed(token, &before, page)
 }
 
-/// A C string of the text's bytes.
+/// Returns the bytes of the text as a C string, or `None` if an allocation fails or the text contains a NUL.
 pub(crate) fn c_string_of(text: &str, page: &mut Page) -> Option<CString> {
     let bytes = noted(Vec::from_slice(page.alloc(), text.as_bytes()), page)?;
     noted(CString::new(bytes), page)
 }
 
-/// `Literal::c_string` of the text's bytes.
+/// Calls `Literal::c_string` with the bytes of the text, and appends its result.
 fn c_string<A: Scarce>(scant: A, text: &str, page: &mut Page) {
     if let Some(value) = c_string_of(text, page) {
-        tell_answer(Literal::c_string(scant, &value), page)
+        format_result(Literal::c_string(scant, &value), page)
     }
 }
 
-/// The text's first byte, or zero.
+/// Returns the first byte of the text, or 0 if it is empty.
 pub(crate) fn first_byte(text: &str) -> u8 {
     text.as_bytes().first().copied().unwrap_or(0)
 }
 
-/// The text's first character, or NUL.
+/// Returns the first character of the text, or NUL if it is empty.
 pub(crate) fn first_character(text: &str) -> char {
     text.chars().next().unwrap_or('\0')
 }
 
-/// `Ident::new`.
+/// Calls `Ident::new` with the text, and appends its result.
 pub(crate) fn word<A: Scarce>(trial: &Trial<A>, text: &str, page: &mut Page) {
     if ident::xid_ok(text) {
-        tell_answer(Ident::new(trial.begins(), text, HERE), page)
+        format_result(Ident::new(trial.begins(), text, HERE), page)
     }
 }
 
-/// Calls of `TokenStream`.
+/// Calls a function of `TokenStream`, and appends its result.
 pub(crate) fn stream_call<A: Scarce>(name: &str, trial: &Trial<A>, text: &str, page: &mut Page) {
     match name {
         "two_files" => two_files(trial, text, page),
@@ -78,7 +78,7 @@ pub(crate) fn stream_call<A: Scarce>(name: &str, trial: &Trial<A>, text: &str, p
     }
 }
 
-/// `respan` of the trees of the text, or `append` of a literal after them.
+/// Lexes the text, and calls `respan` or `append` on the stream of its token trees.
 fn on_stream<A: Scarce>(name: &str, trial: &Trial<A>, text: &str, page: &mut Page) {
     if let Some(mut stream) = trial.trees(text, page) {
         match name {
@@ -88,13 +88,13 @@ fn on_stream<A: Scarce>(name: &str, trial: &Trial<A>, text: &str, page: &mut Pag
     }
 }
 
-/// `TokenStream::respan`.
+/// Calls `TokenStream::respan`, and appends the token trees.
 fn respanned<A: Scarce>(stream: &mut TokenStream<A>, page: &mut Page) {
     stream.respan(HERE);
-    tell_trees(stream.trees(), page)
+    format_trees(stream.trees(), page)
 }
 
-/// The parser of literals over a minus of a file, from the byte 3 to 4, and a number of another file.
+/// Parses a literal from a minus in one file and a number in another file, and appends the result.
 fn two_files<A: Scarce>(trial: &Trial<A>, number: &str, page: &mut Page) {
     if let Some(mut stream) = noted(lex(trial.begins(), "   -", 0), page) {
         append_number(trial.scant, number, &mut stream, page);
@@ -102,7 +102,7 @@ fn two_files<A: Scarce>(trial: &Trial<A>, number: &str, page: &mut Page) {
     }
 }
 
-/// Puts a number of the file 1 last.
+/// Appends the number to a stream, as a token with the file number 1.
 fn append_number<A: Scarce>(scant: A, number: &str, stream: &mut TokenStream<A>, page: &mut Page) {
     let span = Span::new(1, 0, number.len());
     if let Some(number) = noted(Literal::from_text(scant, number, span), page) {
@@ -110,17 +110,17 @@ fn append_number<A: Scarce>(scant: A, number: &str, stream: &mut TokenStream<A>,
     }
 }
 
-/// `TokenStream::append` of a literal, and what is left of the stream.
+/// Calls `TokenStream::append` with a literal, and appends its result. Then appends whether the stream is unchanged.
 fn append_last<A: Scarce>(trial: &Trial<A>, stream: &mut TokenStream<A>, page: &mut Page) {
     if let Some(last) = trial.token("last", page) {
-        let before = told_of(stream, page);
+        let before = formatted(stream, page);
         trial.begins();
-        tell_answer(stream.append(TokenTree::Literal(last)), page);
-        tell_left(stream, &before, page)
+        format_result(stream.append(TokenTree::Literal(last)), page);
+        format_borrowed(stream, &before, page)
     }
 }
 
-/// The parser of a type over the trees of the text, or whether such a token stands there under `peek`, and what is left of the buffer.
+/// Lexes the text, and calls `parse` of a type or `peek` on its token trees. Appends the result, and the state of the buffer.
 pub(crate) fn parsed<T: Held<A> + Drop, A: Scarce>(
     call: &str,
     trial: &Trial<A>,
@@ -132,19 +132,19 @@ pub(crate) fn parsed<T: Held<A> + Drop, A: Scarce>(
     }
 }
 
-/// The parser of a type over these trees, or `peek`, and what is left of the buffer.
+/// Calls `parse` of a type or `peek` on token trees. Appends the result, and the state of the buffer.
 fn parsed_of<T: Held<A> + Drop, A: Scarce>(
     call: &str,
     trial: &Trial<A>,
     trees: &[TokenTree<A>],
     page: &mut Page,
 ) {
-    let before = told_of(&trees, page);
+    let before = formatted(&trees, page);
     let mut input = ParseBuffer::new(trees, HERE);
     if call == "peek" {
         page.put_shown(&input.peek::<T>())
     } else {
-        tell_answer(input.parse::<T>(trial.begins()), page)
+        format_result(input.parse::<T>(trial.begins()), page)
     }
-    tell_left(&input.rest(), &before, page)
+    format_borrowed(&input.rest(), &before, page)
 }

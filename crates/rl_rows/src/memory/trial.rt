@@ -1,14 +1,14 @@
-//! One run of a call while allocations fail.
+//! One call of a function while some of its allocations fail.
 
-use crate::memory::tell::Tell;
+use crate::memory::format_results::FormatResult;
 use crate::noted::{HERE, noted};
-use rl_failing::{Failing, Page};
+use crate::{Failing, Page};
 use rl_tokens::{Literal, TokenStream, lex};
 use std::alloc::{Allocator, Global};
 
-/// Memory whose allocations can fail by their numbers.
+/// An allocator whose allocations fail by their numbers.
 pub(crate) trait Scarce: Allocator + Copy {
-    /// Counts anew: the allocations from the first number to the last fail.
+    /// Restarts the count of allocations at 1. The allocations with the numbers from `first` to `last` fail.
     fn fail(&self, first: u64, last: u64);
 }
 
@@ -18,51 +18,51 @@ impl Scarce for &Failing<Global> {
     }
 }
 
-/// One run of a call, with the numbers of the allocations that fail while it runs.
+/// One call of a function, and the numbers of the allocations that fail during it.
 #[derive(Drop)]
 pub(crate) struct Trial<A: Scarce> {
-    /// Memory for the call, and for what it borrows.
+    /// The allocator for the call, and for the values that the function borrows.
     pub(crate) scant: A,
-    /// The first allocation that fails.
+    /// The number of the first allocation that fails.
     pub(crate) first: u64,
-    /// The last one.
+    /// The number of the last allocation that fails.
     pub(crate) last: u64,
 }
 
 impl<A: Scarce> Trial<A> {
-    /// The call begins: its memory, whose allocations fail from now on.
+    /// Starts the failures, and returns the allocator for the call.
     pub(crate) fn begins(&self) -> A {
         self.scant.fail(self.first, self.last);
         self.scant
     }
 
-    /// The call hasn't begun: memory for what it borrows.
+    /// Ends the failures, and returns the allocator for values that the call borrows.
     fn waits(&self) -> A {
         self.scant.fail(1, 0);
         self.scant
     }
 
-    /// A token that is made before a call.
+    /// Returns the text as a token, which is created without failures.
     pub(crate) fn token(&self, text: &str, page: &mut Page) -> Option<Literal<A>> {
         noted(Literal::from_text(self.waits(), text, HERE), page)
     }
 
-    /// Trees that are made before a call, in the file 7.
+    /// Lexes the text without failures. Its file number in spans is 7.
     pub(crate) fn trees(&self, text: &str, page: &mut Page) -> Option<TokenStream<A>> {
         noted(lex(self.waits(), text, 7), page)
     }
 }
 
-/// What is told of what a call borrows, before it.
-pub(crate) fn told_of<T: Tell>(borrowed: &T, page: &Page) -> Page {
+/// Returns the printed form of a borrowed value.
+pub(crate) fn formatted<T: FormatResult>(borrowed: &T, page: &Page) -> Page {
     let mut told = page.another();
-    borrowed.tell(&mut told);
+    borrowed.append_result(&mut told);
     told
 }
 
-/// Puts last what is left of what the call borrowed: whether the same is told of it as before.
-pub(crate) fn tell_left<T: Tell>(borrowed: &T, before: &Page, page: &mut Page) {
-    let after = told_of(borrowed, page);
+/// Appends whether the printed form of a borrowed value is still `before`, and the new form if not.
+pub(crate) fn format_borrowed<T: FormatResult>(borrowed: &T, before: &Page, page: &mut Page) {
+    let after = formatted(borrowed, page);
     if after.text() == before.text() {
         page.put("; same")
     } else {

@@ -1,5 +1,5 @@
--- A mirror of the code, for proofs alone: the trees of a text as they grow, and the groups that are
--- open.
+-- An executable model of the builder of token trees, for proofs only: the token trees of a text while the text is
+-- lexed, and the groups that are open.
 use Rattle.std.specs.Prelude.{◌≡◌, ◌≢◌, ◌<◌, ℕ, ◌+◌, true, false, List, [], ◌∷◌, ◌++◌, IsTrue, Some, length, map, reverse, not, ◌&&◌, ⊤}
 use Rattle.std.specs.Str.{chars}
 use Prim.Native.Char.{code}
@@ -11,7 +11,7 @@ use Rattle.rl_lexer.specs.declared.lex_error.LexError.{LexError}
 use Rattle.rl_tokens.specs.declared.nest.GroupBuilder.{GroupBuilder}
 use Rattle.rl_tokens.specs.declared.nest.TreeBuilder.{TreeBuilder}
 use Rattle.rl_tokens.specs.declared.token.TokenTree.{TokenTree}
-use Rattle.rl_text.specs.Texts.{is_among, xid_ok}
+use Rattle.rl_syntax.specs.Texts.{is_among, xid_ok}
 use Rattle.rl_lexer.specs.Lexemes.{is_punct, LexemeForm, LiteralForm, IdentifierForm, DelimiterForm, MarkForm, delimiters}
 use Rattle.rl_tokens.specs.Trees.{FlatToken, Opening, Closing, tree_view, stream_view, flat, flat_trees}
 use Rattle.rl_lexer.specs.Cuts.{OpenGroup, is_opener, is_closer, closes, popped, innermost, after_form}
@@ -30,29 +30,31 @@ closer_of Bracket = code "]"
 abbrev pub group_of : {A : Type 0} → GroupBuilder A → OpenGroup
 group_of o = record { opener = opener_of o.delimiter; at = o.at }
 
--- the open groups, the innermost first
+-- The open groups of a builder of token trees, from the innermost to the outermost.
 abbrev pub groups_of : {A : Type 0} → TreeBuilder A → List OpenGroup
 groups_of n = reverse (map group_of n.opened.items)
 
--- what was read before and with the openers of these groups, the outermost first
+-- The tokens before the open groups, and the opening delimiters of the open groups, in the order of the text. The list
+-- of open groups begins with the outermost.
 abbrev pub flat_open : {A : Type 0} → ℕ → List (GroupBuilder A) → List FlatToken
 flat_open file [] = []
 flat_open file (o ∷ os) =
     flat_trees (stream_view o.before)
     ++ (Opening o.delimiter (record { file = file; lo = o.at; hi = o.at + 1 }) ∷ flat_open file os)
 
--- all that was read
+-- All tokens that were added to a builder of token trees, in the order of the text.
 abbrev pub flat_builder : {A : Type 0} → TreeBuilder A → List FlatToken
 flat_builder n = flat_open n.file n.opened.items ++ flat_trees (stream_view n.trees)
 
--- a tree more after the others of its level
+-- The builder `new` is the builder `old` with the token tree `tree` appended to the innermost open group, or to the
+-- text if no group is open.
 pub record TakesTree {A : Type 0} (old new : TreeBuilder A) (tree : TokenTree A) : Type 0 where
   pub opened_same : new.opened ≡ old.opened
   pub file_same : new.file ≡ old.file
   pub trees : flat_trees (stream_view new.trees) ≡ flat_trees (stream_view old.trees)
       ++ flat (tree_view tree)
 
--- a group more is open
+-- The builder `new` is the builder `old` with one more open group, whose opening delimiter is at the byte offset `at`.
 pub record OpensGroup {A : Type 0} (old new : TreeBuilder A) (delimiter : Delimiter) (at : ℕ)
     : Type 0 where
   pub shallow : length (groups_of old) < 128
@@ -61,7 +63,8 @@ pub record OpensGroup {A : Type 0} (old new : TreeBuilder A) (delimiter : Delimi
   pub flat : flat_builder new ≡ flat_builder old
       ++ (Opening delimiter (record { file = old.file; lo = at; hi = at + 1 }) ∷ [])
 
--- the innermost group is closed
+-- The builder `new` is the builder `old` with the innermost open group closed. The closing delimiter's byte range is
+-- from `lo` to `hi`.
 pub record ClosesGroup {A : Type 0} (old new : TreeBuilder A) (delimiter : Delimiter) (lo hi : ℕ)
     : Type 0 where
   pub closes_it : closes (groups_of old) (closer_of delimiter) ≡ true
@@ -70,7 +73,7 @@ pub record ClosesGroup {A : Type 0} (old new : TreeBuilder A) (delimiter : Delim
   pub flat : flat_builder new ≡ flat_builder old
       ++ (Closing delimiter (record { file = old.file; lo = lo; hi = hi }) ∷ [])
 
--- why a group can't be opened, and why it can't be closed
+-- The kinds of error for a group that can't be opened, and for a group that can't be closed, with their conditions.
 abbrev pub RejectsOpener : List OpenGroup → LexKind → Type 0
 RejectsOpener groups TooDeep = length groups ≡ 128
 RejectsOpener groups Memory = ⊤
@@ -81,20 +84,22 @@ RejectsCloser groups delimiter UnmatchedClose = closes groups (closer_of delimit
 RejectsCloser groups delimiter Memory = ⊤
 RejectsCloser groups delimiter _ = ⊥
 
--- a group is open where the text ends
+-- The error `e` is that of a text that ends inside a group: `UnclosedGroup` at the opening delimiter of the innermost
+-- open group.
 pub record EndsInGroup (groups : List OpenGroup) (e : LexError) : Type 0 where
   pub kind : e.kind ≡ UnclosedGroup
   pub some_open : groups ≢ []
   pub place : (at : ℕ) → e.at ≡ innermost groups at
 
--- the token's text and place fit its form
+-- The token's text and byte range fit the token's form: an identifier's text is an identifier, a delimiter is one byte
+-- long, and a punctuation character is one.
 abbrev pub IsFitting : LexemeForm → List ℕ → ℕ → ℕ → Type 0
 IsFitting LiteralForm text lo hi = ⊤
 IsFitting IdentifierForm text lo hi = IsTrue (xid_ok (chars text))
 IsFitting (DelimiterForm c) text lo hi = IsTrue (is_among delimiters c) × (hi ≡ lo + 1)
 IsFitting (MarkForm c) text lo hi = IsTrue (is_punct c)
 
--- one token more was read
+-- The builder `new` is the builder `old` with one more token, which has the form, text and byte range given.
 pub record TakesToken {A : Type 0} (old new : TreeBuilder A) (form : LexemeForm) (text : List ℕ)
     (lo hi : ℕ) : Type 0 where
   pub groups : after_form (groups_of old) form lo ≡ Some (groups_of new)
@@ -102,7 +107,8 @@ pub record TakesToken {A : Type 0} (old new : TreeBuilder A) (form : LexemeForm)
       ++ (flat_form form text (record { file = old.file; lo = lo; hi = hi }) ∷ [])
   pub file : new.file ≡ old.file
 
--- a closer that isn't that of the innermost open group; an opener with too many groups open
+-- Two conditions on a delimiter: that it is a closing delimiter which doesn't match the innermost open group, and that
+-- it is an opening delimiter where 128 groups are open already.
 abbrev pub ClosesWrong : List OpenGroup → LexemeForm → Type 0
 ClosesWrong groups (DelimiterForm c) = IsTrue (is_closer c && not (closes groups c))
 ClosesWrong groups _ = ⊥
@@ -111,7 +117,7 @@ abbrev pub OpensTooDeep : List OpenGroup → LexemeForm → Type 0
 OpensTooDeep groups (DelimiterForm c) = IsTrue (is_opener c) × (length groups ≡ 128)
 OpensTooDeep groups _ = ⊥
 
--- why a token of this form can't be read
+-- The kinds of error for a token that can't be added to a builder of token trees, with their conditions.
 abbrev pub RejectsForm : List OpenGroup → LexemeForm → LexKind → Type 0
 RejectsForm groups form UnmatchedClose = ClosesWrong groups form
 RejectsForm groups form TooDeep = OpensTooDeep groups form

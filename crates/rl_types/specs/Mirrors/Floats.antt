@@ -1,21 +1,22 @@
--- Mirrors of `float_range.rs`, on lists of characters.
+-- Executable models of `float_range.rs`, on lists of characters.
 use Rattle.std.specs.Prelude.{ℕ, ◌==◌, nat_lt, Bool, true, List, [], ◌∷◌, cond, IsTrue, IsFalse}
 use Rattle.std.specs.Char.{is_ascii_digit}
 use Rattle.std.specs.List.{list_all}
 use Prim.Native.Char.{code}
-use Rattle.rl_text.specs.Classes.{after_run}
+use Rattle.rl_syntax.specs.Classes.{after_run}
 
--- digits without leading zeros
+-- The digits without leading zeros.
 abbrev pub without_zeros : List ℕ → List ℕ
 without_zeros ds = after_run (λ d. d == code "0") ds
 
--- Digits aren't below others whose first one has the same power of ten.
+-- The number with the digits `digits` is at least the one with the digits of the second list. The first digits have the same
+-- power of ten.
 abbrev pub not_below : List ℕ → List ℕ → Bool
 not_below digits [] = true
 not_below [] (b ∷ bs) = cond (code "0" == b) (not_below [] bs) (nat_lt b (code "0"))
 not_below (d ∷ ds) (b ∷ bs) = cond (d == b) (not_below ds bs) (nat_lt b d)
 
--- digits, of which there are some, and the first is none of zero
+-- A non-empty list of digits, the first of which isn't zero.
 abbrev pub IsBound : List ℕ → Type 0
 IsBound [] = ⊥
 IsBound (d ∷ ds) = IsTrue (list_all is_ascii_digit (d ∷ ds)) × IsFalse (d == code "0")

@@ -1,10 +1,10 @@
-//! An example of `rl_attributes`: settings.
+//! Examples of `rl_attributes`: functions that read settings from a text.
 
 use rl_attributes::{Setting, read};
 use rust_literals::Lit;
 use std::alloc::Global;
 
-/// The string that a text sets a name to.
+/// Returns the string that the settings in `text` set `name` to.
 pub fn string_setting(alloc: Global, text: &str, name: &str) -> Option<String> {
     let attrs = read(alloc, text, 0).ok()?;
     match attrs.get(name)? {
@@ -13,7 +13,7 @@ pub fn string_setting(alloc: Global, text: &str, name: &str) -> Option<String> {
     }
 }
 
-/// The string that a text sets `host` to.
+/// Returns the string that the settings in `text` set `host` to, or `None` if they don't set it.
 pub fn host_of(alloc: Global, text: &str) -> Option<String> {
     let host = Setting {
         name: "host",
@@ -23,7 +23,7 @@ pub fn host_of(alloc: Global, text: &str) -> Option<String> {
     attrs.string(alloc, host).ok()?
 }
 
-/// The string that a text has to set `host` to.
+/// Returns the string that the settings in `text` set `host` to. The setting is required.
 pub fn host_in(alloc: Global, text: &str) -> Option<String> {
     let host = Setting {
         name: "host",
@@ -32,7 +32,8 @@ pub fn host_in(alloc: Global, text: &str) -> Option<String> {
     read(alloc, text, 0).ok()?.required_string(alloc, host).ok()
 }
 
-/// Where a text ends that sets no `host`.
+/// Returns the byte offset at which the missing setting `host` is reported, which is the end of `text`. Returns `None`
+/// if `text` sets `host`.
 pub fn missing_at(alloc: Global, text: &str) -> Option<usize> {
     let host = Setting {
         name: "host",

@@ -1,10 +1,10 @@
-//! Examples of `rl_tokens`: what comes next in a buffer of token trees, and errors.
+//! Examples of `rl_tokens`: functions that consume token trees from a parse buffer.
 
 use rl_tokens::{Error, ParseBuffer, Span, ToTokens, TokenStream, attempt, lex, parse_all};
 use rust_literals::LitInt;
 use std::alloc::Global;
 
-/// The integer that comes first in the group that a text begins with.
+/// Returns the first integer inside the group at the start of `text`.
 pub fn first_in_group(alloc: Global, text: &str) -> Option<u64> {
     let stream = lex(alloc, text, 0).ok()?;
     let mut input = ParseBuffer::new(stream.trees(), Span::call_site());
@@ -16,7 +16,7 @@ pub fn first_in_group(alloc: Global, text: &str) -> Option<u64> {
     number.base10_parse(alloc).ok()
 }
 
-/// The mark after the name that a text begins with.
+/// Returns the punctuation character after the name at the start of `text`.
 pub fn mark_after_name(alloc: Global, text: &str) -> Option<char> {
     let stream = lex(alloc, text, 0).ok()?;
     let mut input = ParseBuffer::new(stream.trees(), Span::call_site());
@@ -24,7 +24,8 @@ pub fn mark_after_name(alloc: Global, text: &str) -> Option<char> {
     Some(input.punct()?.as_char())
 }
 
-/// How many trees are left after `=` and an integer; all of them where one of the two is missing.
+/// Returns the number of token trees after `=` and an integer at the start of `text`, or the number of all token trees
+/// if one of the two is missing.
 pub fn trees_left(alloc: Global, text: &str) -> Option<usize> {
     let stream = lex(alloc, text, 0).ok()?;
     let mut input = ParseBuffer::new(stream.trees(), Span::call_site());
@@ -35,16 +36,16 @@ pub fn trees_left(alloc: Global, text: &str) -> Option<usize> {
     Some(input.rest().len())
 }
 
-/// The port that all of a text is.
+/// Parses the whole text `text` as a port, an integer of 16 bits.
 ///
 /// # Errors
 ///
-/// As [`parse_all`] reports them, or by the number type.
+/// Returns the errors of [`parse_all`], or the error of the number type `u16`.
 pub fn port(alloc: Global, text: &str) -> Result<u16, Error> {
     parse_all::<LitInt, Global>(alloc, text, 0)?.base10_parse(alloc)
 }
 
-/// How many trees an integer is as tokens.
+/// Returns the number of token trees that are appended to a stream for the integer `text`.
 pub fn trees_of(alloc: Global, text: &str) -> Option<usize> {
     let number = LitInt::new(alloc, text, Span::call_site()).ok()?;
     let mut stream = TokenStream::new(alloc);

@@ -1,72 +1,70 @@
-//! Examples of `rl_grammar`: what a text is, with no memory taken.
+//! Examples of `rl_grammar`: functions that examine one text. Most of them allocate nothing.
 
 use rl_grammar::strict::{Reading, is_token, read};
 use rl_grammar::{
-    Kind, SegmentValue, Segments, explain, explain_in_file, explain_limit, explain_signed,
-    explain_value, float_parts, integer_parts, is_plain, place_of, shape, str_of,
+    Kind, LineEnds, SegmentValue, Segments, explain, explain_value, float_parts, integer_parts,
+    is_plain, shape, str_of, text_offset,
 };
 use std::alloc::Global;
 
-/// Whether a text is a literal of Rust.
+/// Returns `true` if `text` is a literal of Rust.
 pub fn is_rust(text: &str) -> bool {
     is_token(text)
 }
 
-/// The integer that a text is, by Rust's own grammar.
+/// Returns the value of the integer literal `text`, by Rust's own grammar.
 pub fn integer_of(text: &str) -> Option<u128> {
-    match read(text) {
+    match read(text, LineEnds::Text, false) {
         Ok(Reading::Integer(magnitude, _)) => magnitude,
         _ => None,
     }
 }
 
-/// The suffix of the literal that a text is.
+/// Returns the suffix of the literal `text`.
 pub fn suffix_of(text: &str) -> Option<&str> {
     Some(shape(text)?.suffix)
 }
 
-/// The digits of the integer of base sixteen that a text is.
+/// Returns the digits of the hexadecimal integer literal `text`.
 pub fn digits_of_hex(text: &str) -> Option<&str> {
     let parts = integer_parts(text)?;
     (parts.radix == 16).then_some(parts.digits)
 }
 
-/// What stands after the letter of a float's exponent.
+/// Returns the text after the exponent's letter in the float literal `text`.
 pub fn exponent_of(text: &str) -> Option<&str> {
     float_parts(text)?.exponent
 }
 
-/// Why a text is no literal.
+/// Returns the reason why `text` isn't a literal of Rust.
 pub fn reason(text: &str) -> Option<&'static str> {
-    Some(explain(text)?.kind.words())
+    Some(explain(text)?.kind.message())
 }
 
-/// Whether a text is a literal of Rust, or a minus and a number.
+/// Returns `true` if `text` is a literal of Rust, or a minus and a number.
 pub fn is_value(text: &str) -> bool {
-    explain_signed(text).is_none()
+    read(text, LineEnds::Text, true).is_ok()
 }
 
-/// Whether a text is an integer past 128 bits.
-pub fn is_too_large(text: &str) -> bool {
-    explain_limit(text).is_some()
-}
-
-/// Why a text has no value in Rust.
+/// Returns the reason why the literal `text` has no value in Rust.
 pub fn why_no_value(text: &str) -> Option<&'static str> {
-    Some(explain_value(text)?.kind.words())
+    Some(explain_value(text, LineEnds::Text, true)?.kind.message())
 }
 
-/// Why the text of a literal in a file is none of Rust.
+/// Returns the reason why `text`, a literal in a file, isn't a literal of Rust. In a file, CR LF counts as LF.
 pub fn reason_in_file(text: &str) -> Option<&'static str> {
-    Some(explain_in_file(text)?.kind.words())
+    match read(text, LineEnds::File, false) {
+        Ok(_) => None,
+        Err(flaw) => Some(flaw.kind.message()),
+    }
 }
 
-/// Whether a text is a string without escapes.
+/// Returns `true` if `text` is a string literal whose decoded value equals the text between its quotes.
 pub fn is_plain_string(text: &str) -> bool {
     is_plain(Kind::Str, text)
 }
 
-/// What the string that a text is stands for.
+/// Returns the decoded value of the string literal `text`.
 pub fn contents(alloc: Global, text: &str) -> Option<String> {
     match shape(text)?.kind {
         Kind::Str => str_of(alloc, text).ok(),
@@ -74,7 +72,8 @@ pub fn contents(alloc: Global, text: &str) -> Option<String> {
     }
 }
 
-/// Where the first escape of a quoted literal stands, or the first line end of two characters or continuation.
+/// Returns the byte offset of the first escape of the quoted literal `text`. A line end of two characters and an
+/// escaped line end count as escapes.
 pub fn first_escape(text: &str) -> Option<usize> {
     for segment in Segments::of(text)? {
         if !matches!(segment.value, SegmentValue::Text(_)) {
@@ -84,7 +83,7 @@ pub fn first_escape(text: &str) -> Option<usize> {
     None
 }
 
-/// Where in a text the second byte of what it stands for comes from.
+/// Returns the byte offset in the quoted literal `text` from which the second byte of its decoded value comes.
 pub fn place_after_escape(text: &str) -> Option<usize> {
-    place_of(text, 1)
+    text_offset(text, 1)
 }

@@ -1,11 +1,11 @@
-//! Examples of `rust_literals`: literals of any kind, numbers, and lists.
+//! Examples of `rust_literals`: functions for literals of any kind, for numbers, and for all literals of a text.
 
-use rl_grammar::explain_value;
+use rl_grammar::{LineEnds, explain_value};
 use rl_tokens::{Literal, Span, Tokens};
 use rust_literals::{Lit, LitFloat, Literals, read_all, read_next};
 use std::alloc::Global;
 
-/// The number of the byte, the character or the truth value that a text is.
+/// Returns the value of the byte, character or `bool` literal `text` as a number.
 pub fn code_of(alloc: Global, text: &str) -> Option<u32> {
     let token = Literal::from_text(alloc, text, Span::call_site()).ok()?;
     match Lit::new(alloc, token).ok()? {
@@ -16,7 +16,7 @@ pub fn code_of(alloc: Global, text: &str) -> Option<u32> {
     }
 }
 
-/// The digits of a float in base ten; the text where it is none.
+/// Returns the digits of the float literal `text` in base ten, or `text` itself if it isn't a float literal.
 pub fn digits_or_text(alloc: Global, text: &str) -> Option<String> {
     let token = Literal::from_text(alloc, text, Span::call_site()).ok()?;
     match LitFloat::from_token(alloc, token) {
@@ -25,15 +25,16 @@ pub fn digits_or_text(alloc: Global, text: &str) -> Option<String> {
     }
 }
 
-/// Why the first literal of a list has no reading, and at which byte.
+/// Returns the reason why the first literal of `text` has no value in Rust, and the byte offset of its invalid part.
+/// Returns `None` if the literal has a value.
 pub fn first_flaw(alloc: Global, text: &str) -> Option<(&'static str, usize)> {
     let literals = read_all(alloc, text, 0).ok()?;
     let literal = literals.as_slice().first()?;
-    let flaw = explain_value(literal.text())?;
-    Some((flaw.kind.words(), flaw.in_span(literal.span()).lo))
+    let flaw = explain_value(literal.text(), LineEnds::Text, true)?;
+    Some((flaw.kind.message(), flaw.in_span(literal.span()).lo))
 }
 
-/// What stands after the literal that a text begins with.
+/// Returns the text after the literal at the start of `text`.
 pub fn after_literal(alloc: Global, text: &str) -> Option<&str> {
     let mut tokens = Tokens::new(text);
     let mut list: Vec<Lit> = Vec::new(alloc);
@@ -41,7 +42,7 @@ pub fn after_literal(alloc: Global, text: &str) -> Option<&str> {
     is_read.then_some(tokens.rest())
 }
 
-/// The contents of the second literal of a text, if it is a string.
+/// Returns the decoded value of the second literal of `text`, if it is a string.
 pub fn second_string(alloc: Global, text: &str) -> Option<String> {
     let mut literals = Literals::new(alloc, text, 0);
     literals.next().ok()?;

@@ -1,17 +1,17 @@
-//! Examples of `rl_tokens`: parsers of one's own.
+//! Examples of `rl_tokens`: parsers that a caller implements.
 
 use rl_tokens::{Error, Parse, ParseBuffer, Parser, parse_all};
 use rust_literals::{LitInt, LitStr};
 use std::alloc::Global;
 
-/// A number that is set, as `= 80`.
+/// An equals sign and an integer literal, as in `= 80`.
 #[derive(Drop)]
 pub struct Value(LitInt);
 
 impl Parse<Global> for Value {
     ghost use Rattle.std.specs.Prelude.{⊤};
 
-    // The contract says nothing of the value.
+    // The contract promises nothing about the value.
     ghost runs = { λ trees scope answer rest. ⊤ };
 
     fn parse(alloc: Global, input: &mut ParseBuffer<'_>) -> Result<Value, Error> {
@@ -21,17 +21,17 @@ impl Parse<Global> for Value {
     }
 }
 
-/// The number that a text sets.
+/// Returns the integer after the equals sign in `text`, as in `= 80`.
 ///
 /// # Errors
 ///
-/// As [`parse_all`] reports them, or by the number type.
+/// Returns the errors of [`parse_all`], or the error of the number type `u16`.
 pub fn set_value(alloc: Global, text: &str) -> Result<u16, Error> {
     let value = parse_all::<Value, Global>(alloc, text, 0)?;
     value.0.base10_parse(alloc)
 }
 
-/// Takes a mark.
+/// A parser of one punctuation character.
 #[derive(Drop)]
 pub struct Mark;
 
@@ -40,7 +40,7 @@ impl Parser<Global> for Mark {
 
     type Output = char;
 
-    // The contract says nothing of the mark.
+    // The contract promises nothing about the character.
     ghost runs = { λ parser trees scope answer rest. ⊤ };
 
     fn parse(self, _alloc: Global, input: &mut ParseBuffer<'_>) -> Result<char, Error> {
@@ -51,7 +51,7 @@ impl Parser<Global> for Mark {
     }
 }
 
-/// The mark in the string that a text is.
+/// Returns the punctuation character that is the decoded value of the string literal `text`.
 pub fn mark_in_string(alloc: Global, text: &str) -> Option<char> {
     let string = parse_all::<LitStr, Global>(alloc, text, 0).ok()?;
     string.parse_with(alloc, Mark).ok()

@@ -1,11 +1,12 @@
-//! Examples of `rl_quoted`: quoted literals, and what they stand for.
+//! Examples of `rl_quoted`: functions for quoted literals and their decoded values.
 
 use rl_quoted::{LitByteStr, LitCStr, LitStr};
 use rl_tokens::{ByParse, Span, parse_all};
 use rust_literals::Lit;
 use std::alloc::Global;
 
-/// What a string stands for; it is decoded only where it has escapes.
+/// Returns the value of the string literal `text`. The literal is decoded only if its value differs from the text
+/// between its quotes.
 pub fn string_value(alloc: Global, text: &str) -> Option<String> {
     let literal = parse_all::<LitStr, Global>(alloc, text, 0).ok()?;
     match literal.value_ref() {
@@ -14,13 +15,14 @@ pub fn string_value(alloc: Global, text: &str) -> Option<String> {
     }
 }
 
-/// A value as a string literal.
+/// Returns the text of the string literal that represents `value`.
 pub fn string_of(alloc: Global, value: &str) -> Option<String> {
     let literal = LitStr::new(alloc, value, Span::call_site()).ok()?;
     String::from_str(alloc, literal.text()).ok()
 }
 
-/// How many bytes a byte string stands for; it is decoded only where it has escapes.
+/// Returns the number of bytes in the value of the byte string literal `text`. The literal is decoded only if its value
+/// differs from the text between its quotes.
 pub fn bytes_len(alloc: Global, text: &str) -> Option<usize> {
     let literal = parse_all::<LitByteStr, Global>(alloc, text, 0).ok()?;
     match literal.value_ref() {
@@ -29,13 +31,14 @@ pub fn bytes_len(alloc: Global, text: &str) -> Option<usize> {
     }
 }
 
-/// How many bytes a C string stands for.
+/// Returns the number of bytes in the value of the C string literal `text`.
 pub fn c_string_len(alloc: Global, text: &str) -> Option<usize> {
     let literal = parse_all::<LitCStr, Global>(alloc, text, 0).ok()?;
     Some(literal.value(alloc).ok()?.as_bytes().len())
 }
 
-/// Where in its file the first brace of a string stands.
+/// Returns the byte offset in the file from which the first opening brace in the value of the string literal `text`
+/// comes.
 pub fn brace_in_file(alloc: Global, text: &str) -> Option<usize> {
     let literal = parse_all::<LitStr, Global>(alloc, text, 0).ok()?;
     let value = literal.value(alloc).ok()?;
@@ -43,7 +46,7 @@ pub fn brace_in_file(alloc: Global, text: &str) -> Option<usize> {
     Some(literal.span_of(at, at + 1).lo())
 }
 
-/// Where in its file the literal inside a string stands, or what is wrong with it.
+/// Returns the span in the file of the literal inside the string literal `text`, or of the error inside it.
 pub fn literal_in_file(alloc: Global, text: &str) -> Option<Span> {
     let literal = parse_all::<LitStr, Global>(alloc, text, 0).ok()?;
     match literal.parse_in_file(alloc, ByParse::<Lit>::new()) {

@@ -1,4 +1,4 @@
-//! Examples of `rl_tokens`: spans, tokens, and texts that are cut into them.
+//! Examples of `rl_tokens`: functions that use spans, tokens and the lexer.
 
 use rl_tokens::ident::xid_ok;
 use rl_tokens::{
@@ -6,24 +6,24 @@ use rl_tokens::{
 };
 use std::alloc::Global;
 
-/// The bytes of a text that a span names.
+/// Returns the part of `text` in the byte range of `span`.
 pub fn text_at(text: &str, span: Span) -> Option<&str> {
     text.get(span.lo..span.hi)
 }
 
-/// The second token of a text.
+/// Returns the second token of `text`.
 pub fn second_token(text: &str) -> Option<&str> {
     let mut tokens = Tokens::new(text);
     tokens.next()?;
     Some(tokens.next()?.text)
 }
 
-/// Why a text begins with no token.
+/// Returns the reason why `text` doesn't begin with a token.
 pub fn no_token(text: &str) -> Option<LexKind> {
     Some(Tokens::new(text).error()?.kind)
 }
 
-/// The doc comment that a source begins with.
+/// Returns the doc comment at the start of the source text `source`.
 pub fn first_docs(source: &str) -> Option<&str> {
     let token = Sources::new(source).next()?;
     match token.form {
@@ -32,7 +32,8 @@ pub fn first_docs(source: &str) -> Option<&str> {
     }
 }
 
-/// The places of the literals and the errors of a source, which is taken up in the line after each error.
+/// Returns the byte offsets of all literals and all errors of the source text `source`. After each error, lexing
+/// resumes in the next line.
 pub fn all_places(alloc: Global, source: &str) -> Option<Vec<usize>> {
     let mut places = Vec::new(alloc);
     let mut lines = source;
@@ -52,17 +53,17 @@ pub fn all_places(alloc: Global, source: &str) -> Option<Vec<usize>> {
     }
 }
 
-/// The text after the white space and the comments that it begins with.
+/// Returns the part of `text` after the white space and the comments at its start.
 pub fn after_comments(text: &str) -> &str {
     whitespace::skip(text)
 }
 
-/// Whether a text can be an identifier.
+/// Returns `true` if `text` can be an identifier.
 pub fn is_name(text: &str) -> bool {
     xid_ok(text)
 }
 
-/// What encloses the group that a text begins with.
+/// Returns the delimiters of the group at the start of `text`.
 pub fn first_delimiter(alloc: Global, text: &str) -> Option<Delimiter> {
     let stream = lex(alloc, text, 0).ok()?;
     match stream.trees().first()? {

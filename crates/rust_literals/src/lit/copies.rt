@@ -1,4 +1,4 @@
-//! Copies of literals, their equality and hash, and how they are printed.
+//! Methods of `Lit` that copy, compare, hash and print a literal, and append it to a token stream.
 
 ghost use Rattle.std.specs.Fmt.{padded};
 ghost use Rattle.std.specs.Prelude.{◌≡◌, ◌++◌, ◌∷◌, [], IfOk, IfErr, OnOk, OnErr, Some};
@@ -21,18 +21,18 @@ ghost use Rattle.rust_literals.specs.Literals.{kind_of};
 ghost use Rattle.rust_literals.specs.LitParts.{lit_span};
 
 use crate::lit::Lit;
-use rl_forms::Kind;
+use rl_syntax::Kind;
 use rl_tokens::{Error, Kept, Literal, Span, ToTokens, TokenStream, TokenTree};
 use std::alloc::Allocator;
 use std::fmt;
 use std::hash::{Hash, Hasher};
 
 impl<A: Allocator> Lit<A> {
-    /// The literal once more, with its memory from this allocator.
+    /// Returns a copy of the literal, in memory from `alloc`.
     ///
     /// # Errors
     ///
-    /// `Memory` at the literal's span.
+    /// Returns `Memory` at the literal's span if an allocation fails.
     pub fn clone<B: Allocator + Copy>(&self, alloc: B) -> Result<Lit<B>, Error<B>>
         ensures ok { IfOk result (IsCopyOf self.now) }
         ensures memory { IfErr result (λ e. e ≡ memory_at (lit_span self.now)) }
@@ -50,7 +50,7 @@ impl<A: Allocator> Lit<A> {
         })
     }
 
-    /// Which variant it is, by its place among them.
+    /// Returns the index of the literal's variant in `Lit`, counted from 0.
     fn variant(&self) -> u8
         ensures { result ≡ variant_of self.now }
     {
@@ -61,8 +61,8 @@ impl<A: Allocator> Lit<A> {
     }
 }
 
-/// Equal where the kinds and the texts are: `0xF` isn't `15`, and `1f64` as an integer isn't `1f64` as a float. Spans
-/// are ignored.
+/// Two literals are equal if their kinds and their texts as written are equal: `0xF` isn't equal to `15`, and `1f64` as
+/// an integer isn't equal to `1f64` as a float. Spans are ignored.
 impl<A: Allocator> PartialEq for Lit<A> {
     ghost eq = { is_equal };
 
@@ -77,7 +77,7 @@ impl<A: Allocator> Eq for Lit<A> {
     ghost laws = { is_equal_equiv };
 }
 
-/// By the kind and the text.
+/// The hash of a literal depends on its kind and its text.
 impl<A: Allocator> Hash for Lit<A> {
     ghost hash_input = { λ l. fed.u8 (variant_of l) ++ fed.str (text_of l) };
 
@@ -89,7 +89,7 @@ impl<A: Allocator> Hash for Lit<A> {
     }
 }
 
-/// The literal's text; a width pads it, as it pads a `str`.
+/// Writes the literal's text as written. A width in the format pads the text, as it pads a `str`.
 impl<A: Allocator> fmt::Display for Lit<A> {
     ghost output = { λ l. Some (text_of l) };
 
@@ -100,7 +100,8 @@ impl<A: Allocator> fmt::Display for Lit<A> {
     }
 }
 
-/// What the literal's own type prints; of `Verbatim` the token's text between the name and braces.
+/// Writes the debug output of the variant's own type, for example of `LitStr`. For `Verbatim` it is the name
+/// `Verbatim`, and the token's text in braces.
 impl<A: Allocator> fmt::Debug for Lit<A> {
     ghost debug_output = { λ l. Some (debug_text (kind_of l) (text_of l)) };
 
@@ -117,8 +118,8 @@ impl<A: Allocator> fmt::Debug for Lit<A> {
     }
 }
 
-/// Puts a literal token with this text and span last. Where an allocation fails, the stream stays, and that is
-/// reported at the span.
+/// Appends a literal token with the text `text` and the span `span` to the stream `tokens`. If an allocation fails, the
+/// stream is unchanged, and the error is at the span.
 fn append_text<A: Allocator>(
     alloc: A,
     text: &str,
@@ -137,7 +138,7 @@ fn append_text<A: Allocator>(
     }
 }
 
-/// The token as it stands; of a truth value its word.
+/// Appends the literal's token to a token stream. For a `bool` literal it is the identifier `true` or `false`.
 impl<A: Allocator> ToTokens for Lit<A> {
     ghost appends = { λ l. tree_of l ∷ [] };
 

@@ -1,4 +1,4 @@
-//! Copies of truth values, their equality and hash, and how they are printed.
+//! Methods of `LitBool` that copy, compare, hash and print a literal, and append it to a token stream.
 
 ghost use Rattle.std.specs.Fmt.{padded};
 ghost use Rattle.std.specs.Prelude.{◌≡◌, ◌++◌, ◌∷◌, [], Ok, IfErr, OnOk, OnErr, Some, codes};
@@ -9,7 +9,7 @@ ghost use Rattle.std.specs.Ordering.{on};
 ghost use Rattle.std.specs.Bool.{beq};
 ghost use Rattle.std.proofs.Common.{rules};
 ghost use Rattle.rl_tokens.specs.Errors.{memory_at};
-ghost use Rattle.rl_forms.specs.Reading.{truth_text};
+ghost use Rattle.rl_syntax.specs.Reading.{truth_text};
 ghost use Rattle.rl_tokens.specs.Trees.{IdentTree, stream_view};
 
 use crate::lit_bool::{LitBool, word};
@@ -19,11 +19,11 @@ use std::fmt;
 use std::hash::{Hash, Hasher};
 
 impl LitBool {
-    /// The truth value once more. It takes no memory, so it never fails.
+    /// Returns a copy of the literal. Nothing is allocated, so the function never fails.
     ///
     /// # Errors
     ///
-    /// None: the result is always `Ok`.
+    /// Returns no error: the result is always `Ok`.
     pub fn clone<B: Allocator>(&self, _alloc: B) -> Result<LitBool, Error<B>>
         ensures { result ≡ Ok self.now }
     {
@@ -34,7 +34,7 @@ impl LitBool {
     }
 }
 
-/// Equal where the truth values are; spans are ignored.
+/// Two `bool` literals are equal if their values are equal. Spans are ignored.
 impl PartialEq for LitBool {
     ghost eq = { on (λ l. l.value) beq };
 
@@ -49,7 +49,7 @@ impl Eq for LitBool {
     ghost laws = { on_equiv (λ l. l.value) bool_eq_equiv };
 }
 
-/// By the truth value alone.
+/// The hash of a `bool` literal depends on its value only.
 impl Hash for LitBool {
     ghost hash_input = { λ l. fed.bool l.value };
 
@@ -60,7 +60,7 @@ impl Hash for LitBool {
     }
 }
 
-/// The word; a width pads it, as it pads a `str`.
+/// Writes `true` or `false`. A width in the format pads the text, as it pads a `str`.
 impl fmt::Display for LitBool {
     ghost output = { λ l. Some (truth_text l.value) };
 
@@ -71,7 +71,7 @@ impl fmt::Display for LitBool {
     }
 }
 
-/// The truth value between the name and braces.
+/// Writes the type's name, and the value in braces: `LitBool { value: true }`.
 impl fmt::Debug for LitBool {
     ghost debug_output = { λ l. Some (codes "LitBool { value: " ++ truth_text l.value
         ++ codes " }") };
@@ -82,7 +82,7 @@ impl fmt::Debug for LitBool {
     }
 }
 
-/// The word, as an identifier.
+/// Appends the identifier `true` or `false` to a token stream.
 impl ToTokens for LitBool {
     ghost appends = { λ l. IdentTree (record { text = truth_text l.value; span = l.span }) ∷ [] };
 

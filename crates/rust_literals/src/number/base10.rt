@@ -1,4 +1,4 @@
-//! Number types that are made from the digits of a number.
+//! The conversion of a number literal to a value of a Rust type as `u8` or `f64`.
 
 ghost use Rattle.std.specs.Prelude.{IfOk, IfErr};
 ghost use Rattle.rust_literals.specs.Base10.{AreBase10Digits, IsMadeOf, IsRejectedBy, IsReported};
@@ -9,8 +9,8 @@ use std::alloc::Allocator;
 use std::fmt::Display;
 use std::str::FromStr;
 
-/// A number type's error in its own words, reported at a span; an allocation failure for the words
-/// is reported there too.
+/// Returns an error at `span` whose message is that of a number type's own error, `error`. If an allocation fails for
+/// the message, the result is `Memory` at `span`.
 fn reported<F: Display, B: Allocator>(alloc: B, error: &F, span: Span) -> Error<B>
     ensures { IsReported (F.output error.now) span result }
 {
@@ -24,15 +24,16 @@ fn reported<F: Display, B: Allocator>(alloc: B, error: &F, span: Span) -> Error<
 }
 
 impl<K: NumberKind, A: Allocator> Number<K, A> {
-    /// The number that the type makes of the digits, by its own `from_str`: of `0xFF` as a `u8`
-    /// 255.
+    /// Converts the number to a value of the type `N`: `N::from_str` parses the number's digits in base ten. `0xFF` as
+    /// a `u8` is 255.
     ///
     /// See the example of [`parse_all`].
     ///
     /// # Errors
     ///
-    /// The type's error is reported at the span, as `Number` in the error's own words; an allocation
-    /// failure for these is reported there too, and so is an error that can't be put into words.
+    /// Returns the error of `N::from_str` at the number's span, as `ErrorKind::Number` with the error's own message. If
+    /// an allocation fails for the message, the result is `Memory` at the number's span. If the error can't be
+    /// displayed, the result is an error at that span too.
     pub fn base10_parse<N: FromStr, B: Allocator>(&self, alloc: B) -> Result<N, Error<B>>
     where
         N::Err: Display + Drop,

@@ -1,4 +1,4 @@
-//! Copies of numbers, their equality and hash, and how they are printed.
+//! Methods of `Number` that copy, compare, hash and print a number, and append it to a token stream.
 
 ghost use Rattle.std.specs.Prelude.{◌≡◌, ◌==◌, ◌++◌, ◌∷◌, [], IfOk, IfErr, OnOk, OnErr, Some, codes, option_map, string_bytes};
 ghost use Rattle.std.specs.Cmp.{partial_equiv_from_equiv, on_equiv};
@@ -9,7 +9,7 @@ ghost use Rattle.std.specs.Ordering.{on};
 ghost use Rattle.std.proofs.Common.{rules};
 ghost use Rattle.rl_tokens.specs.Errors.{memory_at};
 ghost use Rattle.rl_tokens.specs.Trees.{LiteralTree, stream_view};
-ghost use Rattle.rl_forms.specs.Words.{kind_name};
+ghost use Rattle.rl_syntax.specs.Words.{kind_name};
 
 use crate::number::{Number, NumberKind};
 use rl_tokens::{Error, ToTokens, TokenStream, append_literal};
@@ -18,7 +18,7 @@ use std::fmt;
 use std::hash::{Hash, Hasher};
 use std::marker::PhantomData;
 
-/// The text once more, where there is one.
+/// Returns a copy of the string in `text`, or `None` if there is none.
 fn copy_of<A: Allocator, B: Allocator>(
     alloc: B,
     text: &Option<String<A>>,
@@ -33,12 +33,12 @@ fn copy_of<A: Allocator, B: Allocator>(
 }
 
 impl<K: NumberKind, A: Allocator> Number<K, A> {
-    /// The literal once more, with its memory from this allocator: for the token, and for the
-    /// digits where they aren't borrowed from it.
+    /// Returns a copy of the number, in memory from `alloc`. Memory is needed for the token, and for the digits in base
+    /// ten unless they are borrowed from the token's text.
     ///
     /// # Errors
     ///
-    /// `Memory` at the literal's span.
+    /// Returns `Memory` at the literal's span if an allocation fails.
     pub fn clone<B: Allocator + Copy>(&self, alloc: B) -> Result<Number<K, B>, Error<B>>
         ensures ok { IfOk result (λ l. l ≡ self.now) }
         ensures memory { IfErr result (λ e. e ≡ memory_at self.now.span) }
@@ -59,7 +59,8 @@ impl<K: NumberKind, A: Allocator> Number<K, A> {
     }
 }
 
-/// Equal where the texts are: `0xF` isn't `15`, and `1.0` isn't `1.00`. Spans are ignored.
+/// Two number literals are equal if their texts as written are equal: `0xF` isn't equal to `15`, and `1.0` isn't equal
+/// to `1.00`. Spans are ignored.
 impl<K: NumberKind, A: Allocator> PartialEq for Number<K, A> {
     ghost eq = { on (λ l. l.text) (pointwise ◌==◌) };
 
@@ -74,7 +75,7 @@ impl<K: NumberKind, A: Allocator> Eq for Number<K, A> {
     ghost laws = { on_equiv (λ l. l.text) nat_list_eq_equiv };
 }
 
-/// By the text alone.
+/// The hash of a number depends on its text only.
 impl<K: NumberKind, A: Allocator> Hash for Number<K, A> {
     ghost hash_input = { λ l. fed.str l.text };
 
@@ -85,7 +86,7 @@ impl<K: NumberKind, A: Allocator> Hash for Number<K, A> {
     }
 }
 
-/// The token's text between the name and braces.
+/// Writes the type's name, and the number's text in braces, as in `LitInt { token: 1 }`.
 impl<K: NumberKind, A: Allocator> fmt::Debug for Number<K, A> {
     ghost debug_output = { λ l. Some (kind_name K.KIND ++ codes " { token: " ++ l.text
         ++ codes " }") };
@@ -97,7 +98,7 @@ impl<K: NumberKind, A: Allocator> fmt::Debug for Number<K, A> {
     }
 }
 
-/// The token as it stands.
+/// Appends the number's token to a token stream.
 impl<K: NumberKind, A: Allocator> ToTokens for Number<K, A> {
     ghost appends = { λ l. LiteralTree l ∷ [] };
 

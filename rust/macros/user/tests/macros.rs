@@ -1,13 +1,13 @@
-//! Literals as rustc hands them to procedural macros.
+//! Tests of literals that rustc passes to procedural macros.
 
 use navyspindle_macros::{
-    again, byte_errors, hex_bytes, joined_slashes, literals, made_errors, named, placed, settings,
-    slow_calls, strings, strings_errors, sum, sum_error, written,
+    again, byte_errors, hex_bytes, joined_slashes, literals, made_errors, named, placed, printed,
+    settings, slow_calls, strings, strings_errors, sum, sum_error, text, written,
 };
 use std::ffi::CStr;
 use std::fmt::Debug;
 
-/// Passes a literal on, in a group without delimiters.
+/// Passes a literal on to a macro, in a group without delimiters.
 macro_rules! passed {
     ($name:ident: $($e:literal),*) => {
         $name!($($e),*)
@@ -42,7 +42,7 @@ fn with_a_minus() {
     assert_eq!(found.map(|it| it.2), ["-1", "-2.5f32", "-0xFF_u8"]);
 }
 
-/// Floats by their suffix, past 128 bits.
+/// Integers above 128 bits that are floats by their suffix.
 #[test]
 fn large_floats() {
     let found = literals!(
@@ -82,6 +82,38 @@ fn values() {
 }
 
 #[test]
+fn tokens_are_written_as_the_literal() {
+    let texts = [
+        printed!(1_000),
+        printed!(0x_Fu8),
+        printed!(1_0.5e+1_0),
+        printed!("\x41"),
+        printed!(r#"a"#),
+        printed!(true),
+    ];
+    assert_eq!(
+        texts,
+        [
+            "1_000",
+            "0x_Fu8",
+            "1_0.5e+1_0",
+            "\"\\x41\"",
+            "r#\"a\"#",
+            "true"
+        ]
+    );
+}
+
+#[test]
+fn texts_of_tokens() {
+    assert_eq!(
+        text!(a = [1, "b"], {'c} (x)),
+        "a = [ 1 , \"b\" ] , { 'c } ( x ) "
+    );
+    assert_eq!(text!(), "");
+}
+
+#[test]
 fn errors() {
     assert_eq!(
         sum_error!(1, 'a'),
@@ -92,13 +124,13 @@ fn errors() {
     assert_eq!(sum_error!(--1), "expected literal");
     assert_eq!(
         sum_error!(-340282366920938463463374607431768211456),
-        "integer past 128 bits"
+        "integer above 128 bits"
     );
     assert_eq!(sum_error!(word), "expected literal");
     assert_eq!(sum_error!((1)), "expected literal");
     assert_eq!(
         sum_error!(1u9, 99999999999999999999999999999999999999999),
-        "integer past 128 bits"
+        "integer above 128 bits"
     );
     assert_eq!(
         sum_error!(340282366920938463463374607431768211455),
@@ -106,7 +138,7 @@ fn errors() {
     );
 }
 
-/// A group without delimiters has its own minus, or more than a literal.
+/// A group without delimiters that is invalid, because it has a minus of its own or contains more than a literal.
 #[test]
 fn errors_inside_of_groups() {
     macro_rules! negative {
@@ -199,7 +231,7 @@ fn errors_after_a_minus_have_its_place_too() {
     let [(message, first, last)] = strings_errors!(-"a");
     assert_eq!(message, "expected a number after the minus");
     assert_eq!((first, last), ("-", "\"a\""));
-    // The number is no literal by itself.
+    // The number without its minus isn't a literal either.
     let [(_, first, last)] = strings_errors!(-340282366920938463463374607431768211456);
     assert_eq!(
         (first, last),
@@ -210,7 +242,7 @@ fn errors_after_a_minus_have_its_place_too() {
     );
 }
 
-/// What is written for values, as rustc reads it: the same as what its own writers write.
+/// rustc reads the literals that the package writes as the same values as those that its own functions write.
 #[test]
 #[allow(clippy::all, clippy::pedantic)]
 fn written_values() {
@@ -266,9 +298,12 @@ fn errors_of_settings() {
     assert_eq!(settings!(a = 1 b = 2), ("expected `,`", "b", "b"));
     assert_eq!(settings!(a = (1, [2])), ("expected literal", "(", ")"));
     assert_eq!(settings!(a == 1), ("expected literal", "=", "="));
-    // They are no comment: nothing after them is lost.
+    // The two slashes aren't read as a comment, so no token after them is lost.
     assert_eq!(joined_slashes!(), "expected identifier");
-    assert_eq!(settings!(a = 'b).0, "lifetime");
+    assert_eq!(
+        settings!(a = 'b).0,
+        "unexpected lifetime: a string has double quotes"
+    );
     assert_eq!(
         settings!(a),
         ("unexpected end of input, expected `=`", "a", "a")

@@ -1,5 +1,5 @@
-//! An allocator whose chosen allocations fail, and which counts the blocks that are held. It stands for that of crates/rl_failing,
-//! which is `unsafe`.
+//! An allocator for tests, in which chosen allocations fail. It also counts the allocated blocks. It replaces the allocator of
+//! crates/rl_rows, which is `unsafe`.
 
 use crate::rattle_std::alloc::Allocator;
 use core::cell::Cell;
@@ -26,21 +26,21 @@ impl<B: Allocator> Failing<B> {
         }
     }
 
-    /// The allocations from the first to the last of these fail from now on, where the next one is 1.
+    /// Makes the allocations from number `first` to number `last` fail from now on. The next allocation has number 1.
     pub fn fail(&self, first: u64, last: u64) {
         self.first.set(first);
         self.last.set(last);
         self.asked.set(0);
     }
 
-    /// None fails from now on. How many were asked for since `fail`.
+    /// Makes no allocation fail from now on. Returns the number of allocations that were requested since the call of `fail`.
     pub fn succeed(&self) -> u64 {
         let asked = self.asked.get();
         self.fail(1, 0);
         asked
     }
 
-    /// How many blocks were taken and haven't come back: those of lists, texts, sets and maps.
+    /// Returns the number of blocks of lists, texts, sets and maps that were allocated and not yet freed.
     pub fn held(&self) -> u64 {
         self.held.get()
     }

@@ -1,4 +1,4 @@
-//! `rl_rows`, the program for development, translated when it is built; and generated texts.
+//! The library of the development program `rl_rows`, translated from Rattle by build.rs, and the generators of test texts.
 #![forbid(unsafe_code)]
 
 pub mod failing;
@@ -6,8 +6,10 @@ pub mod settings;
 pub mod texts;
 include!(concat!(env!("OUT_DIR"), "/modules.rs"));
 
-use navyspindle::rendered::{rl_forms, rl_lexer, rl_reading, rl_style, rl_writing};
+use navyspindle::rendered::{
+    rl_lenient, rl_lexer, rl_recovery, rl_settings, rl_strict, rl_style, rl_syntax, rl_writing,
+};
 use navyspindle_programs::{
-    rattle_std, rl_attributes, rl_commands, rl_grammar, rl_lines, rl_program, rl_quoted,
-    rl_sources, rl_tokens, rust_literals,
+    rattle_std, rl_attributes, rl_commands, rl_grammar, rl_program, rl_quoted, rl_sources,
+    rl_tokens, rust_literals,
 };

@@ -1,4 +1,4 @@
-//! Generated texts of settings. Each is put together from parts, so that its reading is known without a reader.
+//! Generates texts of settings. Each text is assembled from parts, so its expected parse result is known without a parser.
 
 use crate::texts::Random;
 use std::fmt::Write;
@@ -19,7 +19,7 @@ const NAMES: &[&str] = &[
     "maximum_size_of_b",
 ];
 
-/// Literals, each with its text without white space and comments after the minus.
+/// Literals. The second text is the literal without white space and comments after its minus.
 const VALUES: &[(&str, &str)] = &[
     ("1", "1"),
     ("-0", "-0"),
@@ -52,7 +52,7 @@ const GAPS: &[&str] = &[
     "/*(*/",
 ];
 
-/// Token trees that aren't a name, `=`, a literal or a comma. The number is the length of what follows the first tree.
+/// Token trees that aren't a name, `=`, a literal or a comma. The number is the length of the text after the first token tree.
 const NO_NAMES: &[&str] = &["1", "\"a\"", "(a, b)", "[{} ()]", "-", ",", "=", "'a'"];
 const NO_EQUALS: &[&str] = &[":", "(=)", "b", "\"a\"", "-", "1", ",", "{}"];
 const NO_VALUES: &[(&str, usize)] = &[
@@ -69,27 +69,32 @@ const NO_COMMAS: &[&str] = &[";", "(,)", "b", "1", "'a'", "=", "[ , ]"];
 
 /// Texts that the lexer rejects, with the error's position and length in the text (0: up to its end), and its message.
 const REJECTED: &[(&str, usize, usize, &str)] = &[
-    ("\"a", 0, 0, "quoted literal isn't closed"),
-    ("r#\"a\"", 0, 0, "quoted literal isn't closed"),
-    ("/* a", 0, 0, "block comment isn't closed"),
-    ("'a", 0, 2, "lifetime"),
-    ("r#a", 0, 3, "raw identifier"),
-    ("\\", 0, 1, "character that begins no token"),
-    ("/// a", 0, 5, "doc comment"),
+    ("\"a", 0, 0, "unclosed quote"),
+    ("r#\"a\"", 0, 0, "unclosed quote"),
+    ("/* a", 0, 0, "unclosed block comment"),
+    (
+        "'a",
+        0,
+        2,
+        "unexpected lifetime: a string has double quotes",
+    ),
+    ("r#a", 0, 3, "unexpected raw identifier"),
+    ("\\", 0, 1, "stray character"),
+    ("/// a", 0, 5, "unexpected doc comment"),
     (")", 0, 1, "unmatched closing delimiter"),
     ("({)", 2, 1, "unmatched closing delimiter"),
     ("[(]", 2, 1, "unmatched closing delimiter"),
-    ("{[(", 2, 1, "group isn't closed"),
-    ("({}[]", 0, 1, "group isn't closed"),
+    ("{[(", 2, 1, "unclosed group"),
+    ("({}[]", 0, 1, "unclosed group"),
 ];
 
-/// A text of settings, and its reading: a line for each setting, or the error.
+/// A text of settings, and its expected parse result: a line for each setting, or the error.
 pub struct Made {
     pub text: String,
     pub answer: String,
 }
 
-/// The part of a setting that is wrong.
+/// The part of a generated setting that is wrong.
 #[derive(Clone, Copy, PartialEq)]
 enum Missed {
     Nothing,
@@ -105,14 +110,14 @@ impl Made {
         self.text += r.of(GAPS);
     }
 
-    /// Appends a part, and returns its range.
+    /// Appends a part to the text, and returns the part's byte range.
     fn part(&mut self, part: &str) -> (usize, usize) {
         let lo = self.text.len();
         self.text += part;
         (lo, self.text.len())
     }
 
-    /// Makes an error the answer. More settings may follow it.
+    /// Sets the expected result to an error. The text may continue with more settings.
     fn fails(&mut self, r: &mut Random, (lo, hi): (usize, usize), words: &str) {
         self.answer = format!("{words} at {lo}..{hi}\n");
         if r.below(2) == 0 {
@@ -120,7 +125,7 @@ impl Made {
         }
     }
 
-    /// Appends a token tree where another part is expected, or ends the text there.
+    /// Appends a token tree in place of the expected part `word`, or ends the text there.
     fn misses(&mut self, r: &mut Random, tree: &str, others: usize, word: &str) {
         if r.below(4) == 0 {
             self.gap(r);
@@ -133,7 +138,7 @@ impl Made {
         self.fails(r, (lo, hi - others), &format!("expected {word}"));
     }
 
-    /// Appends a setting, in which a part may be wrong. Returns whether more settings may follow.
+    /// Appends a setting, one part of which may be wrong. Returns whether more settings may follow.
     fn setting(&mut self, r: &mut Random, names: &mut Vec<&'static str>, missed: Missed) -> bool {
         if missed == Missed::Name {
             let place = self.part(r.of(NO_NAMES));
@@ -179,7 +184,7 @@ impl Made {
         true
     }
 
-    /// Appends a text that the lexer rejects. Its error is the answer, whatever precedes it.
+    /// Appends a text that the lexer rejects. The lexer's error is the expected result, whatever precedes the text.
     fn rejected(&mut self, r: &mut Random) {
         self.text += " ";
         if r.below(20) == 0 {
@@ -196,7 +201,7 @@ impl Made {
     }
 }
 
-/// Makes a text of up to four settings. Half of the texts have an error.
+/// Generates a text of up to four settings. Half of the texts have an error.
 pub fn made(r: &mut Random) -> Made {
     let mut made = Made {
         text: String::new(),

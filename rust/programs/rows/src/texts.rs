@@ -1,6 +1,6 @@
-//! Generated texts: literals, broken literals, numbers, lists, and other characters.
+//! Generates texts: literals, invalid literals, numbers, lists, and other characters.
 
-/// Pseudorandom numbers.
+/// A generator of pseudorandom numbers. The field is its state.
 pub struct Random(u64);
 
 impl Random {
@@ -157,7 +157,7 @@ const PIECES: &[&str] = &[
     "^",
 ];
 
-/// Makes a piece of a quoted literal's body.
+/// Generates a character or an escape for the text between the quotes of a literal.
 fn unit(r: &mut Random) -> String {
     match r.below(12) {
         0..=4 => r
@@ -258,7 +258,7 @@ fn literal(r: &mut Random) -> String {
     }
 }
 
-/// Changes a text in one to three places.
+/// Changes a text at one to three random positions.
 pub fn broken(r: &mut Random, text: &str) -> String {
     let mut chars: Vec<char> = text.chars().collect();
     for _ in 0..1 + r.below(3) {
@@ -282,7 +282,7 @@ fn soup(r: &mut Random) -> String {
     repeated(r, count, |r| r.of(PIECES).to_owned())
 }
 
-/// Makes a text of characters of all lengths in UTF-8.
+/// Generates a text with characters of all lengths in UTF-8.
 fn wild(r: &mut Random) -> String {
     let count = r.below(20);
     repeated(r, count, |r| {
@@ -300,7 +300,7 @@ fn list(r: &mut Random) -> String {
     })
 }
 
-/// Makes the text of number `n`. The families take turns.
+/// Generates the text with number `n`. Consecutive numbers belong to different families of texts.
 pub fn nth(r: &mut Random, n: usize) -> String {
     match n % 8 {
         0 | 7 => literal(r),
@@ -319,7 +319,7 @@ pub fn nth(r: &mut Random, n: usize) -> String {
     }
 }
 
-/// Puts a character into each place of a literal where its class decides.
+/// Returns texts of one literal each, with the character `c` at each position where the class of a character matters.
 pub fn alone(c: char) -> [String; 6] {
     [
         format!("{c}"),
@@ -331,7 +331,7 @@ pub fn alone(c: char) -> [String; 6] {
     ]
 }
 
-/// Puts a character into each place of a list or a source where its class decides.
+/// Returns texts of lists and sources, with the character `c` at each position where the class of a character matters.
 pub fn among(c: char) -> [String; 6] {
     [
         format!("{c}"),

@@ -1,10 +1,9 @@
-//! What is printed of a source that would be written anew: lines of changes, and unified diffs. What is expected is written by
-//! thought.
+//! Tests the output for a source whose literals would be rewritten: lines of changes, and unified diffs. The expected output is
+//! written by hand.
 
 use navyspindle_programs::rattle_std::{alloc::Global, string::String as Line};
-use navyspindle_programs::rl_fixes::{push_change, push_diff};
-use navyspindle_programs::rl_output::{Form, Place};
-use navyspindle_programs::rl_tokens::LineColumn;
+use navyspindle_programs::rl_output::{Form, LineColumn, Place};
+use navyspindle_programs::rl_scan::{push_change, push_diff};
 
 fn diff(path: &str, old: &str, new: &str) -> String {
     let mut out = Line::new(Global);
@@ -12,7 +11,7 @@ fn diff(path: &str, old: &str, new: &str) -> String {
     out.as_str().to_string()
 }
 
-/// The hunks of a diff, whose head is tested.
+/// Returns the hunks of a diff, after checking its header.
 fn hunks(old: &str, new: &str) -> String {
     let all = diff("a.rs", old, new);
     let hunks = all.strip_prefix("--- a.rs\n+++ a.rs\n");

@@ -1,5 +1,5 @@
-//! What lines look like: annotations of GitHub, the line of the source below them, and the document of SARIF that `tools/sarif.jq`
-//! makes of objects. All that is expected is counted by hand.
+//! Tests the forms of the output: GitHub annotations, the source line below a message, and the SARIF document that `tools/sarif.jq`
+//! creates from JSON objects. Every expected position is counted by hand.
 
 use navyspindle_programs::rattle_std::alloc::Global;
 use navyspindle_programs::rattle_std::vec::Vec as Bytes;
@@ -7,13 +7,13 @@ use navyspindle_programs::rl_sources::{scan, Context, Form, Options, Shown, Spel
 use std::io::Write;
 use std::process::{Command, Stdio};
 
-/// The line of a place alone.
+/// Shows only the line of the position, without lines before and after it.
 const LINE: Context = Context {
     before: 0,
     after: 0,
 };
 
-/// What is printed of a source.
+/// Returns the program's output for a source.
 fn printed(options: Options<'_>, text: &str) -> String {
     let mut out = Bytes::new(Global);
     let Ok(any) = scan(Global, options, text, &mut out) else {
@@ -34,7 +34,7 @@ fn bad(form: Form, path: Option<&str>) -> Options<'_> {
     }
 }
 
-/// Characters of a message and of a property that have a meaning of their own to GitHub are numbers.
+/// Characters with a special meaning in GitHub's messages and properties are encoded as numbers, such as `%25`.
 #[test]
 fn annotations_of_what_is_bad() {
     let text = "\tlet b = b\"\\%\"; 1u9\n  \"\u{e9}\\\u{e9}\" /* x";
@@ -47,7 +47,7 @@ fn annotations_of_what_is_bad() {
     );
 }
 
-/// A literal is a notice, over lines from the first to the last.
+/// A literal is a notice, which covers its first to its last line.
 #[test]
 fn annotations_of_literals() {
     let options = Options {
@@ -70,11 +70,12 @@ fn annotations_of_literals() {
     );
 }
 
-/// The text of a literal of more than 1,024 bytes isn't in the object of a flaw, so that many flaws of one don't print it many times.
+/// The JSON object of a flaw doesn't contain the text of its literal if the text has more than 1,024 bytes. So a literal with many
+/// flaws isn't printed many times.
 #[test]
 fn objects_of_flaws_in_long_literals() {
     for (bytes, is_shown) in [(1024, true), (1025, false)] {
-        // a character of two bytes, so that bytes are counted
+        // The literal contains a character of two bytes, so the test distinguishes bytes from characters.
         let literal = format!("\"\u{e9}{}\\q\"", "a".repeat(bytes - 6));
         assert_eq!(literal.len(), bytes);
         let shown = printed(bad(Form::Json, None), &literal);
@@ -105,8 +106,8 @@ fn annotations_of_what_hides_text() {
     );
 }
 
-/// The line and carets below it: a tab before the place is one below it too; what is an escape has a caret for each of its
-/// characters.
+/// Tests the source line and the carets below it. A tab before the position is a tab below it too. A character that is printed as
+/// an escape has a caret for each character of the escape.
 #[test]
 fn context_of_what_is_bad() {
     let options = Options {
@@ -131,7 +132,27 @@ fn context_of_what_is_bad() {
     );
 }
 
-/// Of a place over lines the first is shown, with carets to its end.
+/// In a character or byte literal, the suffix `_` is an error in addition to another flaw. These are the seven errors of rustc
+/// 1.95, each at the byte that can't continue a literal. `'ab'` has no suffix.
+#[test]
+fn two_flaws_of_a_character() {
+    let options = Options {
+        by_line: true,
+        ..bad(Form::Plain, Some("a.rs"))
+    };
+    assert_eq!(
+        printed(options, "skip! { '\r\n'_ '\\q'_ b''_ 'ab'_ }\r\n"),
+        "a.rs:1:10: error: must be written as an escape: \\r\\n\n\
+         a.rs:2:3: error: `_` isn't a suffix: '\\r\\n'_\n\
+         a.rs:2:6: error: unknown escape: \\q\n\
+         a.rs:2:9: error: `_` isn't a suffix: '\\q'_\n\
+         a.rs:2:12: error: no character between the quotes: b''_\n\
+         a.rs:2:14: error: `_` isn't a suffix: b''_\n\
+         a.rs:2:17: error: more than one character between the quotes: 'ab'\n"
+    );
+}
+
+/// If a range covers several lines, the first line is shown, with carets up to its end.
 #[test]
 fn context_of_literals() {
     let options = Options {
@@ -169,8 +190,8 @@ fn context_of_literals() {
     );
 }
 
-/// A line of more than 1,024 bytes is left out, also where it is one of the lines about a place; of a place in one that alone is
-/// shown. A line's end isn't counted.
+/// A line of more than 1,024 bytes isn't shown, also if it is before or after the line of the position. If the position's own line
+/// is too long, nothing is shown. The line end isn't counted.
 #[test]
 fn context_of_long_lines() {
     let options = Options {
@@ -200,7 +221,7 @@ fn context_of_long_lines() {
     );
 }
 
-/// Objects and annotations have no context.
+/// JSON objects and annotations have no source lines.
 #[test]
 fn context_of_words_alone() {
     for form in [Form::Json, Form::Github] {
@@ -215,7 +236,7 @@ fn context_of_words_alone() {
     }
 }
 
-/// One document of all objects, by jq, where that is on the path.
+/// Converts all JSON objects to one SARIF document, if the program `jq` is installed.
 #[test]
 fn sarif() {
     let script = concat!(env!("CARGO_MANIFEST_DIR"), "/../../../tools/sarif.jq");

@@ -1,4 +1,4 @@
-//! `tools/render` rejects what it must, by `tools/rejects.py`.
+//! Tests that `tools/render` rejects invalid sources, by running `tools/rejects.py`.
 
 use std::process::Command;
 

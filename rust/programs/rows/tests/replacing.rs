@@ -1,4 +1,5 @@
-//! Files that are replaced as a whole: the system's, and what is kept in memory. `tools/fixing.py` tries more with the system.
+//! Tests the replacement of whole files, in the file system and in a directory in memory. `tools/fixing.py` has more tests with the
+//! file system.
 #![cfg(target_os = "linux")]
 
 #[path = "directory/mod.rs"]
@@ -15,12 +16,12 @@ use std::fs;
 use std::os::unix::fs::{symlink, PermissionsExt};
 use std::path::Path;
 
-/// An empty directory of this test's.
+/// Creates an empty directory for the test `name`.
 fn directory(name: &str) -> Directory {
     Directory::new("replacing", name)
 }
 
-/// The error of replacing the file at the path, in words; nothing where it is replaced.
+/// Replaces the file at the path. Returns the error message, or an empty text if the file is replaced.
 fn replaced(path: &str, old: &[u8], new: &[u8]) -> String {
     let rt = HostRuntime::new();
     match (Host { rt: &rt }).replace(Global, path, old, new) {

@@ -1,12 +1,12 @@
-//! Against other files of the repository: the words of flaws, and the stored cases of `tools/sample.jsonl` whose inputs are single
-//! texts, with kind, contents and suffix as `rl_tool text` prints them.
+//! Compares the package with other files of the repository: the messages of flaws, and the stored cases of `oracle/sample.jsonl`
+//! with a single text as input. A case has the kind, the value and the suffix as `rl_tool text` prints them.
 
 use navyspindle::{write_byte_str, write_c_str, write_str, Lit, ParseErrorKind};
 use std::collections::HashSet;
 use std::ffi::CString;
 use std::fs;
 
-/// The value of a field that is a text without escapes.
+/// Returns the value of a JSON field that is a text without escapes.
 fn field<'t>(line: &'t str, name: &str) -> Option<&'t str> {
     let (_, rest) = line.split_once(&format!("\"{name}\": \""))?;
     Some(rest.split_once('"')?.0)
@@ -20,7 +20,8 @@ fn bytes(hex: &str) -> Vec<u8> {
         .collect()
 }
 
-/// Whether a suffix is printed as it stands: where it is an identifier. `·` continues one, though it is no letter.
+/// Whether `rl_tool` prints a suffix unchanged, because it is an identifier. The character `·` isn't a letter, but can continue an
+/// identifier.
 fn is_word(suffix: &str) -> bool {
     suffix.starts_with(|c: char| c == '_' || c.is_alphabetic())
         && suffix
@@ -28,7 +29,7 @@ fn is_word(suffix: &str) -> bool {
             .all(|c| matches!(c, '_' | '·') || c.is_alphanumeric())
 }
 
-/// The line that `rl_tool text` prints.
+/// Returns the line that `rl_tool text` prints for the text.
 fn line_of(text: &str) -> String {
     let (kind, contents, suffix) = match Lit::new(text) {
         Lit::Str(l) => ("Str", write_str(&l.value()), l.suffix().to_owned()),
@@ -66,7 +67,7 @@ fn line_of(text: &str) -> String {
 
 #[test]
 fn stored_cases() {
-    let stored = concat!(env!("CARGO_MANIFEST_DIR"), "/../../../tools/sample.jsonl");
+    let stored = concat!(env!("CARGO_MANIFEST_DIR"), "/../../../oracle/sample.jsonl");
     let (mut tried, mut wrong) = (0, Vec::new());
     for line in fs::read_to_string(stored)
         .expect("the stored cases")
@@ -100,13 +101,13 @@ fn stored_cases() {
     );
 }
 
-/// Each row of the table of words that the contracts cite: a kind of flaw, and what is said of it. A text for each kind stands in
-/// `tests/flaws.rs`.
+/// Each row of the table of messages that the contracts use must be correct for the package. A row is a kind of flaw and its
+/// message. `tests/flaws.rs` has a text for each kind.
 #[test]
 fn the_words_are_the_programs() {
     let path = concat!(
         env!("CARGO_MANIFEST_DIR"),
-        "/../../../crates/rl_reasons/specs/FlawWords.antt"
+        "/../../../crates/rl_strict/specs/FlawWords.antt"
     );
     let table = fs::read_to_string(path).expect("the table of words");
     let rows = table
@@ -125,7 +126,7 @@ fn the_words_are_the_programs() {
         };
         format!("flaw_message {kind:?} = codes {:?}", kind.to_string())
     });
-    // A minus of a number is part of what `parse` reads.
+    // `parse` reads the minus of a number, so it has no text with this flaw.
     let sign = "flaw_message Minus = codes \"a literal token has no sign\"";
     let said: HashSet<String> = said.chain([sign.to_owned()]).collect();
     assert_eq!(said, rows);

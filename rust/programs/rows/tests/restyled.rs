@@ -1,14 +1,14 @@
-//! Whole sources in a style, by the programs' library: each text is expected by hand, and sources of this repository as the package
-//! writes them.
+//! Tests the library by which the programs rewrite whole sources. The expected texts are written by hand. Sources of this
+//! repository are rewritten by the package too, and the results are compared.
 
 use navyspindle::rendered::rl_style::{Case, Style as Rules};
-use navyspindle::{restyle as package_restyle, Style};
+use navyspindle::{rewrite_source as package_restyle, Style};
 use navyspindle_programs::rattle_std::alloc::Global;
-use navyspindle_programs::rl_restyled::{restyle, Macros, RestyleError};
+use navyspindle_programs::rl_restyle::{rewrite_source, Macros, RestyleError};
 use std::fs;
 use std::path::Path;
 
-/// Hexadecimal digits in lower case, no underscores, and no backslash before a quote that needs none.
+/// The style: hexadecimal digits in lower case, no underscores, and no backslash before a quote that doesn't need one.
 const RULES: Rules = Rules {
     hex_digits: Some(Case::Lower),
     underscores: true,
@@ -17,12 +17,12 @@ const RULES: Rules = Rules {
     ..Rules::KEEP
 };
 
-/// An edit: its places, and the new text.
+/// An edit: the start and the end of its range, and the new text.
 type Told = (usize, usize, String);
 
-/// The new text, and the edits.
+/// Returns the rewritten text, and the edits.
 fn made(macros: Macros, text: &str) -> Result<(String, Vec<Told>), RestyleError> {
-    let made = restyle(Global, RULES, macros, text)?;
+    let made = rewrite_source(Global, RULES, macros, text)?;
     let edits = made.edits.as_slice().iter();
     let told = edits.map(|edit| (edit.lo, edit.hi, edit.text.as_str().to_owned()));
     Ok((made.text.as_str().to_owned(), told.collect()))
@@ -93,7 +93,7 @@ fn nothing_is_made_of_other_texts() {
     }
 }
 
-/// The Rust sources below a folder.
+/// Adds the texts of the Rust sources below a folder to `found`.
 fn sources(folder: &Path, found: &mut Vec<String>) {
     for entry in fs::read_dir(folder).expect("it is a folder").flatten() {
         let path = entry.path();

@@ -1,11 +1,11 @@
-//! The translated program for development prints the stored output of the proved one.
+//! Tests that the development program `rl_rows`, translated to Rust, prints the stored output of the proved program.
 
 #[path = "../../tests/stored/mod.rs"]
 mod stored;
 
 const PROGRAM: &str = env!("CARGO_BIN_EXE_rl_rows");
 
-/// All rows but those of long texts, and of many names.
+/// Tests all rows except those of long texts and of many names.
 #[test]
 fn rows() {
     stored::check_but("rl_rows", PROGRAM, &["long ", "names "]);

@@ -1,8 +1,9 @@
-//! Styles that configurations say: those that are expected, and those that the package reads of the same text.
+//! Tests the styles that the programs read from configuration files. They are compared with expected styles, and with the styles
+//! that the package reads from the same texts.
 
 use navyspindle::rendered::rl_style;
 use navyspindle::{Case, DigitGroups, Separator, Settings, Style};
-use navyspindle_programs::rl_styles::{default_style, style_of};
+use navyspindle_programs::rl_restyle::{default_style, style_of};
 
 fn case_of(case: rl_style::Case) -> Case {
     match case {
@@ -17,10 +18,10 @@ fn groups_of(groups: rl_style::DigitGroups) -> DigitGroups {
         .octal(groups.octal)
         .decimal(groups.decimal)
         .hexadecimal(groups.hexadecimal)
-        .least(groups.least)
+        .min_digits(groups.least)
 }
 
-/// The style as the package has it.
+/// Converts a style of the translated libraries to a style of the package.
 fn shown(style: rl_style::Style) -> Style {
     let mut shown = Style::new()
         .drop_underscores(style.underscores)
@@ -33,7 +34,7 @@ fn shown(style: rl_style::Style) -> Style {
         .drop_quote_escapes(style.quote_escapes)
         .fewest_hashes(style.raw_hashes)
         .drop_raw(style.raw)
-        .escape_hidden(style.hidden);
+        .escape_invisible(style.hidden);
     if let Some(case) = style.hex_digits {
         shown = shown.hex_digits(case_of(case));
     }
@@ -55,7 +56,7 @@ fn shown(style: rl_style::Style) -> Style {
     }
 }
 
-/// The style that the text says, or its error in words.
+/// Returns the style that the text describes, or its error message.
 fn told(text: &str) -> Result<Style, String> {
     match style_of(text) {
         Ok(style) => Ok(shown(style)),
@@ -70,12 +71,12 @@ fn styles_that_are_expected() {
     for (text, expected) in [
         ("", new),
         ("// nothing\n\n", new),
-        ("drop_raw = false\nleast_grouped = 0", new),
+        ("drop_raw = false\nmin_digits = 0", new),
         ("hex_digits = r#\"lower\"#", new.hex_digits(Case::Lower)),
         (
-            "/* a */ octal_groups = 0x3, least_grouped = 5usize,\nescape_hidden = true",
-            new.digit_groups(groups.octal(3).least(5))
-                .escape_hidden(true),
+            "/* a */ octal_groups = 0x3, min_digits = 5usize,\nescape_invisible = true",
+            new.digit_groups(groups.octal(3).min_digits(5))
+                .escape_invisible(true),
         ),
         (
             "suffix_separator = \"\" // none\nexponent_letter = \"upper\"",
@@ -120,12 +121,12 @@ fn errors_that_are_expected() {
         ),
         ("drop_raw true", "9..13 expected `=`"),
         ("drop_raw = true float_zero = true", "16..26 expected `,`"),
-        ("drop_raw = \"", "11..11 quoted literal isn't closed"),
+        ("drop_raw = \"", "11..11 unclosed quote"),
         (
             "drop_raw =",
             "10..10 unexpected end of input, expected literal",
         ),
-        // The first one from the left.
+        // The error is the first one from the left.
         ("drop_raw = 1\nno = \"", "11..12 expected `true` or `false`"),
     ] {
         assert_eq!(told(text), Err(expected.to_string()), "{text}");
@@ -157,12 +158,11 @@ fn what_is_on_by_default() {
     let expected = Style::new()
         .drop_quote_escapes(true)
         .fewest_hashes(true)
-        .exponent_letter(Case::Lower)
-        .float_zero(true);
+        .exponent_letter(Case::Lower);
     assert_eq!(shown(default_style()), expected);
 }
 
-/// The names, and one that no rule has.
+/// The names of all rules, and a name that isn't a rule's.
 const NAMES: [&str; 21] = [
     "hex_digits",
     "drop_underscores",
@@ -172,7 +172,7 @@ const NAMES: [&str; 21] = [
     "octal_groups",
     "decimal_groups",
     "hexadecimal_groups",
-    "least_grouped",
+    "min_digits",
     "float_zero",
     "exponent_letter",
     "drop_exponent_plus",
@@ -183,7 +183,7 @@ const NAMES: [&str; 21] = [
     "drop_quote_escapes",
     "fewest_hashes",
     "drop_raw",
-    "escape_hidden",
+    "escape_invisible",
     "raw_hashes",
 ];
 
@@ -210,7 +210,8 @@ const VALUES: [&str; 20] = [
     "18446744073709551616",
 ];
 
-/// Each name with each value, and each two of these that differ by a prime, are read as the package reads them.
+/// Compares the results for each name with each value, and for pairs of these settings. The two settings of a pair are a prime
+/// number of entries apart.
 #[test]
 fn as_the_package_reads() {
     let entries: Vec<String> = NAMES

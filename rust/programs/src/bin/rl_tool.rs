@@ -1,4 +1,4 @@
-//! The program rl_tool.
+//! The program `rl_tool`, translated from Rattle: it parses literals and prints their parts.
 
 use navyspindle_programs::rattle_std::prelude::HostRuntime;
 use std::process::ExitCode;

@@ -1,26 +1,27 @@
-//! Stands for `std::alloc` of Rattle: allocators, and the errors of an allocation that failed.
+//! A replacement for Rattle's `std::alloc`: allocators, and the errors of a failed allocation.
 //!
-//! Narrower: there is one allocator, Rust's own, and no call here hands out a block. Lists, texts and sets take theirs by Rust's
-//! `try_reserve`, after they asked the allocator that they were passed, so that one of a test can fail, and count blocks.
+//! It is more limited than Rattle's module. All memory comes from Rust's own allocator, and no call here returns a block. Lists,
+//! texts and sets reserve memory with Rust's `try_reserve`. Before that they ask the `Allocator` that they were created with, so
+//! that a test's allocator can fail and count blocks.
 
 use core::fmt;
 use core::hash::Hash;
 use core::hint;
 use std::collections::TryReserveError;
 
-/// What collections are passed to take memory from. All take it from Rust's own allocator; another one may fail, and count.
+/// The allocator of a collection. All allocators use Rust's own allocator. An allocator of a test may also fail, and count blocks.
 pub trait Allocator: Copy + Ord + Hash + fmt::Debug {
-    /// Whether the next allocation is granted, which is then tried.
+    /// Whether the allocator permits the next allocation. If it does, the collection tries the allocation.
     #[inline(always)]
     fn grants(&self) -> bool {
         true
     }
 
-    /// A block was taken, where none was held before.
+    /// Reports that a collection without a block allocated one.
     #[inline(always)]
     fn takes(&self) {}
 
-    /// A block that was taken went back.
+    /// Reports that a block was freed.
     #[inline(always)]
     fn gives_back(&self) {}
 }
@@ -31,7 +32,8 @@ pub struct Global;
 
 impl Allocator for Global {}
 
-/// Asks the allocator, then Rust's, for a block, in place of the one that is held if `holds` says so. Returns whether there is one.
+/// Asks the allocator for permission, and then reserves a block with `reserve`. `holds` says that the collection already has a
+/// block, which the new one replaces. Returns whether the collection has the memory.
 pub(super) fn asks<A: Allocator>(
     alloc: &A,
     holds: bool,
@@ -46,22 +48,24 @@ pub(super) fn asks<A: Allocator>(
     true
 }
 
-/// Whether a block may hold so many values. For a larger one no allocator is asked.
+/// Whether `count` values fit into the largest possible block. For more values no allocator is asked.
 pub(super) fn may_hold<T>(count: Option<usize>) -> bool {
     count.is_some_and(|count| count <= isize::MAX as usize / size_of::<T>().max(1))
 }
 
-/// Returns `true` if a block of so many bytes can be had now. It goes back at once, for a call of Rust's own that takes up to as many
-/// and ends the process where that fails. Nothing else runs that could take them first.
+/// Returns `true` if a block of `len` bytes can be allocated now. The block is freed at once.
+///
+/// This check precedes calls of Rust's std that allocate up to `len` bytes and end the process if the allocation fails. No other
+/// code runs between the check and the call.
 pub(super) fn has_room(len: usize) -> bool {
     let mut tried = std::vec::Vec::<u8>::new();
     let has_room = tried.try_reserve_exact(len).is_ok();
-    // Else the compiler may leave the block out.
+    // Otherwise the compiler may remove the allocation.
     hint::black_box(&tried);
     has_room
 }
 
-/// An allocation failed.
+/// The error that an allocation failed.
 #[derive(Clone, Copy, PartialEq, Eq, Debug)]
 pub struct AllocError;
 
@@ -73,7 +77,7 @@ impl fmt::Display for AllocError {
 
 impl std::error::Error for AllocError {}
 
-/// An allocation failed for this value, which is handed back.
+/// The error that an allocation failed while `value` was added to a collection. The error returns the value.
 pub struct AllocFailed<T> {
     pub value: T,
 }

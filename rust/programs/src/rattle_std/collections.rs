@@ -1,15 +1,15 @@
-//! Stands for `std::collections` of Rattle: a set in order, and for the rows a map by hashes. An insertion that fails hands back
-//! what was to be inserted, and leaves the rest as it was; one of what is there already needs no memory.
+//! A replacement for Rattle's `std::collections`: an ordered set, and a hash map for the program `rl_rows`.
 //!
-//! Narrower: a set can be inserted into alone, a map also asked for a key, and both ask for memory at other insertions than
-//! Rattle's.
+//! If an insertion fails, the error returns the item, and the collection is unchanged. Inserting an item that is already present
+//! needs no memory. It is more limited than Rattle's module: a set has only `insert`, a map has only `insert` and lookups by key,
+//! and they allocate memory at other insertions than Rattle's.
 
 use super::alloc::{asks, AllocFailed, Allocator, Global};
 use super::hash::{BuildHasherDefault, FoldHasher};
 use core::hash::Hash;
 use std::vec::Vec;
 
-/// A map by hashes.
+/// A hash map.
 pub struct HashMap<K, V, S = BuildHasherDefault<FoldHasher>, A: Allocator = Global> {
     map: std::collections::HashMap<K, V, S>,
     alloc: A,
@@ -39,7 +39,7 @@ impl<K: Eq + Hash, V, A: Allocator> HashMap<K, V, BuildHasherDefault<FoldHasher>
         self.map.is_empty()
     }
 
-    /// Gives the key this value; returns the one that it had.
+    /// Sets the value of a key. Returns the key's previous value, if it had one.
     pub fn insert(&mut self, key: K, value: V) -> Result<Option<V>, AllocFailed<(K, V)>> {
         let room = self.map.capacity();
         if self.map.len() == room
@@ -62,10 +62,11 @@ impl<K: Eq + Hash, V, A: Allocator> HashMap<K, V, BuildHasherDefault<FoldHasher>
     }
 }
 
-/// How many items a row has at most.
+/// The largest number of items in a row of a `BTreeSet`.
 const ROW: usize = 256;
 
-/// A set in order: rows of items, none of them empty, each in order and below the next. Rust's own has no insertion that may fail.
+/// An ordered set. Its items are in rows that aren't empty. Each row is ordered, and its items are less than those of the next row.
+/// Rust's own set isn't used, because its insertion can't report a failed allocation.
 pub struct BTreeSet<T: Ord, A: Allocator = Global> {
     rows: Vec<Vec<T>>,
     alloc: A,
@@ -79,7 +80,7 @@ impl<T: Ord, A: Allocator> BTreeSet<T, A> {
         }
     }
 
-    /// Inserts the item; returns whether it wasn't there.
+    /// Inserts the item. Returns `true` if it wasn't already present.
     pub fn insert(&mut self, item: T) -> Result<bool, AllocFailed<T>> {
         let above = self.rows.partition_point(|row| row[0] <= item);
         let Some(at) = above
@@ -122,7 +123,7 @@ impl<T: Ord, A: Allocator> BTreeSet<T, A> {
         Ok(true)
     }
 
-    /// A row with room for so many items, and room for it among the rows.
+    /// Creates an empty row for `count` items, and reserves memory for one more row in the list of rows.
     fn another(&mut self, count: usize) -> Option<Vec<T>> {
         let mut row = Vec::new();
         let reserve = || {

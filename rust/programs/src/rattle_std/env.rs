@@ -1,7 +1,7 @@
-//! Stands for `std::env` of Rattle: a program's arguments, and the variables of its environment.
+//! A replacement for Rattle's `std::env`: a program's arguments, and its environment variables.
 //!
-//! Narrower: arguments and variables are this process's own. Rust's own calls copy them, and end the process where there is no
-//! memory for that: for arguments, and for a variable of more than 4 KB.
+//! It is more limited than Rattle's module: arguments and variables are always those of this process. Rust's own calls copy them,
+//! and end the process if there is no memory for the copy. That can happen for arguments, and for a variable of more than 4 KB.
 
 use super::alloc::{has_room, AllocError, Global};
 use super::io;
@@ -10,10 +10,10 @@ use super::string::String;
 use super::vec::{IntoIter, Vec};
 use std::env;
 
-/// The arguments, one after another.
+/// An iterator over a program's arguments.
 pub type Args = IntoIter<String>;
 
-/// The arguments, the program's name the first. Where one isn't UTF-8 it fails as a whole.
+/// Returns the arguments, beginning with the program's name. The call fails if any argument isn't UTF-8.
 pub fn args(_rt: &HostRuntime) -> io::Result<Args> {
     let mut all = Vec::new(Global);
     for arg in env::args_os() {
@@ -25,7 +25,7 @@ pub fn args(_rt: &HostRuntime) -> io::Result<Args> {
     Ok(all.into_iter())
 }
 
-/// Why a variable's value can't be had.
+/// The reason why a variable has no value, or why its value can't be returned.
 pub enum VarError {
     NotPresent,
     NotUnicode,
@@ -38,10 +38,10 @@ impl From<AllocError> for VarError {
     }
 }
 
-/// Up to how many bytes of a variable's value it is tried first whether there is room.
+/// The number of bytes of a variable's value for which memory is checked before the value is copied.
 const VALUE: usize = 4096;
 
-/// The variable's value.
+/// Returns the value of the environment variable `name`.
 pub fn var(_rt: &HostRuntime, name: &str) -> Result<String, VarError> {
     if !has_room(VALUE + name.len()) {
         return Err(VarError::OutOfMemory);

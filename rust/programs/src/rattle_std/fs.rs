@@ -1,8 +1,9 @@
-//! Stands for `std::fs` of Rattle: files that are read, new ones, what takes another's path, and the entries of directories. Paths
-//! and names are texts.
+//! A replacement for Rattle's `std::fs`: reading files, creating and renaming files, and listing directories. Paths and names are
+//! texts.
 //!
-//! Narrower: there is one file system, and files are opened in the ways that the sources ask for. Where Rust's own calls copy a path or
-//! a name, it is tried first whether there is room, since they end the process where there is none.
+//! It is more limited than Rattle's module: there is one file system, and files are opened only in the ways that the sources need.
+//! Rust's own calls that copy a path or a name end the process if there is no memory for the copy. So the available memory is
+//! checked before each of these calls.
 
 use super::alloc::{has_room, AllocError, Allocator, Global};
 use super::io::{Error, ErrorKind, Read, Result, Write};
@@ -16,12 +17,13 @@ use std::io::{Read as _, Write as _};
 
 pub use std::fs::{Metadata, Permissions};
 
-/// The longest path that Linux takes, more than its longest name, and more than an open directory takes before its path is copied.
+/// The numbers of bytes that a memory check reserves. `PATH` is the longest path that Linux accepts. `NAME` is more than the
+/// longest name that it accepts. `DIRECTORY` is more than an open directory needs before its path is copied.
 const PATH: usize = 4096;
 const NAME: usize = 1024;
 const DIRECTORY: usize = 40_000;
 
-/// The path, where there is room for a copy.
+/// Returns the path, or an error if there is no memory for a copy of it.
 pub(super) fn copied(path: &str) -> Result<&str> {
     if has_room(path.len() + NAME) {
         Ok(path)
@@ -34,7 +36,7 @@ pub(super) fn copied(path: &str) -> Result<&str> {
 pub struct File(std::fs::File);
 
 impl File {
-    /// Opens the file to read it. A directory can be opened too; the first read fails then.
+    /// Opens the file at the path for reading. A directory can be opened too, but then the first read fails.
     pub fn open<R: Files>(_rt: &R, path: &str) -> Result<File> {
         Ok(File(std::fs::File::open(copied(path)?)?))
     }
@@ -45,7 +47,8 @@ impl Read for File {
         Ok(self.0.read(buf)?)
     }
 
-    /// It makes room for the whole file at once, where Rattle's lets the list grow, so that less memory is enough.
+    /// Reads the rest of the file. This method allocates memory for the whole file at once. Rattle's method lets the list grow,
+    /// which needs more memory.
     fn read_up_to<A: Allocator>(&mut self, list: &mut Vec<u8, A>, limit: u64) -> Result<()> {
         let expected = self.0.metadata().map_or(0, |about| about.len()).min(limit);
         let count = usize::try_from(expected).unwrap_or(usize::MAX);
@@ -63,11 +66,11 @@ impl Write for File {
     }
 }
 
-/// What is asked of an open file.
+/// The methods of an open file.
 pub trait OpenFile {
     fn set_permissions(&self, permissions: Permissions) -> Result<()>;
 
-    /// Waits until all that was written is stored.
+    /// Waits until all written bytes are stored.
     fn sync_all(&self) -> Result<()>;
 }
 
@@ -81,11 +84,11 @@ impl OpenFile for File {
     }
 }
 
-/// How a file is opened.
+/// The options with which a file is opened.
 pub struct OpenOptions(pub(super) std::fs::OpenOptions);
 
 impl OpenOptions {
-    /// In no way yet.
+    /// Creates options that permit neither reading nor writing.
     #[allow(clippy::new_without_default)]
     pub fn new() -> OpenOptions {
         OpenOptions(std::fs::OpenOptions::new())
@@ -96,7 +99,7 @@ impl OpenOptions {
         self
     }
 
-    /// The file is made, and it is an error if something is there.
+    /// Sets whether the call creates the file, and fails if the path already exists.
     pub fn create_new(&mut self, create_new: bool) -> &mut OpenOptions {
         self.0.create_new(create_new);
         self
@@ -107,17 +110,17 @@ impl OpenOptions {
     }
 }
 
-/// What the system knows of what is at the path; of a link, of what it leads to.
+/// Returns the system's data about the file at the path. If the path is a link, they are about its target.
 pub fn metadata<R: Files>(_rt: &R, path: &str) -> Result<Metadata> {
     Ok(std::fs::metadata(copied(path)?)?)
 }
 
-/// The same; of a link, of itself.
+/// Returns the system's data about the file at the path. If the path is a link, they are about the link itself.
 pub fn symlink_metadata<R: Files>(_rt: &R, path: &str) -> Result<Metadata> {
     Ok(std::fs::symlink_metadata(copied(path)?)?)
 }
 
-/// The path with no link in it.
+/// Returns the absolute path of the file, with all links resolved.
 pub fn canonicalize<R: Files + Alloc>(rt: &R, path: &str) -> Result<PathBuf<R::A>> {
     if !has_room(path.len() + PATH) {
         return Err(Error::of(ErrorKind::OutOfMemory));
@@ -129,7 +132,7 @@ pub fn canonicalize<R: Files + Alloc>(rt: &R, path: &str) -> Result<PathBuf<R::A
     }
 }
 
-/// Gives what is at a path another one, in place of a file that is there.
+/// Renames the file at `from` to `to`. A file at `to` is replaced.
 pub fn rename<R: Files>(_rt: &R, from: &str, to: &str) -> Result<()> {
     if !has_room(from.len() + to.len() + NAME) {
         return Err(Error::of(ErrorKind::OutOfMemory));
@@ -148,8 +151,8 @@ pub struct DirEntry<R, A: Allocator = Global> {
 }
 
 impl<R, A: Allocator> DirEntry<R, A> {
-    /// What the entry is; of a link that it is one. The system is asked anew, by the entry's path, so it fails where the entry
-    /// vanished or the directory can't be searched.
+    /// Returns the type of the entry, which may be a link. The call reads the type from the system by the entry's path. So it fails
+    /// if the entry was removed, or if the directory can't be searched.
     pub fn file_type(&self) -> Result<FileType> {
         Ok(std::fs::symlink_metadata(copied(self.path.as_str())?)?.file_type())
     }
@@ -161,8 +164,10 @@ impl<R, A: Allocator> DirEntry<R, A> {
     }
 }
 
-/// The entries of a directory but `.` and `..`. A name that isn't UTF-8 is the error `InvalidFilename`, without a number of the
-/// system's; the entries after it follow. Of a directory that was removed no more come.
+/// An iterator over the entries of a directory, except `.` and `..`.
+///
+/// A name that isn't UTF-8 is the error `InvalidFilename` without an error number of the system. The entries after it follow. If
+/// the directory is removed, there are no more entries.
 pub struct ReadDir<R, A: Allocator = Global> {
     entries: std::fs::ReadDir,
     /// The directory's path, which ends with a slash if it isn't empty.
@@ -171,7 +176,7 @@ pub struct ReadDir<R, A: Allocator = Global> {
     of: PhantomData<R>,
 }
 
-/// Opens the directory to list it.
+/// Opens the directory at the path, to list its entries.
 pub fn read_dir<R: Files + Alloc>(rt: &R, path: &str) -> Result<ReadDir<R, R::A>> {
     let alloc = rt.alloc();
     let mut with_slash = String::from_str(alloc, path)?;
@@ -186,7 +191,7 @@ pub fn read_dir<R: Files + Alloc>(rt: &R, path: &str) -> Result<ReadDir<R, R::A>
     })
 }
 
-/// Opens the directory where there is room for two copies of its path.
+/// Opens the directory, or returns an error if there is no memory for two copies of its path.
 fn listed(path: &str) -> Result<std::fs::ReadDir> {
     if !has_room(2 * path.len() + DIRECTORY) {
         return Err(Error::of(ErrorKind::OutOfMemory));

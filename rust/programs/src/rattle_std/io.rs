@@ -1,9 +1,14 @@
-//! Stands for `std::io` of Rattle: readers, writers, the standard streams, and why a call failed.
+//! A replacement for Rattle's `std::io`: readers, writers, the standard streams, and the errors of calls.
 //!
-//! Narrower: an error has a kind and the system's number, and no message; kinds that the sources don't tell apart are `Other`. A
-//! `Take` is read to its end alone. Nothing gives up after 2^64 tries. The standard streams stand on Rust's own. These take a
-//! few kilobytes when one is used first, and end the process where there are none; so it is tried first whether there is room.
-//! A stream that is closed reads as empty, and takes all that is written.
+//! It is more limited than Rattle's module:
+//!
+//! - An error has a kind and the system's error number, but no message. Kinds that the sources don't use are `Other`.
+//! - A `Take` can only be read to its end.
+//! - No call gives up after 2^64 tries.
+//!
+//! The standard streams use Rust's own. Rust allocates a few kilobytes when a standard stream is used for the first time, and ends
+//! the process if there is no memory for that. So the available memory is checked before. A closed standard stream reads as empty,
+//! and accepts all output.
 
 use super::alloc::{has_room, AllocError, AllocFailed, Allocator};
 use super::rt::HostRuntime;
@@ -16,7 +21,7 @@ use std::io::{IsTerminal as TerminalOfStd, Read as _, Write as _};
 
 pub type Result<T> = core::result::Result<T, Error>;
 
-/// The kinds of errors that the sources tell apart, and `Other`.
+/// The kinds of errors that the sources use, and `Other` for all other kinds.
 #[derive(Clone, Copy, PartialEq, Eq, Debug)]
 pub enum ErrorKind {
     NotFound,
@@ -26,21 +31,21 @@ pub enum ErrorKind {
     Interrupted,
     IsADirectory,
     NotADirectory,
-    /// A name or a path is too long, or, without a number of the system's, a name in a directory isn't UTF-8.
+    /// The name or the path is too long. Without an error number of the system: the name in a directory isn't UTF-8.
     InvalidFilename,
-    /// A path has a NUL.
+    /// The path contains a NUL.
     InvalidInput,
-    /// What has to be a text isn't UTF-8.
+    /// The bytes must be a text, but aren't UTF-8.
     InvalidData,
     StorageFull,
     ReadOnlyFilesystem,
-    /// A writer took no byte.
+    /// A writer accepted no byte.
     WriteZero,
     OutOfMemory,
     Other,
 }
 
-/// Why a call failed.
+/// The error of a failed call.
 #[derive(Clone, Copy, Debug)]
 pub struct Error {
     kind: ErrorKind,
@@ -56,7 +61,7 @@ impl Error {
         self.kind
     }
 
-    /// The system's number of the error, where the system gave it.
+    /// Returns the system's error number, or `None` if the error doesn't come from the system.
     pub fn raw_os_error(&self) -> Option<i32> {
         self.os
     }
@@ -71,7 +76,8 @@ impl From<std::io::Error> for Error {
     }
 }
 
-/// The kind by Rust's. The names of some are younger than Rust 1.81, which has those kinds.
+/// Converts the kind of a Rust error. Some kinds are recognized by their printed names, because Rust 1.81 has these kinds without
+/// public names.
 fn kind_of(kind: std::io::ErrorKind) -> ErrorKind {
     match kind {
         std::io::ErrorKind::NotFound => ErrorKind::NotFound,
@@ -92,7 +98,7 @@ fn kind_of(kind: std::io::ErrorKind) -> ErrorKind {
     }
 }
 
-/// Whether Rust shows the kind by this word. It takes no memory, since memory may be what is wanting.
+/// Whether the kind's `Debug` text is `word`. This function allocates nothing, because the error may be that memory is short.
 fn is_called(kind: std::io::ErrorKind, word: &str) -> bool {
     struct Rest<'a>(&'a str);
 
@@ -125,12 +131,12 @@ impl<T> From<AllocFailed<T>> for Error {
     }
 }
 
-/// What bytes are read from.
+/// A source of bytes.
 pub trait Read {
-    /// Reads some bytes into the buffer, and returns how many; none where the buffer is empty, or no byte is left.
+    /// Reads some bytes into the buffer, and returns their number. The number is 0 if the buffer is empty or no byte is left.
     fn read(&mut self, buf: &mut [u8]) -> Result<usize>;
 
-    /// Puts what is left, but no more bytes than `limit`, after those of the list. After an error, what was read stays there.
+    /// Appends the remaining bytes to the list, up to `limit` bytes. After an error, the bytes that were read stay in the list.
     fn read_up_to<A: Allocator>(&mut self, list: &mut Vec<u8, A>, limit: u64) -> Result<()> {
         let mut filled = list.len();
         let end = fill(self, list, &mut filled, limit);
@@ -138,7 +144,7 @@ pub trait Read {
         end
     }
 
-    /// This reader, which then ends after so many bytes.
+    /// Returns a reader of the first `limit` bytes of this reader.
     fn take(self, limit: u64) -> Take<Self>
     where
         Self: Sized,
@@ -151,10 +157,11 @@ const LEAST_GROWTH: usize = 512;
 const FIRST_READ: usize = 8 * 1024;
 const LONGEST_READ: usize = 128 * 1024;
 
-/// Reads to the end, past the list's first `filled` bytes, and counts them up. Past those stands room for reading.
+/// Reads to the end, or up to `limit` bytes, into the list after its first `filled` bytes, and adds the number of bytes read to
+/// `filled`. The list's bytes after these are a buffer.
 ///
-/// It asks the reader for as many bytes, and the allocator for as much, as Rattle's. Room is made before each read, so that a
-/// growth that fails loses no byte.
+/// The calls of the reader and of the allocator are those of Rattle's function, with the same numbers of bytes. Memory is allocated
+/// before each read, so that no byte is lost if the allocation fails.
 fn fill<R: Read + ?Sized, A: Allocator>(
     reader: &mut R,
     list: &mut Vec<u8, A>,
@@ -187,8 +194,8 @@ fn fill<R: Read + ?Sized, A: Allocator>(
     }
 }
 
-/// Makes the list longer than `filled`, for a read of up to `most` bytes; returns whether it could. A list at its first capacity
-/// may hold all there is, so it grows by little.
+/// Makes the list longer than `filled`, for a read of up to `most` bytes. Returns whether there is enough memory. A list that is
+/// full at its first capacity may already have all bytes of the reader, so it grows only a little.
 fn has_room_to_read<A: Allocator>(
     list: &mut Vec<u8, A>,
     filled: usize,
@@ -214,7 +221,7 @@ fn has_room_to_read<A: Allocator>(
     true
 }
 
-/// One read, tried again where a signal interrupted it.
+/// Reads once, and again if a signal interrupted the read.
 fn read_uninterrupted<R: Read + ?Sized>(reader: &mut R, buf: &mut [u8]) -> Result<usize> {
     loop {
         match reader.read(buf) {
@@ -224,15 +231,15 @@ fn read_uninterrupted<R: Read + ?Sized>(reader: &mut R, buf: &mut [u8]) -> Resul
     }
 }
 
-/// A reader that ends after some bytes.
+/// A reader that ends after a limited number of bytes.
 pub struct Take<R> {
     inner: R,
     limit: u64,
 }
 
 impl<R: Read> Take<R> {
-    /// Puts what is left after the bytes of the list, and returns how many bytes that were. After an error, what was read stays
-    /// there, and counts towards the limit.
+    /// Appends the remaining bytes to the list, and returns their number. After an error, the bytes that were read stay in the
+    /// list, and count towards the limit.
     pub fn read_to_end<A: Allocator>(&mut self, list: &mut Vec<u8, A>) -> Result<usize> {
         let before = list.len();
         let end = self.inner.read_up_to(list, self.limit);
@@ -251,17 +258,17 @@ impl Read for &[u8] {
     }
 }
 
-/// What bytes are written to.
+/// A destination of bytes.
 pub trait Write {
-    /// Writes some of the bytes, and returns how many.
+    /// Writes some of the bytes, and returns their number.
     fn write(&mut self, bytes: &[u8]) -> Result<usize>;
 
-    /// Passes on what is held back: nothing, where a writer doesn't say otherwise.
+    /// Writes the buffered bytes. By default a writer has no buffered bytes.
     fn flush(&mut self) -> Result<()> {
         Ok(())
     }
 
-    /// Writes all bytes. After an error a beginning of them may be written.
+    /// Writes all bytes. After an error, a part of them may have been written.
     fn write_all(&mut self, bytes: &[u8]) -> Result<()> {
         let mut rest = bytes;
         while !rest.is_empty() {
@@ -274,7 +281,7 @@ pub trait Write {
     }
 }
 
-/// One write, tried again where a signal interrupted it.
+/// Writes once, and again if a signal interrupted the write.
 fn write_uninterrupted<W: Write + ?Sized>(writer: &mut W, bytes: &[u8]) -> Result<usize> {
     loop {
         match writer.write(bytes) {
@@ -291,12 +298,12 @@ impl<A: Allocator> Write for Vec<u8, A> {
     }
 }
 
-/// What may be a terminal.
+/// A stream that may be a terminal.
 pub trait IsTerminal {
     fn is_terminal(&self) -> bool;
 }
 
-/// What Rust takes when a standard stream is used first.
+/// The memory that Rust allocates when a standard stream is used for the first time.
 struct Front {
     len: usize,
     is_there: AtomicBool,
@@ -310,7 +317,7 @@ impl Front {
         }
     }
 
-    /// Returns `true` if it is taken, or there is room for it.
+    /// Returns `true` if memory for the buffer was found before, or is found now. The buffer itself is allocated later.
     fn is_there(&self) -> bool {
         if !self.is_there.load(Relaxed) && has_room(self.len) {
             self.is_there.store(true, Relaxed);
@@ -327,7 +334,7 @@ impl Front {
     }
 }
 
-/// Rust's are 8,192 and 1,024 bytes.
+/// Rust's buffers for these streams have 8,192 and 1,024 bytes.
 static INPUT: Front = Front::new(10_000);
 static OUTPUT: Front = Front::new(2_000);
 
@@ -348,7 +355,7 @@ impl IsTerminal for Stdin {
     }
 }
 
-/// Standard output. Nothing is kept back: what is written is written at once.
+/// Standard output. It has no buffer of its own. Each write is passed on at once.
 #[derive(Clone, Copy)]
 pub struct Stdout;
 
@@ -378,7 +385,7 @@ impl Write for Stderr {
     }
 }
 
-/// The handle of what reads standard input.
+/// A handle that gives access to standard input.
 pub trait Input {
     type Reader: Read;
 
@@ -393,13 +400,13 @@ impl Input for HostRuntime {
     }
 }
 
-/// The handle of what writes lines to standard error.
+/// A handle that writes lines to standard error.
 pub trait Eprint {
     fn eprintln<T: fmt::Display>(&self, line: T) -> Result<()>;
 }
 
 impl Eprint for HostRuntime {
-    /// It takes no memory, since the line may say that there is none.
+    /// This method allocates nothing, because the line may report that memory is short.
     fn eprintln<T: fmt::Display>(&self, line: T) -> Result<()> {
         let mut ahead = Ahead {
             bytes: [0; 1024],
@@ -416,7 +423,7 @@ impl Eprint for HostRuntime {
     }
 }
 
-/// Room in front of standard error, so that a short line is written in one call, and no other program's comes between.
+/// A buffer for standard error. A short line is written in one call, so that output of other programs can't come between its parts.
 struct Ahead {
     bytes: [u8; 1024],
     len: usize,
@@ -447,12 +454,12 @@ impl fmt::Write for Ahead {
     }
 }
 
-/// What writes to standard output.
+/// Returns the writer of standard output.
 pub fn writer(rt: &HostRuntime) -> Stdout {
     rt.stdout()
 }
 
-/// All that is left of a reader, which has to be a text.
+/// Reads the remaining bytes of a reader, which must be UTF-8.
 pub fn read_to_string<A: Allocator, R: Read>(alloc: A, mut reader: R) -> Result<String<A>> {
     let mut bytes = Vec::new(alloc);
     reader.read_up_to(&mut bytes, u64::MAX)?;
@@ -463,13 +470,13 @@ fn text_of<A: Allocator>(bytes: Vec<u8, A>) -> Result<String<A>> {
     String::from_utf8(bytes).map_err(|_| Error::of(ErrorKind::InvalidData))
 }
 
-/// How many bytes stand in front of a reader or a writer.
+/// The number of bytes in the buffer of a reader or a writer.
 const AHEAD: usize = 8192;
 
-/// A reader with room in front, so that it can be read in pieces. The rows alone use it.
+/// A buffered reader, which can be read in pieces. Only the program `rl_rows` uses it.
 pub struct BufReader<R, A: Allocator> {
     inner: R,
-    /// Of these, those from `start` to `end` are read and not yet consumed.
+    /// The buffer. The bytes from `start` to `end` are read and not yet consumed.
     bytes: Vec<u8, A>,
     start: usize,
     end: usize,
@@ -486,15 +493,15 @@ impl<R: Read, A: Allocator> BufReader<R, A> {
     }
 }
 
-/// What can be read in pieces.
+/// A reader with a buffer, which can be read in pieces.
 pub trait BufRead: Sized {
-    /// What is read and not yet consumed. Where that is nothing, it reads once.
+    /// Returns the bytes that are read and not yet consumed. If there are none, it reads once.
     fn fill_buf(&mut self) -> Result<&[u8]>;
 
     fn consume(&mut self, count: usize);
 
-    /// Puts the bytes up to this one, and it, after those of the list, or all that are left. After an error, what was read stays
-    /// there.
+    /// Appends the bytes up to and including the next `byte` to the list, or all remaining bytes. After an error, the bytes that
+    /// were read stay in the list.
     fn read_until<B: Allocator>(&mut self, byte: u8, list: &mut Vec<u8, B>) -> Result<()> {
         loop {
             let ready = match self.fill_buf() {
@@ -512,7 +519,7 @@ pub trait BufRead: Sized {
         }
     }
 
-    /// The pieces between these bytes.
+    /// Returns an iterator over the pieces of the reader between the bytes `byte`.
     fn split<B: Allocator>(self, alloc: B, byte: u8) -> Split<Self, B> {
         Split {
             inner: self,
@@ -522,7 +529,7 @@ pub trait BufRead: Sized {
         }
     }
 
-    /// The lines, without their ends `\n` and `\r\n`.
+    /// Returns an iterator over the lines of the reader, without the line ends `\n` and `\r\n`.
     fn lines<B: Allocator>(self, alloc: B) -> Lines<Self, B> {
         Lines(self.split(alloc, b'\n'))
     }
@@ -542,8 +549,8 @@ impl<R: Read, A: Allocator> BufRead for BufReader<R, A> {
     }
 }
 
-/// The pieces of a reader. An error takes the place of the piece that it came in. After one of memory none comes, since the rest of
-/// a piece would come as a whole one.
+/// An iterator over the pieces of a reader. If reading a piece fails, the iterator returns the error in place of the piece. After
+/// an allocation failure it ends, because the rest of the piece would look like a whole piece.
 pub struct Split<R, B: Allocator> {
     inner: R,
     alloc: B,
@@ -552,7 +559,7 @@ pub struct Split<R, B: Allocator> {
 }
 
 impl<R: BufRead, B: Allocator> Split<R, B> {
-    /// The next piece, and whether the byte stood after it.
+    /// Returns the next piece, and whether the separating byte followed it.
     fn next_piece(&mut self) -> Option<Result<(Vec<u8, B>, bool)>> {
         if self.has_ended {
             return None;
@@ -578,7 +585,7 @@ impl<R: BufRead, B: Allocator> Iterator for Split<R, B> {
     }
 }
 
-/// The lines of a reader, by the rules of `Split`.
+/// An iterator over the lines of a reader, with the same rules for errors as `Split`.
 pub struct Lines<R, B: Allocator>(Split<R, B>);
 
 impl<R: BufRead, B: Allocator> Iterator for Lines<R, B> {
@@ -594,7 +601,8 @@ impl<R: BufRead, B: Allocator> Iterator for Lines<R, B> {
     }
 }
 
-/// A writer with room in front, so that few calls are made. The rows alone use it. What it holds is written when it is dropped.
+/// A buffered writer, which makes fewer calls of the inner writer. Only the program `rl_rows` uses it. The buffered bytes are
+/// written when it is dropped.
 pub struct BufWriter<W: Write, A: Allocator> {
     inner: W,
     held: Vec<u8, A>,
@@ -608,7 +616,7 @@ impl<W: Write, A: Allocator> BufWriter<W, A> {
         })
     }
 
-    /// Writes what is held. What a failure leaves unwritten is still held.
+    /// Writes the buffered bytes. After an error, the bytes that weren't written are still buffered.
     fn pass_on(&mut self) -> Result<()> {
         let mut written = 0;
         let mut end = Ok(());
@@ -623,7 +631,7 @@ impl<W: Write, A: Allocator> BufWriter<W, A> {
         end
     }
 
-    /// Holds the bytes, which are fewer than there is room for in all.
+    /// Adds the bytes to the buffer. They must be fewer than the size of the whole buffer.
     fn hold(&mut self, bytes: &[u8]) -> Result<()> {
         if bytes.len() > AHEAD - self.held.len() {
             self.pass_on()?;
@@ -659,7 +667,7 @@ impl<W: Write, A: Allocator> Write for BufWriter<W, A> {
 
 impl<W: Write, A: Allocator> Drop for BufWriter<W, A> {
     fn drop(&mut self) {
-        // Nobody is left to be told.
+        // An error can't be reported while the writer is dropped.
         let _ = self.pass_on();
     }
 }

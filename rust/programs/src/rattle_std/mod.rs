@@ -1,9 +1,10 @@
-//! What the proved sources use of Rattle's std, over Rust's. Calls that take memory return a `Result`, collections are passed an
-//! allocator, and what reaches the system is passed a handle.
+//! The parts of Rattle's std that the proved sources use, implemented with Rust's std. Calls that allocate memory return a
+//! `Result`. Collections are created with an allocator. Calls that reach the system take a handle.
 //!
-//! Each module says which of Rattle's it stands for, and where it is narrower on purpose. Elsewhere a call answers what Rattle's
-//! answers; `rows/tests/rattle_std` holds the corners with answers of Rattle's own. A failed allocation is an error value here too,
-//! since room is always made by `try_reserve`. There is no `unsafe`: where Rattle leaves out a check that is proved, Rust makes it.
+//! The documentation of each module says which module of Rattle it replaces, and where it is deliberately more limited. Otherwise a
+//! call has the same result as in Rattle. `rows/tests/rattle_std` tests special cases against results that Rattle printed. A failed
+//! allocation is an error value here too, since memory is always reserved with `try_reserve`. There is no `unsafe`: if Rattle
+//! leaves out a check because it is proved, Rust makes the check.
 
 pub mod alloc;
 pub mod collections;
@@ -17,20 +18,21 @@ pub mod rt;
 pub mod string;
 pub mod vec;
 
-/// These stand for themselves: Rattle's are ported from Rust's. But its `fmt::Formatter` names the type of its writer, so that the
-/// renderer changes the signature of each `fmt`; and its `Debug` escapes by Unicode 18, Rust's by that of the toolchain.
+/// Rattle's modules of these names are ported from Rust's, so Rust's are used. There are two differences. Rattle's `fmt::Formatter`
+/// names the type of its writer, so the renderer changes the signature of each `fmt`. Rattle's `Debug` escapes by Unicode 18, and
+/// Rust's by the Unicode version of the toolchain.
 pub use core::{cell, cmp, error, fmt, marker, mem, str};
 
 pub mod hash {
-    //! Stands for `std::hash` of Rattle. The hashes are other ones, so no answer may rest on them.
+    //! A replacement for Rattle's `std::hash`. The hashes differ from Rattle's, so no result may depend on them.
     pub use core::hash::{BuildHasherDefault, Hash, Hasher};
     pub use std::collections::hash_map::DefaultHasher;
 
-    /// The hasher of maps: Rust's, where Rattle has another one of this name.
+    /// The hasher of maps. It is Rust's default hasher, and differs from Rattle's hasher of this name.
     pub type FoldHasher = DefaultHasher;
 }
 
 pub mod process {
-    //! Stands for `std::process` of Rattle: how a program ends, and nothing of other processes.
+    //! A replacement for Rattle's `std::process`. It has only the exit code of a program.
     pub use std::process::ExitCode;
 }

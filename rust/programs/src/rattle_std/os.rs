@@ -1,4 +1,4 @@
-//! Stands for `std::os` of Rattle: what Unix alone has of files.
+//! A replacement for Rattle's `std::os`: the calls on files that only Unix has.
 
 pub mod unix {
     pub mod fs {
@@ -8,7 +8,7 @@ pub mod unix {
 
         pub use std::os::unix::fs::{MetadataExt, PermissionsExt};
 
-        /// Gives the file at the path another owner, another group, or both.
+        /// Changes the owner, the group, or both, of the file at the path.
         pub fn chown<R: Files>(
             _rt: &R,
             path: &str,
@@ -18,9 +18,9 @@ pub mod unix {
             Ok(std::os::unix::fs::chown(copied(path)?, uid, gid)?)
         }
 
-        /// How a file is opened.
+        /// The Unix options with which a file is opened.
         pub trait OpenOptionsExt {
-            /// Who may read, write and run it, if it is made.
+            /// Sets the permissions of the file, if the call creates it.
             fn mode(&mut self, mode: u32) -> &mut Self;
         }
 

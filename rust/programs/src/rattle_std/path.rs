@@ -1,9 +1,9 @@
-//! Stands for `std::path` of Rattle: a path is a text.
+//! A replacement for Rattle's `std::path`. A path is a text.
 
 use super::alloc::{Allocator, Global};
 use super::string::String;
 
-/// A path in memory of its own.
+/// An owned path.
 pub struct PathBuf<A: Allocator = Global>(String<A>);
 
 impl<A: Allocator> PathBuf<A> {

@@ -1,5 +1,5 @@
-//! Stands for the prelude of Rattle: the names that every file has there, and that Rust hasn't, or means otherwise. Each rendered
-//! file imports those that it uses.
+//! A replacement for Rattle's prelude: names that every Rattle file has, and that Rust lacks or defines differently. Each
+//! translated file imports the names that it uses.
 
 pub use super::io::Eprint;
 pub use super::io::Input;
@@ -8,12 +8,12 @@ pub use super::string::String;
 pub use super::vec::Vec;
 pub use crate::{format_in as format, prove, vec_in as vec};
 
-/// Rattle's bound for what may fall out of scope, as everything may in Rust.
+/// The bound for types whose values may be dropped. In Rattle only some types have it, and in Rust all have it.
 pub trait Drop {}
 
 impl<T: ?Sized> Drop for T {}
 
-/// A text in memory of this allocator.
+/// Formats a text in memory of the given allocator.
 #[macro_export]
 macro_rules! format_in {
     (in $alloc:expr; $($rest:tt)*) => {
@@ -21,7 +21,7 @@ macro_rules! format_in {
     };
 }
 
-/// As many of a value in memory of this allocator.
+/// Creates a list with `$count` copies of a value, in memory of the given allocator.
 #[macro_export]
 macro_rules! vec_in {
     (in $alloc:expr; $value:expr; $count:expr) => {
@@ -29,7 +29,7 @@ macro_rules! vec_in {
     };
 }
 
-/// What Rattle proves when it builds, Rust tests then.
+/// Asserts a claim when the program runs. Rattle proves the claim when it builds the program.
 #[macro_export]
 macro_rules! prove {
     ($claim:expr) => {

@@ -1,33 +1,34 @@
-//! Stands for `std::rt` of Rattle, and `Alloc` of its prelude: the handles that a program is given, which say what it may reach
-//! of the system.
+//! A replacement for Rattle's `std::rt`, and for `Alloc` of its prelude: the handles that a program receives. A handle determines
+//! which parts of the system the program can reach.
 //!
-//! Narrower: `Files` has one method, since `fs` knows one file system. Rattle's has one for each call.
+//! It is more limited than Rattle's module: `Files` has only one method, since `fs` has only one file system. Rattle's `Files` has
+//! a method for each call.
 
 use super::alloc::{Allocator, Global};
 use super::fs::{File, OpenFile};
 use super::io::{Read, Stderr, Stdin, Stdout, Write};
 
-/// The handle that gives an allocator.
+/// A handle that gives access to an allocator.
 pub trait Alloc {
     type A: Allocator;
 
     fn alloc(&self) -> Self::A;
 }
 
-/// The handle of files and directories.
+/// A handle that gives access to files and directories.
 pub trait Files {
     type File: Read + Write + OpenFile;
 
-    /// The file of this handle that the system has opened.
+    /// Converts an open file of the system to the file type of this handle.
     fn opened(&self, file: File) -> Self::File;
 }
 
-/// All that a program may reach.
+/// The handle that gives access to everything that a program may reach.
 #[derive(Clone)]
 pub struct HostRuntime(());
 
 impl HostRuntime {
-    /// The handle for a `main` that Cargo builds. Rattle's `main` is passed it.
+    /// Creates the handle for a `main` function that Cargo builds. In Rattle, `main` receives it as an argument.
     #[allow(clippy::new_without_default)]
     pub fn new() -> HostRuntime {
         HostRuntime(())
@@ -37,7 +38,7 @@ impl HostRuntime {
         Global
     }
 
-    /// What reads standard input, as by `Input`.
+    /// Returns the reader of standard input, like the method of `Input`.
     pub fn reader(&self) -> Stdin {
         Stdin
     }

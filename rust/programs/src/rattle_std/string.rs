@@ -1,7 +1,8 @@
-//! Stands for `std::string` of Rattle: texts whose growth may fail. A call that fails leaves the text as it was.
+//! A replacement for Rattle's `std::string`: texts whose growth may fail. After a failed call the text is unchanged.
 //!
-//! A text asks for memory at the same calls as Rattle's, but where it is formatted: Rust may pass the parts of a number in fewer
-//! pieces. Narrower: a text isn't cloned, and `from_utf8` drops bytes that are no text, where Rattle's error hands them back.
+//! A text allocates memory at the same calls as in Rattle, except in formatting, where Rust may write the parts of a number in
+//! fewer pieces. It is more limited than Rattle's module: a text can't be cloned, and `from_utf8` drops bytes that aren't UTF-8,
+//! while Rattle's error returns them.
 
 use super::alloc::{asks, may_hold, AllocError, Allocator, Global};
 use super::vec::Vec;
@@ -11,14 +12,14 @@ use core::hash::{Hash, Hasher};
 use core::mem::take;
 use core::ops::Deref;
 
-/// A text, over Rust's.
+/// A text whose memory belongs to an allocator. It wraps Rust's `String`.
 pub struct String<A: Allocator = Global> {
     text: std::string::String,
     alloc: A,
 }
 
 impl<A: Allocator> String<A> {
-    /// An empty text, which takes no memory yet.
+    /// Creates an empty text, without an allocation.
     #[inline(always)]
     pub fn new(alloc: A) -> String<A> {
         String {
@@ -27,7 +28,7 @@ impl<A: Allocator> String<A> {
         }
     }
 
-    /// An empty text with room for so many bytes. For none it takes no memory.
+    /// Creates an empty text with a capacity of `len` bytes. If `len` is 0, nothing is allocated.
     pub fn with_capacity(alloc: A, len: usize) -> Result<String<A>, AllocError> {
         let mut made = String::new(alloc);
         let reserved = len == 0
@@ -40,7 +41,7 @@ impl<A: Allocator> String<A> {
         }
     }
 
-    /// Makes room for so many bytes more; returns whether there is some.
+    /// Reserves memory for `count` more bytes. Returns whether there is enough memory.
     #[inline(always)]
     fn makes_room(&mut self, count: usize) -> bool {
         self.text.capacity() - self.text.len() >= count || self.grows(count)
@@ -53,14 +54,14 @@ impl<A: Allocator> String<A> {
             && asks(&self.alloc, holds, || self.text.try_reserve(count))
     }
 
-    /// A copy of the text.
+    /// Copies the text to memory of the allocator.
     pub fn from_str(alloc: A, text: &str) -> Result<String<A>, AllocError> {
         let mut copy = String::with_capacity(alloc, text.len())?;
         copy.text.push_str(text);
         Ok(copy)
     }
 
-    /// The text of these bytes, in their block.
+    /// Converts bytes to a text, in the same block of memory. They must be UTF-8.
     pub fn from_utf8(bytes: Vec<u8, A>) -> Result<String<A>, core::str::Utf8Error> {
         let (bytes, alloc) = bytes.into_parts();
         match std::string::String::from_utf8(bytes) {
@@ -73,7 +74,7 @@ impl<A: Allocator> String<A> {
         }
     }
 
-    /// The text of these bytes. Rattle's call has a proof in place of the check.
+    /// Converts bytes to a text. In Rattle this call needs a proof that they are UTF-8. Here they are checked.
     pub fn from_utf8_unchecked(bytes: Vec<u8, A>) -> String<A> {
         let (bytes, alloc) = bytes.into_parts();
         match std::string::String::from_utf8(bytes) {
@@ -82,7 +83,7 @@ impl<A: Allocator> String<A> {
         }
     }
 
-    /// Puts the character last.
+    /// Appends the character.
     #[inline(always)]
     pub fn push(&mut self, c: char) -> Result<(), AllocError> {
         if !self.makes_room(c.len_utf8()) {
@@ -92,7 +93,7 @@ impl<A: Allocator> String<A> {
         Ok(())
     }
 
-    /// Puts the whole text last, or nothing of it.
+    /// Appends the whole text, or nothing after a failed allocation.
     #[inline(always)]
     pub fn push_str(&mut self, text: &str) -> Result<(), AllocError> {
         if !self.makes_room(text.len()) {
@@ -102,12 +103,12 @@ impl<A: Allocator> String<A> {
         Ok(())
     }
 
-    /// Drops the bytes past the first `len`, which end a character, and keeps the room.
+    /// Drops the bytes after the first `len`, and keeps the capacity. A character must end at `len`.
     pub fn truncate(&mut self, len: usize) {
         self.text.truncate(len);
     }
 
-    /// Drops all, and keeps the room.
+    /// Drops all bytes, and keeps the capacity.
     pub fn clear(&mut self) {
         self.text.clear();
     }
@@ -117,12 +118,13 @@ impl<A: Allocator> String<A> {
         &self.text
     }
 
-    /// The text's bytes, in its block.
+    /// Converts the text to its bytes, in the same block of memory.
     pub fn into_bytes(mut self) -> Vec<u8, A> {
         Vec::of(take(&mut self.text).into_bytes(), self.alloc)
     }
 
-    /// What `write!` and `writeln!` call. It writes all or nothing; an error of a value's own `fmt` counts as a failed allocation.
+    /// Appends formatted text, for `write!` and `writeln!`. It appends everything or nothing. An error of a value's own `fmt`
+    /// counts as a failed allocation.
     pub fn write_fmt(&mut self, text: fmt::Arguments<'_>) -> Result<(), AllocError> {
         let len = self.text.len();
         match fmt::write(&mut Pushed(self), text) {
@@ -144,7 +146,7 @@ impl<A: Allocator> Drop for String<A> {
     }
 }
 
-/// A text that is written to; its one error is that an allocation failed.
+/// A writer that appends to a text. Its only error is a failed allocation.
 struct Pushed<'a, A: Allocator>(&'a mut String<A>);
 
 impl<A: Allocator> fmt::Write for Pushed<'_, A> {
@@ -154,7 +156,7 @@ impl<A: Allocator> fmt::Write for Pushed<'_, A> {
     }
 }
 
-/// What `format!(in alloc; ..)` makes.
+/// Creates a formatted text, for `format!(in alloc; ..)`.
 pub fn formatted<A: Allocator>(
     alloc: A,
     text: fmt::Arguments<'_>,

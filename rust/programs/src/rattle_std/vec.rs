@@ -1,21 +1,21 @@
-//! Stands for `std::vec` of Rattle: lists whose growth may fail. A call that fails leaves the list as it was.
+//! A replacement for Rattle's `std::vec`: lists whose growth may fail. After a failed call the list is unchanged.
 //!
-//! A list asks for memory at the same calls as Rattle's, and for as much. Narrower: items are copied only where they are `Copy`, and
-//! a list isn't cloned or sorted.
+//! A list allocates memory at the same calls as in Rattle, and the same number of bytes. It is more limited than Rattle's module:
+//! items are copied only if they are `Copy`, and a list can't be cloned or sorted.
 
 use super::alloc::{asks, may_hold, AllocError, AllocFailed, Allocator, Global};
 use core::fmt;
 use core::mem::take;
 use core::ops::{Deref, DerefMut};
 
-/// A list, over Rust's.
+/// A list whose memory belongs to an allocator. It wraps Rust's `Vec`.
 pub struct Vec<T, A: Allocator = Global> {
     pub(super) items: std::vec::Vec<T>,
     alloc: A,
 }
 
 impl<T, A: Allocator> Vec<T, A> {
-    /// An empty list, which takes no memory yet.
+    /// Creates an empty list, without an allocation.
     #[inline(always)]
     pub fn new(alloc: A) -> Vec<T, A> {
         Vec {
@@ -24,19 +24,19 @@ impl<T, A: Allocator> Vec<T, A> {
         }
     }
 
-    /// A list of these items, whose block was taken from this allocator.
+    /// Creates a list of these items. Their block of memory came from the allocator.
     #[inline(always)]
     pub(super) fn of(items: std::vec::Vec<T>, alloc: A) -> Vec<T, A> {
         Vec { items, alloc }
     }
 
-    /// The items, with their block, and the allocator that it was taken from.
+    /// Returns the items in their block of memory, and the allocator that it came from.
     #[inline(always)]
     pub(super) fn into_parts(mut self) -> (std::vec::Vec<T>, A) {
         (take(&mut self.items), self.alloc)
     }
 
-    /// An empty list with room for so many items. For none it takes no memory.
+    /// Creates an empty list with a capacity of `count` items. If `count` is 0, nothing is allocated.
     pub fn with_capacity(alloc: A, count: usize) -> Result<Vec<T, A>, AllocError> {
         let mut list = Vec::new(alloc);
         if count > 0 && !list.grows_exactly(count) {
@@ -45,13 +45,14 @@ impl<T, A: Allocator> Vec<T, A> {
         Ok(list)
     }
 
-    /// Makes room for so many items more; returns whether there is some.
+    /// Reserves memory for `count` more items. Returns whether there is enough memory.
     #[inline(always)]
     pub(super) fn makes_room(&mut self, count: usize) -> bool {
         self.items.capacity() - self.items.len() >= count || self.grows(count)
     }
 
-    /// Makes room for so many items more, and for as many as there are if that is more; returns whether it could.
+    /// Reserves memory for `count` more items, or for as many more as the list has, if that is more. Returns whether there is
+    /// enough memory.
     #[inline(never)]
     pub(super) fn grows(&mut self, count: usize) -> bool {
         let holds = self.has_block();
@@ -59,7 +60,7 @@ impl<T, A: Allocator> Vec<T, A> {
             && asks(&self.alloc, holds, || self.items.try_reserve(count))
     }
 
-    /// Makes room for exactly so many items more; returns whether it could.
+    /// Reserves memory for exactly `count` more items. Returns whether there is enough memory.
     pub(super) fn grows_exactly(&mut self, count: usize) -> bool {
         let holds = self.has_block();
         may_hold::<T>(self.items.len().checked_add(count))
@@ -70,7 +71,7 @@ impl<T, A: Allocator> Vec<T, A> {
         size_of::<T>() > 0 && self.items.capacity() > 0
     }
 
-    /// Puts the item last, or hands it back where there is no memory.
+    /// Appends the item. If the allocation fails, the error returns the item.
     #[inline(always)]
     pub fn push(&mut self, item: T) -> Result<(), AllocFailed<T>> {
         if !self.makes_room(1) {
@@ -84,7 +85,7 @@ impl<T, A: Allocator> Vec<T, A> {
         &self.alloc
     }
 
-    /// Takes the last item off.
+    /// Removes and returns the last item.
     pub fn pop(&mut self) -> Option<T> {
         self.items.pop()
     }
@@ -97,7 +98,7 @@ impl<T, A: Allocator> Vec<T, A> {
         &mut self.items
     }
 
-    /// Drops the items past the first `len`, and keeps the room.
+    /// Drops the items after the first `len`, and keeps the capacity.
     pub fn truncate(&mut self, len: usize) {
         self.items.truncate(len);
     }
@@ -113,21 +114,21 @@ impl<T, A: Allocator> Drop for Vec<T, A> {
 }
 
 impl<T: Copy, A: Allocator> Vec<T, A> {
-    /// A copy of the items.
+    /// Copies the items to a new list.
     pub fn from_slice(alloc: A, items: &[T]) -> Result<Vec<T, A>, AllocError> {
         let mut list = Vec::with_capacity(alloc, items.len())?;
         list.items.extend_from_slice(items);
         Ok(list)
     }
 
-    /// What `vec![in alloc; value; count]` makes.
+    /// Creates a list of `count` copies of a value, for `vec![in alloc; value; count]`.
     pub fn filled(alloc: A, value: T, count: usize) -> Result<Vec<T, A>, AllocError> {
         let mut list = Vec::with_capacity(alloc, count)?;
         list.items.resize(count, value);
         Ok(list)
     }
 
-    /// Puts all these items last, or none.
+    /// Appends all these items, or none after a failed allocation.
     #[inline(always)]
     pub fn extend_from_slice(&mut self, items: &[T]) -> Result<(), AllocError> {
         if !self.makes_room(items.len()) {
@@ -183,7 +184,7 @@ impl<T, A: Allocator> IntoIterator for Vec<T, A> {
     }
 }
 
-/// The items of a list, one after another. It holds the list's block.
+/// An iterator over the items of a list. It keeps the list's block of memory.
 pub struct IntoIter<T, A: Allocator = Global> {
     items: std::vec::IntoIter<T>,
     holds: bool,
@@ -207,7 +208,8 @@ impl<T, A: Allocator> Iterator for IntoIter<T, A> {
 }
 
 impl<T, A: Allocator> IntoIter<T, A> {
-    /// The items that are left, as a list. Of Rattle's calls of iterators this one alone takes memory, so it stands here.
+    /// Collects the remaining items in a list. It is the only method of Rattle's iterators that allocates memory, so it is defined
+    /// here.
     pub fn collect<B: Allocator>(mut self, alloc: B) -> Result<Vec<T, B>, AllocError> {
         let mut list = Vec::with_capacity(alloc, self.items.len())?;
         list.items.extend(take(&mut self.items));

@@ -1,4 +1,5 @@
-//! The stored run of a program: `stdin`, `args`, `data` and `stdout` in its folder below crates/.
+//! Compares a program with its stored run. The folder of the program's crate below crates/ has the files of the run: `stdin`,
+//! `args`, `data` and `stdout`.
 
 use std::fs;
 use std::io::Write;
@@ -6,12 +7,12 @@ use std::path::Path;
 use std::process::{Command, Stdio};
 use std::thread;
 
-/// The program at this path, run as the stored run says, prints what is stored.
+/// Checks that the program at the path `program` prints the stored output of the crate `name`.
 pub fn check(name: &str, program: &str) {
     check_but(name, program, &[]);
 }
 
-/// The bytes without the lines for which this is true.
+/// Returns the bytes without the lines for which `is_out` returns `true`.
 fn without(bytes: &[u8], mut is_out: impl FnMut(&[u8]) -> bool) -> Vec<u8> {
     let lines = bytes.split_inclusive(|byte| *byte == b'\n');
     lines
@@ -21,7 +22,8 @@ fn without(bytes: &[u8], mut is_out: impl FnMut(&[u8]) -> bool) -> Vec<u8> {
         .collect()
 }
 
-/// The same without the plain rows of these words. Each is printed before its lines, which begin with two spaces.
+/// Checks the program's output like `check`, but without the rows `plain WORD..` of these words. In the output, such a row is a
+/// line that begins with the word, and the lines after it that begin with two spaces.
 pub fn check_but(name: &str, program: &str, words: &[&str]) {
     let is_of = |line: &[u8]| words.iter().any(|word| line.starts_with(word.as_bytes()));
     let top = concat!(env!("CARGO_MANIFEST_DIR"), "/");
@@ -49,7 +51,7 @@ pub fn check_but(name: &str, program: &str, words: &[&str]) {
         .spawn()
         .expect("the program begins");
     let mut input = child.stdin.take().expect("a pipe");
-    // The program may end before it has read all: what then can't be written isn't missed.
+    // The program may end before it has read all its input, so a failed write of the rest isn't an error.
     let writer = thread::spawn(move || input.write_all(&rows).is_ok());
     let output = child.wait_with_output().expect("the program ends");
     let _ = writer.join();

@@ -1,25 +1,30 @@
 // Rendered from crates/rl_flaws/src/flaws.rt by tools/render, which erases contracts: change that file, and render anew.
-//! A cursor over all flaws of a text.
+//! Iterates over all flaws in the text of a literal.
 
-use crate::rl_flaws::bad_piece::{BadPiece, placed};
-use crate::rl_flaws::piece_ends::{after_bad_piece, is_of_unit};
+use crate::rl_flaws::closings::closing_quote;
+use crate::rl_flaws::invalid_piece::{InvalidPiece, placed};
+use crate::rl_flaws::piece_ends::{after_bad_piece, is_flaw_after_quote, is_flaw_of_unit};
 use crate::rl_flaws::walks::{Opened, open, walk};
-use crate::rl_forms::Kind;
-use crate::rl_reasons::{FlawKind, explain};
-use crate::rl_text::text::before;
+use crate::rl_lenient::quoted_forms::QuotedForm;
+use crate::rl_strict::read_quoted::suffix_flaw;
+use crate::rl_strict::{FlawKind, LineEnds, read};
+use crate::rl_syntax::Kind;
+use crate::rl_syntax::text::{before, without_first};
 
-/// What is left to be judged.
+/// The part of a text that is still to be checked for flaws.
 #[derive(Clone, Copy)]
 pub enum Left<'t> {
-    /// A text as a whole, which is no quoted literal.
+    /// All of a text that doesn't begin as a quoted literal.
     Whole(&'t str),
-    /// What follows the opener of a quoted literal, or a bad piece in it.
+    /// The text after a quoted literal's opening delimiter, or after a faulty piece inside the literal.
     Inside(Opened<'t>, &'t str),
-    /// Nothing.
+    /// The text that begins at the closing quote of a character or byte literal, after a flaw before that quote.
+    Closed(Kind, &'t str),
+    /// Nothing: all of the text is checked.
     Nothing,
 }
 
-/// What is left of a text before its first flaw.
+/// Returns the part of `text` to check first: the text after an opening delimiter, or all of the text.
 fn whole(text: &str) -> Left<'_> {
     match open(text) {
         Some((opened, inside)) => Left::Inside(opened, inside),
@@ -27,79 +32,119 @@ fn whole(text: &str) -> Left<'_> {
     }
 }
 
-/// The quote that closes a literal of the kind.
-fn quote_of(kind: Kind) -> char {
-    match kind {
-        Kind::Byte | Kind::Char => '\'',
-        _ => '"',
+/// Whether the kind is a character or a byte.
+fn is_single(kind: Kind) -> bool {
+    matches!(kind, Kind::Byte | Kind::Char)
+}
+
+/// Returns the part to check after a flaw in a character or byte literal: the text that begins at its closing quote, or nothing
+/// if no quote closes it. `inside` is the text after the opening quote.
+fn left_in_single<'t>(ends: LineEnds, kind: Kind, inside: &'t str) -> Left<'t> {
+    match closing_quote(ends, inside) {
+        Some(closing) => Left::Closed(kind, closing),
+        None => Left::Nothing,
     }
 }
 
-/// What follows a flaw inside a literal, whose piece it stands at where it is one of a character or an escape.
-fn left_after<'t>(opened: Opened<'t>, kind: FlawKind, closing: &'t str) -> Left<'t> {
-    if opened.kind.is_string() && is_of_unit(kind) {
-        Left::Inside(opened, after_bad_piece(quote_of(opened.kind), closing))
+/// Returns the part of the text to check after a flaw of the kind `flaw`. `inside` is the text that the flaw was found in, and
+/// `piece` the text that begins at the flaw's piece.
+fn left_after<'t>(
+    ends: LineEnds,
+    opened: Opened<'t>,
+    inside: &'t str,
+    flaw: FlawKind,
+    piece: &'t str,
+) -> Left<'t> {
+    if opened.kind.is_string() && is_flaw_of_unit(flaw) {
+        Left::Inside(opened, after_bad_piece(ends, opened.kind.quote(), piece))
+    } else if is_single(opened.kind) && !is_flaw_after_quote(flaw) {
+        left_in_single(ends, opened.kind, inside)
     } else {
         Left::Nothing
     }
 }
 
-/// The next flaw, what stands before it, and what is left after it.
+/// The result of one search for a flaw: the valid text before the flaw, the flaw, and the part of the text still to check.
 #[derive(Clone, Copy)]
-pub struct Judged<'t> {
-    /// What is good inside a quoted literal, up to the flaw or the closer.
+pub struct NextFlaw<'t> {
+    /// The valid content of a quoted literal before the flaw or the closing delimiter.
     pub good: &'t str,
-    /// The place where that ends.
+    /// The byte offset where `good` ends.
     pub end: usize,
-    pub bad: Option<BadPiece>,
+    pub bad: Option<InvalidPiece>,
     pub left: Left<'t>,
 }
 
-/// The flaw of a text that is no quoted literal.
-fn judge_whole(text: &str) -> Judged<'_> {
-    match explain(text) {
-        Some(flaw) => Judged {
-            good: "",
-            end: 0,
-            bad: Some(BadPiece { flaw, end: flaw.hi }),
-            left: Left::Nothing,
-        },
-        None => Judged {
+/// Returns the flaw of a text that doesn't begin as a quoted literal.
+fn flaw_of_whole(ends: LineEnds, text: &str) -> NextFlaw<'_> {
+    match read(text, ends, false) {
+        Ok(_) => NextFlaw {
             good: "",
             end: 0,
             bad: None,
             left: Left::Nothing,
         },
+        Err(flaw) => NextFlaw {
+            good: "",
+            end: 0,
+            bad: Some(InvalidPiece { flaw, end: flaw.hi }),
+            left: Left::Nothing,
+        },
     }
 }
 
-/// The next flaw inside a literal or after it.
-pub fn judge_inside<'t>(len: usize, opened: Opened<'t>, rest: &'t str) -> Judged<'t> {
-    let stretch = walk(opened, rest);
+/// Returns the next flaw inside a quoted literal, or after its closing quote.
+pub fn next_flaw_inside<'t>(
+    ends: LineEnds,
+    len: usize,
+    opened: Opened<'t>,
+    rest: &'t str,
+) -> NextFlaw<'t> {
+    let stretch = walk(ends, opened, rest);
     let good = before(rest, stretch.closing);
     let end = len - stretch.closing.len();
-    match stretch.flaw {
-        Some(found) => Judged {
-            good,
-            end,
-            bad: Some(placed(len, quote_of(opened.kind), found)),
-            left: left_after(opened, found.kind, stretch.closing),
-        },
-        None => Judged {
+    match stretch.end {
+        Ok(_) => NextFlaw {
             good,
             end,
             bad: None,
             left: Left::Nothing,
         },
+        Err(found) => NextFlaw {
+            good,
+            end,
+            bad: Some(placed(ends, len, opened.kind.quote(), found)),
+            left: left_after(ends, opened, rest, found.kind, found.piece),
+        },
     }
 }
 
-/// The next flaw of what is left.
-pub fn judge<'t>(len: usize, left: Left<'t>) -> Judged<'t> {
+/// Returns the flaw after a character or byte literal. `closing` is the text that begins with its closing quote.
+fn judge_closed<'t>(ends: LineEnds, len: usize, kind: Kind, closing: &'t str) -> NextFlaw<'t> {
+    let suffix = without_first(closing);
+    match suffix_flaw(QuotedForm::Single, closing, suffix) {
+        None => NextFlaw {
+            good: "",
+            end: 0,
+            bad: None,
+            left: Left::Nothing,
+        },
+        Some(found) => NextFlaw {
+            good: "",
+            end: 0,
+            bad: Some(placed(ends, len, '\'', found)),
+            left: Left::Nothing,
+        },
+    }
+}
+
+/// Returns the next flaw in the part `left` of a text of `len` bytes.
+pub fn next_flaw<'t>(ends: LineEnds, len: usize, left: Left<'t>) -> NextFlaw<'t> {
     match left {
-        Left::Whole(text) => judge_whole(text),
-        Left::Inside(opened, rest) => judge_inside(len, opened, rest),
-        Left::Nothing => Judged {
+        Left::Whole(text) => flaw_of_whole(ends, text),
+        Left::Inside(opened, rest) => next_flaw_inside(ends, len, opened, rest),
+        Left::Closed(kind, closing) => judge_closed(ends, len, kind, closing),
+        Left::Nothing => NextFlaw {
             good: "",
             end: 0,
             bad: None,
@@ -108,27 +153,31 @@ pub fn judge<'t>(len: usize, left: Left<'t>) -> Judged<'t> {
     }
 }
 
-/// All flaws of a text, one after another; none of a literal token. They take no memory.
+/// A cursor over all flaws in the text of a literal. A valid literal token has none. Nothing is allocated.
 ///
-/// The first is the one that [`explain`](crate::rl_reasons::explain) returns. After a bad character or escape of a string reading goes
-/// on, as inside the same string; after any other flaw nothing does.
+/// The first flaw is the error that [`read`](crate::rl_strict::read) returns with `signed = false`. After an invalid character or
+/// escape in a string, the search continues inside the string. After a flaw before the closing quote of a character or byte
+/// literal, only the suffix is checked. Any other flaw is the last one. Offsets are in bytes of the text as written. In a file,
+/// where CR LF is read as LF, no offset is between the two.
 pub struct Flaws<'t> {
+    ends: LineEnds,
     len: usize,
     left: Left<'t>,
 }
 
 impl<'t> Flaws<'t> {
-    /// The flaws of a text.
-    pub fn of(text: &'t str) -> Flaws<'t> {
+    /// Creates a cursor over the flaws of `text`. `ends` says whether CR LF is read as LF, as in a file.
+    pub fn of(text: &'t str, ends: LineEnds) -> Flaws<'t> {
         Flaws {
+            ends,
             len: text.len(),
             left: whole(text),
         }
     }
 
-    /// The next flaw; `None` where what is left has none.
-    pub fn next(&mut self) -> Option<BadPiece> {
-        let judged = judge(self.len, self.left);
+    /// Returns the next flaw and its piece, or `None` if the rest of the text has no flaw.
+    pub fn next(&mut self) -> Option<InvalidPiece> {
+        let judged = next_flaw(self.ends, self.len, self.left);
         self.left = judged.left;
         judged.bad
     }

@@ -1,79 +1,89 @@
 // Rendered from crates/rl_flaws/src/piece_ends.rt by tools/render, which erases contracts: change that file, and render anew.
-//! How far a piece of a quoted literal goes that is no unit.
+//! Finds the end of an invalid character or escape in a quoted literal.
 
-use crate::rl_reasons::FlawKind;
-use crate::rl_text::text::split_char;
+use crate::rl_strict::walk_units::split;
+use crate::rl_strict::{FlawKind, LineEnds};
 
-/// What follows the first character of the text; all of it, where that is a backslash or the quote.
-fn after_one(quote: char, text: &str) -> &str {
-    match split_char(text) {
+/// Returns the text after its first character, or an empty text. In a file a CR LF is one character.
+pub fn after_first(ends: LineEnds, text: &str) -> &str {
+    match split(ends, text) {
+        Some((_, rest)) => rest,
+        None => text,
+    }
+}
+
+/// Returns the text after its first character. If that character is a backslash or the quote `quote`, the result is all of the
+/// text.
+fn after_one(ends: LineEnds, quote: char, text: &str) -> &str {
+    match split(ends, text) {
         Some((c, rest)) if c != '\\' && c != quote => rest,
         _ => text,
     }
 }
 
-/// What follows the digits of `\x` that is no escape.
-fn after_hex(quote: char, text: &str) -> &str {
-    match split_char(text) {
-        Some((c, rest)) if c.is_ascii_hexdigit() => after_one(quote, rest),
-        _ => after_one(quote, text),
+/// Returns the text after an invalid `\x` escape. `text` begins after `\x`.
+fn after_hex(ends: LineEnds, quote: char, text: &str) -> &str {
+    match split(ends, text) {
+        Some((c, rest)) if c.is_ascii_hexdigit() => after_one(ends, quote, rest),
+        _ => after_one(ends, quote, text),
     }
 }
 
-/// Whether the character is a digit or an underscore between braces.
+/// Whether the character may occur between the braces of `\u{..}`: a hexadecimal digit or an underscore.
 fn is_code_part(c: char) -> bool {
     c.is_ascii_hexdigit() || c == '_'
 }
 
-/// What follows the digits and underscores between braces, and the character after them.
-fn after_code_digits(quote: char, text: &str) -> &str {
+/// Returns the text after an invalid `\u{..}` escape. `text` begins after the escape's first digit. Its digits and underscores
+/// are skipped, and then one character that isn't a backslash or the quote.
+fn after_code_digits(ends: LineEnds, quote: char, text: &str) -> &str {
     let mut rest = text;
-    while let Some((c, following)) = split_char(rest) {
+    while let Some((c, following)) = split(ends, rest) {
         if !is_code_part(c) {
-            return after_one(quote, rest);
+            return after_one(ends, quote, rest);
         }
         rest = following;
     }
     rest
 }
 
-/// What follows `\u{` and what stands after it.
-fn after_brace(quote: char, text: &str) -> &str {
-    match split_char(text) {
-        Some((c, rest)) if c.is_ascii_hexdigit() => after_code_digits(quote, rest),
-        _ => after_one(quote, text),
+/// Returns the text after an invalid `\u{..}` escape. `text` begins after `\u{`.
+fn after_brace(ends: LineEnds, quote: char, text: &str) -> &str {
+    match split(ends, text) {
+        Some((c, rest)) if c.is_ascii_hexdigit() => after_code_digits(ends, quote, rest),
+        _ => after_one(ends, quote, text),
     }
 }
 
-/// What follows `\u` and what stands after it.
-fn after_unicode(quote: char, text: &str) -> &str {
-    match split_char(text) {
-        Some(('{', rest)) => after_brace(quote, rest),
-        _ => after_one(quote, text),
+/// Returns the text after an invalid `\u` escape. `text` begins after `\u`.
+fn after_unicode(ends: LineEnds, quote: char, text: &str) -> &str {
+    match split(ends, text) {
+        Some(('{', rest)) => after_brace(ends, quote, rest),
+        _ => after_one(ends, quote, text),
     }
 }
 
-/// What follows the escape whose backslash stands before the text.
-fn after_escape(quote: char, text: &str) -> &str {
-    match split_char(text) {
-        Some(('x', rest)) => after_hex(quote, rest),
-        Some(('u', rest)) => after_unicode(quote, rest),
+/// Returns the text after an invalid escape. `text` begins after the escape's backslash.
+fn after_escape(ends: LineEnds, quote: char, text: &str) -> &str {
+    match split(ends, text) {
+        Some(('x', rest)) => after_hex(ends, quote, rest),
+        Some(('u', rest)) => after_unicode(ends, quote, rest),
         Some((_, rest)) => rest,
         None => text,
     }
 }
 
-/// What follows the piece at the front of the text that is no unit.
-pub fn after_bad_piece(quote: char, text: &str) -> &str {
-    match split_char(text) {
-        Some(('\\', rest)) => after_escape(quote, rest),
+/// Returns the text after the invalid escape or character at its beginning, where parsing a string continues.
+pub fn after_bad_piece(ends: LineEnds, quote: char, text: &str) -> &str {
+    match split(ends, text) {
+        Some(('\\', rest)) => after_escape(ends, quote, rest),
         Some((_, rest)) => rest,
         None => text,
     }
 }
 
-/// Whether a flaw of the kind is one of a character or an escape between the quotes.
-pub fn is_of_unit(kind: FlawKind) -> bool {
+/// Returns `true` if a flaw of this kind is an invalid character or an invalid escape between the quotes of a literal.
+pub fn is_flaw_of_unit(kind: FlawKind) -> bool {
     matches!(
         kind,
         FlawKind::UnknownEscape
@@ -82,12 +92,23 @@ pub fn is_of_unit(kind: FlawKind) -> bool {
             | FlawKind::NoBrace
             | FlawKind::EmptyBraces
             | FlawKind::TooManyDigits
-            | FlawKind::PastAscii
-            | FlawKind::PastUnicode
+            | FlawKind::HexEscapeOutOfRange
+            | FlawKind::UnicodeEscapeOutOfRange
             | FlawKind::Surrogate
             | FlawKind::Nul
             | FlawKind::NotAscii
             | FlawKind::MustEscape
             | FlawKind::CarriageReturn
+    )
+}
+
+/// Returns `true` if a flaw of this kind is after the closing quote of a literal.
+pub fn is_flaw_after_quote(kind: FlawKind) -> bool {
+    matches!(
+        kind,
+        FlawKind::TextAfterQuote
+            | FlawKind::ExtraHash
+            | FlawKind::UnderscoreSuffix
+            | FlawKind::BadSuffix
     )
 }

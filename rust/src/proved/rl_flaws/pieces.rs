@@ -1,85 +1,53 @@
 // Rendered from crates/rl_flaws/src/pieces.rt by tools/render, which erases contracts: change that file, and render anew.
-//! The pieces of a quoted literal, good and bad.
+//! Splits a quoted literal into its valid segments and its invalid pieces.
 
-use crate::rl_flaws::bad_piece::BadPiece;
-use crate::rl_flaws::flaws::{Left, judge, judge_inside};
+use crate::rl_flaws::flaws::{Left, next_flaw, next_flaw_inside};
+use crate::rl_flaws::invalid_piece::InvalidPiece;
 use crate::rl_flaws::walks::open;
-use crate::rl_forms::Kind;
-use crate::rl_reading::quoted_forms::QuotedForm;
-use crate::rl_reading::units::{Piece as Unit, is_plain, split_plain, unit};
-use crate::rl_reading::{Segment, SegmentValue};
-use crate::rl_text::text::{before, split_char};
+use crate::rl_lenient::quoted_forms::QuotedForm;
+use crate::rl_lenient::{Segment, split_segment};
+use crate::rl_strict::LineEnds;
+use crate::rl_syntax::Kind;
 
-/// A piece of a quoted literal.
+/// A part of a quoted literal: a valid segment or an invalid piece.
 #[derive(Clone, Copy)]
 pub enum Piece<'t> {
-    /// A segment: what stands there, and what it stands for.
+    /// A valid segment: its range, and its decoded value.
     Good(Segment<'t>),
-    /// A flaw with its piece.
-    Bad(BadPiece),
+    /// A flaw, and the end of the piece to show for it.
+    Bad(InvalidPiece),
 }
 
-/// The characters at the front that stand for themselves, and the text after them: of a character or a byte one at most.
-fn split_run(kind: Kind, text: &str) -> (&str, &str) {
-    if kind.is_string() {
-        return split_plain(kind, text);
-    }
-    match split_char(text) {
-        Some((c, rest)) if is_plain(kind, c) => (before(text, rest), rest),
-        _ => ("", text),
-    }
+/// Whether the form is a raw string.
+fn is_raw(form: QuotedForm) -> bool {
+    matches!(form, QuotedForm::Raw)
 }
 
-/// What a unit is as a segment: where a kind holds characters, a byte is one.
-fn value_of<'t>(kind: Kind, piece: Unit) -> SegmentValue<'t> {
-    match piece {
-        Unit::Character(c) => SegmentValue::Char(c),
-        Unit::Byte(b) if kind.holds_characters() => SegmentValue::Char(b as char),
-        Unit::Byte(b) => SegmentValue::Byte(b),
-        Unit::Nothing => SegmentValue::Nothing,
-    }
-}
-
-/// What the segment at the front of what is good is, and the text after it. Of a raw string all of it is one.
-fn split_segment(kind: Kind, plain: bool, text: &str) -> (SegmentValue<'_>, &str) {
-    if plain {
-        return (SegmentValue::Text(text), "");
-    }
-    let (run, following) = split_run(kind, text);
-    if !run.is_empty() {
-        return (SegmentValue::Text(run), following);
-    }
-    let Some((piece, after)) = unit(kind, text) else {
-        unreachable!()
-    };
-    (value_of(kind, piece), after)
-}
-
-/// The pieces of a quoted literal that may have flaws, one after another, from its opener on: its segments, as far as they are
-/// good, and each flaw where it stands. They take no memory.
+/// A cursor over the pieces of a quoted literal that may be invalid, from its opening delimiter on. The pieces are the valid
+/// segments, and the flaws between them. Nothing is allocated.
 ///
-/// The bad ones are the flaws of the text, all of them ([`Flaws`](crate::rl_flaws::Flaws)). Of a literal token all are good, and are its
-/// segments.
+/// The invalid pieces are all flaws that a [`Flaws`](crate::rl_flaws::Flaws) cursor finds in the text. A valid literal token has only
+/// valid pieces, its segments.
 pub struct Pieces<'t> {
     kind: Kind,
     plain: bool,
-    // the place where what is good ends
+    // The byte offset where `good`, the valid text before the next flaw, ends.
     end: usize,
     good: &'t str,
-    bad: Option<BadPiece>,
+    bad: Option<InvalidPiece>,
     len: usize,
     left: Left<'t>,
 }
 
 impl<'t> Pieces<'t> {
-    /// The pieces of a text that begins as a quoted literal; `None` of any other.
+    /// Creates a cursor over the pieces of `text`, or returns `None` if `text` doesn't begin as a quoted literal.
     pub fn of(text: &'t str) -> Option<Pieces<'t>> {
         match open(text) {
             Some((opened, inside)) => {
-                let judged = judge_inside(text.len(), opened, inside);
+                let judged = next_flaw_inside(LineEnds::Text, text.len(), opened, inside);
                 Some(Pieces {
                     kind: opened.kind,
-                    plain: matches!(opened.form, QuotedForm::Raw),
+                    plain: is_raw(opened.form),
                     end: judged.end,
                     good: judged.good,
                     bad: judged.bad,
@@ -91,7 +59,7 @@ impl<'t> Pieces<'t> {
         }
     }
 
-    /// The next piece; `None` at the end.
+    /// Returns the next piece, or `None` at the end.
     pub fn next(&mut self) -> Option<Piece<'t>> {
         if !self.good.is_empty() {
             let lo = self.end - self.good.len();
@@ -103,7 +71,7 @@ impl<'t> Pieces<'t> {
         let Some(bad) = self.bad else {
             return None;
         };
-        let judged = judge(self.len, self.left);
+        let judged = next_flaw(LineEnds::Text, self.len, self.left);
         self.end = judged.end;
         self.good = judged.good;
         self.bad = judged.bad;

@@ -1,37 +1,38 @@
 // Rendered from crates/rl_lexer/src/cursor.rt by tools/render, which erases contracts: change that file, and render anew.
-//! A text cut into tokens, one at a time.
+//! The cursor that lexes a text's tokens one at a time.
 
 use crate::rl_lexer::lex_error::LexError;
 use crate::rl_lexer::lexeme::{Form, first_lexeme};
 use crate::rl_lexer::no_token::error_kind;
 use crate::rl_lexer::whitespace::skip;
 
-/// A token of a text, borrowed from it: what it is to a parser, and where it stands.
+/// A token that [`Tokens`] returns: its form, its text and its byte range. The text is borrowed from the lexed text.
 #[derive(Clone, Copy)]
 pub struct Lexeme<'t> {
-    /// What it is to a parser.
+    /// The form of the token.
     pub form: Form,
-    /// Its text, a slice of the whole.
+    /// The token's text, a slice of the whole text.
     pub text: &'t str,
-    /// The place of its first byte in the whole.
+    /// The byte offset in the whole text where the token begins.
     pub lo: usize,
-    /// The place after its last byte.
+    /// The byte offset in the whole text after the token's last byte.
     pub hi: usize,
 }
 
-/// A text that is cut into tokens as they are asked for. White space and plain comments between
-/// them are dropped. No memory is taken, and a delimiter is a token like any other: whether groups
-/// are closed is for the caller, or [`lex`].
+/// A cursor that lexes a text's tokens one at a time.
+///
+/// White space and plain comments between the tokens are dropped. A delimiter is a token like any other: the caller, or
+/// [`lex`], checks whether groups are closed. Nothing is allocated.
 ///
 /// [`lex`]: crate::rl_lexer::lex
 pub struct Tokens<'t> {
     text: &'t str,
-    // what is left, after white space and comments
+    // The text from the next token on: white space and comments before that token are dropped already.
     rest: &'t str,
 }
 
 impl<'t> Tokens<'t> {
-    /// The tokens of a text, from its front. Nothing is cut yet but white space and comments.
+    /// Creates the cursor at the start of a text. White space and comments before the first token are dropped.
     pub fn new(text: &'t str) -> Tokens<'t> {
         Tokens {
             text,
@@ -39,8 +40,10 @@ impl<'t> Tokens<'t> {
         }
     }
 
-    /// Cuts off the token that begins what is left. `None` where no token begins it, at its end
-    /// too; it stays then.
+    /// Consumes the next token and returns it.
+    ///
+    /// Returns `None` at the end of the text, and where no token begins, since the text has an error. The cursor
+    /// doesn't move then.
     #[inline(always)]
     pub fn next(&mut self) -> Option<Lexeme<'t>> {
         let (form, following) = first_lexeme(self.rest)?;
@@ -51,8 +54,7 @@ impl<'t> Tokens<'t> {
         Some(Lexeme { form, text, lo, hi })
     }
 
-    /// A cursor at the same place of the same text, to look ahead by: what is cut off there stays
-    /// here.
+    /// Returns a copy of the cursor, to look ahead with. Consuming tokens from the copy doesn't move this cursor.
     #[inline(always)]
     pub fn fork(&self) -> Tokens<'t> {
         Tokens {
@@ -61,9 +63,10 @@ impl<'t> Tokens<'t> {
         }
     }
 
-    /// Why no token begins what is left: the lexer's error, and the byte where it stands in the
-    /// whole text. `None` at the end of the text, and where a token begins what is left. Groups
-    /// aren't counted here, so the kind is the first six of [`LexKind`](crate::rl_lexer::LexKind)'s alone.
+    /// Returns the lexer's error at the cursor, with its byte offset in the whole text. Returns `None` at the end of
+    /// the text, and before a token.
+    ///
+    /// Groups aren't counted here, so the kind is one of the first six of [`LexKind`](crate::rl_lexer::LexKind).
     pub fn error(&self) -> Option<LexError> {
         if self.rest.is_empty() {
             return None;
@@ -76,14 +79,14 @@ impl<'t> Tokens<'t> {
         Some(LexError::new(kind, at))
     }
 
-    /// What is left of the text, after white space and comments: empty at its end, or where a
-    /// token or an error begins.
+    /// Returns the text after the consumed tokens, without leading white space and comments. It is empty at the end,
+    /// and otherwise begins with a token or an error.
     pub fn rest(&self) -> &'t str {
         self.rest
     }
 }
 
-/// The tokens up to the first place where none begins; [`Tokens::error`] then says why.
+/// Yields the tokens up to the end of the text or its first error. [`Tokens::error`] then returns that error.
 #[cfg(feature = "rendered")]
 impl<'t> Iterator for Tokens<'t> {
     type Item = Lexeme<'t>;

@@ -1,46 +1,46 @@
 // Rendered from crates/rl_lexer/src/lex_error.rt by tools/render, which erases contracts: change that file, and render anew.
-//! What the lexer rejects.
+//! The errors of the lexer.
 
 use core::fmt;
 
-/// Why a text was not cut into trees, and where.
+/// An error of the lexer, which splits a text into token trees: its kind, and its byte offset in the text.
 #[derive(Clone, Copy, PartialEq, Eq, Debug)]
 pub struct LexError {
-    /// What the error is.
+    /// The kind of the error.
     pub kind: LexKind,
-    /// The byte where it stands.
+    /// The byte offset of the error in the text.
     pub at: usize,
 }
 
-/// What the lexer rejects, each reported at the byte that its line names. docs/ERRORS.md has a
-/// text for each, and what to do.
+/// A kind of error of the lexer. Each variant's comment names the byte whose offset the error has. docs/ERRORS.md has
+/// an example text for each kind, and a remedy.
 #[cfg_attr(not(feature = "rendered"), expect(dead_code, reason = "Memory: the package's lists and sources take no memory to be cut"))]
 #[derive(Clone, Copy, PartialEq, Eq, Debug)]
 pub enum LexKind {
-    /// A doc comment, closed or not: its first slash.
+    /// A doc comment, closed or not. The error is at its first slash.
     DocComment,
-    /// A block comment that isn't closed: its first slash.
+    /// A block comment that isn't closed. The error is at its first slash.
     UnclosedComment,
-    /// A quoted or raw literal that isn't closed: its first byte.
+    /// A quoted or raw literal that isn't closed. The error is at its first byte.
     UnclosedQuote,
-    /// A lifetime: its apostrophe.
+    /// A lifetime. The error is at its apostrophe.
     Lifetime,
-    /// A raw identifier: its `r`.
+    /// A raw identifier. The error is at its `r`.
     RawIdentifier,
-    /// A character that begins no token: the character.
+    /// A character that begins no token. The error is at that character.
     StrayCharacter,
-    /// A closer that isn't that of the innermost open group: the closer.
+    /// A closing delimiter that doesn't match the innermost open group. The error is at that delimiter.
     UnmatchedClose,
-    /// A group that the text ends in: the innermost opener.
+    /// A group that isn't closed before the text ends. The error is at the innermost opening delimiter.
     UnclosedGroup,
-    /// An opener where 128 groups are open: the opener.
+    /// An opening delimiter inside 128 open groups. The error is at that delimiter.
     TooDeep,
-    /// An allocation failed: the first byte of the token.
+    /// A failed allocation. The error is at the first byte of the token that needed it.
     Memory,
 }
 
 impl LexError {
-    /// An error of the kind, at the byte.
+    /// Creates an error of the kind at the byte offset `at`.
     #[inline(always)]
     pub fn new(kind: LexKind, at: usize) -> LexError {
         LexError { kind, at }
@@ -48,8 +48,8 @@ impl LexError {
 }
 
 impl LexKind {
-    /// The words of the error.
-    pub fn words(self) -> &'static str {
+    /// Returns the error message of the kind.
+    pub fn message(self) -> &'static str {
         match self {
             LexKind::DocComment => "doc comment is not carried",
             LexKind::UnclosedComment => "unclosed block comment",
@@ -67,7 +67,7 @@ impl LexKind {
 
 impl fmt::Display for LexKind {
     fn fmt(&self, f: &mut fmt::Formatter<'_>) -> fmt::Result {
-        f.pad(self.words())
+        f.pad(self.message())
     }
 }
 

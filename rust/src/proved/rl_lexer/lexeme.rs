@@ -1,5 +1,6 @@
 // Rendered from crates/rl_lexer/src/lexeme.rt by tools/render, which erases contracts: change that file, and render anew.
-//! The lexeme at the front of a text: the literal, identifier or mark that the text begins with.
+//! Functions that lex the token at the start of a text: a literal, an identifier, a delimiter or another punctuation
+//! character.
 
 mod number;
 mod quotes;
@@ -8,35 +9,37 @@ mod suffix;
 use number::{after_decimal, after_digits, ends_number};
 pub(crate) use quotes::begins_hashed_quote;
 use quotes::{after_character, after_quoted, after_raw_literal};
-use crate::rl_text::characters::is_start;
-use crate::rl_text::classes::skip_word;
-use crate::rl_text::lanes::has_bit;
-use crate::rl_text::text::{begins_with, split_ascii, split_char, strip_byte, without_first};
+use crate::rl_syntax::characters::is_start;
+use crate::rl_syntax::classes::skip_word;
+use crate::rl_syntax::lanes::has_bit;
+use crate::rl_syntax::text::{begins_with, split_ascii, split_char, strip_byte, without_first};
 pub(crate) use suffix::after_suffix;
 
-/// What a token is to a parser: what [`Tokens`](crate::rl_lexer::Tokens) cuts off, by its first
-/// characters. Whether a literal reads isn't judged.
+/// The form of a token that [`Tokens`](crate::rl_lexer::Tokens) returns, which its first characters decide. A token with the form
+/// `Literal` isn't checked further, and may be an invalid literal.
 #[derive(Clone, Copy, PartialEq, Eq, Debug)]
 pub enum Form {
-    /// A literal of any kind.
+    /// A literal of any kind, except `true` and `false`.
     Literal,
-    /// An identifier.
+    /// An identifier or a keyword, also `true` and `false`.
     Identifier,
-    /// One of the six delimiters.
+    /// One of the six delimiters: `(`, `)`, `[`, `]`, `{` and `}`.
     Delimiter(char),
-    /// Any other mark.
+    /// A punctuation character that isn't a delimiter, as `+`.
     Mark(char),
 }
 
-/// The form of the lexeme that the text begins with, and the rest after it. `None` where there is no such lexeme. Most tokens
-/// of a list are numbers, words and marks, which are recognized without a call.
+/// Returns the form of the token at the start of a text, and the text after the token. Returns `None` if no token
+/// begins the text.
+///
+/// Most tokens of a list are numbers, identifiers and punctuation characters. They are recognized without a call.
 #[cfg_attr(debug_assertions, inline)]
 #[cfg_attr(not(debug_assertions), inline(always))]
 pub(crate) fn first_lexeme(text: &str) -> Option<(Form, &str)> {
     if let Some(following) = after_number(text) {
         return Some((Form::Literal, following));
     }
-    // A quote begins no word and is no mark.
+    // A quote begins neither an identifier nor a punctuation character.
     if strip_byte(text, b'"').is_none() {
         if let Some((form, following)) = word_or_mark(text) {
             return Some((form, following));
@@ -45,7 +48,7 @@ pub(crate) fn first_lexeme(text: &str) -> Option<(Form, &str)> {
     rebuilt_lexeme(text)
 }
 
-/// What [`first_lexeme`] returns. It doesn't ask [`word_or_mark`], which its caller has asked.
+/// Returns the result of [`first_lexeme`], without a call of [`word_or_mark`]. The caller has made that call already.
 #[inline(always)]
 pub(crate) fn number_or_other(text: &str) -> Option<(Form, &str)> {
     if let Some(following) = after_number(text) {
@@ -54,7 +57,7 @@ pub(crate) fn number_or_other(text: &str) -> Option<(Form, &str)> {
     rebuilt_lexeme(text)
 }
 
-/// What follows the number that the text begins with.
+/// Returns the text after the number at its start, or `None` if it doesn't begin with a decimal digit.
 #[inline(always)]
 fn after_number(text: &str) -> Option<&str> {
     match split_ascii(text) {
@@ -63,14 +66,17 @@ fn after_number(text: &str) -> Option<&str> {
     }
 }
 
-/// What [`lexeme_but_number`] returns, built anew. Room for what a call returns is cleared first: by a function of its own
-/// that is done only where the call is made.
+/// Returns the result of [`lexeme_but_number`], constructed again.
+///
+/// The memory for a call's result is zeroed at the entry of the function that makes the call. As the call is in a
+/// function of its own, only the texts that reach it cost that zeroing.
 #[inline(always)]
 fn rebuilt_lexeme(text: &str) -> Option<(Form, &str)> {
     rebuilt(lexeme_but_number(text))
 }
 
-/// The lexeme that the text begins with, by its first character, which is no digit.
+/// Returns the form of the token at the start of a text, and the text after the token. The first character, which must
+/// not be a digit, selects the function that lexes the token.
 #[inline(never)]
 fn lexeme_but_number(text: &str) -> Option<(Form, &str)> {
     let Some((byte, following)) = split_ascii(text) else {
@@ -80,13 +86,14 @@ fn lexeme_but_number(text: &str) -> Option<(Form, &str)> {
         b'"' => quoted_literal(following),
         b'\'' => character_literal(following),
         b'/' => rebuilt(after_slash(following)),
-        _ if is_mark_alone(byte) => Some((mark_form(byte as char), following)),
+        _ if is_always_token(byte) => Some((mark_form(byte as char), following)),
         _ if is_start(byte as char) => rebuilt(literal_or_identifier(byte as char, following)),
         _ => None,
     }
 }
 
-/// What a call returned, built anew, so that what else may be returned need not stand in memory with it.
+/// Returns the value `found`, constructed again. The copy keeps a call's result apart from other results, so that they
+/// aren't joined in memory.
 #[inline(always)]
 pub(crate) fn rebuilt<F>(found: Option<(F, &str)>) -> Option<(F, &str)> {
     match found {
@@ -95,7 +102,8 @@ pub(crate) fn rebuilt<F>(found: Option<(F, &str)>) -> Option<(F, &str)> {
     }
 }
 
-/// The identifier that the text begins with, where its first character is past ASCII.
+/// Returns the identifier at the start of a text whose first character is non-ASCII, and the text after the identifier.
+/// Returns `None` if that character can't begin an identifier.
 #[inline(never)]
 fn wide_identifier(text: &str) -> Option<(Form, &str)> {
     let (c, following) = split_char(text)?;
@@ -105,7 +113,8 @@ fn wide_identifier(text: &str) -> Option<(Form, &str)> {
     Some((Form::Identifier, skip_word(following)))
 }
 
-/// A literal with a prefix, or an identifier, after its first letter. Of a raw identifier there is none.
+/// Returns the form of a token that begins with the letter `letter`, and the text after the token: a literal with a
+/// prefix, or an identifier. `text` follows the letter. For a raw identifier the result is `None`.
 #[inline(never)]
 fn literal_or_identifier(letter: char, text: &str) -> Option<(Form, &str)> {
     match letter {
@@ -118,8 +127,9 @@ fn literal_or_identifier(letter: char, text: &str) -> Option<(Form, &str)> {
     }
 }
 
-/// The form of the lexeme that the text begins with, and the rest after it, where the first byte of ASCII decides it, or that
-/// and the next: an identifier that begins as no literal does, a delimiter, or a mark that begins no comment. `None` says nothing.
+/// Returns the form of the token at the start of a text, and the text after the token, if the first one or two ASCII
+/// bytes decide it: an identifier that doesn't begin like a literal, a delimiter, or a punctuation character that
+/// doesn't begin a comment. Otherwise the result is `None`, and the text may still begin with a token.
 #[cfg_attr(debug_assertions, inline)]
 #[cfg_attr(not(debug_assertions), inline(always))]
 pub(crate) fn word_or_mark(text: &str) -> Option<(Form, &str)> {
@@ -127,30 +137,30 @@ pub(crate) fn word_or_mark(text: &str) -> Option<(Form, &str)> {
     match lead_of(byte) {
         Lead::Word => Some((Form::Identifier, skip_word(following))),
         Lead::Mark => Some((mark_form(byte as char), following)),
-        Lead::Prefix if goes_on_as_word(following) => {
+        Lead::Prefix if continues_word(following) => {
             Some((Form::Identifier, skip_word(following)))
         }
-        Lead::Slash if goes_on_as_no_comment(following) => Some((Form::Mark('/'), following)),
+        Lead::Slash if begins_other_than_comment(following) => Some((Form::Mark('/'), following)),
         _ => None,
     }
 }
 
-/// What begins with the first byte of a text.
+/// A class of ASCII characters, by the tokens that begin with them.
 #[derive(Clone, Copy)]
 enum Lead {
-    /// An identifier, whatever follows it: `_`, and each letter but `b`, `c` and `r`.
+    /// A character that always begins an identifier: `_`, and each letter except `b`, `c` and `r`.
     Word,
-    /// A delimiter or a mark, whatever follows it: each but `/`.
+    /// A character that always is a token by itself: a delimiter, or a punctuation character except `/`.
     Mark,
-    /// A letter that a literal's prefix may begin with.
+    /// A letter that begins a literal's prefix or an identifier: `b`, `c` or `r`.
     Prefix,
-    /// A slash.
+    /// The slash, which begins a comment or is a punctuation character.
     Slash,
-    /// Nothing of these.
+    /// Every other ASCII character.
     Other,
 }
 
-/// What begins with a character of ASCII. A bit for each of 64 says whether it is one of a class.
+/// Returns the class of an ASCII character. Masks of 64 bits contain the characters of the classes `Word` and `Mark`.
 #[cfg_attr(debug_assertions, inline)]
 #[cfg_attr(not(debug_assertions), inline(always))]
 fn lead_of(byte: u8) -> Lead {
@@ -175,33 +185,38 @@ fn lead_of(byte: u8) -> Lead {
     Lead::Other
 }
 
-/// Whether a word goes on after its first letter, and no literal's prefix: a letter but `r` is next, or `_`. Of a word that
-/// goes on otherwise it is false.
+/// Whether the text after a letter `b`, `c` or `r` begins with an ASCII character whose code is at least 64 (`@`),
+/// except `r`. The first letter then begins an identifier, or is one, and isn't a literal's prefix.
+///
+/// Before a digit and before a non-ASCII character the result is `false`, although the letter begins an identifier
+/// there too.
 #[inline(always)]
-fn goes_on_as_word(following: &str) -> bool {
+fn continues_word(following: &str) -> bool {
     match split_ascii(following) {
         Some((next, _)) => next >= 64 && next != b'r',
         None => false,
     }
 }
 
-/// Whether a character of ASCII is next after a slash that doesn't make a comment of it.
+/// Whether the text after a slash begins with an ASCII character other than `/` and `*`, so that the slash begins no
+/// comment.
 #[inline(always)]
-fn goes_on_as_no_comment(following: &str) -> bool {
+fn begins_other_than_comment(following: &str) -> bool {
     match split_ascii(following) {
         Some((next, _)) => next != b'/' && next != b'*',
         None => false,
     }
 }
 
-/// A bit for each of the first 64 characters, set where [`is_mark_alone`] is true.
+/// A bit for each of the ASCII characters 0 to 63, set where [`is_always_token`] is true.
 const LOW_MARKS: u64 = 0xfc00_7f7a_0000_0000;
-/// A bit for each of the next 64 characters, set where [`is_mark_alone`] is true.
+/// A bit for each of the ASCII characters 64 to 127, set where [`is_always_token`] is true.
 const HIGH_MARKS: u64 = 0x7800_0000_6800_0001;
 
-/// Whether the character of ASCII is a delimiter or a mark, whatever follows it: each but `/`.
+/// Whether the ASCII character is a token by itself, whatever follows it: a delimiter, or a punctuation character
+/// except `/`.
 #[inline(always)]
-fn is_mark_alone(byte: u8) -> bool {
+fn is_always_token(byte: u8) -> bool {
     if byte < 64 {
         has_bit(LOW_MARKS, byte)
     } else {
@@ -209,7 +224,7 @@ fn is_mark_alone(byte: u8) -> bool {
     }
 }
 
-/// The form of a delimiter or a mark.
+/// Returns the form of the delimiter or the punctuation character `c`.
 #[inline(always)]
 fn mark_form(c: char) -> Form {
     if is_delimiter(c) {
@@ -219,27 +234,32 @@ fn mark_form(c: char) -> Form {
     }
 }
 
-// These three are alike, and stay apart: what a call returns has its room cleared where the function that calls begins.
+// The next three functions are alike. They are separate functions, because the memory for a call's result is zeroed at
+// the entry of the calling function.
 
-/// A quoted literal, after its opening quote.
+/// Returns the form `Literal` and the text after a string literal, where `text` follows its opening `"`. Returns `None`
+/// if the literal isn't closed.
 #[inline(always)]
 fn quoted_literal(text: &str) -> Option<(Form, &str)> {
     Some((Form::Literal, after_quoted(text)?))
 }
 
-/// A character or a byte, after its opening quote.
+/// Returns the form `Literal` and the text after a character or byte literal, where `text` follows its opening `'`.
+/// Returns `None` if no `'` follows the one character or the escape.
 #[inline(always)]
 fn character_literal(text: &str) -> Option<(Form, &str)> {
     Some((Form::Literal, after_character(text)?))
 }
 
-/// A raw literal, after its `r`.
+/// Returns the form `Literal` and the text after a raw literal, where `text` follows its `r`. Returns `None` if the
+/// literal isn't closed.
 #[inline(always)]
 fn raw_literal(text: &str) -> Option<(Form, &str)> {
     Some((Form::Literal, after_raw_literal(text)?))
 }
 
-/// After a slash, which is a mark where it begins no comment.
+/// Returns the slash as a punctuation character, and `text`, which follows the slash. Returns `None` if the slash
+/// begins a comment.
 #[inline(never)]
 fn after_slash(text: &str) -> Option<(Form, &str)> {
     match split_char(text) {
@@ -248,9 +268,10 @@ fn after_slash(text: &str) -> Option<(Form, &str)> {
     }
 }
 
-/// What follows the number after whose first digit the text stands, whichever that is: the letter
-/// of a base, and the run after it, are where a suffix would stand. Most numbers end after a run
-/// of digits.
+/// Returns the text after a number, where `text` follows its first digit.
+///
+/// A prefix as `0x` needs no test: its letter and the digits after it are lexed like a suffix. Most numbers end after a
+/// sequence of digits.
 #[inline(always)]
 fn after_digit(text: &str) -> &str {
     let rest = after_digits(text);
@@ -260,12 +281,12 @@ fn after_digit(text: &str) -> &str {
     after_decimal(rest)
 }
 
-/// Whether `r`, hashes, perhaps none, and a `"` begin the text.
+/// Whether the text begins with `r`, any number of hashes, and `"`.
 fn begins_raw_literal(text: &str) -> bool {
     begins_with(text, 'r') && begins_hashed_quote(without_first(text))
 }
 
-/// Whether a hash and an identifier's start begin the text.
+/// Whether the text begins with `#` and a character that may begin an identifier.
 pub(crate) fn begins_marked_identifier(text: &str) -> bool {
     match split_char(text) {
         Some(('#', following)) => match split_char(following) {
@@ -276,6 +297,12 @@ pub(crate) fn begins_marked_identifier(text: &str) -> bool {
     }
 }
 
+/// Returns `true` if the delimiter opens a group: `(`, `[` or `{`.
+pub fn is_opener(c: char) -> bool {
+    matches!(c, '(' | '[' | '{')
+}
+
+/// Whether the character is one of the six delimiters: `(`, `)`, `[`, `]`, `{` and `}`.
 fn is_delimiter(c: char) -> bool {
     matches!(c, '(' | ')' | '[' | ']' | '{' | '}')
 }

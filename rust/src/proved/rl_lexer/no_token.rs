@@ -1,13 +1,14 @@
 // Rendered from crates/rl_lexer/src/no_token.rt by tools/render, which erases contracts: change that file, and render anew.
-//! Why no token begins a text.
+//! Functions that return the kind of the lexer's error at a text that begins with no token.
 
 use crate::rl_lexer::lex_error::LexKind;
 use crate::rl_lexer::lexeme::{begins_hashed_quote, begins_marked_identifier};
-use crate::rl_forms::kind::{BYTE_OPENER, BYTE_STR_OPENER, C_STR_OPENER, CHAR_OPENER, STR_OPENER};
-use crate::rl_text::characters::is_start;
-use crate::rl_text::text::{begins, begins_with, split_char};
+use crate::rl_syntax::characters::is_start;
+use crate::rl_syntax::kind::{BYTE_OPENER, BYTE_STR_OPENER, C_STR_OPENER, CHAR_OPENER, STR_OPENER};
+use crate::rl_syntax::text::{begins, begins_with, split_char};
 
-/// Why no token begins the text, by its first characters.
+/// Returns the kind of the lexer's error at the start of `rest`, where no token begins. The first characters of `rest`
+/// decide.
 pub(crate) fn error_kind(rest: &str) -> LexKind {
     if begins_doc_comment(rest) {
         LexKind::DocComment
@@ -24,8 +25,9 @@ pub(crate) fn error_kind(rest: &str) -> LexKind {
     }
 }
 
-/// Why no token of a source begins the text, by its first characters.
-pub(crate) fn source_error_kind(rest: &str) -> LexKind {
+/// Returns the kind of the lexer's error at the start of `rest`, the text of a source from which no token can be lexed.
+/// A comment or a quoted literal that isn't closed begins it.
+pub fn source_error_kind(rest: &str) -> LexKind {
     if begins(rest, "/*") {
         LexKind::UnclosedComment
     } else {
@@ -33,7 +35,7 @@ pub(crate) fn source_error_kind(rest: &str) -> LexKind {
     }
 }
 
-/// Whether the text begins as a quoted literal, or as a block comment.
+/// Whether the text begins like a quoted literal or a block comment.
 pub(crate) fn opens(text: &str) -> bool {
     begins(text, "/*") || (begins_quote(text) || begins_with(text, '\''))
 }
@@ -45,8 +47,8 @@ fn begins_doc_comment(text: &str) -> bool {
         || begins(text, "/*!")
 }
 
-/// Whether a quoted or raw opener begins the text, a byte's opener, or an apostrophe that begins no
-/// lifetime.
+/// Whether the text begins with the opening quote of a string, raw or byte literal, prefix included, or with an
+/// apostrophe that begins no lifetime.
 fn begins_quote(text: &str) -> bool {
     begins(text, STR_OPENER)
         || begins(text, BYTE_STR_OPENER)
@@ -56,7 +58,7 @@ fn begins_quote(text: &str) -> bool {
         || (begins(text, CHAR_OPENER) && !begins_lifetime(text))
 }
 
-/// Whether the opener of a raw literal begins the text.
+/// Whether the text begins like a raw literal: with `r`, `br` or `cr`, any number of hashes, and `"`.
 fn begins_raw(text: &str) -> bool {
     match split_char(text) {
         Some(('r', following)) => begins_hashed_quote(following),
@@ -68,7 +70,7 @@ fn begins_raw(text: &str) -> bool {
     }
 }
 
-/// Whether an apostrophe and an identifier's start begin the text.
+/// Whether the text begins like a lifetime: with an apostrophe and a character that may begin an identifier.
 fn begins_lifetime(text: &str) -> bool {
     match split_char(text) {
         Some(('\'', following)) => match split_char(following) {
@@ -79,7 +81,7 @@ fn begins_lifetime(text: &str) -> bool {
     }
 }
 
-/// Whether `r#` and an identifier's start begin the text.
+/// Whether the text begins like a raw identifier: with `r#` and a character that may begin an identifier.
 pub(crate) fn begins_raw_identifier(text: &str) -> bool {
     match split_char(text) {
         Some(('r', following)) => begins_marked_identifier(following),

@@ -1,5 +1,5 @@
 // Rendered from crates/rl_lexer/src/source.rt by tools/render, which erases contracts: change that file, and render anew.
-//! The token at the front of a source.
+//! Functions that lex the token at the start of a Rust source.
 
 mod bad_quote;
 
@@ -7,43 +7,48 @@ use crate::rl_lexer::lexeme::{Form, number_or_other, rebuilt, word_or_mark};
 use crate::rl_lexer::no_token::{begins_raw_identifier, opens};
 use crate::rl_lexer::whitespace::{after_block, after_line, is_comment_block, is_comment_line, skip};
 use bad_quote::after_bad_quote;
-use crate::rl_text::characters::is_start;
-use crate::rl_text::classes::{skip_white, skip_word};
-use crate::rl_text::lanes::{byte_before, is_word_byte, unlikely_len};
-use crate::rl_text::lines::split_line;
+use crate::rl_syntax::characters::is_start;
+use crate::rl_syntax::classes::{skip_white, skip_word};
+use crate::rl_syntax::lanes::{byte_before, is_word_byte, unlikely_len};
+use crate::rl_syntax::lines::split_line;
 #[cfg(feature = "rendered")]
-use crate::rl_text::lines::next_line;
-use crate::rl_text::text::{begins_with, split_ascii, split_char, strip_byte, without_first};
+use crate::rl_syntax::lines::next_line;
+use crate::rl_syntax::text::{begins_with, split_ascii, split_char, strip_byte, without_first};
 
-/// What a token of a source is: what [`Sources`](crate::rl_lexer::Sources) cuts off.
+/// The form of a token that [`Sources`](crate::rl_lexer::Sources) returns.
 #[derive(Clone, Copy)]
 pub enum SourceForm {
-    /// What [`Tokens`](crate::rl_lexer::Tokens) cuts off too. A quote that begins nothing else is a literal as well, up to where
-    /// it ends: `''`, `'ab'`, `b'hello'`, `'1a`. It doesn't read.
+    /// A token of a form that [`Tokens`](crate::rl_lexer::Tokens) returns too.
+    ///
+    /// An invalid quoted literal, as `''`, `'ab'`, `b'hello'` or `'1a`, has the form [`Form::Literal`] here.
     Token(Form),
-    /// `r#` and an identifier.
+    /// A raw identifier: `r#` and an identifier.
     RawIdentifier,
-    /// `'` and an identifier, which may be raw.
+    /// A lifetime: `'` and an identifier, which may be raw.
     Lifetime,
     /// A doc comment: a line without its LF, or a block.
     DocComment,
-    /// A character at which nothing else begins.
+    /// A stray character: one that begins no other token.
     Stray,
 }
 
-/// What the token is that a text begins with, as a source is cut, and the rest of the text after it. `None` where no token begins
-/// it: at its end, and where a comment or a quoted literal is opened that isn't closed. White space and plain comments are no
-/// tokens; [`skip`](crate::rl_lexer::whitespace::skip) passes them.
+/// Returns the form of the token at the start of a part of a source, and the text after the token.
+///
+/// Returns `None` at the end, and where a comment or a quoted literal isn't closed. White space and plain comments
+/// aren't tokens: for a text that begins with them, call [`skip`](crate::rl_lexer::whitespace::skip) first.
 #[inline(always)]
-pub fn first_source(text: &str) -> Option<(SourceForm, &str)> {
+pub fn first_source_token(text: &str) -> Option<(SourceForm, &str)> {
     if let Some((form, following)) = word_or_mark(text) {
         return Some((SourceForm::Token(form), following));
     }
     rebuilt_source(text)
 }
 
-/// What is left of a text from the first byte on at which a literal may begin, or from a token's before that, after white space
-/// and all comments there. All in front is passed sixteen bytes at a time; no token is made of it, nor of doc comments.
+/// Skips tokens of a source that aren't literals, and returns the text after them. The result begins at the next token
+/// that is a literal, or at a token or an error before it.
+///
+/// Bytes that can't begin a literal or a comment are skipped sixteen at a time. No tokens are made from these bytes,
+/// and from doc comments.
 #[inline(always)]
 pub(crate) fn skip_unlikely(text: &str) -> &str {
     let bytes = text.as_bytes();
@@ -52,8 +57,8 @@ pub(crate) fn skip_unlikely(text: &str) -> &str {
     skip_all_comments(skip_white(rest))
 }
 
-/// What is left of a text after comments at its front, doc comments among them, and white space after each. White space doesn't
-/// begin the text. A block that isn't closed stays.
+/// Returns the text after the comments at its start, doc comments included, and after the white space that follows
+/// each. The text must not begin with white space. A block comment that isn't closed isn't skipped.
 #[inline(always)]
 fn skip_all_comments(text: &str) -> &str {
     let mut rest = text;
@@ -66,7 +71,8 @@ fn skip_all_comments(text: &str) -> &str {
     rest
 }
 
-/// What follows a comment of any kind, by what stands after its first slash: of a line its LF too.
+/// Returns the text after a comment of any kind, where `text` follows its first slash. The LF after a line comment is
+/// skipped too. Returns `None` if no comment begins there, and if a block comment isn't closed.
 #[inline(always)]
 fn after_any_comment(text: &str) -> Option<&str> {
     match split_ascii(text) {
@@ -76,7 +82,8 @@ fn after_any_comment(text: &str) -> Option<&str> {
     }
 }
 
-/// The text after the word that goes on there, where it stands after this byte: past ASCII one may.
+/// Returns the text after the rest of an identifier, if the byte `before`, which precedes `text`, is an ASCII
+/// identifier character. Otherwise the result is `text` itself.
 #[inline(always)]
 fn after_word(before: u8, text: &str) -> &str {
     if is_word_byte(before) {
@@ -86,7 +93,7 @@ fn after_word(before: u8, text: &str) -> &str {
     }
 }
 
-/// Whether a token of the form and the text is a literal, or one of the words `true` and `false`.
+/// Whether a token with this form and text is a literal, `true` or `false`.
 #[inline(always)]
 pub(crate) fn is_literal(form: Form, text: &str) -> bool {
     match form {
@@ -96,20 +103,21 @@ pub(crate) fn is_literal(form: Form, text: &str) -> bool {
     }
 }
 
-/// Whether the text is one of the words `true` and `false`.
+/// Whether the text is `true` or `false`.
 #[inline(always)]
 fn is_truth(text: &str) -> bool {
     matches!(text, "true" | "false")
 }
 
-/// What [`source_by_characters`] returns, built anew: what a call returns stands in memory, and so would whatever a caller
-/// joins with it.
+/// Returns the result of [`source_by_characters`], constructed again. The copy keeps a call's result apart from the
+/// values that a caller joins with it, so that they aren't in memory.
 #[inline(always)]
 fn rebuilt_source(text: &str) -> Option<(SourceForm, &str)> {
     rebuilt(source_by_characters(text))
 }
 
-/// The token at the front of a text, by its first characters.
+/// Returns the form of the token at the start of a part of a source, and the text after the token. The first characters
+/// of the part select the function that lexes the token.
 #[inline(never)]
 fn source_by_characters(text: &str) -> Option<(SourceForm, &str)> {
     if let Some((form, following)) = other_token(text) {
@@ -121,8 +129,9 @@ fn source_by_characters(text: &str) -> Option<(SourceForm, &str)> {
     stray(text)
 }
 
-/// The stray character or the bad quote at the front of a text, and the rest after it. `None` where a comment or a quoted
-/// literal is opened that isn't closed, and at the end.
+/// Returns the form of the invalid quoted literal or the stray character at the start of a text, and the text after it.
+/// Returns `None` at the end, and where a comment or a quoted literal isn't closed. The text begins with no other
+/// token.
 fn stray(text: &str) -> Option<(SourceForm, &str)> {
     let (_, following) = split_char(text)?;
     if opens(text) {
@@ -131,8 +140,8 @@ fn stray(text: &str) -> Option<(SourceForm, &str)> {
     Some((SourceForm::Stray, following))
 }
 
-/// The token at the front of a text that is neither a lexeme nor a stray character: a doc comment, a lifetime or a raw
-/// identifier.
+/// Returns the form of the doc comment, the lifetime or the raw identifier at the start of a text, and the text after
+/// it. Returns `None` if the text begins with another token.
 #[inline(always)]
 fn other_token(text: &str) -> Option<(SourceForm, &str)> {
     match split_ascii(text) {
@@ -143,13 +152,14 @@ fn other_token(text: &str) -> Option<(SourceForm, &str)> {
     }
 }
 
-/// A token of the form, with what follows it, where its end was found.
+/// Returns the form `form` and the text `following` after a token, or `None` if `following` is `None`.
 #[inline(always)]
 fn ended(form: SourceForm, following: Option<&str>) -> Option<(SourceForm, &str)> {
     Some((form, following?))
 }
 
-/// What follows a doc comment, by what stands after its first slash: of a line its LF.
+/// Returns the text after a doc comment, where `text` follows its first slash. The LF after a line comment isn't
+/// skipped. Returns `None` if no doc comment begins there, and if a block isn't closed.
 #[cfg_attr(debug_assertions, inline)]
 #[cfg_attr(not(debug_assertions), inline(always))]
 fn after_doc(text: &str) -> Option<&str> {
@@ -171,19 +181,19 @@ fn after_doc(text: &str) -> Option<&str> {
     }
 }
 
-/// The text from its first LF on.
+/// Returns the text from its first LF on, or an empty text if it contains no LF.
 fn line_end(text: &str) -> &str {
     let (_, rest) = split_line(text);
     rest
 }
 
-/// What stands after the first LF of a text.
+/// Returns the text after its first LF, or `None` if it contains no LF.
 #[cfg(feature = "rendered")]
 pub(crate) fn after_first_line(text: &str) -> Option<&str> {
     next_line(text)
 }
 
-/// What follows an identifier.
+/// Returns the text after the identifier at its start, or `None` if it begins with no identifier.
 fn after_name(text: &str) -> Option<&str> {
     match split_char(text) {
         Some((c, following)) if is_start(c) => Some(skip_word(following)),
@@ -191,7 +201,7 @@ fn after_name(text: &str) -> Option<&str> {
     }
 }
 
-/// What follows a hash and an identifier.
+/// Returns the text after `#` and an identifier at its start, or `None` if it doesn't begin with them.
 fn after_marked(text: &str) -> Option<&str> {
     match split_char(text) {
         Some(('#', following)) => after_name(following),
@@ -199,7 +209,7 @@ fn after_marked(text: &str) -> Option<&str> {
     }
 }
 
-/// What follows an identifier, which may be raw.
+/// Returns the text after the identifier at its start, which may be raw, or `None` if it begins with no identifier.
 #[inline(always)]
 fn after_any_name(text: &str) -> Option<&str> {
     if begins_raw_identifier(text) {
@@ -208,7 +218,8 @@ fn after_any_name(text: &str) -> Option<&str> {
     after_name(text)
 }
 
-/// What follows a lifetime, by what stands after its apostrophe.
+/// Returns the text after a lifetime, where `text` follows its apostrophe. Returns `None` if no lifetime begins there:
+/// an apostrophe after the identifier makes it a character literal.
 fn after_lifetime(text: &str) -> Option<&str> {
     let rest = after_any_name(text)?;
     match split_char(rest) {
@@ -217,22 +228,22 @@ fn after_lifetime(text: &str) -> Option<&str> {
     }
 }
 
-/// The text without what may stand before its first token: a byte order mark, and an interpreter's
-/// line.
+/// Returns the source without a byte order mark and an interpreter's line, which may precede its first token.
 pub(crate) fn without_preamble(text: &str) -> &str {
-    without_line(without_mark(text))
+    without_line(without_byte_order_mark(text))
 }
 
-/// The text without a byte order mark at its front.
-pub fn without_mark(text: &str) -> &str {
+/// Returns the text after a byte order mark at its start, or the text itself.
+pub fn without_byte_order_mark(text: &str) -> &str {
     match split_char(text) {
         Some(('\u{feff}', following)) => following,
         _ => text,
     }
 }
 
-/// The text without an interpreter's line at its front: `#!`, but not where an attribute's `[`
-/// follows.
+/// Returns the text from the end of the interpreter's line at its start, or the text itself if it begins otherwise. An
+/// interpreter's line begins with `#!`. If `[` follows, after white space and comments, the text begins with an
+/// attribute.
 fn without_line(text: &str) -> &str {
     let Some(second) = strip_byte(text, b'#') else {
         return text;

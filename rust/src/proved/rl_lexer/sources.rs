@@ -1,30 +1,30 @@
 // Rendered from crates/rl_lexer/src/sources.rt by tools/render, which erases contracts: change that file, and render anew.
-//! A whole source cut into its tokens, one at a time.
+//! The cursor that lexes a whole Rust source's tokens one at a time.
 
 use crate::rl_lexer::lex_error::LexError;
 use crate::rl_lexer::no_token::source_error_kind;
 use crate::rl_lexer::source::{
-    SourceForm, first_source, is_literal, skip_unlikely, without_preamble,
+    SourceForm, first_source_token, is_literal, skip_unlikely, without_preamble,
 };
 #[cfg(feature = "rendered")]
 use crate::rl_lexer::source::after_first_line;
 use crate::rl_lexer::whitespace::skip;
 
-/// A token of a source, borrowed from it: what it is, and where it stands.
+/// A token that [`Sources`] returns: its form, its text and its byte range. The text is borrowed from the source.
 #[derive(Clone, Copy)]
 pub struct SourceToken<'t> {
-    /// What it is.
+    /// The form of the token.
     pub form: SourceForm,
-    /// Its text, a slice of the whole source.
+    /// The token's text, a slice of the whole source.
     pub text: &'t str,
-    /// The place of its first byte in the source.
+    /// The byte offset in the source where the token begins.
     pub lo: usize,
-    /// The place after its last byte.
+    /// The byte offset in the source after the token's last byte.
     pub hi: usize,
 }
 
 impl SourceToken<'_> {
-    /// Whether it is a literal, or one of the words `true` and `false`.
+    /// Returns `true` if the token is a literal, `true` or `false`.
     #[inline(always)]
     pub fn is_literal(&self) -> bool {
         match self.form {
@@ -34,20 +34,22 @@ impl SourceToken<'_> {
     }
 }
 
-/// A whole Rust source, cut into tokens as they are asked for: those of [`Tokens`], and lifetimes,
-/// raw identifiers, doc comments and stray characters. White space and plain comments between them
-/// are dropped, and so are a byte order mark and an interpreter's line before them. It takes no
-/// memory. A delimiter is a token like any other; groups aren't counted.
+/// A cursor that lexes a whole Rust source's tokens one at a time: those of [`Tokens`], and lifetimes, raw identifiers,
+/// doc comments and stray characters.
+///
+/// White space and plain comments between the tokens are dropped, and so are a byte order mark and an interpreter's
+/// line before the first token. A delimiter is a token like any other: groups aren't counted. Nothing is allocated.
 ///
 /// [`Tokens`]: crate::rl_lexer::Tokens
 pub struct Sources<'t> {
     text: &'t str,
-    // what is left, after white space and comments
+    // The source from the next token on: white space and comments before that token are dropped already.
     rest: &'t str,
 }
 
 impl<'t> Sources<'t> {
-    /// The tokens of a source, from its front. Only what may stand before the first is dropped.
+    /// Creates the cursor at the start of a source. A byte order mark, an interpreter's line, white space and plain
+    /// comments before the first token are dropped.
     pub fn new(text: &'t str) -> Sources<'t> {
         Sources {
             text,
@@ -55,18 +57,20 @@ impl<'t> Sources<'t> {
         }
     }
 
-    /// The tokens from a place on, where a cursor over the same text stood, whose
-    /// [`rest`](Sources::rest) this is. Nothing is dropped before the next.
+    /// Creates a cursor over `text` at the position where `rest` begins. `rest` is the end of `text`, as
+    /// [`Sources::rest`] of another cursor returns it. White space and comments at its start aren't dropped.
     #[inline(always)]
     pub fn resume(text: &'t str, rest: &'t str) -> Sources<'t> {
         Sources { text, rest }
     }
 
-    /// Cuts off the token that begins what is left. `None` where no token begins it, at its end
-    /// too; it stays then.
+    /// Consumes the next token and returns it.
+    ///
+    /// Returns `None` at the end of the source, and where no token begins, since the source has an error. The cursor
+    /// doesn't move then.
     #[inline(always)]
     pub fn next(&mut self) -> Option<SourceToken<'t>> {
-        let (form, following) = first_source(self.rest)?;
+        let (form, following) = first_source_token(self.rest)?;
         let lo = self.text.len() - self.rest.len();
         let hi = self.text.len() - following.len();
         let text = &self.rest[..self.rest.len() - following.len()];
@@ -74,9 +78,11 @@ impl<'t> Sources<'t> {
         Some(SourceToken { form, text, lo, hi })
     }
 
-    /// Cuts off the tokens up to the next literal and that one, which is returned: a literal token, whether it reads or not,
-    /// or one of the words `true` and `false`. `None` where none comes before the end or the first error, before which the
-    /// cursor then stands; [`Sources::error`] says which.
+    /// Consumes tokens up to and including the next literal, and returns that literal: a literal token, valid or not,
+    /// `true` or `false`.
+    ///
+    /// Returns `None` if the end of the source or an error comes first. The cursor is then at the end or before the
+    /// error, which [`Sources::error`] returns.
     pub fn next_literal(&mut self) -> Option<SourceToken<'t>> {
         loop {
             self.rest = skip_unlikely(self.rest);
@@ -87,11 +93,10 @@ impl<'t> Sources<'t> {
         }
     }
 
-    /// Why no token begins what is left: the error, and the byte of the whole text where it stands.
-    /// `None` at the end of the text, and where a token begins what is left. The kind is
-    /// `UnclosedComment` or `UnclosedQuote`.
+    /// Returns the lexer's error at the cursor, with its byte offset in the source. Returns `None` at the end of the
+    /// source, and before a token. The kind is `UnclosedComment` or `UnclosedQuote`.
     pub fn error(&self) -> Option<LexError> {
-        if self.rest.is_empty() || first_source(self.rest).is_some() {
+        if self.rest.is_empty() || first_source_token(self.rest).is_some() {
             return None;
         }
         let kind = source_error_kind(self.rest);
@@ -99,22 +104,24 @@ impl<'t> Sources<'t> {
         Some(LexError::new(kind, at))
     }
 
-    /// What is left of the text, after white space and comments: empty at its end, else a token or
-    /// an error begins it.
+    /// Returns the text after the consumed tokens, without leading white space and comments. It is empty at the end,
+    /// and otherwise begins with a token or an error.
     pub fn rest(&self) -> &'t str {
         self.rest
     }
 
-    /// The lines after the one in which the cursor stands: what stands after the first LF of [`rest`](Sources::rest). `None`
-    /// where no LF is left. So a source is taken up after an error: [`Sources::new`] cuts these lines anew, with places counted
-    /// from their front, which is as many bytes after the text's as they are shorter.
+    /// Returns the lines after the cursor's line: the text after the first LF of [`rest`](Sources::rest). Returns
+    /// `None` if `rest` contains no LF.
+    ///
+    /// After an error, lexing can resume with these lines: [`Sources::new`] lexes them. Its byte offsets then count
+    /// from the start of the lines. Their offset in the source is the source's length without the length of the lines.
     #[cfg(feature = "rendered")]
     pub fn following_lines(&self) -> Option<&'t str> {
         after_first_line(self.rest)
     }
 }
 
-/// The tokens up to the first place where none begins; [`Sources::error`] then says why.
+/// Yields the tokens up to the end of the source or its first error. [`Sources::error`] then returns that error.
 #[cfg(feature = "rendered")]
 impl<'t> Iterator for Sources<'t> {
     type Item = SourceToken<'t>;

@@ -1,16 +1,17 @@
 // Rendered from crates/rl_lexer/src/whitespace.rt by tools/render, which erases contracts: change that file, and render anew.
-//! White space and plain comments.
+//! Functions that skip white space and plain comments. Plain comments are those that aren't doc comments.
 
-use crate::rl_text::classes::skip_white;
-use crate::rl_text::lanes::byte_at;
-use crate::rl_text::lines::next_line;
-use crate::rl_text::scan::{Marks, near_len_before};
-use crate::rl_text::text::{begins_with, split_ascii, strip_byte};
+use crate::rl_syntax::classes::skip_white;
+use crate::rl_syntax::lanes::byte_at;
+use crate::rl_syntax::lines::next_line;
+use crate::rl_syntax::scan::{Marks, near_len_before};
+use crate::rl_syntax::text::{begins_with, split_ascii, strip_byte};
 
-/// The rest of the text after its leading white space and plain comments, as a slice of the text.
+/// Returns the text after its leading white space and plain comments, as a slice.
 ///
-/// A doc comment, a block comment that isn't closed, and all else that is no white space stay. A
-/// line comment that the text ends in leaves the empty rest.
+/// The result begins with the first character that is neither white space nor part of a plain comment. Doc comments
+/// aren't skipped, and neither are block comments that aren't closed. If the text ends in a line comment, the result is
+/// empty.
 #[inline(always)]
 pub fn skip(text: &str) -> &str {
     let rest = skip_white(text);
@@ -20,8 +21,8 @@ pub fn skip(text: &str) -> &str {
     skip_comments(rest)
 }
 
-/// The rest of a text after its plain comments and white space, where no white space begins it, but perhaps a comment
-/// does.
+/// Returns the text after the plain comments at its start, and after the white space that follows each. The text must
+/// not begin with white space.
 #[inline(never)]
 fn skip_comments(text: &str) -> &str {
     let mut rest = text;
@@ -34,7 +35,8 @@ fn skip_comments(text: &str) -> &str {
     rest
 }
 
-/// What follows a plain comment, by what stands after its first slash.
+/// Returns the text after a plain comment, where `text` follows its first slash. Returns `None` if no plain comment
+/// begins there, and if a block comment isn't closed.
 #[cfg_attr(debug_assertions, inline)]
 #[cfg_attr(not(debug_assertions), inline(always))]
 fn after_comment(text: &str) -> Option<&str> {
@@ -50,7 +52,7 @@ fn after_comment(text: &str) -> Option<&str> {
     }
 }
 
-/// Whether a line comment is plain, by what stands after its `//`.
+/// Whether a line comment is plain, and not a doc comment. `body` is the text after its `//`.
 #[inline(always)]
 pub(crate) fn is_comment_line(body: &str) -> bool {
     match split_ascii(body) {
@@ -59,7 +61,7 @@ pub(crate) fn is_comment_line(body: &str) -> bool {
     }
 }
 
-/// Whether a block is plain, by what stands after its `/*`.
+/// Whether a block comment is plain, and not a doc comment. `inside` is the text after its `/*`.
 #[inline(always)]
 pub(crate) fn is_comment_block(inside: &str) -> bool {
     match split_ascii(inside) {
@@ -71,13 +73,14 @@ pub(crate) fn is_comment_block(inside: &str) -> bool {
     }
 }
 
-/// What follows the LF that ends a line comment; nothing where the text ends in the comment.
+/// Returns the text after the LF that ends a line comment, or an empty text if the comment is at the end of the text.
 pub(crate) fn after_line(text: &str) -> &str {
     next_line(text).unwrap_or("")
 }
 
-/// What follows a block comment, by what stands after its `/*`. It is a loop over bytes, from mark
-/// to mark, with the number of blocks that are open inside it.
+/// Returns the text after a block comment, where `text` follows its `/*`. Returns `None` if the comment isn't closed.
+///
+/// The loop is over bytes, from one `*` or `/` to the next. It counts the nested block comments that are open.
 #[cfg_attr(debug_assertions, inline)]
 #[cfg_attr(not(debug_assertions), inline(always))]
 pub(crate) fn after_block(text: &str) -> Option<&str> {

@@ -1,20 +1,12 @@
 // Rendered from crates/rl_recovery/src/lines.rt by tools/render, which erases contracts: change that file, and render anew.
-//! Which error stands at the front of a text, and where reading goes on after it.
+//! Finds the position where lexing resumes after an error.
 
-use crate::rl_lexer::LexKind;
-use crate::rl_text::text::{begins, begins_with, split_char};
+use crate::rl_syntax::text::{begins, begins_with, split_char};
 
-/// Why no token begins the text, where none does.
-pub(crate) fn error_kind(text: &str) -> LexKind {
-    if begins(text, "/*") {
-        LexKind::UnclosedComment
-    } else {
-        LexKind::UnclosedQuote
-    }
-}
-
-/// What is left of the text after the error at its front: the lines after the one in which the quote opens, from the LF
-/// between them on. A comment that isn't closed leaves nothing. `None` where nothing is left.
+/// Returns the part of the text where lexing resumes after the error at the text's start, or `None` if there is no such part.
+///
+/// Lexing resumes at the LF that ends the line of an unclosed quote. After an unclosed block comment it doesn't resume.
+/// After the quote of an unclosed character or byte literal, an escaped line end continues the line.
 pub(crate) fn lines_after(text: &str) -> Option<&str> {
     if begins(text, "/*") {
         return None;
@@ -23,8 +15,8 @@ pub(crate) fn lines_after(text: &str) -> Option<&str> {
     from_line_end(begins_character(text), following)
 }
 
-/// The text from the end of its first line on. Where lines are joined, a backslash takes the character after it along, an LF
-/// too.
+/// Returns the text from the LF at the end of its first line on, or `None` if it has one line only. If `joins` is true, a
+/// backslash skips the character after it, even an LF.
 fn from_line_end(joins: bool, text: &str) -> Option<&str> {
     let mut rest = text;
     let mut is_escaped = false;
@@ -38,17 +30,17 @@ fn from_line_end(joins: bool, text: &str) -> Option<&str> {
     None
 }
 
-/// Whether the character ends a line: an LF that isn't escaped.
+/// Whether the character `c` ends a line: an LF that isn't escaped.
 fn ends_line(c: char, is_escaped: bool) -> bool {
     c == '\n' && !is_escaped
 }
 
-/// Whether the character takes the next one along: where lines are joined, a backslash that isn't escaped.
+/// Whether the character `c` escapes the next one: an unescaped backslash, if `joins` is true.
 fn escapes_next(joins: bool, c: char, is_escaped: bool) -> bool {
     joins && c == '\\' && !is_escaped
 }
 
-/// Whether the opener of a character or a byte begins the text.
+/// Whether the text begins with the opening quote of a character or byte literal: `'` or `b'`.
 fn begins_character(text: &str) -> bool {
     match split_char(text) {
         Some(('\'', _)) => true,

@@ -1,9 +1,12 @@
 // Rendered from crates/rl_recovery/src/lib.rt by tools/render, which erases contracts: change that file, and render anew.
-//! The literals of a whole source and the errors in it: after an error reading goes on. No memory is taken.
+//! Finds the literal at the start of a text, and all literals and errors of a source. Lexing resumes after each error. Nothing
+//! is allocated.
 
+mod leading;
 mod lines;
 mod openers;
 mod recovery;
 mod unclosed;
 
+pub use crate::rl_recovery::leading::{LeadingLiteral, leading_literal, leading_signed};
 pub use crate::rl_recovery::recovery::{Recovery, recovery_step};

@@ -1,22 +1,22 @@
 // Rendered from crates/rl_recovery/src/unclosed.rt by tools/render, which erases contracts: change that file, and render anew.
-//! Which literals aren't closed in what is left of a text, as far as that is known.
+//! The opening delimiters that are known to have no closing delimiter in the rest of a text.
 
 use crate::rl_recovery::openers::{Opener, split_opener};
 
-/// The openers of literals that nothing closes in what is left of a text.
+/// A set of opening delimiters that have no closing delimiter in the rest of a text.
 ///
-/// Each was searched for once, up to the text's end. A raw opener with fewer hashes than one that isn't closed may be closed,
-/// so it is searched for again: as often as there are numbers of hashes.
+/// The closing delimiter of each was searched for once, up to the text's end. A raw string with fewer hashes than an unclosed
+/// one may be closed, so its closing delimiter is searched for again: at most once for each number of hashes.
 #[derive(Clone, Copy)]
 pub(crate) struct Unclosed {
-    /// Whether it is a quote that isn't `r`'s.
+    /// Whether the set contains the double quote without `r`.
     quoted: bool,
-    /// From how many hashes on a raw opener is one; `None` while nothing is known.
+    /// The set contains each raw opening delimiter with at least this number of hashes. `None` if it contains none.
     raw: Option<usize>,
 }
 
 impl Unclosed {
-    /// While nothing is known.
+    /// Creates the empty set of opening delimiters.
     pub(crate) fn nothing() -> Unclosed {
         Unclosed {
             quoted: false,
@@ -24,12 +24,12 @@ impl Unclosed {
         }
     }
 
-    /// Whether nothing is known.
-    pub(crate) fn is_nothing(self) -> bool {
+    /// Whether the set of opening delimiters is empty.
+    pub(crate) fn is_none_open(self) -> bool {
         !self.quoted && self.raw.is_none()
     }
 
-    /// Whether the opener is one of these.
+    /// Whether the set contains the opening delimiter `opener`.
     fn includes(self, opener: Opener) -> bool {
         match opener {
             Opener::Quoted => self.quoted,
@@ -40,7 +40,7 @@ impl Unclosed {
         }
     }
 
-    /// These, and the opener.
+    /// Returns the set with the opening delimiter `opener` added.
     fn with(self, opener: Opener) -> Unclosed {
         if self.includes(opener) {
             return self;
@@ -57,7 +57,7 @@ impl Unclosed {
         }
     }
 
-    /// Whether one of these openers begins the text, in which nothing closes them.
+    /// Whether the text begins with an opening delimiter of the set, which has no closing delimiter.
     pub(crate) fn begin(self, text: &str) -> bool {
         match split_opener(text) {
             Some((opener, _)) => self.includes(opener),
@@ -65,7 +65,8 @@ impl Unclosed {
         }
     }
 
-    /// What is known of the lines after a literal at the front of the text that isn't closed.
+    /// Returns the set for the part of the text where lexing resumes after an unclosed literal at the text's start. The
+    /// literal's opening delimiter is added.
     pub(crate) fn after(self, text: &str) -> Unclosed {
         match split_opener(text) {
             Some((opener, _)) => self.with(opener),

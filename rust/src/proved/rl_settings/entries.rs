@@ -1,53 +1,57 @@
 // Rendered from crates/rl_settings/src/entries.rt by tools/render, which erases contracts: change that file, and render anew.
-//! The entry that stands next in a configuration, or what is wrong there.
+//! Reads the next entry of a configuration, or the error at its position.
 
 use crate::rl_settings::settings::{is_mark, missed, take_literal, take_mark, take_name};
 use crate::rl_settings::syntax_error::{Part, SyntaxError};
+use crate::rl_lenient::NextLiteral;
 use crate::rl_lexer::{Lexeme, Tokens};
-use crate::rl_reading::NextLiteral;
 
-/// A name: an identifier, or some with a dot between two, as `server.port`. Nothing stands beside a dot.
+/// The name of a configuration entry: an identifier, or several identifiers with dots between them, as `server.port`. Neither
+/// white space nor a comment is next to a dot.
 #[derive(Clone, Copy)]
 pub struct DottedName<'t> {
-    /// Its text, a slice of the whole.
+    /// The text of the name, a slice of the input text.
     pub text: &'t str,
-    /// The byte of the whole where it begins.
+    /// The byte offset in the input text where the name begins.
     pub lo: usize,
-    /// The byte after it.
+    /// The byte offset in the input text after the name.
     pub hi: usize,
 }
 
-/// An entry that was cut off a configuration: a name, `=` and a literal.
+/// An entry that was consumed from a configuration: a name, `=` and a literal.
 #[derive(Clone, Copy)]
 pub struct NextEntry<'t> {
-    /// Its name.
+    /// The name of the entry.
     pub name: DottedName<'t>,
-    /// What it is set to.
+    /// The literal after the `=` of the entry.
     pub value: NextLiteral<'t>,
 }
 
-/// Why no entry stands next.
+/// The error at a position where an entry of a configuration was expected.
 #[derive(Clone, Copy)]
 pub struct EntryRejection<'t> {
-    /// The name that stands there, where one does. Whether it stood before is asked before what comes after it.
+    /// The name before the error, if there is one. A caller checks first whether this name is repeated, since the error is
+    /// after it.
     pub name: Option<DottedName<'t>>,
-    /// What is wrong.
+    /// The kind of error, and its range.
     pub error: SyntaxError,
 }
 
-/// What stands next in a configuration.
+/// The result of reading one entry of a configuration.
 #[derive(Clone, Copy)]
 pub enum EntryStep<'t> {
-    /// Nothing: the configuration ends.
+    /// The end of the configuration.
     End,
-    /// An entry, which is cut off, with the comma after it where one stands.
+    /// An entry, which is consumed together with the comma after it, if there is one.
     Entry(NextEntry<'t>),
-    /// No entry; nothing is cut off.
+    /// An error at the position of an entry. Nothing is consumed.
     Rejected(EntryRejection<'t>),
 }
 
-/// Cuts off a dot and an identifier where they go on with a name that ends at the byte `hi`. `None` where no dot stands next. The
-/// text ends at the byte `end`.
+/// Consumes a dot and an identifier that continue a name, which ends at the byte offset `hi`. `end` is the length of the input
+/// text.
+///
+/// Returns `None` if the next token isn't a dot.
 #[cfg_attr(debug_assertions, inline)]
 #[cfg_attr(not(debug_assertions), inline(always))]
 fn take_part<'t>(
@@ -73,7 +77,7 @@ fn take_part<'t>(
     Ok(Some(part))
 }
 
-/// Cuts off the name that stands next, with all its dots.
+/// Consumes the next name: an identifier, and each dot and identifier after it. `end` is the length of the input text.
 fn take_dotted_name<'t>(tokens: &mut Tokens<'t>, end: usize) -> Result<DottedName<'t>, SyntaxError> {
     let rest = tokens.rest();
     let first = take_name(tokens, end)?;
@@ -88,7 +92,7 @@ fn take_dotted_name<'t>(tokens: &mut Tokens<'t>, end: usize) -> Result<DottedNam
     })
 }
 
-/// Whether an LF stands among the bytes of the text from `lo` on, up to what is left.
+/// Whether the text contains an LF between the byte offset `lo` and the next token of `tokens`.
 fn has_line_end(text: &str, lo: usize, tokens: &Tokens<'_>) -> bool {
     let start = text.len() - tokens.rest().len();
     match text.as_bytes()[..start].get(lo..) {
@@ -97,7 +101,7 @@ fn has_line_end(text: &str, lo: usize, tokens: &Tokens<'_>) -> bool {
     }
 }
 
-/// Cuts off the comma that stands next, and says whether one does.
+/// Consumes the next token if it is a comma, and returns whether it is one.
 #[cfg_attr(debug_assertions, inline)]
 #[cfg_attr(not(debug_assertions), inline(always))]
 fn pass_comma(tokens: &mut Tokens<'_>) -> bool {
@@ -112,8 +116,8 @@ fn pass_comma(tokens: &mut Tokens<'_>) -> bool {
     true
 }
 
-/// Cuts off the comma that stands next, after a value that ends at the byte `hi`. None need stand at the end of the text, or of the
-/// value's line.
+/// Consumes the comma after a value, which ends at the byte offset `hi`. The comma may be missing at the end of `text`, or at
+/// the end of the value's line.
 #[cfg_attr(debug_assertions, inline)]
 #[cfg_attr(not(debug_assertions), inline(always))]
 fn take_separator(tokens: &mut Tokens<'_>, text: &str, hi: usize) -> Result<(), SyntaxError> {
@@ -129,7 +133,8 @@ fn take_separator(tokens: &mut Tokens<'_>, text: &str, hi: usize) -> Result<(), 
     Err(missed(tokens, text.len(), Part::Comma))
 }
 
-/// Cuts off what stands after a name: `=`, a literal, and the comma or the end of the line or of the text.
+/// Consumes the part of an entry after its name: `=`, a literal, and a comma, unless the line or the text ends after the
+/// literal.
 #[inline(always)]
 fn take_entry_value<'t>(tokens: &mut Tokens<'t>, text: &str) -> Result<NextLiteral<'t>, SyntaxError> {
     take_mark(tokens, text.len(), '=', Part::Equals)?;
@@ -138,7 +143,7 @@ fn take_entry_value<'t>(tokens: &mut Tokens<'t>, text: &str) -> Result<NextLiter
     Ok(value)
 }
 
-/// Cuts off the entry that stands next. Where none does, tokens may be cut off too.
+/// Consumes the next entry of a configuration. On an error, `tokens` may have advanced.
 #[cfg_attr(debug_assertions, inline)]
 #[cfg_attr(not(debug_assertions), inline(always))]
 fn take_entry<'t>(tokens: &mut Tokens<'t>, text: &str) -> Result<NextEntry<'t>, EntryRejection<'t>> {
@@ -155,14 +160,17 @@ fn take_entry<'t>(tokens: &mut Tokens<'t>, text: &str) -> Result<NextEntry<'t>, 
     }
 }
 
-/// Takes the next entry of a configuration, the text of which is `text`: a name, `=` and a literal, which a minus may begin. After it
-/// stands a comma, or the line ends, or the text: an LF stands between the value and what follows it, which may be inside a comment.
-/// Or it returns the error of what stands there instead, and takes nothing: the first of these parts that is missed, with the whole
-/// group where one stands in its place; or the lexer's error there. A dot that doesn't touch a name on each side stands where a name
-/// is missed. No memory is taken, so whether a name stood before is for the caller.
+/// Consumes the next entry of a configuration, or returns the error at its position. `text` is the whole configuration.
 ///
-/// Each group is closed in a text that has no [`first_error`](crate::rl_settings::first_error). A byte order mark at the text's front is for
-/// [`crate::rl_lexer::without_mark`].
+/// An entry is a name, `=` and a literal, which may begin with a minus. A comma, a line end or the text's end follows the
+/// literal. The line ends if an LF is between the literal and the next token, even inside a comment.
+///
+/// On an error nothing is consumed. The error is the first missing part of the entry, or the lexer's error at this position. If
+/// a group is in the part's place, the error's range is the whole group. A dot that doesn't touch an identifier on both sides
+/// is an error for the missing name. Nothing is allocated, so the caller checks for repeated names.
+///
+/// If [`first_error`](crate::rl_settings::first_error) returns `None` for the text, each group is closed. A caller removes a byte order mark
+/// at the text's start with [`crate::rl_lexer::without_byte_order_mark`].
 pub fn entry_step<'t>(tokens: &mut Tokens<'t>, text: &str) -> EntryStep<'t> {
     if tokens.rest().is_empty() {
         return EntryStep::End;

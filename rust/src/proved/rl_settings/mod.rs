@@ -1,6 +1,8 @@
 // Rendered from crates/rl_settings/src/lib.rt by tools/render, which erases contracts: change that file, and render anew.
-//! Settings, `name = literal` with commas or line ends between, one at a time; the groups of a text; and what is wrong with a text
-//! of literals or of settings. No memory is taken.
+//! Settings (`name = literal`, separated by commas or line ends), read one at a time.
+//!
+//! The crate also checks the groups of a text, and has the errors of texts of literals and texts of settings. Nothing is
+//! allocated.
 
 mod entries;
 mod groups;

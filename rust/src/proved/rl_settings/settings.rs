@@ -1,40 +1,41 @@
 // Rendered from crates/rl_settings/src/settings.rt by tools/render, which erases contracts: change that file, and render anew.
-//! The setting that stands next in a text, or what is wrong there.
+//! Reads the next setting of a text, or the error at its position.
 
 use crate::rl_settings::syntax_error::{Part, SyntaxError, SyntaxErrorKind, lexer_error};
+use crate::rl_lenient::{NextLiteral, next_literal};
 use crate::rl_lexer::{Form, Lexeme, Tokens};
-use crate::rl_reading::{NextLiteral, next_literal};
 
-/// A setting that was cut off a text: a name, `=` and a literal.
+/// A setting that was consumed from a text: a name, `=` and a literal.
 #[derive(Clone, Copy)]
 pub struct NextSetting<'t> {
-    /// The token of its name.
+    /// The token of the setting's name.
     pub name: Lexeme<'t>,
-    /// What it is set to.
+    /// The literal after the `=` of the setting.
     pub value: NextLiteral<'t>,
 }
 
-/// Why no setting stands next.
+/// The error at a position where a setting was expected.
 #[derive(Clone, Copy)]
 pub struct SettingRejection<'t> {
-    /// The name that stands there, where one does. Whether it stood before is asked before what comes after it.
+    /// The name before the error, if there is one. A caller checks first whether this name is repeated, since the error is
+    /// after it.
     pub name: Option<Lexeme<'t>>,
-    /// What is wrong.
+    /// The kind of error, and its range.
     pub error: SyntaxError,
 }
 
-/// What stands next in a text of settings.
+/// The result of reading one setting of a text.
 #[derive(Clone, Copy)]
 pub enum SettingStep<'t> {
-    /// Nothing: the settings end.
+    /// The end of the settings.
     End,
-    /// A setting, which is cut off, with the comma after it.
+    /// A setting, which is consumed, with the comma after it if there is one.
     Setting(NextSetting<'t>),
-    /// No setting; nothing is cut off.
+    /// An error at the position of a setting. Nothing is consumed.
     Rejected(SettingRejection<'t>),
 }
 
-/// How many groups are open after a token of this form, where so many were before it.
+/// Returns the number of open groups after a token of the form `form`, where `depth` groups were open before it.
 fn depth_after(form: Form, depth: usize) -> usize {
     match form {
         Form::Delimiter('(' | '[' | '{') => depth + 1,
@@ -43,13 +44,15 @@ fn depth_after(form: Form, depth: usize) -> usize {
     }
 }
 
-/// Where a tree ends that began with a token of this form, which ends at this byte: a group with its closing delimiter, or with
-/// the last token that can be cut off.
+/// Returns the byte offset after a token tree. Its first token has the form `form` and ends at `hi`, and `following` is the
+/// cursor after this token.
+///
+/// A group ends with its closing delimiter, or with the last token before an error of the lexer.
 fn tree_end(form: Form, hi: usize, following: &Tokens<'_>) -> usize {
     let mut ahead = following.fork();
     let mut depth = depth_after(form, 0);
     let mut end = hi;
-    // As many groups at most are opened as bytes are left, so the count doesn't overflow.
+    // The count of open groups doesn't overflow, since each token opens at most one group and has at least one byte.
     while depth > 0 {
         let Some(token) = ahead.next() else {
             return end;
@@ -60,7 +63,7 @@ fn tree_end(form: Form, hi: usize, following: &Tokens<'_>) -> usize {
     end
 }
 
-/// The error of what is left, where this part was expected. The text ends at the byte `end`.
+/// Returns the error for a missing part of a setting, at the next token of `tokens`. `end` is the length of the input text.
 #[inline(never)]
 pub(crate) fn missed(tokens: &Tokens<'_>, end: usize, part: Part) -> SyntaxError {
     if tokens.rest().is_empty() {
@@ -90,7 +93,7 @@ pub(crate) fn missed(tokens: &Tokens<'_>, end: usize, part: Part) -> SyntaxError
     }
 }
 
-/// Cuts off the next token where it is an identifier. Where it is none, it may be cut off too.
+/// Consumes the next token if it is an identifier. On an error, `tokens` may have advanced.
 #[inline(always)]
 pub(crate) fn take_name<'t>(tokens: &mut Tokens<'t>, end: usize) -> Result<Lexeme<'t>, SyntaxError> {
     let before = tokens.fork();
@@ -103,7 +106,7 @@ pub(crate) fn take_name<'t>(tokens: &mut Tokens<'t>, end: usize) -> Result<Lexem
     }
 }
 
-/// Whether a form is that of this mark.
+/// Whether the form `form` is the punctuation character `mark`.
 pub(crate) fn is_mark(form: Form, mark: char) -> bool {
     match form {
         Form::Mark(c) => c == mark,
@@ -111,7 +114,7 @@ pub(crate) fn is_mark(form: Form, mark: char) -> bool {
     }
 }
 
-/// Cuts off the next token where it is this mark. Where it is another, it may be cut off too.
+/// Consumes the next token if it is the punctuation character `mark`. On an error, `tokens` may have advanced.
 #[cfg_attr(debug_assertions, inline)]
 #[cfg_attr(not(debug_assertions), inline(always))]
 pub(crate) fn take_mark(
@@ -133,7 +136,7 @@ pub(crate) fn take_mark(
     }
 }
 
-/// Cuts off the literal that stands next.
+/// Consumes the next literal, or returns the error for its absence.
 #[inline(always)]
 pub(crate) fn take_literal<'t>(
     tokens: &mut Tokens<'t>,
@@ -145,7 +148,7 @@ pub(crate) fn take_literal<'t>(
     }
 }
 
-/// Cuts off the comma that stands next, where anything does.
+/// Consumes the next comma, or returns the error for its absence. At the end of the text, no comma is needed.
 #[inline(always)]
 fn take_comma(tokens: &mut Tokens<'_>, end: usize) -> Result<(), SyntaxError> {
     if tokens.rest().is_empty() {
@@ -154,7 +157,7 @@ fn take_comma(tokens: &mut Tokens<'_>, end: usize) -> Result<(), SyntaxError> {
     take_mark(tokens, end, ',', Part::Comma)
 }
 
-/// Cuts off what stands after a name: `=`, a literal, and the comma or the end.
+/// Consumes the part of a setting after its name: `=`, a literal, and a comma, unless the text ends after the literal.
 #[inline(always)]
 fn take_value<'t>(tokens: &mut Tokens<'t>, end: usize) -> Result<NextLiteral<'t>, SyntaxError> {
     take_mark(tokens, end, '=', Part::Equals)?;
@@ -163,7 +166,7 @@ fn take_value<'t>(tokens: &mut Tokens<'t>, end: usize) -> Result<NextLiteral<'t>
     Ok(value)
 }
 
-/// Cuts off the setting that stands next. Where none does, tokens may be cut off too.
+/// Consumes the next setting. On an error, `tokens` may have advanced.
 #[cfg_attr(debug_assertions, inline)]
 #[cfg_attr(not(debug_assertions), inline(always))]
 fn take_setting<'t>(
@@ -183,12 +186,15 @@ fn take_setting<'t>(
     }
 }
 
-/// Takes the next setting of a text that ends at the byte `end`: an identifier, `=` and a literal, which a minus may begin, and
-/// after it a comma or the text's end. Or it returns the error of what stands there instead, and takes nothing: the first of
-/// these parts that is missed, with the whole group where one stands in its place; or the lexer's error there. No memory is
-/// taken, so whether a name stood before is for the caller.
+/// Consumes the next setting, or returns the error at its position. `end` is the length of the input text.
 ///
-/// Each group is closed in a text that has no [`first_error`](crate::rl_settings::first_error).
+/// A setting is an identifier, `=` and a literal, which may begin with a minus. A comma or the text's end follows the literal.
+///
+/// On an error nothing is consumed. The error is the first missing part of the setting, or the lexer's error at this position.
+/// If a group is in the part's place, the error's range is the whole group. Nothing is allocated, so the caller checks for
+/// repeated names.
+///
+/// If [`first_error`](crate::rl_settings::first_error) returns `None` for the text, each group is closed.
 pub fn settings_step<'t>(tokens: &mut Tokens<'t>, end: usize) -> SettingStep<'t> {
     if tokens.rest().is_empty() {
         return SettingStep::End;

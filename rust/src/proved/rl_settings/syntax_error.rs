@@ -1,74 +1,75 @@
 // Rendered from crates/rl_settings/src/syntax_error.rt by tools/render, which erases contracts: change that file, and render anew.
-//! What is wrong with a text of literals, or of settings.
+//! The errors of a text of literals, of settings, or of a source.
 
+use crate::rl_lenient::RejectionKind;
 use crate::rl_lexer::LexKind;
-use crate::rl_reading::RejectionKind;
 use core::fmt;
 
-/// A part of a setting.
+/// A part of a setting: the name, `=`, the literal, or the comma.
 #[derive(Clone, Copy, PartialEq, Eq, Hash, Debug)]
 #[non_exhaustive]
 pub enum Part {
-    /// The name, an identifier.
+    /// The name of a setting, an identifier.
     Name,
-    /// The `=` after the name.
+    /// The `=` after the name of a setting.
     Equals,
-    /// The literal.
+    /// The literal after the `=` of a setting.
     Literal,
-    /// The comma after it.
+    /// The comma after the literal of a setting.
     Comma,
 }
 
-/// What is wrong with a text of literals, of settings, or of a source.
+/// A kind of error in a list of literals, in settings, or in a source.
 #[derive(Clone, Copy, PartialEq, Eq, Hash, Debug)]
 #[non_exhaustive]
 pub enum SyntaxErrorKind {
-    /// A list has no literal there: a word or a mark.
-    NoLiteral,
-    /// A list has no number within 128 bits after a minus.
+    /// An identifier or a punctuation character in a list of literals, where a literal was expected.
+    NotALiteral,
+    /// A minus in a list of literals that isn't followed by a number up to 128 bits.
     NoNumber,
-    /// A list has an opening delimiter: a group is no literal.
+    /// An opening delimiter in a list of literals, where a literal was expected.
     Group,
-    /// Settings have something else where this part was expected.
+    /// A token or group in settings, where this part of a setting was expected.
     Expected(Part),
-    /// Settings end where this part was expected.
+    /// The end of the settings, where this part of a setting was expected.
     EndOfInput(Part),
-    /// Settings have a name that stood before.
+    /// A setting with a name that an earlier setting has.
     Repeated,
-    /// A doc comment.
+    /// A doc comment, which isn't allowed.
     DocComment,
     /// A block comment that isn't closed.
     UnclosedComment,
-    /// A quoted or raw literal that isn't closed.
+    /// A quoted literal that isn't closed.
     UnclosedQuote,
-    /// A lifetime.
+    /// A lifetime, which isn't allowed.
     Lifetime,
-    /// A raw identifier.
+    /// A raw identifier, which isn't allowed.
     RawIdentifier,
     /// A character that begins no token.
     StrayCharacter,
-    /// A closing delimiter that isn't that of the innermost open group; in a list, in which no group is open, any.
+    /// A closing delimiter that doesn't match the innermost open group. In a list no group is open, so each closing
+    /// delimiter is this error.
     UnmatchedClose,
-    /// A group that isn't closed.
+    /// A group whose closing delimiter is missing.
     UnclosedGroup,
     /// Groups nested more than 128 deep.
     TooDeep,
 }
 
-/// What is wrong with a text, and where.
+/// An error of a text: its kind, and its range.
 #[derive(Clone, Copy, PartialEq, Eq, Debug)]
 pub struct SyntaxError {
-    /// What is wrong.
+    /// The kind of error.
     pub kind: SyntaxErrorKind,
-    /// The byte where it begins.
+    /// The byte offset where the error begins.
     pub lo: usize,
-    /// The byte after it.
+    /// The byte offset after the error.
     pub hi: usize,
 }
 
 impl Part {
-    /// Its word in messages.
-    pub fn words(self) -> &'static str {
+    /// Returns the name of the part for messages, for example `identifier`.
+    pub fn noun(self) -> &'static str {
         match self {
             Part::Name => "identifier",
             Part::Equals => "`=`",
@@ -77,7 +78,7 @@ impl Part {
         }
     }
 
-    /// The words where something else stands in its place.
+    /// Returns the error message for another token in the part's place, for example `expected identifier`.
     fn expected(self) -> &'static str {
         match self {
             Part::Name => "expected identifier",
@@ -87,7 +88,7 @@ impl Part {
         }
     }
 
-    /// The words where the text ends in its place.
+    /// Returns the error message for a text that ends before the part.
     fn ended(self) -> &'static str {
         match self {
             Part::Name => "unexpected end of input, expected identifier",
@@ -99,29 +100,29 @@ impl Part {
 }
 
 impl SyntaxErrorKind {
-    /// The words of the error.
-    pub fn words(self) -> &'static str {
+    /// Returns the error message, for example `not a literal`.
+    pub fn message(self) -> &'static str {
         match self {
-            SyntaxErrorKind::NoLiteral => "not a literal",
-            SyntaxErrorKind::NoNumber => "minus without a number within 128 bits",
-            SyntaxErrorKind::Group => "opening delimiter, and a group is no literal",
+            SyntaxErrorKind::NotALiteral => "not a literal",
+            SyntaxErrorKind::NoNumber => "expected number up to 128 bits after `-`",
+            SyntaxErrorKind::Group => "expected literal, found group",
             SyntaxErrorKind::Expected(part) => part.expected(),
             SyntaxErrorKind::EndOfInput(part) => part.ended(),
             SyntaxErrorKind::Repeated => "repeated name",
-            SyntaxErrorKind::DocComment => "doc comment",
-            SyntaxErrorKind::UnclosedComment => "block comment isn't closed",
-            SyntaxErrorKind::UnclosedQuote => "quoted literal isn't closed",
-            SyntaxErrorKind::Lifetime => "lifetime",
-            SyntaxErrorKind::RawIdentifier => "raw identifier",
-            SyntaxErrorKind::StrayCharacter => "character that begins no token",
+            SyntaxErrorKind::DocComment => "unexpected doc comment",
+            SyntaxErrorKind::UnclosedComment => "unclosed block comment",
+            SyntaxErrorKind::UnclosedQuote => "unclosed quote",
+            SyntaxErrorKind::Lifetime => "unexpected lifetime: a string has double quotes",
+            SyntaxErrorKind::RawIdentifier => "unexpected raw identifier",
+            SyntaxErrorKind::StrayCharacter => "stray character",
             SyntaxErrorKind::UnmatchedClose => "unmatched closing delimiter",
-            SyntaxErrorKind::UnclosedGroup => "group isn't closed",
+            SyntaxErrorKind::UnclosedGroup => "unclosed group",
             SyntaxErrorKind::TooDeep => "groups nested too deep",
         }
     }
 }
 
-/// The error of the lexer, which is no allocation failure.
+/// Converts the kind of a lexer's error to a `SyntaxErrorKind`. `kind` isn't an allocation failure.
 pub fn lexer_error(kind: LexKind) -> SyntaxErrorKind {
     match kind {
         LexKind::DocComment => SyntaxErrorKind::DocComment,
@@ -137,22 +138,22 @@ pub fn lexer_error(kind: LexKind) -> SyntaxErrorKind {
     }
 }
 
-/// Why a list has no literal where this is left of its text.
+/// Converts the kind of an error in a list of literals. `rest` is the unread rest of the list's text.
 pub fn list_error(kind: RejectionKind, rest: &str) -> SyntaxErrorKind {
     match kind {
         RejectionKind::Lex(kind) => lexer_error(kind),
         RejectionKind::Group => SyntaxErrorKind::Group,
         RejectionKind::UnmatchedClose => SyntaxErrorKind::UnmatchedClose,
-        RejectionKind::NoLiteral => match rest.as_bytes().first() {
+        RejectionKind::NotALiteral => match rest.as_bytes().first() {
             Some(b'-') => SyntaxErrorKind::NoNumber,
-            _ => SyntaxErrorKind::NoLiteral,
+            _ => SyntaxErrorKind::NotALiteral,
         },
     }
 }
 
 impl fmt::Display for SyntaxErrorKind {
     fn fmt(&self, f: &mut fmt::Formatter<'_>) -> fmt::Result {
-        f.pad(self.words())
+        f.pad(self.message())
     }
 }
 

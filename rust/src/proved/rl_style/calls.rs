@@ -1,24 +1,25 @@
 // Rendered from crates/rl_style/src/calls.rt by tools/render, which erases contracts: change that file, and render anew.
-//! Where tokens stand inside of macro calls, of `macro_rules!` and of attributes.
+//! Recognizes whether a token is inside a macro call, a `macro_rules!` definition or an attribute.
 
 use crate::rl_lexer::{Form, SourceForm, SourceToken};
 
-/// What the tokens so far say of the next. A macro's definition and an attribute are as calls.
+/// The position of the next token relative to macro calls. A macro's definition and an attribute count as calls.
 #[derive(Clone, Copy)]
 pub(crate) enum Calls<'t> {
-    /// No call.
+    /// The next token is outside of macro calls.
     Outside,
-    /// A word, which may be a macro's name.
+    /// The next token follows this identifier, which may be a macro's name.
     AfterWord(&'t str),
-    /// A macro's name and `!`, and any words after them.
+    /// The next token follows a macro's name, `!`, and perhaps identifiers.
     AfterBang,
-    /// `#`, and any `!` after it.
+    /// The next token follows `#`, or `#!`.
     AfterHash,
-    /// A call, so many brackets deep.
+    /// The next token is inside a macro call, nested in this number of brackets.
     Inside(usize),
 }
 
-/// Whether the word is a keyword in all editions: no macro has such a name, and `!` after it is an operator or a type.
+/// Whether the identifier is a keyword in all editions of Rust. No macro has this name, so `!` after it is an operator or the
+/// never type.
 #[inline(never)]
 fn is_keyword(word: &str) -> bool {
     matches!(
@@ -60,12 +61,12 @@ fn is_keyword(word: &str) -> bool {
     )
 }
 
-/// One bracket deeper, as far as a `usize` counts.
+/// Returns `depth + 1`, or `depth` if it is the greatest `usize`.
 fn deeper(depth: usize) -> usize {
     if depth < usize::MAX { depth + 1 } else { depth }
 }
 
-/// After a word.
+/// Returns the position after the identifier `word`.
 #[inline(always)]
 fn after_word<'t>(calls: Calls<'t>, word: &'t str) -> Calls<'t> {
     match calls {
@@ -74,7 +75,7 @@ fn after_word<'t>(calls: Calls<'t>, word: &'t str) -> Calls<'t> {
     }
 }
 
-/// After a mark.
+/// Returns the position after the punctuation character `mark`.
 #[inline(always)]
 fn after_mark(calls: Calls<'_>, mark: char) -> Calls<'_> {
     match calls {
@@ -86,7 +87,7 @@ fn after_mark(calls: Calls<'_>, mark: char) -> Calls<'_> {
     }
 }
 
-/// After a bracket that opens.
+/// Returns the position after the opening bracket `bracket`.
 fn after_opener(calls: Calls<'_>, bracket: char) -> Calls<'_> {
     match calls {
         Calls::Inside(depth) => Calls::Inside(deeper(depth)),
@@ -96,7 +97,7 @@ fn after_opener(calls: Calls<'_>, bracket: char) -> Calls<'_> {
     }
 }
 
-/// After a bracket that closes.
+/// Returns the position after a closing bracket.
 fn after_closer(calls: Calls<'_>) -> Calls<'_> {
     match calls {
         Calls::Inside(depth) if depth > 1 => Calls::Inside(depth - 1),
@@ -104,7 +105,7 @@ fn after_closer(calls: Calls<'_>) -> Calls<'_> {
     }
 }
 
-/// After a bracket.
+/// Returns the position after the bracket `bracket`, which may be an opening or a closing one.
 #[inline(always)]
 fn after_bracket(calls: Calls<'_>, bracket: char) -> Calls<'_> {
     if matches!(bracket, '(' | '[' | '{') {
@@ -113,7 +114,7 @@ fn after_bracket(calls: Calls<'_>, bracket: char) -> Calls<'_> {
     after_closer(calls)
 }
 
-/// After any other token.
+/// Returns the position after a token that isn't an identifier, a punctuation character or a bracket.
 #[inline(always)]
 fn after_any_other(calls: Calls<'_>) -> Calls<'_> {
     match calls {
@@ -122,7 +123,7 @@ fn after_any_other(calls: Calls<'_>) -> Calls<'_> {
     }
 }
 
-/// After a token of the lexer.
+/// Returns the position after a token of the lexer with the form `form` and the text `text`.
 #[inline(always)]
 fn after_lexeme<'t>(calls: Calls<'t>, form: Form, text: &'t str) -> Calls<'t> {
     match form {
@@ -133,7 +134,7 @@ fn after_lexeme<'t>(calls: Calls<'t>, form: Form, text: &'t str) -> Calls<'t> {
     }
 }
 
-/// What the tokens say after one more.
+/// Returns the position after one more token of a source.
 #[inline(always)]
 pub(crate) fn calls_after<'t>(calls: Calls<'t>, token: SourceToken<'t>) -> Calls<'t> {
     match token.form {
@@ -143,7 +144,7 @@ pub(crate) fn calls_after<'t>(calls: Calls<'t>, token: SourceToken<'t>) -> Calls
     }
 }
 
-/// Whether the next token stands inside of a call.
+/// Whether the next token is inside a macro call.
 #[inline(always)]
 pub(crate) fn is_in_call(calls: Calls<'_>) -> bool {
     matches!(calls, Calls::Inside(_))

@@ -1,11 +1,11 @@
 // Rendered from crates/rl_style/src/case.rt by tools/render, which erases contracts: change that file, and render anew.
-//! Hexadecimal digits in one case.
+//! Converts hexadecimal digits to lower or upper case.
 
 use crate::rl_style::style::Case;
-use crate::rl_text::room::put_char;
-use crate::rl_text::text::split_char;
+use crate::rl_syntax::slice_writer::put_char;
+use crate::rl_syntax::text::split_char;
 
-/// A hexadecimal digit in the case; whatever else as it is.
+/// Returns `c` in the given case if it is a hexadecimal digit, and `c` unchanged otherwise.
 pub(crate) fn cased(case: Option<Case>, c: char) -> char {
     match case {
         Some(Case::Lower) => match c {
@@ -20,7 +20,8 @@ pub(crate) fn cased(case: Option<Case>, c: char) -> char {
     }
 }
 
-/// Puts the characters there, hexadecimal digits in the case.
+/// Writes `text` to `out` from the index `at` on, with its hexadecimal digits in the given case. Returns the index after the
+/// written bytes.
 pub(crate) fn put_cased(out: &mut [u8], at: usize, case: Option<Case>, text: &str) -> usize {
     let mut end = at;
     let mut rest = text;

@@ -1,29 +1,29 @@
 // Rendered from crates/rl_style/src/characters.rt by tools/render, which erases contracts: change that file, and render anew.
-//! What the characters of numbers become.
+//! Rewrites the characters of numbers.
 
 use crate::rl_style::case::cased;
 use crate::rl_style::style::{Case, Style};
-use crate::rl_text::room::put_char;
-use crate::rl_text::text::split_char;
+use crate::rl_syntax::slice_writer::put_char;
+use crate::rl_syntax::text::split_char;
 
-/// How what stands before a number's suffix is written anew.
+/// The options by which the text of one number before its suffix is rewritten.
 #[derive(Clone, Copy)]
 pub(crate) struct Manner {
     pub style: Style,
-    /// Whether underscores are dropped.
+    /// Whether the number's underscores are dropped.
     pub drops: bool,
-    /// Whether the base is 16.
+    /// Whether the number is hexadecimal.
     pub hex: bool,
-    /// How many digits stand in a group; 0 where they are left alone.
+    /// The number of digits in a group, or 0 if the number's digits aren't divided into groups.
     pub size: usize,
 }
 
-/// Whether the text begins with the letter of a base.
+/// Whether the text begins with a letter that may follow `0` in a base prefix: `x`, `o` or `b`.
 pub(crate) fn begins_base_letter(text: &str) -> bool {
     matches!(split_char(text), Some(('x' | 'o' | 'b', _)))
 }
 
-/// The letter before an exponent in the case; whatever else as it is.
+/// Returns `c` in the given case if it is `e` or `E`, the letter of an exponent, and `c` unchanged otherwise.
 fn exponent_letter(case: Option<Case>, c: char) -> char {
     match case {
         Some(Case::Lower) => match c {
@@ -38,7 +38,8 @@ fn exponent_letter(case: Option<Case>, c: char) -> char {
     }
 }
 
-/// What a character of a number is written anew as, before its suffix: `None` where it is dropped.
+/// Returns the new character for the character `c` of a number before its suffix, or `None` if `c` is dropped. `drops` is true
+/// if underscores are dropped, and `hex` if the number is hexadecimal.
 fn number_character(style: Style, drops: bool, hex: bool, c: char) -> Option<char> {
     match c {
         '_' if drops => None,
@@ -48,7 +49,8 @@ fn number_character(style: Style, drops: bool, hex: bool, c: char) -> Option<cha
     }
 }
 
-/// Puts what a character of a number becomes.
+/// Writes the new form of the character `c` of a number to `out` from the index `at` on. Returns the index after the written
+/// bytes.
 pub(crate) fn put_character(out: &mut [u8], at: usize, manner: Manner, c: char) -> usize {
     match number_character(manner.style, manner.drops, manner.hex, c) {
         Some(written) => put_char(out, at, written),
@@ -56,7 +58,7 @@ pub(crate) fn put_character(out: &mut [u8], at: usize, manner: Manner, c: char) 
     }
 }
 
-/// Puts what the characters of a number become.
+/// Writes the new form of a number's text to `out` from the index `at` on. Returns the index after the written bytes.
 pub(crate) fn put_numeral(out: &mut [u8], at: usize, manner: Manner, numeral: &str) -> usize {
     let mut end = at;
     let mut rest = numeral;

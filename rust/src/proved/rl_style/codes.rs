@@ -1,13 +1,14 @@
 // Rendered from crates/rl_style/src/codes.rt by tools/render, which erases contracts: change that file, and render anew.
-//! The digits of `\u{..}` written anew.
+//! Rewrites the digits of numeric escapes: `\x` and `\u{..}`.
 
 use crate::rl_style::case::{cased, put_cased};
 use crate::rl_style::numbers::skip_padding;
 use crate::rl_style::style::{Case, Style};
-use crate::rl_text::room::{put_byte, put_char, put_text};
-use crate::rl_text::text::{after_prefix, split_char};
+use crate::rl_syntax::slice_writer::{put_byte, put_char, put_text};
+use crate::rl_syntax::text::{after_prefix, split_char};
 
-/// Puts the characters there without underscores, hexadecimal digits in the case.
+/// Writes the text without underscores, with its hexadecimal digits in the given case. Returns the index after the written
+/// bytes.
 fn put_bare(out: &mut [u8], at: usize, case: Option<Case>, text: &str) -> usize {
     let mut end = at;
     let mut rest = text;
@@ -20,12 +21,13 @@ fn put_bare(out: &mut [u8], at: usize, case: Option<Case>, text: &str) -> usize 
     end
 }
 
-/// Whether the text begins with a closing brace.
+/// Whether the text begins with `}`.
 fn begins_close(text: &str) -> bool {
     matches!(split_char(text), Some(('}', _)))
 }
 
-/// Puts what stands after `\u{`, with the fewest digits.
+/// Writes the digits of a `\u{..}` escape without leading zeros and underscores, and its closing brace. `inside` is the text
+/// after `\u{`.
 fn put_code(out: &mut [u8], at: usize, case: Option<Case>, inside: &str) -> usize {
     let Some(('0' | '_', after)) = split_char(inside) else {
         return put_bare(out, at, case, inside);
@@ -38,7 +40,7 @@ fn put_code(out: &mut [u8], at: usize, case: Option<Case>, inside: &str) -> usiz
     put_bare(out, at, case, rest)
 }
 
-/// Puts an escape by number, its digits in the style.
+/// Writes a numeric escape (`\x` or `\u{..}`) with its digits as the style requires.
 pub(crate) fn put_digits(out: &mut [u8], at: usize, style: Style, unit: &str) -> usize {
     if !style.code_digits {
         return put_cased(out, at, style.escape_digits, unit);

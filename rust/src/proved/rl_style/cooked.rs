@@ -1,36 +1,35 @@
 // Rendered from crates/rl_style/src/cooked.rt by tools/render, which erases contracts: change that file, and render anew.
-//! Literals with escapes written anew, unit by unit.
+//! Rewrites quoted literals with escapes, one character or escape at a time.
 
 use crate::rl_style::codes::put_digits;
 use crate::rl_style::hidden::put_itself;
 use crate::rl_style::style::Style;
-use crate::rl_forms::Kind;
-use crate::rl_forms::written_unit::closer;
-use crate::rl_reading::units::{Piece, unit};
-use crate::rl_text::room::{put_byte, put_char, put_text};
-use crate::rl_text::text::{before, split_char, strip_byte};
+use crate::rl_lenient::units::{Piece, unit};
+use crate::rl_syntax::Kind;
+use crate::rl_syntax::slice_writer::{put_byte, put_char, put_text};
+use crate::rl_syntax::text::{before, split_char, strip_byte};
 
-/// Whether it is one of the two quotes.
+/// Whether the character is a single or a double quote.
 fn is_quote(c: char) -> bool {
     matches!(c, '\'' | '"')
 }
 
-/// Whether it begins an escape by number.
+/// Whether the character begins a numeric escape: `x` or `u`.
 fn begins_number(c: char) -> bool {
     matches!(c, 'x' | 'u')
 }
 
-/// Whether the quote loses its backslash.
-fn is_bared(style: Style, kind: Kind, quote: char) -> bool {
-    style.quote_escapes && quote != closer(kind)
+/// Whether the style drops the backslash before the quote `quote` in a literal of the kind `kind`.
+fn loses_backslash(style: Style, kind: Kind, quote: char) -> bool {
+    style.quote_escapes && quote != kind.quote()
 }
 
-/// The number where it is of ASCII, or 128.
+/// Returns the number as a byte if it is below 128, and 128 otherwise.
 fn ascii_or(code: u32) -> u8 {
     if code < 128 { code as u8 } else { 128 }
 }
 
-/// The character or byte of ASCII that the piece is, or 128.
+/// Returns the value of a character or escape if it is ASCII, and 128 otherwise.
 fn ascii_of(kind: Kind, piece: Piece) -> u8 {
     match piece {
         Piece::Character(c) => ascii_or(c as u32),
@@ -39,30 +38,30 @@ fn ascii_of(kind: Kind, piece: Piece) -> u8 {
     }
 }
 
-/// The same, but 128 for NUL that gets no letter.
+/// Returns `byte`, but 128 for a NUL if `zero` is false: this NUL may not be written as `\0`.
 fn lettered(zero: bool, byte: u8) -> u8 {
     if zero || byte != 0 { byte } else { 128 }
 }
 
-/// Whether the unit that the text begins with stands for a digit.
-fn stands_for_digit(kind: Kind, text: &str) -> bool {
+/// Whether the character or escape at the beginning of the text represents a decimal digit.
+fn represents_digit(kind: Kind, text: &str) -> bool {
     match unit(kind, text) {
         Some((piece, _)) => ascii_of(kind, piece).is_ascii_digit(),
         None => false,
     }
 }
 
-/// Whether the character stands for itself where an escape by number spells it.
+/// Whether the style replaces a numeric escape of the character `byte` by the character itself.
 fn is_visible(style: Style, byte: u8) -> bool {
     style.ascii_escapes && matches!(byte, b'!'..=b'~')
 }
 
-/// Whether the character gets a letter where an escape by number spells it.
+/// Whether the style replaces a numeric escape of the character `byte` by an escape with a letter: `\n`, `\r`, `\t` or `\0`.
 fn has_letter(style: Style, byte: u8) -> bool {
     style.named_escapes && matches!(byte, b'\n' | b'\r' | b'\t' | 0)
 }
 
-/// The letter of the escape that stands for LF, CR, TAB or NUL.
+/// Returns the letter of the escape for LF, CR, TAB or NUL: `n`, `r`, `t` or `0`.
 fn letter_of(byte: u8) -> u8 {
     match byte {
         b'\n' => b'n',
@@ -72,21 +71,23 @@ fn letter_of(byte: u8) -> u8 {
     }
 }
 
-/// Puts a backslash and a character.
+/// Writes a backslash and the character `byte`. Returns the index after the written bytes.
 pub(crate) fn put_pair(out: &mut [u8], at: usize, byte: u8) -> usize {
     let end = put_byte(out, at, b'\\');
     put_byte(out, end, byte)
 }
 
-/// Puts a visible character of ASCII into a literal of the kind.
+/// Writes a visible ASCII character into a literal of the kind `kind`. The literal's closing quote and a backslash get a
+/// backslash before them.
 fn put_visible(out: &mut [u8], at: usize, kind: Kind, byte: u8) -> usize {
-    if byte as char == closer(kind) || byte == b'\\' {
+    if byte as char == kind.quote() || byte == b'\\' {
         return put_pair(out, at, byte);
     }
     put_byte(out, at, byte)
 }
 
-/// Puts an escape by number, written anew, that spells this character or byte of ASCII, or 128.
+/// Writes the new form of a numeric escape. `byte` is the escape's value if it is ASCII, and 128 otherwise. For a NUL that
+/// isn't written as `\0` it is 128 too.
 fn put_number(out: &mut [u8], at: usize, kind: Kind, style: Style, unit: &str, byte: u8) -> usize {
     if is_visible(style, byte) {
         return put_visible(out, at, kind, byte);
@@ -97,7 +98,8 @@ fn put_number(out: &mut [u8], at: usize, kind: Kind, style: Style, unit: &str, b
     put_digits(out, at, style, unit)
 }
 
-/// Puts an escape, written anew, by what follows its backslash and what it stands for.
+/// Writes the new form of an escape. `unit` is the text of the escape, `escape` this text without the backslash, and `byte` the
+/// escape's value if it is ASCII, or 128.
 fn put_escape(
     out: &mut [u8],
     at: usize,
@@ -111,7 +113,7 @@ fn put_escape(
         return put_text(out, at, unit);
     };
     if is_quote(first) {
-        if is_bared(style, kind, first) {
+        if loses_backslash(style, kind, first) {
             return put_text(out, at, escape);
         }
         return put_text(out, at, unit);
@@ -122,7 +124,7 @@ fn put_escape(
     put_text(out, at, unit)
 }
 
-/// Puts a unit that is no escape, written anew.
+/// Writes the new form of an unescaped character or a CR LF.
 fn put_plain(out: &mut [u8], at: usize, kind: Kind, style: Style, unit: &str, byte: u8) -> usize {
     match split_char(unit) {
         Some((c, rest)) => {
@@ -133,7 +135,9 @@ fn put_plain(out: &mut [u8], at: usize, kind: Kind, style: Style, unit: &str, by
     }
 }
 
-/// Puts a unit, written anew, that stands for this character or byte of ASCII, or 128: at most four bytes for each of its own.
+/// Writes the new form of one character or escape: at most four bytes for each byte of its text.
+///
+/// `byte` is the value if it is ASCII, and 128 otherwise. For a NUL that isn't written as `\0` it is 128 too.
 fn put_unit(out: &mut [u8], at: usize, kind: Kind, style: Style, unit: &str, byte: u8) -> usize {
     match strip_byte(unit, b'\\') {
         Some(escape) => put_escape(out, at, kind, style, unit, escape, byte),
@@ -141,19 +145,19 @@ fn put_unit(out: &mut [u8], at: usize, kind: Kind, style: Style, unit: &str, byt
     }
 }
 
-/// Puts what stands inside a literal, each unit written anew.
+/// Writes the new form of each character and escape of a literal's body.
 fn put_units(out: &mut [u8], at: usize, kind: Kind, style: Style, inside: &str) -> usize {
     let mut end = at;
     let mut rest = inside;
     while let Some((piece, after)) = unit(kind, rest) {
-        let byte = lettered(!stands_for_digit(kind, after), ascii_of(kind, piece));
+        let byte = lettered(!represents_digit(kind, after), ascii_of(kind, piece));
         end = put_unit(out, end, kind, style, before(rest, after), byte);
         rest = after;
     }
     end
 }
 
-/// Writes the literal of the kind anew that has this text inside, with escapes, and this suffix.
+/// Writes the new form of a quoted literal with escapes, whose body is `inside`.
 pub(crate) fn write_cooked(
     text: &str,
     kind: Kind,
@@ -164,6 +168,6 @@ pub(crate) fn write_cooked(
 ) -> usize {
     let at = put_text(out, 0, kind.opener());
     let at = put_units(out, at, kind, style, inside);
-    let at = put_char(out, at, closer(kind));
+    let at = put_char(out, at, kind.quote());
     put_text(out, at, suffix)
 }

@@ -1,12 +1,13 @@
 // Rendered from crates/rl_style/src/groups.rt by tools/render, which erases contracts: change that file, and render anew.
-//! Digits in groups.
+//! Rewrites the digits of numbers in groups, with underscores between the groups.
 
 use crate::rl_style::characters::{Manner, begins_base_letter, put_character, put_numeral};
 use crate::rl_style::style::{DigitGroups, Style};
-use crate::rl_text::room::put_byte;
-use crate::rl_text::text::split_char;
+use crate::rl_syntax::slice_writer::put_byte;
+use crate::rl_syntax::text::split_char;
+use crate::rl_writing::{ends_group, group_size_for};
 
-/// How many digits of the base stand in a group.
+/// Returns the number of digits in a group, for numbers of the base `base`.
 fn base_group(groups: DigitGroups, base: u32) -> usize {
     match base {
         2 => groups.binary,
@@ -16,7 +17,8 @@ fn base_group(groups: DigitGroups, base: u32) -> usize {
     }
 }
 
-/// How many digits of a number in the base, with the suffix, stand in a group; 0 where they are left alone.
+/// Returns the number of digits in a group, for a number of the base `base` with the suffix `suffix`. 0 means that the number's
+/// digit groups stay unchanged.
 pub(crate) fn group_size(style: Style, base: u32, suffix: &str) -> usize {
     match style.digit_groups {
         Some(groups) if !begins_base_letter(suffix) => base_group(groups, base),
@@ -24,7 +26,7 @@ pub(crate) fn group_size(style: Style, base: u32, suffix: &str) -> usize {
     }
 }
 
-/// How many digits a run has at least that underscores stand in.
+/// Returns the smallest number of digits that the style divides into groups.
 fn least_digits(style: Style) -> usize {
     match style.digit_groups {
         Some(groups) => groups.least,
@@ -32,21 +34,8 @@ fn least_digits(style: Style) -> usize {
     }
 }
 
-/// How many of so many digits stand in a group.
-fn group_among(manner: Manner, count: usize) -> usize {
-    if count < least_digits(manner.style) {
-        0
-    } else {
-        manner.size
-    }
-}
-
-/// Whether a group ends where so many digits stand before or after.
-fn ends_group(size: usize, digits: usize) -> bool {
-    size > 0 && digits > 0 && digits % size == 0
-}
-
-/// Whether an underscore follows the digit, of `count` digits, that `left` are left after.
+/// Whether an underscore follows a digit. `count` is the number of digits in the sequence, and `left` the number of digits
+/// after this one. Groups are counted from the first digit if `from_first` is true, and from the last one otherwise.
 fn ends(from_first: bool, size: usize, count: usize, left: usize) -> bool {
     if from_first {
         left > 0 && ends_group(size, count - left)
@@ -55,7 +44,7 @@ fn ends(from_first: bool, size: usize, count: usize, left: usize) -> bool {
     }
 }
 
-/// How many digits a run of digits and underscores holds.
+/// Returns the number of digits in a sequence of digits and underscores.
 fn count_digits(run: &str) -> usize {
     let mut count = 0;
     let mut rest = run;
@@ -68,7 +57,7 @@ fn count_digits(run: &str) -> usize {
     count
 }
 
-/// Puts what a digit becomes, and an underscore after it where its group ends.
+/// Writes the new form of a digit, and an underscore after it if `ends` is true: its group ends there.
 fn put_digit(out: &mut [u8], at: usize, manner: Manner, digit: char, ends: bool) -> usize {
     let end = put_character(out, at, manner, digit);
     if ends {
@@ -77,10 +66,11 @@ fn put_digit(out: &mut [u8], at: usize, manner: Manner, digit: char, ends: bool)
     end
 }
 
-/// Puts what a run of digits and underscores becomes, its digits in groups.
+/// Writes a sequence of digits and underscores with its digits in groups. Underscores at its end are kept, unless the style
+/// drops them.
 fn put_grouped(out: &mut [u8], at: usize, manner: Manner, from_first: bool, run: &str) -> usize {
     let count = count_digits(run);
-    let size = group_among(manner, count);
+    let size = group_size_for(manner.size, least_digits(manner.style), count);
     let mut left = count;
     let mut end = at;
     let mut rest = run;
@@ -96,7 +86,7 @@ fn put_grouped(out: &mut [u8], at: usize, manner: Manner, from_first: bool, run:
     end
 }
 
-/// Puts what a run of digits and underscores becomes, in groups where its number is.
+/// Writes the new form of a sequence of digits and underscores, with its digits in groups unless the group size is 0.
 pub(crate) fn put_digit_run(
     out: &mut [u8],
     at: usize,

@@ -1,18 +1,20 @@
 // Rendered from crates/rl_style/src/hidden.rt by tools/render, which erases contracts: change that file, and render anew.
-//! Characters that turn or hide text, as escapes by their numbers.
+//! Writes invisible and bidirectional characters as numeric escapes.
 
 use crate::rl_style::codes::put_digits;
 use crate::rl_style::style::Style;
-use crate::rl_text::room::{put_byte, put_char, put_text};
-use crate::rl_text::text::split_char;
+use crate::rl_syntax::slice_writer::{put_byte, put_char, put_text};
+use crate::rl_syntax::text::split_char;
 use crate::rl_writing::{needs_escape, put_unicode};
 
-/// Whether the character turns or hides text, and has no letter.
+/// Whether the character must be written as a numeric escape: it is invisible, bidirectional or a control character other than
+/// LF, CR and TAB.
 fn needs_number(c: char) -> bool {
     needs_escape(c) && !matches!(c, '\n' | '\r' | '\t')
 }
 
-/// Whether a character of the text does.
+/// Whether the text contains a character that must be written as a numeric escape: an invisible or bidirectional one, or a
+/// control character other than LF, CR and TAB.
 pub(crate) fn holds_hidden(text: &str) -> bool {
     let mut rest = text;
     while let Some((c, after)) = split_char(rest) {
@@ -24,7 +26,7 @@ pub(crate) fn holds_hidden(text: &str) -> bool {
     false
 }
 
-/// A digit of base 16, in lower case.
+/// Returns the hexadecimal digit for a number below 16, in lower case.
 fn lower_digit(digit: u32) -> u8 {
     let digit = digit as u8;
     if digit < 10 {
@@ -34,7 +36,7 @@ fn lower_digit(digit: u32) -> u8 {
     }
 }
 
-/// Puts `\x` and the two digits of a character of ASCII.
+/// Writes an ASCII character as `\x` and two lower-case digits.
 fn put_two(out: &mut [u8], at: usize, c: char) -> usize {
     let number = c as u32;
     let end = put_byte(out, at, b'\\');
@@ -43,7 +45,8 @@ fn put_two(out: &mut [u8], at: usize, c: char) -> usize {
     put_byte(out, end, lower_digit(number % 16))
 }
 
-/// Puts the escape of a character by its number, with the fewest digits, in lower case.
+/// Writes the numeric escape of a character: `\x` for ASCII, and otherwise `\u{..}` with the fewest digits. They are in lower
+/// case.
 fn put_code(out: &mut [u8], at: usize, c: char) -> usize {
     if c < '\u{80}' {
         return put_two(out, at, c);
@@ -51,7 +54,7 @@ fn put_code(out: &mut [u8], at: usize, c: char) -> usize {
     put_unicode(out, at, c)
 }
 
-/// Puts the escape of a character by its number, its digits in the style.
+/// Writes the numeric escape of a character, with its digits as the style requires.
 fn put_styled_code(out: &mut [u8], at: usize, style: Style, c: char) -> usize {
     let mut room = [0; 10];
     let end = put_code(&mut room, 0, c);
@@ -61,7 +64,7 @@ fn put_styled_code(out: &mut [u8], at: usize, style: Style, c: char) -> usize {
     }
 }
 
-/// Puts the escape of a character that turns or hides text; the truth value says whether NUL gets a letter.
+/// Writes the escape of an invisible or bidirectional character. NUL may be written as `\0` if `zero` is true.
 fn put_hidden(out: &mut [u8], at: usize, style: Style, zero: bool, c: char) -> usize {
     if style.named_escapes && zero && c == '\0' {
         return put_text(out, at, "\\0");
@@ -69,8 +72,8 @@ fn put_hidden(out: &mut [u8], at: usize, style: Style, zero: bool, c: char) -> u
     put_styled_code(out, at, style, c)
 }
 
-/// Puts a character that stands for itself, written anew: at most four bytes for each of its own. The truth value says whether NUL
-/// gets a letter.
+/// Writes the new form of an unescaped character: at most four bytes for each of its own. NUL may be written as `\0` if `zero`
+/// is true.
 pub(crate) fn put_itself(out: &mut [u8], at: usize, style: Style, zero: bool, c: char) -> usize {
     if style.hidden && needs_number(c) {
         return put_hidden(out, at, style, zero, c);

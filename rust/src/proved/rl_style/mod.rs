@@ -1,6 +1,6 @@
 // Rendered from crates/rl_style/src/lib.rt by tools/render, which erases contracts: change that file, and render anew.
-//! Literals written anew in another style: each has the same kind, the same contents and the same suffix as before, but that `1.` may
-//! become `1.0`. No memory is taken.
+//! Rewrites literals by a style, such as the case of hexadecimal digits. A rewritten literal has the kind, the value and the
+//! suffix of the old one, except that `1.` may become `1.0`. Nothing is allocated.
 
 mod calls;
 mod case;

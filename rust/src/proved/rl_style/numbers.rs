@@ -1,21 +1,21 @@
 // Rendered from crates/rl_style/src/numbers.rt by tools/render, which erases contracts: change that file, and render anew.
-//! Numbers written anew.
+//! Rewrites integers and floats by a style.
 
 use crate::rl_style::characters::{Manner, begins_base_letter, put_numeral};
 use crate::rl_style::groups::{group_size, put_digit_run};
 use crate::rl_style::style::{Separator, Style};
-use crate::rl_reading::number_forms::split_radix;
-use crate::rl_reasons::Number;
-use crate::rl_text::classes::{CharClass, skip_class};
-use crate::rl_text::room::{put_byte, put_text};
-use crate::rl_text::text::{after_prefix, before, split_char};
+use crate::rl_lenient::number_forms::split_radix;
+use crate::rl_strict::Number;
+use crate::rl_syntax::classes::{CharClass, skip_class};
+use crate::rl_syntax::slice_writer::{put_byte, put_text};
+use crate::rl_syntax::text::{after_prefix, before, split_char};
 
-/// Whether a number with the suffix loses its underscores.
+/// Whether the style drops the underscores of a number with this suffix.
 fn drops_underscores(style: Style, suffix: &str) -> bool {
     style.underscores && !begins_base_letter(suffix)
 }
 
-/// The text after the zeros and underscores at its front.
+/// Returns the text after the zeros and underscores at its beginning.
 pub(crate) fn skip_padding(text: &str) -> &str {
     let mut rest = text;
     while let Some(('0' | '_', after)) = split_char(rest) {
@@ -24,7 +24,7 @@ pub(crate) fn skip_padding(text: &str) -> &str {
     rest
 }
 
-/// The digits without the zeros in front; of zeros alone one.
+/// Returns the digits without leading zeros, or `0` if they are all zeros.
 fn significant(digits: &str) -> &str {
     let rest = skip_padding(digits);
     match split_char(rest) {
@@ -33,12 +33,12 @@ fn significant(digits: &str) -> &str {
     }
 }
 
-/// Whether an integer of the base with the suffix loses the zeros in front of its digits.
+/// Whether the style drops the leading zeros of an integer with this base and this suffix.
 fn drops_zeros(style: Style, base: u32, suffix: &str) -> bool {
     style.leading_zeros && base == 10 && !begins_base_letter(suffix)
 }
 
-/// The digits of an integer in the base with the suffix, perhaps without the zeros in front.
+/// Returns the digits `run` of an integer, without leading zeros if the style drops them.
 fn kept_digits<'t>(style: Style, base: u32, suffix: &str, run: &'t str) -> &'t str {
     if drops_zeros(style, base, suffix) {
         significant(run)
@@ -47,7 +47,7 @@ fn kept_digits<'t>(style: Style, base: u32, suffix: &str, run: &'t str) -> &'t s
     }
 }
 
-/// The text without the underscores at its end.
+/// Returns the text without the underscores at its end.
 fn trimmed(text: &str) -> &str {
     let mut rest = text;
     let mut tail = text;
@@ -60,7 +60,7 @@ fn trimmed(text: &str) -> &str {
     before(text, tail)
 }
 
-/// Whether a number with the suffix loses the underscores before it.
+/// Whether the style drops the underscores directly before a number's suffix.
 fn trims(style: Style, suffix: &str) -> bool {
     match style.suffix_separator {
         None => false,
@@ -69,7 +69,7 @@ fn trims(style: Style, suffix: &str) -> bool {
     }
 }
 
-/// What stands before the suffix, perhaps without the underscores at its end.
+/// Returns a number's text before its suffix, without the underscores at its end if the style drops them.
 fn kept_run<'t>(style: Style, suffix: &str, numeral: &'t str) -> &'t str {
     if trims(style, suffix) {
         trimmed(numeral)
@@ -78,7 +78,7 @@ fn kept_run<'t>(style: Style, suffix: &str, numeral: &'t str) -> &'t str {
     }
 }
 
-/// Whether an underscore is put before the suffix.
+/// Whether the style writes an underscore before the number's suffix.
 fn is_separated(style: Style, suffix: &str) -> bool {
     match style.suffix_separator {
         Some(Separator::Underscore) => split_char(suffix).is_some(),
@@ -86,7 +86,7 @@ fn is_separated(style: Style, suffix: &str) -> bool {
     }
 }
 
-/// Puts a number's suffix, and what the style puts before it.
+/// Writes a number's suffix, with an underscore before it if the style requires one.
 fn put_suffix(out: &mut [u8], at: usize, style: Style, suffix: &str) -> usize {
     if is_separated(style, suffix) {
         let end = put_byte(out, at, b'_');
@@ -95,8 +95,8 @@ fn put_suffix(out: &mut [u8], at: usize, style: Style, suffix: &str) -> usize {
     put_text(out, at, suffix)
 }
 
-/// How a number in the base, with the suffix, is written anew.
-fn manner_of(style: Style, base: u32, suffix: &str) -> Manner {
+/// Returns the options by which a number of this base with this suffix is rewritten.
+fn number_style(style: Style, base: u32, suffix: &str) -> Manner {
     Manner {
         style,
         drops: drops_underscores(style, suffix),
@@ -105,17 +105,17 @@ fn manner_of(style: Style, base: u32, suffix: &str) -> Manner {
     }
 }
 
-/// Writes the integer anew that has this suffix.
+/// Writes the new form of an integer. `text` is its whole text, and `suffix` its end.
 fn write_integer(text: &str, suffix: &str, style: Style, out: &mut [u8]) -> usize {
     let (base, digits) = split_radix(text);
     let whole = kept_run(style, suffix, before(digits, suffix));
     let run = kept_digits(style, base, suffix, whole);
     let at = put_text(out, 0, before(text, digits));
-    let at = put_digit_run(out, at, manner_of(style, base, suffix), false, run);
+    let at = put_digit_run(out, at, number_style(style, base, suffix), false, run);
     put_suffix(out, at, style, suffix)
 }
 
-/// Puts the zero that the style has after a float's last dot.
+/// Writes the zero after a float that ends with its dot, if the style requires one.
 fn put_zero(out: &mut [u8], at: usize, style: Style) -> usize {
     if style.float_zero {
         return put_byte(out, at, b'0');
@@ -123,7 +123,7 @@ fn put_zero(out: &mut [u8], at: usize, style: Style) -> usize {
     at
 }
 
-/// Puts what follows a float's dot, written anew.
+/// Writes the new form of the text after a float's dot.
 fn put_after_dot(out: &mut [u8], at: usize, manner: Manner, fraction: &str) -> usize {
     match split_char(fraction) {
         Some(_) => {
@@ -135,7 +135,7 @@ fn put_after_dot(out: &mut [u8], at: usize, manner: Manner, fraction: &str) -> u
     }
 }
 
-/// Puts what follows a float's whole part, written anew.
+/// Writes the new form of the text after a float's whole part.
 fn put_fraction(out: &mut [u8], at: usize, manner: Manner, rest: &str) -> usize {
     match after_prefix(".", rest) {
         Some(fraction) => {
@@ -146,9 +146,9 @@ fn put_fraction(out: &mut [u8], at: usize, manner: Manner, rest: &str) -> usize 
     }
 }
 
-/// Writes the float anew that has this suffix.
+/// Writes the new form of a float. `text` is its whole text, and `suffix` its end.
 fn write_float(text: &str, suffix: &str, style: Style, out: &mut [u8]) -> usize {
-    let manner = manner_of(style, 10, suffix);
+    let manner = number_style(style, 10, suffix);
     let numeral = kept_run(style, suffix, before(text, suffix));
     let rest = skip_class(CharClass::Numeral, numeral);
     let at = put_digit_run(out, 0, manner, false, before(numeral, rest));
@@ -156,7 +156,7 @@ fn write_float(text: &str, suffix: &str, style: Style, out: &mut [u8]) -> usize 
     put_suffix(out, at, style, suffix)
 }
 
-/// Writes the number anew that was read.
+/// Writes the new form of a number. `text` is its text, and `number` its parse result.
 pub(crate) fn write_number(text: &str, number: Number<'_>, style: Style, out: &mut [u8]) -> usize {
     match number {
         Number::Integer(_, suffix) => write_integer(text, suffix, style, out),

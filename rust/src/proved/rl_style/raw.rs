@@ -1,13 +1,13 @@
 // Rendered from crates/rl_style/src/raw.rt by tools/render, which erases contracts: change that file, and render anew.
-//! Raw literals written anew.
+//! Rewrites raw strings by a style.
 
 use crate::rl_style::cooked::put_pair;
 use crate::rl_style::hidden::{holds_hidden, put_itself};
 use crate::rl_style::style::Style;
-use crate::rl_forms::Kind;
-use crate::rl_reading::digit_runs::begins_digit;
-use crate::rl_text::room::{put_byte, put_text};
-use crate::rl_text::text::split_char;
+use crate::rl_lenient::digit_runs::begins_digit;
+use crate::rl_syntax::Kind;
+use crate::rl_syntax::slice_writer::{put_byte, put_text};
+use crate::rl_syntax::text::split_char;
 use crate::rl_writing::{raw_hashes, write_raw_into};
 
 /// Whether the byte is a hash or a dot.
@@ -15,7 +15,7 @@ fn is_hash_or_dot(byte: u8) -> bool {
     matches!(byte, b'#' | b'.')
 }
 
-/// Whether the text ends with neither a hash nor a dot.
+/// Whether the text doesn't end with a hash or a dot, so that a string without a prefix may follow it.
 fn may_precede_quote(front: &str) -> bool {
     match front.as_bytes() {
         [.., last] => !is_hash_or_dot(*last),
@@ -23,7 +23,8 @@ fn may_precede_quote(front: &str) -> bool {
     }
 }
 
-/// Whether a literal of the kind may begin with its quote after this front.
+/// Whether a raw string of the kind may lose its `r`, where `front` is the text before it. A string without `b` or `c` keeps it
+/// after a hash or a dot.
 fn may_lose_r(kind: Kind, front: &str) -> bool {
     match kind {
         Kind::Str => may_precede_quote(front),
@@ -31,12 +32,12 @@ fn may_lose_r(kind: Kind, front: &str) -> bool {
     }
 }
 
-/// Whether the character gets a backslash in a string with escapes.
+/// Whether the character must be escaped in a string with escapes: a double quote or a backslash.
 fn needs_backslash(c: char) -> bool {
     matches!(c, '"' | '\\')
 }
 
-/// Whether no character of the text does.
+/// Whether the text contains neither a double quote nor a backslash.
 fn is_bare(text: &str) -> bool {
     let mut rest = text;
     while let Some((c, after)) = split_char(rest) {
@@ -48,13 +49,14 @@ fn is_bare(text: &str) -> bool {
     true
 }
 
-/// Whether the raw literal of the kind becomes one with escapes, after this front and with this text inside.
+/// Whether the style replaces a raw string by a string with escapes. `front` is the text before the raw string, and `inside`
+/// its content.
 fn loses_raw(style: Style, kind: Kind, front: &str, inside: &str) -> bool {
     may_lose_r(kind, front)
         && (style.raw && is_bare(inside) || style.hidden && holds_hidden(inside))
 }
 
-/// Puts a character from inside a raw literal into one with escapes; the truth value says whether NUL gets a letter.
+/// Writes a character of a raw string into a string with escapes. NUL may be written as `\0` if `zero` is true.
 fn put_raw_character(out: &mut [u8], at: usize, style: Style, zero: bool, c: char) -> usize {
     if needs_backslash(c) {
         return put_pair(out, at, c as u8);
@@ -62,7 +64,7 @@ fn put_raw_character(out: &mut [u8], at: usize, style: Style, zero: bool, c: cha
     put_itself(out, at, style, zero, c)
 }
 
-/// Puts what stands inside a raw literal into one with escapes.
+/// Writes the content of a raw string as the body of a string with escapes.
 fn put_raw_inside(out: &mut [u8], at: usize, style: Style, inside: &str) -> usize {
     let mut end = at;
     let mut rest = inside;
@@ -73,7 +75,7 @@ fn put_raw_inside(out: &mut [u8], at: usize, style: Style, inside: &str) -> usiz
     end
 }
 
-/// Writes the raw literal of the kind as one with escapes.
+/// Writes a raw string as a string with escapes. `inside` is its content.
 fn write_unraw(
     text: &str,
     kind: Kind,
@@ -88,7 +90,7 @@ fn write_unraw(
     put_text(out, at, suffix)
 }
 
-/// Writes the raw literal of the kind anew that stands after this front, with this text inside and this suffix.
+/// Writes the new form of a raw string. `front` is the text before it, and `inside` its content.
 pub(crate) fn write_raw(
     front: &str,
     text: &str,

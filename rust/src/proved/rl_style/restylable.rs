@@ -1,49 +1,55 @@
 // Rendered from crates/rl_style/src/restylable.rt by tools/render, which erases contracts: change that file, and render anew.
-//! The literals of a source that may be written anew.
+//! The literals of a source that a style may rewrite.
 
 use crate::rl_style::calls::{Calls, calls_after, is_in_call};
 use crate::rl_lexer::{Form, LexError, SourceForm, SourceToken, Sources};
-use crate::rl_text::text::{begins_with, strip_byte};
+use crate::rl_syntax::text::{begins_with, strip_byte};
 
-/// The last token, by what it says of a number that follows.
+/// The last token before a number, as far as it shows whether the number is a field of a tuple.
 #[derive(Clone, Copy)]
 pub(crate) enum Last {
-    /// Another token, or none.
+    /// Another token, or no token.
     Other,
-    /// One dot: the number is a field, as in `t.0`.
+    /// A dot without a dot directly before it. A number after it is a field, as in `t.0`.
     Dot,
-    /// A dot right after a dot.
+    /// A dot directly after another dot.
     Dots,
-    /// `{`, `,`, the `]` that ends an attribute, or a doc comment: the number is a field where one colon follows, as in `S { 0: x }`.
+    /// A token after which a number is a field if one colon follows the number, as in `S { 0: x }`: `{`, `,`, the `]` that ends
+    /// an attribute, or a doc comment.
     Opening,
 }
 
-/// A literal of a source.
+/// A literal of a source, with its position relative to fields and macro calls.
 #[derive(Clone, Copy)]
 pub struct Restylable<'t> {
-    /// Its token. What stands in front of it in the source, up to its `lo`, [`rewrite_into`](crate::rl_style::rewrite_into) takes too.
+    /// The token of the literal. [`rewrite_into`](crate::rl_style::rewrite_into) also needs the text of the source before the token's
+    /// `lo`.
     pub token: SourceToken<'t>,
-    /// Whether it may be a field of a tuple: a number after one dot, as in `t.0`, or one that a single `:` follows, after `{`, `,`, `]`
-    /// or a doc comment, as in `S { 0: x }` and `S { #[a] 0: x }`. White space and plain comments may stand between. A field has one
-    /// name: it isn't to be written anew.
+    /// Whether the literal may be a field of a tuple. A field has only one name, so it isn't rewritten.
+    ///
+    /// A field is a number after one dot, as in `t.0`, or a number that a single `:` follows, after `{`, `,`, `]` or a doc
+    /// comment, as in `S { #[a] 0: x }`. White space and plain comments may be between these.
     pub is_field: bool,
-    /// Whether it stands inside of a macro call, a macro's definition or an attribute, where a macro may see how it is written. By
-    /// tokens alone: after a word, `!` and a bracket, other words between the two as in `macro_rules! m {`, or after `#[` and `#![`,
-    /// up to the bracket that closes it. A keyword of all editions names no macro: `return !(1)`.
+    /// Whether the literal is inside a macro call, a macro's definition or an attribute, where a macro may depend on the
+    /// literal's text.
+    ///
+    /// Only tokens are considered. A call is an identifier, `!` and a bracket, with other identifiers between `!` and the
+    /// bracket allowed, as in `macro_rules! m {`. An attribute begins with `#[` or `#![`. Each extends to its closing bracket.
+    /// A keyword of all editions isn't a macro's name: `return !(1)`.
     pub in_macro: bool,
 }
 
-/// The literals of a source, each with whether it may be a field and whether it stands inside of a macro call, as they are asked for.
-/// It takes no memory.
+/// A cursor over the literals of a source. For each literal it returns whether it may be a field of a tuple, and whether it is
+/// inside a macro call. Nothing is allocated.
 pub struct Restylables<'t> {
     tokens: Sources<'t>,
     last: Last,
-    // the place after the last token
+    // The byte offset after the last token.
     end: usize,
     calls: Calls<'t>,
 }
 
-/// One dot more, which may be joined to the token before it.
+/// Returns the state after one more dot. `is_joined` is true if the dot directly follows the token before it.
 fn one_more(last: Last, is_joined: bool) -> Last {
     match last {
         Last::Dot | Last::Dots if is_joined => Last::Dots,
@@ -51,7 +57,7 @@ fn one_more(last: Last, is_joined: bool) -> Last {
     }
 }
 
-/// The last token, after one more, where the one before it ends at `end`.
+/// Returns the state after the token `token`, where `last` is the state before it. The token before it ends at `end`.
 fn last_after(last: Last, end: usize, token: SourceToken<'_>) -> Last {
     match token.form {
         SourceForm::Token(Form::Mark('.')) => one_more(last, token.lo == end),
@@ -61,7 +67,7 @@ fn last_after(last: Last, end: usize, token: SourceToken<'_>) -> Last {
     }
 }
 
-/// Whether a text begins with one colon: `::` is another token.
+/// Whether the text begins with one colon. `::` is another token.
 fn begins_one_colon(text: &str) -> bool {
     match strip_byte(text, b':') {
         Some(following) => !begins_with(following, ':'),
@@ -69,7 +75,8 @@ fn begins_one_colon(text: &str) -> bool {
     }
 }
 
-/// Whether a number is a field after the last token, where `rest` follows it and the white space and comments after it.
+/// Whether a number is a field of a tuple. `last` is the token before it, and `rest` the text after it, without white space and
+/// comments at its beginning.
 fn names_field(last: Last, rest: &str) -> bool {
     match last {
         Last::Dot => true,
@@ -78,13 +85,13 @@ fn names_field(last: Last, rest: &str) -> bool {
     }
 }
 
-/// Whether a literal may be a field.
+/// Whether the literal `token` may be a field of a tuple. `rest` is the text after it.
 fn is_field(last: Last, token: SourceToken<'_>, rest: &str) -> bool {
     matches!(token.text.as_bytes(), [b'0'..=b'9', ..]) && names_field(last, rest)
 }
 
 impl<'t> Restylables<'t> {
-    /// Those of a source, from its front.
+    /// Creates a cursor over the literals of a source, from its start.
     pub fn new(text: &'t str) -> Restylables<'t> {
         Restylables {
             tokens: Sources::new(text),
@@ -94,8 +101,8 @@ impl<'t> Restylables<'t> {
         }
     }
 
-    /// The next literal: a literal token, whether it reads or not, or one of the words `true` and `false`. `None` at the end of the
-    /// source and at its first error, which [`Restylables::error`] tells.
+    /// Returns the next literal: a literal token, valid or not, `true` or `false`. The result is `None` at the end of the
+    /// source and at its first error, which [`Restylables::error`] returns.
     pub fn next(&mut self) -> Option<Restylable<'t>> {
         let (mut last, mut end, mut calls) = (self.last, self.end, self.calls);
         while let Some(token) = self.tokens.next() {
@@ -120,8 +127,8 @@ impl<'t> Restylables<'t> {
         None
     }
 
-    /// The error that stands at what is left: a quote or a comment that isn't closed. `None` at the end of the source, and where a token
-    /// begins what is left.
+    /// Returns the error at the cursor's position: a quote or a comment that isn't closed. The result is `None` at the end of
+    /// the source, and if the next token is valid.
     pub fn error(&self) -> Option<LexError> {
         self.tokens.error()
     }

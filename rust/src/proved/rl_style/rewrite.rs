@@ -1,19 +1,19 @@
 // Rendered from crates/rl_style/src/rewrite.rt by tools/render, which erases contracts: change that file, and render anew.
-//! Any literal written anew.
+//! Rewrites a literal of any kind by a style.
 
 use crate::rl_style::cooked::write_cooked;
 use crate::rl_style::numbers::write_number;
 use crate::rl_style::raw::write_raw;
 use crate::rl_style::style::Style;
-use crate::rl_forms::Kind;
-use crate::rl_reading::Body;
-use crate::rl_reading::digit_runs::begins_digit;
-use crate::rl_reading::quoted_forms::{QuotedForm, split_opener};
-use crate::rl_reasons::read_numbers::read_number;
-use crate::rl_reasons::{Flaw, Reading, explain, read};
-use crate::rl_text::room::put_text;
+use crate::rl_lenient::Body;
+use crate::rl_lenient::digit_runs::begins_digit;
+use crate::rl_lenient::quoted_forms::{QuotedForm, split_opener};
+use crate::rl_strict::read_numbers::read_number;
+use crate::rl_strict::{Flaw, LineEnds, Reading, explain, read};
+use crate::rl_syntax::Kind;
+use crate::rl_syntax::slice_writer::put_text;
 
-/// Where the parts of a quoted literal of the kind stand, by its reading.
+/// Returns the byte offsets of the parts of a quoted literal, whose parse result is `reading`.
 fn body_of(text: &str, form: QuotedForm, kind: Kind, reading: Reading) -> Body {
     match reading {
         Reading::Text(_, body) => body,
@@ -22,7 +22,7 @@ fn body_of(text: &str, form: QuotedForm, kind: Kind, reading: Reading) -> Body {
     }
 }
 
-/// Writes the quoted literal anew that begins so and stands after this front, by its reading.
+/// Writes the new form of a quoted literal. `front` is the text before it, and `reading` its parse result.
 fn write_quoted(
     front: &str,
     text: &str,
@@ -41,7 +41,7 @@ fn write_quoted(
     }
 }
 
-/// Writes the number anew that the text is.
+/// Writes the new form of a number. Returns the number of written bytes, or the flaw if the text isn't a number.
 fn rewrite_number(text: &str, style: Style, out: &mut [u8]) -> Result<usize, Flaw> {
     match read_number(text) {
         Ok(number) => Ok(write_number(text, number, style, out)),
@@ -52,20 +52,23 @@ fn rewrite_number(text: &str, style: Style, out: &mut [u8]) -> Result<usize, Fla
     }
 }
 
-/// Writes the literal token anew in the style, to the front of `out`, and returns how many bytes it is long: at most one more than four
-/// times the text. Kind and suffix are the same, and but for [`Style::float_zero`] the contents; what the style has no rule for stays.
+/// Writes the literal token `text`, rewritten by `style`, to the start of `out`, and returns the number of written bytes. It is
+/// at most four times the length of `text`, plus one.
 ///
-/// The first text is what stands in front of the literal, of which the last character counts: after a hash or a dot no raw string loses
-/// its `r`. It is empty where nothing stands there.
+/// The literal's kind, value and suffix don't change, except that [`Style::float_zero`] adds a zero to `1.`. Each part for
+/// which the style has no rule is unchanged.
+///
+/// `front` is the text before the literal, and may be empty. Only its last character matters: after a hash or a dot, a raw
+/// string keeps its `r`.
 ///
 /// # Errors
 ///
-/// The text is no token: the flaw is that of [`explain`](crate::rl_reasons::explain).
+/// Returns the flaw of [`explain`](crate::rl_strict::explain) if `text` isn't a literal token.
 pub fn rewrite_into(front: &str, text: &str, style: Style, out: &mut [u8]) -> Result<usize, Flaw> {
     if begins_digit(text) {
         return rewrite_number(text, style, out);
     }
-    let reading = read(text)?;
+    let reading = read(text, LineEnds::Text, false)?;
     match split_opener(text) {
         Some((form, kind, _)) => Ok(write_quoted(front, text, form, kind, reading, style, out)),
         None => Ok(put_text(out, 0, text)),

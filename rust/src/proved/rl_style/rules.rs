@@ -1,11 +1,11 @@
 // Rendered from crates/rl_style/src/rules.rt by tools/render, which erases contracts: change that file, and render anew.
-//! The rules of a style, one by one.
+//! The rules of a style, each by its name.
 
 use crate::rl_style::rewrite::rewrite_into;
 use crate::rl_style::style::Style;
-use crate::rl_reasons::Flaw;
+use crate::rl_strict::Flaw;
 
-/// A rule of a style: the field of [`Style`] of this name.
+/// A rule of a style. Each variant is named after a field of [`Style`].
 #[derive(Clone, Copy, PartialEq, Eq, Debug)]
 pub enum Rule {
     HexDigits,
@@ -26,7 +26,7 @@ pub enum Rule {
     Hidden,
 }
 
-/// All rules, in the order of the fields of [`Style`].
+/// Returns all rules, in the order of the fields of [`Style`].
 pub fn all_rules() -> &'static [Rule] {
     &[
         Rule::HexDigits,
@@ -49,7 +49,7 @@ pub fn all_rules() -> &'static [Rule] {
 }
 
 impl Rule {
-    /// Its name, as the package's setters and settings have it: `drop_underscores`.
+    /// Returns the rule's name in configurations and in the package's setters, for example `drop_underscores`.
     pub fn name(self) -> &'static str {
         match self {
             Rule::HexDigits => "hex_digits",
@@ -67,13 +67,13 @@ impl Rule {
             Rule::QuoteEscapes => "drop_quote_escapes",
             Rule::RawHashes => "fewest_hashes",
             Rule::Raw => "drop_raw",
-            Rule::Hidden => "escape_hidden",
+            Rule::Hidden => "escape_invisible",
         }
     }
 }
 
 impl Style {
-    /// The style with this rule alone.
+    /// Returns a style that has only this rule of the style, and no other rule.
     pub fn only(self, rule: Rule) -> Style {
         let keep = Style::KEEP;
         match rule {
@@ -145,11 +145,12 @@ impl Style {
     }
 }
 
-/// Whether the style writes the literal token otherwise, which stands after this front: as [`rewrite_into`] does, to the front of `out`.
+/// Returns `true` if the style changes the literal token `text`. `front` is the text before the literal. [`rewrite_into`]
+/// writes the new text to the start of `out`.
 ///
 /// # Errors
 ///
-/// The text is no token: the flaw is that of [`explain`](crate::rl_reasons::explain).
+/// Returns the flaw of [`explain`](crate::rl_strict::explain) if `text` isn't a literal token.
 pub fn changes(front: &str, text: &str, style: Style, out: &mut [u8]) -> Result<bool, Flaw> {
     let len = rewrite_into(front, text, style, out)?;
     let is_same = &out[..len] == text.as_bytes();

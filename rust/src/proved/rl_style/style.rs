@@ -1,86 +1,92 @@
 // Rendered from crates/rl_style/src/style.rt by tools/render, which erases contracts: change that file, and render anew.
-//! Styles of literals.
+//! Styles: the rules by which literals are rewritten.
 
-/// Letters in lower or in upper case.
+/// The case of letters in rewritten literals.
 #[derive(Clone, Copy)]
 pub enum Case {
     Lower,
     Upper,
 }
 
-/// What stands between a number and its suffix.
+/// The separator between a number and its suffix: nothing, or an underscore.
 #[derive(Clone, Copy)]
 pub enum Separator {
     Nothing,
     Underscore,
 }
 
-/// How the digits of numbers stand in groups, with an underscore between two: by the base how many stand in one, of 0 its numbers are
-/// left alone.
+/// The sizes of the groups into which a number's digits are divided, with an underscore between two groups.
+///
+/// Each base has its size: the number of digits in a group. With size 0, the numbers of the base aren't divided into groups.
 #[derive(Clone, Copy)]
 pub struct DigitGroups {
-    /// After `0b`: of 4 in `0b1_0000`.
+    /// The group size of binary numbers (`0b`): 4 in `0b1_0000`.
     pub binary: usize,
-    /// After `0o`.
+    /// The group size of octal numbers (`0o`).
     pub octal: usize,
-    /// Of base ten, floats among them: of 3 in `1_000`.
+    /// The group size of decimal numbers, including floats: 3 in `1_000`.
     pub decimal: usize,
-    /// After `0x`.
+    /// The group size of hexadecimal numbers (`0x`).
     pub hexadecimal: usize,
-    /// How many digits a run has at least that underscores stand in: of 5 and groups of 3 none in `1000`, and one in `10_000`.
+    /// The smallest number of digits that is divided into groups. With 5 and groups of 3, `1000` has no underscore, and
+    /// `10_000` has one.
     pub least: usize,
 }
 
-/// How literals are written anew: each field is a rule by itself. With `None` and `false`, as in [`Style::KEEP`], it changes
-/// nothing.
+/// A style: the rules by which literals are rewritten. Each field is a separate rule. A rule with the value `None` or `false`,
+/// as in [`Style::KEEP`], changes nothing.
 #[derive(Clone, Copy)]
 pub struct Style {
-    /// The case of an integer's digits after `0x`.
+    /// The case of the digits of hexadecimal integers.
     pub hex_digits: Option<Case>,
-    /// Whether a number loses its underscores: `1000u8` for `1_000_u8`. One whose suffix begins with `b`, `o` or `x` keeps them:
-    /// `0_b1` without them would be of another base.
+    /// Whether underscores in numbers are dropped: `1_000_u8` becomes `1000u8`. A number whose suffix begins with `b`, `o` or
+    /// `x` keeps them, since `0_b1` without its underscore would be a binary number.
     pub underscores: bool,
-    /// Whether an integer of base ten loses the zeros in front of its digits: `7` for `007`. One whose suffix begins with `b`, `o` or
-    /// `x` keeps them.
+    /// Whether leading zeros of decimal integers are dropped: `007` becomes `7`. An integer whose suffix begins with `b`, `o`
+    /// or `x` keeps them.
     pub leading_zeros: bool,
-    /// What stands between a number and its suffix: `1u8` or `1_u8`. A number without a suffix loses the underscores at its end. With
-    /// `Nothing` one keeps them whose suffix begins with `b`, `o` or `x`.
+    /// The separator between a number and its suffix: `1u8` or `1_u8`. A number without a suffix loses the underscores at its
+    /// end. With `Nothing`, a number whose suffix begins with `b`, `o` or `x` keeps the underscores.
     pub suffix_separator: Option<Separator>,
-    /// The groups of a number's digits: from the last digit on, of a float's fraction from the first one on. An exponent's aren't
-    /// grouped. Zeros in front are dropped before, and so are underscores where the style says it: then no others are left than those
-    /// between groups. Else those at the end of a run of digits stay. A number whose suffix begins with `b`, `o` or `x` is left alone.
+    /// The sizes of a number's digit groups. Groups are counted from the last digit, and in a float's fraction from the first.
+    /// The digits of an exponent aren't divided into groups.
+    ///
+    /// Leading zeros are dropped before, if the style drops them. If it drops underscores, only those between groups remain;
+    /// otherwise underscores at the end of a sequence of digits remain too. A number whose suffix begins with `b`, `o` or `x`
+    /// is unchanged.
     pub digit_groups: Option<DigitGroups>,
-    /// Whether a float that ends with its dot gets a zero: `1.0` for `1.`. It is the same number, of which `concat!` makes another text.
+    /// Whether a float that ends with its dot gets a zero: `1.` becomes `1.0`. The number is equal, but `concat!` makes a
+    /// different text from it.
     pub float_zero: bool,
     /// The case of the letter before a float's exponent: `1e5` or `1E5`.
     pub exponent_letter: Option<Case>,
-    /// Whether a float's exponent loses its `+`: `1e5` for `1e+5`.
+    /// Whether the `+` of a float's exponent is dropped: `1e+5` becomes `1e5`.
     pub exponent_plus: bool,
-    /// The case of the digits of `\x` and `\u{..}`.
+    /// The case of the hexadecimal digits in `\x` and `\u{..}` escapes.
     pub escape_digits: Option<Case>,
-    /// Whether the digits of `\u{..}` have no underscores and no zeros in front: `\u{e9}` for `\u{00_e9}`.
+    /// Whether underscores and leading zeros in `\u{..}` escapes are dropped: `\u{00_e9}` becomes `\u{e9}`.
     pub code_digits: bool,
-    /// Whether a visible character of ASCII stands for itself where an escape by number spells it: `"A"` for `"\x41"`. The quote that
-    /// closes the literal and a backslash get a backslash before them.
+    /// Whether a numeric escape of a visible ASCII character is replaced by the character: `"\x41"` becomes `"A"`. The
+    /// literal's closing quote and a backslash get a backslash before them.
     pub ascii_escapes: bool,
-    /// Whether LF, CR, TAB and NUL are `\n`, `\r`, `\t` and `\0` where an escape by number spells them. NUL stays before what stands for
-    /// a digit: `\01` is octal in other languages.
+    /// Whether numeric escapes of LF, CR, TAB and NUL are replaced by `\n`, `\r`, `\t` and `\0`. The escape of a NUL is kept
+    /// before a digit, since `\01` is octal in other languages.
     pub named_escapes: bool,
-    /// Whether a quote that doesn't close the literal loses its backslash: `"'"` for `"\'"`.
+    /// Whether the backslash before a quote that doesn't close the literal is dropped: `"\'"` becomes `"'"`.
     pub quote_escapes: bool,
-    /// Whether a raw string has the fewest hashes that its text needs.
+    /// Whether a raw string gets the fewest hashes that its content allows.
     pub raw_hashes: bool,
-    /// Whether a raw string that holds neither a backslash nor a quote is one with escapes: `"a"` for `r"a"`. One without `b` or `c`
-    /// stays raw after a hash or a dot: `1.r"a"` are three tokens, and `1."a"` are two.
+    /// Whether a raw string that contains neither a backslash nor a double quote becomes a string with escapes: `r"a"` becomes
+    /// `"a"`. After a hash or a dot, a raw string without `b` or `c` stays raw: `1.r"a"` is three tokens, and `1."a"` is two.
     pub raw: bool,
-    /// Whether a character that turns or hides text is the escape by its number: a control character but LF and TAB, as `\x1b`, and
-    /// what turns the direction of text or has no width, as `\u{202e}`. A raw string that holds one is then one with escapes, with
-    /// the same exception.
+    /// Whether invisible and bidirectional characters are replaced by numeric escapes: a control character except LF, CR and
+    /// TAB, as `\x1b`, and a character that changes the direction of text or has no width, as `\u{202e}`. A raw string that
+    /// contains one becomes a string with escapes, with the exception of `raw`.
     pub hidden: bool,
 }
 
 impl Style {
-    /// Changes nothing.
+    /// The style in which no rule is set. It changes nothing.
     pub const KEEP: Style = Style {
         hex_digits: None,
         underscores: false,

@@ -1,28 +1,28 @@
 // Rendered from crates/rl_types/src/float_range.rt by tools/render, which erases contracts: change that file, and render anew.
-//! Decimal numbers that round to infinity.
+//! Checks whether a decimal number rounds to infinity as an `f32` or `f64`.
 
 use crate::rl_types::number_types::NumberType;
-use crate::rl_text::text::{before, split_char};
+use crate::rl_syntax::text::{before, split_char};
 
-/// An exponent from here on is past every other place of a number: no text has as many digits.
+/// A limit for exponents: an exponent of at least this value exceeds the number of digits in any text.
 const HUGE: u128 = 1 << 100;
 
-/// The digits of 2 to the 128th less 2 to the 103rd.
+/// The decimal digits of 2^128 - 2^103, the smallest number that rounds to infinity as an `f32`.
 const F32_DIGITS: &str = "340282356779733661637539395458142568448";
 
-/// The digits of 2 to the 1024th less 2 to the 970th.
+/// The decimal digits of 2^1024 - 2^970, the smallest number that rounds to infinity as an `f64`.
 const F64_DIGITS: &str =
     "1797693134862315807937289714053034150799341327100378269361737789804449682927647509466\
      4901797758720709633028641669288791094655554785194040263065748867150582068190890200070\
      8383676273854845817711531764475730270069855571366959622842914819860834936475292719074\
      168444365510704342711559699508093042880177904174497792";
 
-/// Whether the character begins an exponent.
+/// Whether the character begins an exponent: `e` or `E`.
 fn is_exponent_letter(c: char) -> bool {
     matches!(c, 'e' | 'E')
 }
 
-/// What stands before the letter of the exponent, and after it.
+/// Splits a number's text at the letter of its exponent, and returns the text before the letter and the text after it.
 fn split_letter(numeral: &str) -> (&str, &str) {
     let mut rest = numeral;
     while let Some((c, after)) = split_char(rest) {
@@ -34,7 +34,7 @@ fn split_letter(numeral: &str) -> (&str, &str) {
     (numeral, rest)
 }
 
-/// What stands after the dot.
+/// Returns the text after its first dot, or an empty text if it has no dot.
 fn after_point(text: &str) -> &str {
     let mut rest = text;
     while let Some((c, after)) = split_char(rest) {
@@ -46,7 +46,7 @@ fn after_point(text: &str) -> &str {
     rest
 }
 
-/// Whether there is a minus.
+/// Whether the text contains a minus.
 fn has_minus(text: &str) -> bool {
     let mut rest = text;
     while let Some((c, after)) = split_char(rest) {
@@ -58,7 +58,7 @@ fn has_minus(text: &str) -> bool {
     false
 }
 
-/// The first digit, and what stands after it.
+/// Returns the first ASCII digit in the text, and the text after this digit.
 fn split_digit(text: &str) -> Option<(char, &str)> {
     let mut rest = text;
     while let Some((c, after)) = split_char(rest) {
@@ -70,7 +70,7 @@ fn split_digit(text: &str) -> Option<(char, &str)> {
     None
 }
 
-/// The text from the first digit on that isn't zero.
+/// Returns the text from its first nonzero digit on. Characters that aren't digits are skipped too.
 fn skip_zeros(text: &str) -> &str {
     let mut rest = text;
     while let Some(('0', after)) = split_digit(rest) {
@@ -79,7 +79,7 @@ fn skip_zeros(text: &str) -> &str {
     rest
 }
 
-/// How many digits there are.
+/// Returns the number of ASCII digits in the text.
 fn count_digits(text: &str) -> usize {
     let mut count = 0;
     let mut rest = text;
@@ -90,7 +90,8 @@ fn count_digits(text: &str) -> usize {
     count
 }
 
-/// What the digits spell, exactly below `HUGE`.
+/// Returns the number that the decimal digits in the text represent. The number is exact if it is below `HUGE`; otherwise the
+/// result is at least `HUGE`.
 fn capped_value(text: &str) -> u128 {
     let mut value = 0;
     let mut rest = text;
@@ -103,7 +104,7 @@ fn capped_value(text: &str) -> u128 {
     value
 }
 
-/// The first digit, and what stands after it; a zero where there is none.
+/// Returns the first ASCII digit in the text and the text after it, or `'0'` and an empty text if there is no digit.
 fn digit_or_zero(text: &str) -> (char, &str) {
     match split_digit(text) {
         Some(parts) => parts,
@@ -111,7 +112,8 @@ fn digit_or_zero(text: &str) -> (char, &str) {
     }
 }
 
-/// Whether the digits aren't below those of the bound, where the first ones have the same power of ten.
+/// Whether the number with the digits `digits` is at least the one with the digits `bound`, where the first digit of each has
+/// the same power of ten.
 fn is_not_below(digits: &str, bound: &str) -> bool {
     let mut left = digits;
     let mut rest = bound;
@@ -126,12 +128,12 @@ fn is_not_below(digits: &str, bound: &str) -> bool {
     true
 }
 
-/// The value, or zero.
+/// Returns `value` if `condition` is true, and 0 otherwise.
 fn value_if(condition: bool, value: u128) -> u128 {
     if condition { value } else { 0 }
 }
 
-/// Whether a number is at least the one that the digits of the bound spell.
+/// Whether the decimal number `numeral` is at least the integer that the digits `bound` represent.
 fn reaches(bound: &str, numeral: &str) -> bool {
     let (significand, exponent) = split_letter(numeral);
     let digits = skip_zeros(significand);
@@ -153,7 +155,7 @@ fn reaches(bound: &str, numeral: &str) -> bool {
     is_not_below(digits, bound)
 }
 
-/// Whether the number rounds to infinity in the type; none does in a type of integers.
+/// Whether the decimal number `numeral` rounds to infinity as the type `ty`. In an integer type the result is `false`.
 pub(crate) fn is_infinite(ty: NumberType, numeral: &str) -> bool {
     match ty {
         NumberType::F32 => reaches(F32_DIGITS, numeral),

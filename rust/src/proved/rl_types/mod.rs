@@ -1,5 +1,5 @@
 // Rendered from crates/rl_types/src/lib.rt by tools/render, which erases contracts: change that file, and render anew.
-//! What Rust allows of a literal: which suffix it may have, which value, and what may stand right before it. No memory is taken.
+//! Rust's rules for a literal beyond its grammar: its suffix, its range, and the text directly before it. Nothing is allocated.
 
 #[cfg(feature = "rendered")]
 mod before;
@@ -9,5 +9,5 @@ mod type_errors;
 
 #[cfg(feature = "rendered")]
 pub use crate::rl_types::before::{Edition, may_be_negated, reserved_from};
-pub use crate::rl_types::number_types::{NumberType, greatest, type_named};
+pub use crate::rl_types::number_types::{NumberType, max_integer, type_named};
 pub use crate::rl_types::type_errors::{TypeError, type_error};

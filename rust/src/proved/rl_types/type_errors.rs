@@ -1,40 +1,40 @@
 // Rendered from crates/rl_types/src/type_errors.rt by tools/render, which erases contracts: change that file, and render anew.
-//! What Rust's types don't allow of a literal.
+//! Checks whether Rust has a type for a literal: its suffix, and its range.
 
 use crate::rl_types::float_range::is_infinite;
-use crate::rl_types::number_types::{NumberType, greatest, type_named};
-use crate::rl_forms::Kind;
-use crate::rl_reading::Found;
-use crate::rl_text::text::{before, begins};
+use crate::rl_types::number_types::{NumberType, max_integer, type_named};
+use crate::rl_lenient::Found;
+use crate::rl_syntax::Kind;
+use crate::rl_syntax::text::{before, begins};
 
-/// Why no type of Rust has a literal.
+/// The reason why Rust has no type for a literal.
 #[derive(Clone, Copy, PartialEq, Eq, Debug)]
 pub enum TypeError {
-    /// A string, a character or a byte has a suffix.
+    /// A string, a character or a byte has a suffix. Rust allows suffixes only for numbers.
     QuotedSuffix,
-    /// The suffix of a number names no type of numbers.
+    /// The suffix of a number isn't the name of a number type.
     UnknownSuffix,
-    /// The suffix of a float names a type of integers.
+    /// The suffix of a float is the name of an integer type.
     FloatSuffix,
-    /// The suffix of a binary, octal or hexadecimal integer is that of a float.
+    /// A binary, octal or hexadecimal integer has a suffix that begins with `f`, as a float's suffix does.
     BasedFloat,
     /// The integer is out of its type's range, or the float rounds to infinity.
     OutOfRange,
 }
 
 impl TypeError {
-    /// What is wrong, in words.
-    pub fn words(self) -> &'static str {
+    /// Returns the error message, for example `unknown suffix`.
+    pub fn message(self) -> &'static str {
         match self {
             TypeError::QuotedSuffix => "only numbers have suffixes",
             TypeError::UnknownSuffix => "unknown suffix",
             TypeError::FloatSuffix => "a float's suffix is f32 or f64",
-            TypeError::BasedFloat => "floats have base ten alone",
+            TypeError::BasedFloat => "a float must be decimal",
             TypeError::OutOfRange => "out of its type's range",
         }
     }
 
-    /// What is wrong, by a name that stays, for programs.
+    /// Returns the identifier of the error, for example `unknown-suffix`. It never changes.
     pub fn id(self) -> &'static str {
         match self {
             TypeError::QuotedSuffix => "quoted-suffix",
@@ -46,20 +46,20 @@ impl TypeError {
     }
 }
 
-/// Whether the text begins with the prefix of a base.
+/// Whether the number's text begins with the prefix of a base: `0b`, `0o` or `0x`.
 fn is_of_base(text: &str) -> bool {
     begins(text, "0b") || begins(text, "0o") || begins(text, "0x")
 }
 
-/// Whether the suffix begins as that of a float.
+/// Whether the suffix begins with `f`, as a float's suffix does.
 fn begins_float(suffix: &str) -> bool {
     matches!(suffix.as_bytes(), [b'f', ..])
 }
 
-/// 2 to the 128th less 2 to the 103rd.
+/// The number 2^128 - 2^103, the smallest that rounds to infinity as an `f32`.
 const F32_INFINITE: u128 = 0xFFFF_FF80_0000_0000_0000_0000_0000_0000;
 
-/// Why an integer has not this type of floats.
+/// Returns the error of a decimal integer whose suffix is the float type `ty` and that rounds to infinity in this type.
 fn infinite_error(ty: NumberType, magnitude: u128, negated: bool) -> Option<TypeError> {
     match ty {
         NumberType::F32 => {
@@ -72,16 +72,16 @@ fn infinite_error(ty: NumberType, magnitude: u128, negated: bool) -> Option<Type
     }
 }
 
-/// Why an integer has not this type.
+/// Returns the error of an integer that the number type `ty` can't represent.
 fn range_error(ty: NumberType, magnitude: u128, negated: bool) -> Option<TypeError> {
-    match greatest(ty, negated) {
+    match max_integer(ty, negated) {
         Some(most) if magnitude > most => Some(TypeError::OutOfRange),
         Some(_) => None,
         None => infinite_error(ty, magnitude, negated),
     }
 }
 
-/// Why no type has an integer with this suffix.
+/// Returns the error of an integer with the suffix `suffix` that Rust has no type for.
 fn integer_error(text: &str, suffix: &str, magnitude: u128, negated: bool) -> Option<TypeError> {
     if is_of_base(text) && begins_float(suffix) {
         return Some(TypeError::BasedFloat);
@@ -92,7 +92,7 @@ fn integer_error(text: &str, suffix: &str, magnitude: u128, negated: bool) -> Op
     }
 }
 
-/// The type of a float with the suffix; `None` where it names none.
+/// Returns the type of a float with the suffix `suffix`: `f64` without a suffix, or `None` if the suffix is unknown.
 fn type_of_float(suffix: &str) -> Option<NumberType> {
     if suffix.is_empty() {
         return Some(NumberType::F64);
@@ -100,7 +100,7 @@ fn type_of_float(suffix: &str) -> Option<NumberType> {
     type_named(suffix)
 }
 
-/// Why a float with this numeral has not this type of floats.
+/// Returns the error of a float that rounds to infinity as the float type `ty`. `numeral` is its text without the suffix.
 fn decimal_error(
     ty: NumberType,
     text: &str,
@@ -114,23 +114,25 @@ fn decimal_error(
     None
 }
 
-/// Why no type has a float with this numeral and this suffix.
+/// Returns the error of a float that Rust has no type for. `numeral` is its text without the suffix.
 fn float_error(text: &str, numeral: &str, suffix: &str, negated: bool) -> Option<TypeError> {
     let Some(ty) = type_of_float(suffix) else {
         return Some(TypeError::UnknownSuffix);
     };
-    match greatest(ty, negated) {
+    match max_integer(ty, negated) {
         Some(_) => Some(TypeError::FloatSuffix),
         None => decimal_error(ty, text, numeral, suffix, negated),
     }
 }
 
-/// Why Rust has no type for a literal that reads: its suffix names none, or it is out of that type's range. `None` where there is
-/// one, as for an integer without a suffix: then Rust infers it. A float is out of range where its number rounds to infinity, without
-/// a suffix that of `f64`.
+/// Returns the reason why Rust has no type for a literal, or `None` if it has one.
 ///
-/// `found` is the literal's reading; `negated` says whether a minus may stand before it, which makes `128i8` a value of its type.
-/// No memory is taken.
+/// The reason is a suffix that isn't the name of a fitting type, or a number that is out of its type's range. An integer
+/// without a suffix has no error: Rust infers its type. A float is out of range if it rounds to infinity in its type, which is
+/// `f64` without a suffix.
+///
+/// `text` is the text of the literal, and `found` its parse result. If a minus may precede the literal, `negated` is true; then
+/// `128i8` is in range. Nothing is allocated.
 pub fn type_error(text: &str, found: &Found, negated: bool) -> Option<TypeError> {
     let suffix = found.suffix_in(text);
     if matches!(found.kind, Kind::Float) {

@@ -1,14 +1,14 @@
 // Rendered from crates/rl_writing/src/ascii.rt by tools/render, which erases contracts: change that file, and render anew.
-//! How strings and characters are written in ASCII alone.
+//! Functions that write string and character literals in ASCII, with `\u{..}` for each non-ASCII character.
 
 use crate::rl_writing::numerals::{put_grouped, put_reversed};
-use crate::rl_forms::Kind;
-use crate::rl_forms::written_unit::escape;
-use crate::rl_text::room::{put, put_byte, put_text};
-use crate::rl_text::text::split_char;
+use crate::rl_syntax::Kind;
+use crate::rl_syntax::slice_writer::{put, put_byte, put_text};
+use crate::rl_syntax::text::split_char;
+use crate::rl_syntax::written_unit::escape;
 
-/// Puts `\u{..}` after the first `at` bytes of the slice, with the number of the character in base 16, in lower case, and
-/// returns where it ends.
+/// Writes the escape `\u{..}` of the character `c` after the first `at` bytes of the slice `out`, and returns the
+/// offset after the escape. The character's number is in base 16, in lower case.
 pub fn put_unicode(out: &mut [u8], at: usize, c: char) -> usize {
     let mut room = [0; 21];
     let count = put_reversed(u128::from(c), 16, false, &mut room);
@@ -17,8 +17,8 @@ pub fn put_unicode(out: &mut [u8], at: usize, c: char) -> usize {
     put_byte(out, at, b'}')
 }
 
-/// Puts a character after the first `at` bytes of the slice, as it stands in a literal of the kind in ASCII, and returns
-/// where it ends.
+/// Writes the character `c` in ASCII, as in a literal of the kind, after the first `at` bytes of the slice `out`.
+/// Returns the offset after the written bytes.
 fn put_ascii(out: &mut [u8], at: usize, kind: Kind, c: char) -> usize {
     if c >= '\u{80}' {
         return put_unicode(out, at, c);
@@ -29,8 +29,10 @@ fn put_ascii(out: &mut [u8], at: usize, kind: Kind, c: char) -> usize {
     }
 }
 
-/// Writes the string literal that stands for the text, in ASCII alone: as `write_str_into` of `rl_forms`, but that each
-/// character past ASCII is `\u{..}`. Returns how many bytes it is long: at most four for each byte of the text, and two.
+/// Writes an ASCII string literal whose value is `value` to the start of `out`, and returns its length in bytes.
+///
+/// The literal is that of `write_str_into` of `rl_syntax`, except that each non-ASCII character is written as `\u{..}`.
+/// It is at most four bytes long for each byte of `value`, plus two. `out` must have room for this length.
 pub fn write_str_ascii_into(value: &str, out: &mut [u8]) -> usize {
     let mut at = put_text(out, 0, Kind::Str.opener());
     let mut rest = value;
@@ -41,8 +43,8 @@ pub fn write_str_ascii_into(value: &str, out: &mut [u8]) -> usize {
     put_byte(out, at, b'"')
 }
 
-/// Writes the character literal that stands for the character, in ASCII alone. Returns how many bytes it is long: at most
-/// twelve.
+/// Writes an ASCII character literal whose value is `value` to the start of `out`, and returns its length in bytes, at
+/// most twelve. `out` must have room for twelve.
 pub fn write_char_ascii_into(value: char, out: &mut [u8]) -> usize {
     let at = put_text(out, 0, Kind::Char.opener());
     let at = put_ascii(out, at, Kind::Char, value);

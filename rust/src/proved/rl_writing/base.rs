@@ -1,21 +1,21 @@
 // Rendered from crates/rl_writing/src/base.rt by tools/render, which erases contracts: change that file, and render anew.
-//! The bases that integers are written in.
+//! The bases in which integers can be written.
 
-/// The base of an integer's digits.
+/// The base of an integer literal's digits.
 #[derive(Clone, Copy)]
 pub enum Base {
-    /// Base two: `0b1`.
+    /// Base two, as in `0b1`.
     Binary,
-    /// Base eight: `0o7`.
+    /// Base eight, as in `0o7`.
     Octal,
-    /// Base ten: `9`.
+    /// Base ten, as in `9`.
     Decimal,
-    /// Base sixteen: `0xf`.
+    /// Base sixteen, as in `0xf`.
     Hexadecimal,
 }
 
 impl Base {
-    /// The base as a number: 2, 8, 10 or 16.
+    /// Returns the base as a number: 2, 8, 10 or 16.
     pub fn radix(self) -> u8 {
         match self {
             Base::Binary => 2,
@@ -25,7 +25,7 @@ impl Base {
         }
     }
 
-    /// What stands before the digits: `0b`, `0o`, `0x`, or nothing.
+    /// Returns the prefix of an integer literal in the base: `0b`, `0o`, `0x`, or an empty string for base ten.
     pub fn prefix(self) -> &'static str {
         match self {
             Base::Binary => "0b",

@@ -1,25 +1,27 @@
 // Rendered from crates/rl_writing/src/integers.rt by tools/render, which erases contracts: change that file, and render anew.
-//! How integers are written.
+//! A function that writes an integer literal, and the style in which it writes.
 
 use crate::rl_writing::base::Base;
-use crate::rl_writing::integer_type::IntegerType;
-use crate::rl_writing::numerals::{put_grouped, put_reversed};
-use crate::rl_text::room::put_text;
+use crate::rl_writing::numerals::{group_size_for, put_grouped, put_reversed};
+use crate::rl_syntax::IntegerType;
+use crate::rl_syntax::slice_writer::put_text;
 
-/// How an integer is written.
+/// The style of a written integer literal: its base, the case of its letters, and its underscores.
 #[derive(Clone, Copy)]
 pub struct IntegerStyle {
-    /// The base of its digits, which tells what stands before them.
+    /// The base of the digits, which also determines the literal's prefix, as `0x`.
     pub base: Base,
-    /// Whether the letters among its digits are in upper case: `0xFF`, and not `0xff`.
+    /// `true` for upper-case letters as digits, as in `0xFF`, and `false` for lower-case ones, as in `0xff`.
     pub upper: bool,
-    /// How many digits stand between two underscores, counted from the last digit: of 3 in `1_000`. Of 0 is no underscore.
+    /// The number of digits between two underscores, counted from the last digit. With 3, one thousand is `1_000`. With
+    /// 0, no underscores are written.
     pub group: usize,
-    /// How many digits a number has at least that underscores stand in: of 5 and groups of 3 none in `1000`, and one in `10_000`.
+    /// The fewest digits that get underscores. With 5 here and groups of 3, `1000` has no underscore, and `10_000` has
+    /// one.
     pub least: usize,
 }
 
-/// The suffix that names the type, or none.
+/// Returns the name of the integer type as a suffix, or an empty string for `None`.
 fn suffix_of(suffix: Option<IntegerType>) -> &'static str {
     match suffix {
         Some(name) => name.name(),
@@ -27,13 +29,10 @@ fn suffix_of(suffix: Option<IntegerType>) -> &'static str {
     }
 }
 
-/// The size of the groups that so many digits stand in; 0 of no group.
-fn group_size(style: IntegerStyle, count: usize) -> usize {
-    if count < style.least { 0 } else { style.group }
-}
-
-/// Writes the integer literal of the value, in the style and with the suffix (the Rust Reference, section Integer literals). Returns
-/// how many bytes it is long: at most 262. A literal has no sign.
+/// Writes the integer literal of `value` to the start of `out`, in the style and with the suffix, and returns its
+/// length in bytes, at most 262. `out` must have room for 262.
+///
+/// The literal has no sign. Its grammar is that of the Rust Reference, section Integer literals.
 pub fn write_integer_into(
     value: u128,
     style: IntegerStyle,
@@ -43,6 +42,7 @@ pub fn write_integer_into(
     let mut room = [0; 128];
     let count = put_reversed(value, style.base.radix(), style.upper, &mut room);
     let at = put_text(out, 0, style.base.prefix());
-    let at = put_grouped(out, at, &room[..count], group_size(style, count));
+    let size = group_size_for(style.group, style.least, count);
+    let at = put_grouped(out, at, &room[..count], size);
     put_text(out, at, suffix_of(suffix))
 }

@@ -1,18 +1,20 @@
 // Rendered from crates/rl_writing/src/lib.rt by tools/render, which erases contracts: change that file, and render anew.
-//! Writers of literals beside those of `rl_forms`: integers in a style, raw strings, strings and characters in ASCII alone; and which
-//! characters turn or hide text. What is written is a token of the strict grammar and reads as the value. No memory is taken.
+//! Functions that write literals in other forms than those of `rl_syntax`: integers in a style, raw strings, and
+//! strings and characters in ASCII. Other functions test for invisible and bidirectional characters.
+//!
+//! Each written text is a single literal token, and its parsed value is the value that was written. Nothing is
+//! allocated.
 
 mod ascii;
 mod base;
 mod hiding;
-mod integer_type;
 mod integers;
 mod numerals;
 mod raw_strings;
 
 pub use crate::rl_writing::ascii::{put_unicode, write_char_ascii_into, write_str_ascii_into};
 pub use crate::rl_writing::base::Base;
-pub use crate::rl_writing::hiding::{is_hiding, needs_escape};
-pub use crate::rl_writing::integer_type::IntegerType;
+pub use crate::rl_writing::hiding::{is_invisible_or_bidi, needs_escape};
 pub use crate::rl_writing::integers::{IntegerStyle, write_integer_into};
+pub use crate::rl_writing::numerals::{ends_group, group_size_for};
 pub use crate::rl_writing::raw_strings::{raw_form, raw_hashes, write_raw_into};

@@ -1,9 +1,9 @@
 // Rendered from crates/rl_writing/src/numerals.rt by tools/render, which erases contracts: change that file, and render anew.
-//! Digits of numbers.
+//! Functions that write the digits of a number in a base, with or without underscores.
 
-use crate::rl_text::room::put_byte;
+use crate::rl_syntax::slice_writer::put_byte;
 
-/// A digit; in upper case, where it is a letter and that is wanted.
+/// Returns the digit of the value `value` as an ASCII byte. A letter is in upper case if `upper` is `true`.
 fn digit(value: u8, upper: bool) -> u8 {
     if value < 10 {
         b'0' + value
@@ -14,7 +14,8 @@ fn digit(value: u8, upper: bool) -> u8 {
     }
 }
 
-/// The quotient and the rest. Numbers of 64 bits are divided as such, which takes a fraction of the time.
+/// Returns the quotient and the remainder of `number / by`. A number of 64 bits is divided as a `u64`, which takes a
+/// fraction of the time.
 fn divided(number: u128, by: u8) -> (u128, u8) {
     match u64::try_from(number) {
         Ok(short) => {
@@ -28,8 +29,8 @@ fn divided(number: u128, by: u8) -> (u128, u8) {
     }
 }
 
-/// Puts the digits of the number at the front of the room, the last of them first, and returns how many they are. The room has
-/// a byte for each bit of the number at least.
+/// Writes the digits of `value` in the base `radix` to the start of `room`, the last digit first, and returns their
+/// number. The value must fit as many bits as `room` has bytes.
 pub fn put_reversed(value: u128, radix: u8, upper: bool, room: &mut [u8]) -> usize {
     let mut left = value;
     let mut count = 0;
@@ -43,13 +44,21 @@ pub fn put_reversed(value: u128, radix: u8, upper: bool, room: &mut [u8]) -> usi
     }
 }
 
-/// Whether an underscore follows a digit that so many are left after.
-fn ends_group(group: usize, left: usize) -> bool {
-    group > 0 && left > 0 && left % group == 0
+/// Returns the size of the groups in which `count` digits are written: 0, which means no groups, if `count` is below
+/// `least`, and otherwise `group`.
+pub fn group_size_for(group: usize, least: usize, count: usize) -> usize {
+    if count < least { 0 } else { group }
 }
 
-/// Puts digits after the first `at` bytes of the slice, in groups of this size with an underscore between two, and returns
-/// where they end. They stand in `digits` the last of them first. Of size 0 is no group.
+/// Returns `true` if an underscore is written at a distance of `digits` digits from the end at which groups of `group`
+/// digits begin. If `digits` or `group` is 0, the result is `false`.
+pub fn ends_group(group: usize, digits: usize) -> bool {
+    group > 0 && digits > 0 && digits % group == 0
+}
+
+/// Writes digits after the first `at` bytes of the slice `out`, with an underscore between groups of `group` digits,
+/// and returns the offset after the written bytes. `digits` contains the last digit first. With `group` 0, no
+/// underscores are written.
 pub fn put_grouped(out: &mut [u8], at: usize, digits: &[u8], group: usize) -> usize {
     let mut end = at;
     let mut left = digits.len();

@@ -1,9 +1,9 @@
-use Rattle.rl_text.proofs.Common.{Bool, IsUtf8, List, [], ap, arith, both_ways, chars, chars-nil, encodes-chars, eqb, eqb-true, false, length, not, sym, true, ℕ, ◌∙◌, ◌∷◌, ◌≡◌, ◌≢◌}
+use Rattle.rl_syntax.proofs.Common.{Bool, IsUtf8, List, [], ap, arith, both_ways, chars, chars-nil, encodes-chars, eqb, eqb-true, false, length, not, sym, true, ℕ, ◌∙◌, ◌∷◌, ◌≡◌, ◌≢◌}
 use Rattle.std.proofs.Common.{MatchBool}
 use Rattle.std.specs.Prelude.{encode_utf8_all}
 use Rattle.rl_attributes.proofs.settings.is_some.Goals as goal
 
--- no bytes, no characters
+-- A text has no characters exactly if it has no bytes.
 some : (b : Bool) (s : List ℕ) → IsUtf8 s → eqb (length s) 0 ≡ b → MatchBool (not b) (chars s ≢ []) (chars s ≡ [])
 some true [] u e = chars-nil
 some true (c ∷ cs) u e = absurd (let z = eqb-true (length (c ∷ cs)) 0 e in omega arith)

@@ -1,4 +1,4 @@
-use Rattle.rl_text.proofs.Common.{chars, string_bytes}
+use Rattle.rl_syntax.proofs.Common.{chars, string_bytes}
 use Rattle.rl_commands.proofs.EntryLineLemmas.{shows_attributes}
 use Rattle.rl_commands.proofs.attribute_lines.attribute_lines.Goals as goal
 

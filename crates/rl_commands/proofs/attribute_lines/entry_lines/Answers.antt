@@ -1,6 +1,6 @@
-use Rattle.rl_text.proofs.Common.{[], ap, arith, chars, chars-nil, common_steps, string_bytes, subst, sym, take, ◌++◌, ◌+◌, ◌∙◌, ◌∷◌, ◌≡◌}
+use Rattle.rl_syntax.proofs.Common.{[], ap, arith, chars, chars-nil, common_steps, string_bytes, subst, sym, take, ◌++◌, ◌+◌, ◌∙◌, ◌∷◌, ◌≡◌}
 use Rattle.rl_commands.specs.EntryLines.{IsLineOfEntry, AreLinesOfEntries}
-use Rattle.rl_lines.proofs.JoinLemmas.{joins_more}
+use Rattle.rl_program.proofs.JoinLemmas.{joins_more}
 use Rattle.rl_commands.proofs.attribute_lines.entry_lines.Goals as goal
 
 pub loop-entry-init : goal.loop-entry-init

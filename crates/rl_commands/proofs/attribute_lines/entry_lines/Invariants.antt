@@ -1,4 +1,4 @@
-use Rattle.rl_text.proofs.Common.{chars, string_bytes, take}
+use Rattle.rl_syntax.proofs.Common.{chars, string_bytes, take}
 use Rattle.rl_commands.specs.EntryLines.{AreLinesOfEntries}
 use Rattle.rl_commands.proofs.attribute_lines.entry_lines.Given as goal
 

@@ -1,6 +1,6 @@
-use Rattle.rl_text.proofs.Common.{IsUtf8-string_bytes}
+use Rattle.rl_syntax.proofs.Common.{IsUtf8-string_bytes}
 use Rattle.std.proofs.lemmas.Result.{IfOk-weaker}
-use Rattle.rl_lines.proofs.LineLemmas.{pushed}
+use Rattle.rl_program.proofs.LineLemmas.{pushed}
 use Rattle.rl_commands.proofs.EntryLineLemmas.{entry_pushed}
 use Rattle.rl_commands.proofs.attribute_lines.push_entry.Goals as goal
 

@@ -1,6 +1,6 @@
-use Rattle.rl_text.proofs.Common.{[], ap, chars, chars-nil, string_bytes, ◌∙◌, ◌≡◌}
+use Rattle.rl_syntax.proofs.Common.{[], ap, chars, chars-nil, string_bytes, ◌∙◌, ◌≡◌}
 use Rattle.rl_commands.specs.LitLines.{IsLineOfLit}
-use Rattle.rl_lines.proofs.JoinLemmas.{appends_to_none}
+use Rattle.rl_program.proofs.JoinLemmas.{appends_to_none}
 use Rattle.rl_commands.proofs.lit_line.line_of.Goals as goal
 
 pub returns : goal.returns

@@ -1,8 +1,8 @@
-use Rattle.rl_text.proofs.Common.{[], ap, chars, on_ok_weaker, refl, ◌∙◌, ◌≡◌}
-use Rattle.rl_forms.specs.declared.kind.Kind.TheVariants.{Int, Bool}
-use Rattle.rl_forms.specs.Reading.{Digits, Truth, truth_text}
-use Rattle.rl_lines.specs.Lines.{literal_line}
-use Rattle.rl_lines.proofs.PrintLemmas.{prints_kind, truth_chars, no_chars, appends_is}
+use Rattle.rl_syntax.proofs.Common.{[], ap, chars, on_ok_weaker, refl, ◌∙◌, ◌≡◌}
+use Rattle.rl_syntax.specs.declared.kind.Kind.TheVariants.{Int, Bool}
+use Rattle.rl_syntax.specs.Reading.{Digits, Truth, truth_text}
+use Rattle.rl_program.specs.Lines.{literal_line}
+use Rattle.rl_program.proofs.PrintLemmas.{prints_kind, truth_chars, no_chars, appends_is}
 use Rattle.rl_commands.proofs.LitLineLemmas.{prints_float}
 use Rattle.rl_commands.proofs.lit_line.push_literal.Goals as goal
 

@@ -1,7 +1,7 @@
-use Rattle.rl_text.proofs.Common.{chars, on_ok_weaker, subst}
-use Rattle.rl_reading.proofs.Names.{Kind, ReadsAs}
-use Rattle.rl_reading.proofs.FoundLemmas.{found_reads}
-use Rattle.rl_lines.specs.Lines.{IsLineOf}
+use Rattle.rl_syntax.proofs.Common.{chars, on_ok_weaker, subst}
+use Rattle.rl_lenient.proofs.Names.{Kind, ReadsAs}
+use Rattle.rl_lenient.proofs.FoundLemmas.{found_reads}
+use Rattle.rl_program.specs.Lines.{IsLineOf}
 use Rattle.rl_commands.proofs.LitLineLemmas.{kind_lined}
 use Rattle.rl_commands.proofs.lit_line.push_quoted_literal.Goals as goal
 

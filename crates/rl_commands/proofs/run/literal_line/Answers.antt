@@ -1,4 +1,4 @@
-use Rattle.rl_text.proofs.Common.{ap, chars, string_bytes}
+use Rattle.rl_syntax.proofs.Common.{ap, chars, string_bytes}
 use Rattle.rl_commands.proofs.LitLineLemmas.{line_of_text}
 use Rattle.rl_commands.proofs.run.literal_line.Goals as goal
 

@@ -1,4 +1,4 @@
-use Rattle.rl_text.proofs.Common.{IfErr-weaker, IsUtf8-string_bytes, on_ok_weaker, string_bytes}
+use Rattle.rl_syntax.proofs.Common.{IfErr-weaker, IsUtf8-string_bytes, on_ok_weaker, string_bytes}
 use Rattle.rl_commands.proofs.RunLemmas.{rejection_error, prints_known, begins_known}
 use Rattle.rl_commands.proofs.run.run.Goals as goal
 

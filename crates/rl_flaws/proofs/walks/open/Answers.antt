@@ -1,25 +1,39 @@
-use Rattle.rl_text.proofs.Common.{◌++◌, ◌∙◌, ap, sym}
+use Rattle.rl_syntax.proofs.Common.{◌≡◌, ◌++◌, ◌∙◌, ap, refl, subst, sym, true}
 use Rattle.std.specs.Str.{chars}
-use Rattle.rl_reading.specs.Forms.{form_opener, has_form}
-use Rattle.rl_reading.proofs.FormLemmas.{front_sound}
-use Rattle.rl_flaws.proofs.WalkLemmas.{none_opens}
+use Rattle.rl_lenient.specs.Forms.{form_opener, has_form}
+use Rattle.rl_lenient.specs.Mirrors.OpenerAt.{found_opener}
+use Rattle.rl_lenient.proofs.FormLemmas.{front_sound}
+use Rattle.rl_flaws.specs.Opened.{HasForm, front_of}
+use Rattle.rl_flaws.proofs.WalkLemmas.{none_opens, plain_form, plain_front, raw_front, raw_none_opens}
 use Rattle.rl_flaws.proofs.walks.open.Goals as goal
+
+pub open_raw-requires : goal.open_raw-requires
+open_raw-requires c = subst (λ f. has_form f c.in-Some.kind ≡ true) c.in-Raw.is
+    (front_sound _ _ (sym c.in-Some.ensures)).has
+
+pub returns-in-Ok-clause-some : goal.returns-in-Ok-clause-some
+returns-in-Ok-clause-some c =
+    let has = subst (λ f. has_form f c.in-Some.kind ≡ true) c.in-Raw.is (front_sound _ _ (sym c.in-Some.ensures)).has in
+    subst (λ f. HasForm f c.in-Some.kind (chars c.in-Ok.hashes.now)) (sym c.in-Raw.is) (has, c.in-Ok.ensures.hashes)
+
+pub returns-in-Ok-clause-cut : goal.returns-in-Ok-clause-cut
+returns-in-Ok-clause-cut c =
+    let told = ap (λ f. form_opener f c.in-Some.kind ++ chars c.in-Some.inside.now) c.in-Raw.is in
+    raw_front _ _ _ _ _ _ ((front_sound _ _ (sym c.in-Some.ensures)).text_is ∙ told) c.in-Ok.ensures.opened refl
+    ∙ sym (ap (λ f. front_of f c.in-Some.kind (chars c.in-Ok.hashes.now) ++ chars c.in-Ok.rest.now) c.in-Raw.is)
+
+pub returns-in-Err-clause-none : goal.returns-in-Err-clause-none
+returns-in-Err-clause-none c = raw_none_opens _ _ c.in-Some.kind
+    (sym c.in-Some.ensures ∙ ap (λ f. found_opener f c.in-Some.kind (chars c.in-Some.inside.now)) c.in-Raw.is)
+    c.in-Err.ensures.unopened
+
+pub returns-in_default-clause-some : goal.returns-in_default-clause-some
+returns-in_default-clause-some c = plain_form c.in-Some.form _ _ c.in_default.not-Raw
+    (front_sound _ _ (sym c.in-Some.ensures)).has
+
+pub returns-in_default-clause-cut : goal.returns-in_default-clause-cut
+returns-in_default-clause-cut c = (front_sound _ _ (sym c.in-Some.ensures)).text_is
+    ∙ ap (λ z. z ++ chars c.in-Some.inside.now) (plain_front c.in-Some.form c.in-Some.kind _ c.in_default.not-Raw)
 
 pub returns-in-None-clause-none : goal.returns-in-None-clause-none
 returns-in-None-clause-none c = none_opens _ (sym c.in-None.ensures)
-
-pub returns-in-Some-Cooked-default-default-clause-some : goal.returns-in-Some-Cooked-default-default-clause-some
-returns-in-Some-Cooked-default-default-clause-some c = sym (ap (λ f. has_form f c.in-Some-Cooked-default-default.kind) c.in-Some-Cooked-default-default.field-0-0-is)
-    ∙ (front_sound _ _ (sym c.in-Some-Cooked-default-default.ensures)).has
-
-pub returns-in-Some-Cooked-default-default-clause-cut : goal.returns-in-Some-Cooked-default-default-clause-cut
-returns-in-Some-Cooked-default-default-clause-cut c = (front_sound _ _ (sym c.in-Some-Cooked-default-default.ensures)).text_is
-    ∙ ap (λ f. form_opener f c.in-Some-Cooked-default-default.kind ++ chars c.in-Some-Cooked-default-default.inside.now) c.in-Some-Cooked-default-default.field-0-0-is
-
-pub returns-in-Some-Single-default-default-clause-some : goal.returns-in-Some-Single-default-default-clause-some
-returns-in-Some-Single-default-default-clause-some c = sym (ap (λ f. has_form f c.in-Some-Single-default-default.kind) c.in-Some-Single-default-default.field-0-0-is)
-    ∙ (front_sound _ _ (sym c.in-Some-Single-default-default.ensures)).has
-
-pub returns-in-Some-Single-default-default-clause-cut : goal.returns-in-Some-Single-default-default-clause-cut
-returns-in-Some-Single-default-default-clause-cut c = (front_sound _ _ (sym c.in-Some-Single-default-default.ensures)).text_is
-    ∙ ap (λ f. form_opener f c.in-Some-Single-default-default.kind ++ chars c.in-Some-Single-default-default.inside.now) c.in-Some-Single-default-default.field-0-0-is

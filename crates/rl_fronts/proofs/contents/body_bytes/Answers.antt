@@ -1,6 +1,6 @@
-use Rattle.rl_text.proofs.Common.{ℕ, sym}
+use Rattle.rl_syntax.proofs.Common.{ℕ, sym}
 use Rattle.std.proofs.Common.{Vec}
-use Rattle.rl_reading.proofs.BodyContents.{ok_plain, ok_decoded}
+use Rattle.rl_lenient.proofs.BodyContents.{ok_plain, ok_decoded}
 use Rattle.rl_fronts.proofs.contents.body_bytes.Goals as goal
 
 pub decode-requires : goal.decode-requires

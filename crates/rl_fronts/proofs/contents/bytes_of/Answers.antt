@@ -1,6 +1,6 @@
-use Rattle.rl_text.proofs.Common.{inl, inr}
-use Rattle.rl_reading.proofs.Names.{IfOk-weaker, ByteStr, CStr}
-use Rattle.rl_reading.proofs.FoundContents.{bytes_body, one_of_two}
+use Rattle.rl_syntax.proofs.Common.{inl, inr}
+use Rattle.rl_lenient.proofs.Names.{IfOk-weaker, ByteStr, CStr}
+use Rattle.rl_lenient.proofs.FoundContents.{bytes_body, one_of_two}
 use Rattle.rl_fronts.proofs.contents.bytes_of.Goals as goal
 
 pub found_in-found-requires : goal.found_in-found-requires

@@ -1,4 +1,4 @@
-use Rattle.rl_reading.proofs.BodyContents.{bytes_of_has}
+use Rattle.rl_lenient.proofs.BodyContents.{bytes_of_has}
 use Rattle.rl_fronts.proofs.contents.bytes_of_body.Goals as goal
 
 pub returns-clause-value : goal.returns-clause-value

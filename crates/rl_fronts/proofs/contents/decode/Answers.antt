@@ -1,4 +1,4 @@
-use Rattle.rl_text.proofs.Common.{common_steps, arith}
+use Rattle.rl_syntax.proofs.Common.{common_steps, arith}
 use Rattle.rl_fronts.proofs.contents.decode.Goals as goal
 
 pub returns-in_err-bytes : goal.returns-in_err-bytes

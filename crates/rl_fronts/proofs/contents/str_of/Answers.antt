@@ -1,6 +1,6 @@
-use Rattle.rl_text.proofs.Common.{refl}
-use Rattle.rl_reading.proofs.Names.{IfOk-weaker, Str}
-use Rattle.rl_reading.proofs.FoundContents.{string_body}
+use Rattle.rl_syntax.proofs.Common.{refl}
+use Rattle.rl_lenient.proofs.Names.{IfOk-weaker, Str}
+use Rattle.rl_lenient.proofs.FoundContents.{string_body}
 use Rattle.rl_fronts.proofs.contents.str_of.Goals as goal
 
 pub found_in-found-requires : goal.found_in-found-requires

@@ -1,8 +1,8 @@
-use Rattle.rl_text.proofs.Common.{◌≡◌, subst, rules}
-use Rattle.rl_reading.proofs.Names.{Str, Characters, HasContents}
+use Rattle.rl_syntax.proofs.Common.{◌≡◌, subst, rules}
+use Rattle.rl_lenient.proofs.Names.{Str, Characters, HasContents}
 use Rattle.std.proofs.Common.{string_bytes}
 use Rattle.std.specs.Str.{chars}
-use Rattle.rl_reading.proofs.BodyContents.{str_of_has}
+use Rattle.rl_lenient.proofs.BodyContents.{str_of_has}
 use Rattle.rl_fronts.proofs.contents.str_of_body.Goals as goal
 
 pub from_utf8_unchecked-requires : goal.from_utf8_unchecked-requires

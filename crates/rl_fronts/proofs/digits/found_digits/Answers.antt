@@ -1,10 +1,10 @@
-use Rattle.rl_text.proofs.Common.{ap, ◌∙◌}
-use Rattle.rl_reading.proofs.Names.{float_digits, IfOk-weaker}
+use Rattle.rl_syntax.proofs.Common.{ap, ◌∙◌}
+use Rattle.rl_lenient.proofs.Names.{float_digits, IfOk-weaker}
 use Rattle.std.proofs.Common.{string_bytes}
 use Rattle.std.specs.Str.{chars}
-use Rattle.rl_reading.specs.Founds.{body_in}
+use Rattle.rl_lenient.specs.Founds.{body_in}
 use Rattle.rl_fronts.proofs.NumberFoundLemmas.{plain_digits, written_digits, numeral_digits}
-use Rattle.rl_reading.proofs.PlainNumberLemmas.{held}
+use Rattle.rl_lenient.proofs.PlainNumberLemmas.{held}
 use Rattle.rl_fronts.proofs.digits.found_digits.Goals as goal
 
 pub returns-then-found : goal.returns-then-found

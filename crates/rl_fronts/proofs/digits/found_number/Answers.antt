@@ -1,5 +1,5 @@
-use Rattle.rl_text.proofs.Common.{inl, sym, ◌∙◌, inr}
-use Rattle.rl_reading.proofs.Names.{Int}
+use Rattle.rl_syntax.proofs.Common.{inl, sym, ◌∙◌, inr}
+use Rattle.rl_lenient.proofs.Names.{Int}
 use Rattle.rl_fronts.proofs.NumberFoundLemmas.{int_number, is_float, float_kind}
 use Rattle.rl_fronts.proofs.digits.found_number.Goals as goal
 

@@ -1,4 +1,4 @@
-use Rattle.rl_text.proofs.Common.{common_steps, arith}
+use Rattle.rl_syntax.proofs.Common.{common_steps, arith}
 use Rattle.rl_fronts.proofs.digits.plain_numeral.Goals as goal
 
 pub returns-in_err-digits : goal.returns-in_err-digits

@@ -1,4 +1,4 @@
-use Rattle.rl_reading.proofs.DigitLemmas.{signed_bytes}
+use Rattle.rl_lenient.proofs.DigitLemmas.{signed_bytes}
 use Rattle.rl_fronts.proofs.digits.signed_decimal.Goals as goal
 
 pub returns : goal.returns

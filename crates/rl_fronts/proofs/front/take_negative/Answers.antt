@@ -1,6 +1,6 @@
-use Rattle.rl_text.proofs.TailLemmas.{if_none}
+use Rattle.rl_syntax.proofs.TailLemmas.{if_none}
 use Rattle.rl_fronts.proofs.FrontLemmas.{no_minus_at, negative_front}
-use Rattle.rl_text.proofs.Common.{◌≡◌, sym, ◌∙◌, arith, common_steps}
+use Rattle.rl_syntax.proofs.Common.{◌≡◌, sym, ◌∙◌, arith, common_steps}
 use Rattle.rl_fronts.proofs.front.take_negative.Goals as goal
 
 pub returns-clause-taken : goal.returns-clause-taken

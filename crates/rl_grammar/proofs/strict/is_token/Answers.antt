@@ -1,4 +1,4 @@
-use Rattle.rl_reasons.proofs.ReadLemmas.{token_where}
+use Rattle.rl_strict.proofs.ReadLemmas.{token_where}
 use Rattle.rl_grammar.proofs.strict.is_token.Goals as goal
 
 pub returns : goal.returns

@@ -1,4 +1,4 @@
-use Rattle.rl_text.proofs.Common.{chars}
+use Rattle.rl_syntax.proofs.Common.{chars}
 use Rattle.rl_lexer.proofs.NumberEnds.{number_short, number_long}
 use Rattle.rl_lexer.proofs.lexeme.after_digit.Goals as goal
 

@@ -1,4 +1,4 @@
-use Rattle.rl_text.proofs.Common.{◌≡◌, true, Some, sym, ◌∙◌, ap, rules, is_ascii_digit, chars}
+use Rattle.rl_syntax.proofs.Common.{◌≡◌, true, Some, sym, ◌∙◌, ap, rules, is_ascii_digit, chars}
 use Rattle.rl_lexer.specs.Lexemes.{LiteralForm}
 use Rattle.rl_lexer.proofs.NumberEnds.{digit_first}
 use Rattle.rl_lexer.proofs.LexemeAnswers.{form_before}

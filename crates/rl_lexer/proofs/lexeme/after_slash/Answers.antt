@@ -1,4 +1,4 @@
-use Rattle.rl_text.proofs.TailLemmas.{tail_self}
+use Rattle.rl_syntax.proofs.TailLemmas.{tail_self}
 use Rattle.rl_lexer.proofs.lexeme.after_slash.Goals as goal
 
 pub returns-in_default-clause-following : goal.returns-in_default-clause-following

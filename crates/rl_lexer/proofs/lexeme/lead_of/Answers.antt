@@ -1,4 +1,4 @@
-use Rattle.rl_text.proofs.Common.{sym, ◌∙◌, arith}
+use Rattle.rl_syntax.proofs.Common.{sym, ◌∙◌, arith}
 use Rattle.rl_lexer.proofs.WordsAndMarks.{high_marks, high_words, low_marks}
 use Rattle.rl_lexer.proofs.lexeme.lead_of.Goals as goal
 

@@ -1,4 +1,4 @@
-use Rattle.rl_text.proofs.TailLemmas.{some_tail}
+use Rattle.rl_syntax.proofs.TailLemmas.{some_tail}
 use Rattle.rl_lexer.proofs.lexeme.literal_or_identifier.Goals as goal
 
 pub returns-in-b-clause-following : goal.returns-in-b-clause-following

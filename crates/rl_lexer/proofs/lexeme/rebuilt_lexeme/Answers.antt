@@ -1,4 +1,4 @@
-use Rattle.rl_text.proofs.Common.{chars}
+use Rattle.rl_syntax.proofs.Common.{chars}
 use Rattle.rl_lexer.proofs.LexemeAnswers.{lexeme_found, lexeme_none}
 use Rattle.rl_lexer.proofs.lexeme.rebuilt_lexeme.Goals as goal
 

@@ -1,4 +1,4 @@
-use Rattle.rl_text.proofs.Common.{refl, chars}
+use Rattle.rl_syntax.proofs.Common.{refl, chars}
 use Rattle.rl_lexer.proofs.WordsAndMarks.{mark_found, prefix_word_found, slash_found, word_found}
 use Rattle.rl_lexer.proofs.lexeme.word_or_mark.Goals as goal
 
@@ -15,10 +15,10 @@ returns-in-Mark-clause-found c =
 pub returns-in-Prefix-clause-found : goal.returns-in-Prefix-clause-found
 returns-in-Prefix-clause-found c =
     prefix_word_found (chars c.args.text.now) (chars c.in_ok-byte.following.now) _ c.in_ok-byte.byte
-    c.in_ok-byte.ensures.some (c.in-Prefix.ensures.prefix refl) (c.if-goes_on_as_word.ensures refl)
+    c.in_ok-byte.ensures.some (c.in-Prefix.ensures.prefix refl) (c.if-continues_word.ensures refl)
     c.skip_word-in-Prefix.ensures.rest
 
 pub returns-in-Slash-clause-found : goal.returns-in-Slash-clause-found
 returns-in-Slash-clause-found c =
     slash_found (chars c.args.text.now) (chars c.in_ok-byte.following.now) c.in_ok-byte.byte c.in_ok-byte.ensures.some
-    (c.in-Slash.ensures.slash refl) (c.if-goes_on_as_no_comment.ensures refl)
+    (c.in-Slash.ensures.slash refl) (c.if-begins_other_than_comment.ensures refl)

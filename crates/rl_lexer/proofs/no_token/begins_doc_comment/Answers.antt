@@ -1,4 +1,4 @@
-use Rattle.rl_text.proofs.Common.{arith, common_steps}
+use Rattle.rl_syntax.proofs.Common.{arith, common_steps}
 use Rattle.rl_lexer.proofs.no_token.begins_doc_comment.Goals as goal
 
 pub returns-then-not-begins-2 : goal.returns-then-not-begins-2

@@ -1,4 +1,4 @@
-use Rattle.rl_text.proofs.TailLemmas.{tail_step, some_tail}
+use Rattle.rl_syntax.proofs.TailLemmas.{tail_step, some_tail}
 use Rattle.rl_lexer.proofs.source.after_any_name.Goals as goal
 
 pub returns-then-begins_raw_identifier-clause-following : goal.returns-then-begins_raw_identifier-clause-following

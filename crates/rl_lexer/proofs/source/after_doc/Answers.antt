@@ -1,5 +1,5 @@
-use Rattle.rl_text.proofs.TailLemmas.{tail_step, some_tail}
-use Rattle.rl_text.proofs.Common.{rules}
+use Rattle.rl_syntax.proofs.TailLemmas.{tail_step, some_tail}
+use Rattle.rl_syntax.proofs.Common.{rules}
 use Rattle.rl_lexer.proofs.source.after_doc.Goals as goal
 
 pub returns-then-is_comment_block-clause-rest : goal.returns-then-is_comment_block-clause-rest

@@ -1,4 +1,4 @@
-use Rattle.rl_text.proofs.Common.{rules}
+use Rattle.rl_syntax.proofs.Common.{rules}
 use Rattle.rl_lexer.proofs.source.after_lifetime.Goals as goal
 
 pub returns-in-Some-eq39-default-clause-rest : goal.returns-in-Some-eq39-default-clause-rest

@@ -1,4 +1,4 @@
-use Rattle.rl_text.proofs.TailLemmas.{some_tail}
+use Rattle.rl_syntax.proofs.TailLemmas.{some_tail}
 use Rattle.rl_lexer.proofs.source.after_marked.Goals as goal
 
 pub returns-in-Some-eq35-default-clause-following : goal.returns-in-Some-eq35-default-clause-following

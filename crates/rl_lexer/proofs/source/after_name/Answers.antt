@@ -1,4 +1,4 @@
-use Rattle.rl_text.proofs.TailLemmas.{tail_step}
+use Rattle.rl_syntax.proofs.TailLemmas.{tail_step}
 use Rattle.rl_lexer.proofs.source.after_name.Goals as goal
 
 pub returns-in-Some-clause-following : goal.returns-in-Some-clause-following

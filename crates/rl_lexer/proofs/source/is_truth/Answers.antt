@@ -1,4 +1,4 @@
-use Rattle.rl_text.proofs.Common.{true, false, refl}
+use Rattle.rl_syntax.proofs.Common.{true, false, refl}
 use Rattle.rl_lexer.proofs.TruthWords.{no_word, truth_chars}
 use Rattle.rl_lexer.proofs.source.is_truth.Goals as goal
 

@@ -1,4 +1,4 @@
-use Rattle.rl_text.proofs.Common.{refl}
+use Rattle.rl_syntax.proofs.Common.{refl}
 use Rattle.rl_lexer.proofs.SourceFronts.{line_ends}
 use Rattle.rl_lexer.proofs.source.line_end.Goals as goal
 

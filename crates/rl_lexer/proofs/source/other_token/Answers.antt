@@ -1,4 +1,4 @@
-use Rattle.rl_text.proofs.TailLemmas.{mapped, mapped_tail, some_nearer}
+use Rattle.rl_syntax.proofs.TailLemmas.{mapped, mapped_tail, some_nearer}
 use Rattle.rl_lexer.proofs.source.other_token.Goals as goal
 
 pub returns-in-Some-eq47-default-clause-following : goal.returns-in-Some-eq47-default-clause-following

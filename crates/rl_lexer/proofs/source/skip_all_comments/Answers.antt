@@ -1,6 +1,6 @@
-use Rattle.rl_text.proofs.Common.{arith, chars, common_steps, subst, sym}
-use Rattle.rl_text.specs.Texts.{is_white}
-use Rattle.rl_text.proofs.TailLemmas.{tail_step}
+use Rattle.rl_syntax.proofs.Common.{arith, chars, common_steps, subst, sym}
+use Rattle.rl_syntax.specs.Texts.{is_white}
+use Rattle.rl_syntax.proofs.TailLemmas.{tail_step}
 use Rattle.rl_lexer.proofs.CommentsPassed.{no_comment, reach_comment}
 use Rattle.rl_lexer.proofs.LiteralSteps.{reach_end, reach_run}
 use Rattle.rl_lexer.proofs.Pieces.{run_ends, skipped_none, skipped_slash}

@@ -1,5 +1,5 @@
-use Rattle.rl_text.proofs.Common.{◌≡◌, false, ℕ, List, length, chars}
-use Rattle.rl_text.specs.Texts.{IsTail, first_passes, is_white}
+use Rattle.rl_syntax.proofs.Common.{◌≡◌, false, ℕ, List, length, chars}
+use Rattle.rl_syntax.specs.Texts.{IsTail, first_passes, is_white}
 use Rattle.rl_lexer.specs.Mirrors.LiteralsAt.{Reaches}
 use Rattle.rl_lexer.proofs.source.skip_all_comments.Given as goal
 

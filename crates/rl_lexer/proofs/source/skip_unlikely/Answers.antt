@@ -1,8 +1,8 @@
-use Rattle.rl_text.proofs.Common.{◌≤◌, ◌∙◌, ap, subst, arith, chars}
-use Rattle.rl_text.specs.Texts.{IsTail, is_white}
-use Rattle.rl_text.specs.Mirrors.UnlikelyAt.{byte_before, unlikely_len}
-use Rattle.rl_text.proofs.TailLemmas.{tail_step}
-use Rattle.rl_text.proofs.Rests.{tail_drop}
+use Rattle.rl_syntax.proofs.Common.{◌≤◌, ◌∙◌, ap, subst, arith, chars}
+use Rattle.rl_syntax.specs.Texts.{IsTail, is_white}
+use Rattle.rl_syntax.specs.Mirrors.UnlikelyAt.{byte_before, unlikely_len}
+use Rattle.rl_syntax.proofs.TailLemmas.{tail_step}
+use Rattle.rl_syntax.proofs.Rests.{tail_drop}
 use Rattle.rl_lexer.proofs.LiteralSteps.{reach_run}
 use Rattle.rl_lexer.proofs.Pieces.{run_ends}
 use Rattle.rl_lexer.proofs.UnlikelyFronts.{unlikely-boundary, unlikely-holds, unlikely-within}

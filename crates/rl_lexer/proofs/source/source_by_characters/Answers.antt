@@ -1,4 +1,4 @@
-use Rattle.rl_text.proofs.Common.{chars}
+use Rattle.rl_syntax.proofs.Common.{chars}
 use Rattle.rl_lexer.proofs.SourceFronts.{no_other, other_found, plain_before, source_found, source_none}
 use Rattle.rl_lexer.proofs.source.source_by_characters.Goals as goal
 

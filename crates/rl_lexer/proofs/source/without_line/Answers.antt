@@ -1,5 +1,5 @@
-use Rattle.rl_text.proofs.TailLemmas.{tail_self, tail_step}
-use Rattle.rl_text.proofs.Common.{inl, sym, ◌∙◌}
+use Rattle.rl_syntax.proofs.TailLemmas.{tail_self, tail_step}
+use Rattle.rl_syntax.proofs.Common.{inl, sym, ◌∙◌}
 use Rattle.rl_lexer.proofs.SourceFronts.{script_line}
 use Rattle.rl_lexer.proofs.source.without_line.Goals as goal
 

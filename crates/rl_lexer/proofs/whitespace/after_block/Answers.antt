@@ -1,8 +1,8 @@
--- One turn of the loop: a closer, an opener, a mark that is neither, or a run of other bytes.
-use Rattle.rl_text.proofs.Common.{arith, ◌+◌, ◌≡◌, [], Some, get_or, sym, ◌∙◌, ap, drop, IsCharBoundary-after_ascii}
+-- One iteration of the loop: at a closing delimiter, an opening delimiter, another `*` or `/`, or other bytes.
+use Rattle.rl_syntax.proofs.Common.{arith, ◌+◌, ◌≡◌, [], Some, get_or, sym, ◌∙◌, ap, drop, IsCharBoundary-after_ascii}
 use Rattle.std.proofs.Math.ListN.{drop_of_length-le}
 use Rattle.rl_lexer.specs.Mirrors.SkippedAt.{after_block}
-use Rattle.rl_text.proofs.Rests.{tail_drop}
+use Rattle.rl_syntax.proofs.Rests.{tail_drop}
 use Rattle.rl_lexer.proofs.CommentBytes.{block_of_bytes, no_block_of_bytes}
 use Rattle.rl_lexer.proofs.Comments.{closed}
 use Rattle.rl_lexer.proofs.CommentSteps.{block_closes, block_opens, block_goes, block_runs, run_inside, closed-down, next_inside}

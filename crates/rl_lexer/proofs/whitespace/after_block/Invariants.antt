@@ -1,4 +1,4 @@
-use Rattle.rl_text.proofs.Common.{◌≡◌, ◌-◌, ◌≤◌, length, drop}
+use Rattle.rl_syntax.proofs.Common.{◌≡◌, ◌-◌, ◌≤◌, length, drop}
 use Rattle.rl_lexer.specs.Mirrors.SkippedAt.{after_block}
 use Rattle.rl_lexer.proofs.whitespace.after_block.Given as goal
 

@@ -1,4 +1,4 @@
-use Rattle.rl_text.proofs.TailLemmas.{tail_step, some_tail}
+use Rattle.rl_syntax.proofs.TailLemmas.{tail_step, some_tail}
 use Rattle.rl_lexer.proofs.whitespace.after_comment.Goals as goal
 
 pub returns-then-is_comment_line-clause-following : goal.returns-then-is_comment_line-clause-following

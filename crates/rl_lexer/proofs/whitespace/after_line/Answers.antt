@@ -1,5 +1,5 @@
 -- The next LF ends the line.
-use Rattle.rl_text.proofs.Common.{refl}
+use Rattle.rl_syntax.proofs.Common.{refl}
 use Rattle.rl_lexer.proofs.CommentSteps.{line_rest}
 use Rattle.rl_lexer.proofs.whitespace.after_line.Goals as goal
 

@@ -1,7 +1,7 @@
--- What is skipped after white space is skipped after the text.
-use Rattle.rl_text.proofs.Common.{chars}
-use Rattle.rl_text.specs.Texts.{is_white}
-use Rattle.rl_text.proofs.TailLemmas.{tail_step}
+-- The white space and comments after leading white space are skipped too.
+use Rattle.rl_syntax.proofs.Common.{chars}
+use Rattle.rl_syntax.specs.Texts.{is_white}
+use Rattle.rl_syntax.proofs.TailLemmas.{tail_step}
 use Rattle.rl_lexer.proofs.Pieces.{one_rest, run_ends, skipped_again, skipped_none, skipped_run}
 use Rattle.rl_lexer.proofs.whitespace.skip.Goals as goal
 

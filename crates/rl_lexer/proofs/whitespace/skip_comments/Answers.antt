@@ -1,7 +1,7 @@
--- What is skipped after a comment is skipped after the text.
-use Rattle.rl_text.proofs.Common.{arith, sym, common_steps, chars}
-use Rattle.rl_text.specs.Texts.{is_white}
-use Rattle.rl_text.proofs.TailLemmas.{tail_step}
+-- The white space and comments after a comment are skipped too.
+use Rattle.rl_syntax.proofs.Common.{arith, sym, common_steps, chars}
+use Rattle.rl_syntax.specs.Texts.{is_white}
+use Rattle.rl_syntax.proofs.TailLemmas.{tail_step}
 use Rattle.rl_lexer.proofs.Pieces.{run_ends, skipped_run, skipped_none, skipped_slash, skipped_comment}
 use Rattle.rl_lexer.proofs.whitespace.skip_comments.Goals as goal
 

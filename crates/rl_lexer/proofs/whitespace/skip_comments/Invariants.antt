@@ -1,6 +1,6 @@
-use Rattle.rl_text.proofs.Common.{◌≡◌, false, ℕ, List, length, chars}
+use Rattle.rl_syntax.proofs.Common.{◌≡◌, false, ℕ, List, length, chars}
 use Rattle.rl_lexer.specs.Skipping.{Skipped}
-use Rattle.rl_text.specs.Texts.{is_white, first_passes, IsTail}
+use Rattle.rl_syntax.specs.Texts.{is_white, first_passes, IsTail}
 use Rattle.rl_lexer.proofs.whitespace.skip_comments.Given as goal
 
 abbrev pub invariant-loop-inside : goal.invariant-loop-inside

@@ -1,4 +1,4 @@
-use Rattle.rl_text.proofs.Common.{IsUtf8-string_bytes, on_ok_weaker}
+use Rattle.rl_syntax.proofs.Common.{IsUtf8-string_bytes, on_ok_weaker}
 use Rattle.rl_output.proofs.ColorLemmas.{error_word}
 use Rattle.rl_output.proofs.color.push_error_word.Goals as goal
 

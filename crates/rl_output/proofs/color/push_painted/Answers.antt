@@ -1,4 +1,4 @@
-use Rattle.rl_text.proofs.Common.{on_ok_weaker, sym, ◌∙◌}
+use Rattle.rl_syntax.proofs.Common.{on_ok_weaker, sym, ◌∙◌}
 use Rattle.rl_output.proofs.ColorLemmas.{painted_off, painted_on}
 use Rattle.rl_output.proofs.color.push_painted.Goals as goal
 

@@ -1,4 +1,4 @@
-use Rattle.rl_text.proofs.Common.{◌≡◌, length, chars, shadow, Utf8}
+use Rattle.rl_syntax.proofs.Common.{◌≡◌, length, chars, shadow, Utf8}
 use Rattle.rl_output.specs.Contexts.{after_first_line}
 use Rattle.rl_output.proofs.context.after_first_line.Given as goal
 

@@ -1,5 +1,5 @@
-use Rattle.rl_text.proofs.Common.{chars, sym, ◌∙◌}
-use Rattle.rl_text.proofs.TailLemmas.{tail_step}
+use Rattle.rl_syntax.proofs.Common.{chars, sym, ◌∙◌}
+use Rattle.rl_syntax.proofs.TailLemmas.{tail_step}
 use Rattle.rl_output.proofs.ContextLemmas.{line_goes_on, line_stops}
 use Rattle.rl_output.proofs.context.first_line.Goals as goal
 

@@ -1,5 +1,5 @@
-use Rattle.rl_text.proofs.Common.{length, chars, shadow, Utf8}
-use Rattle.rl_text.specs.Texts.{IsTail}
+use Rattle.rl_syntax.proofs.Common.{length, chars, shadow, Utf8}
+use Rattle.rl_syntax.specs.Texts.{IsTail}
 use Rattle.rl_output.proofs.ContextLemmas.{InLine}
 use Rattle.rl_output.proofs.context.first_line.Given as goal
 

@@ -1,4 +1,4 @@
-use Rattle.rl_text.proofs.Common.{chars}
+use Rattle.rl_syntax.proofs.Common.{chars}
 use Rattle.rl_output.specs.Contexts.{first_line}
 use Rattle.rl_output.proofs.ContextLemmas.{long_about}
 use Rattle.rl_output.proofs.context.is_long_about.Goals as goal

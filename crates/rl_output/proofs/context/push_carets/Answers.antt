@@ -1,4 +1,4 @@
-use Rattle.rl_text.proofs.Common.{on_ok_weaker, sym, ◌∙◌}
+use Rattle.rl_syntax.proofs.Common.{on_ok_weaker, sym, ◌∙◌}
 use Rattle.rl_output.proofs.ContextLemmas.{no_caret, some_carets}
 use Rattle.rl_output.proofs.context.push_carets.Goals as goal
 

@@ -1,4 +1,4 @@
-use Rattle.rl_text.proofs.Common.{chars, on_ok_weaker, sym, ◌∙◌}
+use Rattle.rl_syntax.proofs.Common.{chars, on_ok_weaker, sym, ◌∙◌}
 use Rattle.rl_output.proofs.ContextLemmas.{long_context, whole_context}
 use Rattle.rl_output.proofs.context.push_context.Goals as goal
 

@@ -1,4 +1,4 @@
-use Rattle.rl_text.proofs.Common.{◌≡◌, ◌++◌, length, chars, shadow, string_bytes, Utf8}
+use Rattle.rl_syntax.proofs.Common.{◌≡◌, ◌++◌, length, chars, shadow, string_bytes, Utf8}
 use Rattle.rl_output.specs.Contexts.{line_text}
 use Rattle.rl_output.proofs.context.push_line.Given as goal
 

@@ -1,4 +1,4 @@
-use Rattle.rl_text.proofs.Common.{chars, on_ok_weaker}
+use Rattle.rl_syntax.proofs.Common.{chars, on_ok_weaker}
 use Rattle.rl_output.proofs.ContextLemmas.{char_shown}
 use Rattle.rl_output.proofs.context.push_line_char.Goals as goal
 

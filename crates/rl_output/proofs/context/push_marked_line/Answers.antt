@@ -1,4 +1,4 @@
-use Rattle.rl_text.proofs.Common.{ap, chars, codes, on_ok_weaker, string_bytes, ◌++◌, ◌∙◌}
+use Rattle.rl_syntax.proofs.Common.{ap, chars, codes, on_ok_weaker, string_bytes, ◌++◌, ◌∙◌}
 use Rattle.rl_output.specs.Contexts.{carets, first_line, line_text, marks_below}
 use Rattle.rl_output.specs.Spots.{covered}
 use Rattle.rl_output.proofs.ContextLemmas.{eight_parts}

@@ -1,4 +1,4 @@
-use Rattle.rl_text.proofs.Common.{chars, chars-nil, on_ok_weaker, sym, ◌∙◌}
+use Rattle.rl_syntax.proofs.Common.{chars, chars-nil, on_ok_weaker, sym, ◌∙◌}
 use Rattle.rl_output.proofs.ContextLemmas.{long_shown, whole_shown}
 use Rattle.rl_output.proofs.context.push_shown_line.Goals as goal
 

@@ -1,4 +1,4 @@
-use Rattle.rl_text.proofs.Common.{arith, chars, nat_tests, sym, ◌<◌, ◌∙◌}
+use Rattle.rl_syntax.proofs.Common.{arith, chars, nat_tests, sym, ◌<◌, ◌∙◌}
 use Rattle.rl_output.proofs.ContextLemmas.{no_lines_more, one_line_more}
 use Rattle.rl_output.proofs.context.push_shown_lines.Goals as goal
 

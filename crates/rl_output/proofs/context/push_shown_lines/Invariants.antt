@@ -1,4 +1,4 @@
-use Rattle.rl_text.proofs.Common.{◌≡◌, ◌++◌, chars, shadow, string_bytes, Utf8}
+use Rattle.rl_syntax.proofs.Common.{◌≡◌, ◌++◌, chars, shadow, string_bytes, Utf8}
 use Rattle.rl_output.specs.Contexts.{shown_lines}
 use Rattle.rl_output.proofs.context.push_shown_lines.Given as goal
 

@@ -1,4 +1,4 @@
-use Rattle.rl_text.proofs.Common.{ap, chars, on_ok_weaker, string_bytes, ◌++◌, ◌∙◌}
+use Rattle.rl_syntax.proofs.Common.{ap, chars, on_ok_weaker, string_bytes, ◌++◌, ◌∙◌}
 use Rattle.rl_output.specs.Contexts.{after_first_line, marked_line, shown_lines}
 use Rattle.rl_output.proofs.Pieces.{three_pieces}
 use Rattle.rl_output.proofs.context.push_whole_context.Goals as goal

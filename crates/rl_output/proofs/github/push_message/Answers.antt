@@ -1,4 +1,4 @@
-use Rattle.rl_text.proofs.Common.{on_ok_weaker, sym, ◌∙◌}
+use Rattle.rl_syntax.proofs.Common.{on_ok_weaker, sym, ◌∙◌}
 use Rattle.rl_output.proofs.GithubLemmas.{message_alone, message_of_piece}
 use Rattle.rl_output.proofs.github.push_message.Goals as goal
 

@@ -1,4 +1,4 @@
-use Rattle.rl_text.proofs.Common.{IsUtf8-string_bytes}
+use Rattle.rl_syntax.proofs.Common.{IsUtf8-string_bytes}
 use Rattle.rl_output.proofs.JsonStringLemmas.{quotes_written}
 use Rattle.rl_output.proofs.json_string.push_json_string.Goals as goal
 

@@ -1,4 +1,4 @@
-use Rattle.rl_text.proofs.Common.{on_ok_weaker}
+use Rattle.rl_syntax.proofs.Common.{on_ok_weaker}
 use Rattle.rl_output.proofs.JsonStringLemmas.{number_written}
 use Rattle.rl_output.proofs.json_string.push_number.Goals as goal
 

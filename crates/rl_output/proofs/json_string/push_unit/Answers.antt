@@ -1,4 +1,4 @@
-use Rattle.rl_text.proofs.Common.{on_ok_weaker, codes, ◌%◌, ◌/◌}
+use Rattle.rl_syntax.proofs.Common.{on_ok_weaker, codes, ◌%◌, ◌/◌}
 use Rattle.rl_output.specs.JsonStrings.{two_digits}
 use Rattle.rl_output.proofs.JsonStringLemmas.{three_written}
 use Rattle.rl_output.proofs.json_string.push_unit.Goals as goal

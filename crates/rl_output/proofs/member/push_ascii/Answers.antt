@@ -1,4 +1,4 @@
-use Rattle.rl_text.proofs.Common.{IsUtf8-string_bytes}
+use Rattle.rl_syntax.proofs.Common.{IsUtf8-string_bytes}
 use Rattle.rl_output.proofs.Pieces.{ascii_pushed}
 use Rattle.rl_output.proofs.Pieces.{low_text}
 use Rattle.rl_output.proofs.member.push_ascii.Goals as goal

@@ -1,4 +1,4 @@
-use Rattle.rl_text.proofs.Common.{chars, codes, on_ok_weaker}
+use Rattle.rl_syntax.proofs.Common.{chars, codes, on_ok_weaker}
 use Rattle.rl_output.specs.JsonStrings.{json_string}
 use Rattle.rl_output.proofs.Pieces.{four_parts}
 use Rattle.rl_output.proofs.member.push_member.Goals as goal

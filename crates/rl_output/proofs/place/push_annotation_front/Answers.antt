@@ -1,4 +1,4 @@
-use Rattle.rl_text.proofs.Common.{IsUtf8-string_bytes, ap, chars, codes, on_ok_weaker, string_bytes, ◌++◌, ◌∙◌}
+use Rattle.rl_syntax.proofs.Common.{IsUtf8-string_bytes, ap, chars, codes, on_ok_weaker, string_bytes, ◌++◌, ◌∙◌}
 use Rattle.rl_output.specs.Fronts.{annotation_place}
 use Rattle.rl_output.specs.Github.{annotation_path, level_word}
 use Rattle.rl_output.proofs.Pieces.{ascii_pushed, five_parts}

@@ -1,4 +1,4 @@
-use Rattle.rl_text.proofs.Common.{IsUtf8-string_bytes, on_ok_weaker}
+use Rattle.rl_syntax.proofs.Common.{IsUtf8-string_bytes, on_ok_weaker}
 use Rattle.rl_output.proofs.ColorLemmas.{colored_bare}
 use Rattle.rl_output.proofs.place.push_colored_front.Goals as goal
 

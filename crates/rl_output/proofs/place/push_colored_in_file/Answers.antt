@@ -1,4 +1,4 @@
-use Rattle.rl_text.proofs.Common.{IsUtf8-string_bytes, on_ok_weaker}
+use Rattle.rl_syntax.proofs.Common.{IsUtf8-string_bytes, on_ok_weaker}
 use Rattle.rl_output.proofs.ColorLemmas.{colored_in_file}
 use Rattle.rl_output.proofs.place.push_colored_in_file.Goals as goal
 

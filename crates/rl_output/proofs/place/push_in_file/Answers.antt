@@ -1,4 +1,4 @@
-use Rattle.rl_text.proofs.Common.{IsUtf8-string_bytes}
+use Rattle.rl_syntax.proofs.Common.{IsUtf8-string_bytes}
 use Rattle.rl_output.proofs.PlaceLemmas.{front_in_file}
 use Rattle.rl_output.proofs.place.push_in_file.Goals as goal
 

@@ -1,4 +1,4 @@
-use Rattle.rl_text.proofs.Common.{IsUtf8-string_bytes}
+use Rattle.rl_syntax.proofs.Common.{IsUtf8-string_bytes}
 use Rattle.rl_output.specs.Members.{object_front}
 use Rattle.rl_output.specs.Fronts.{place_text}
 use Rattle.rl_output.proofs.Pieces.{ascii_pushed, two_pieces}

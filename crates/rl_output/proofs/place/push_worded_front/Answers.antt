@@ -1,4 +1,4 @@
-use Rattle.rl_text.proofs.Common.{IsUtf8-string_bytes, None, ap, chars, on_ok_weaker, string_bytes, sym, ◌++◌, ◌∙◌}
+use Rattle.rl_syntax.proofs.Common.{IsUtf8-string_bytes, None, ap, chars, on_ok_weaker, string_bytes, sym, ◌++◌, ◌∙◌}
 use Rattle.rl_output.proofs.ColorLemmas.{plain_front}
 use Rattle.rl_output.proofs.PlaceLemmas.{front_bare}
 use Rattle.rl_output.proofs.place.push_worded_front.Goals as goal

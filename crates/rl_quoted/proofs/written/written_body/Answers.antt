@@ -1,6 +1,6 @@
 use Rattle.std.proofs.Common.{◌-◌, arith, ap, length, sym, ◌∙◌, ℕ, List}
-use Rattle.rl_reading.specs.declared.found.Body.{Body}
-use Rattle.rl_reading.specs.Founds.{body_in}
+use Rattle.rl_lenient.specs.declared.found.Body.{Body}
+use Rattle.rl_lenient.specs.Founds.{body_in}
 use Rattle.rl_quoted.proofs.WrittenLemmas.{written_long, written_at}
 use Rattle.rl_quoted.proofs.written.written_body.Goals as goal
 

@@ -1,5 +1,5 @@
-use Rattle.rl_text.proofs.Common.{◌≡◌, false, length, chars}
-use Rattle.rl_text.specs.Texts.{IsTail}
+use Rattle.rl_syntax.proofs.Common.{◌≡◌, false, length, chars}
+use Rattle.rl_syntax.specs.Texts.{IsTail}
 use Rattle.rl_recovery.specs.Recoveries.{from_line_end}
 use Rattle.rl_recovery.proofs.lines.from_line_end.Given as goal
 

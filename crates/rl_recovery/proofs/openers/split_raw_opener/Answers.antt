@@ -1,4 +1,4 @@
-use Rattle.rl_text.proofs.Common.{chars}
+use Rattle.rl_syntax.proofs.Common.{chars}
 use Rattle.rl_recovery.proofs.OpenerLemmas.{hashes_taken}
 use Rattle.rl_recovery.proofs.openers.split_raw_opener.Goals as goal
 

@@ -1,5 +1,5 @@
-use Rattle.rl_text.proofs.Common.{both_ways, chars, subst, sym}
-use Rattle.rl_text.proofs.TailLemmas.{if_none}
+use Rattle.rl_syntax.proofs.Common.{both_ways, chars, subst, sym}
+use Rattle.rl_syntax.proofs.TailLemmas.{if_none}
 use Rattle.rl_lexer.specs.Cursors.{CursorState}
 use Rattle.rl_lexer.specs.Sources.{BeginsNoSource}
 use Rattle.rl_recovery.proofs.RecoverySteps.{walks_on, walks_start}

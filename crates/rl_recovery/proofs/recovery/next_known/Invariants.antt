@@ -1,5 +1,5 @@
--- What was cut off so far is no literal.
-use Rattle.rl_text.proofs.Common.{length}
+-- The loop's invariant: the tokens consumed so far aren't literals.
+use Rattle.rl_syntax.proofs.Common.{length}
 use Rattle.rl_recovery.proofs.RecoverySteps.{Walks}
 use Rattle.rl_recovery.proofs.recovery.next_known.Given as goal
 

@@ -1,4 +1,4 @@
-use Rattle.rl_text.proofs.Common.{refl, subst}
+use Rattle.rl_syntax.proofs.Common.{refl, subst}
 use Rattle.rl_lexer.specs.Cursors.{CursorState}
 use Rattle.rl_settings.specs.EntrySteps.{RejectsNextEntry}
 use Rattle.rl_settings.proofs.SettingLemmas.{some_rest}

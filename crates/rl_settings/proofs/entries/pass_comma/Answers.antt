@@ -1,4 +1,4 @@
-use Rattle.rl_text.proofs.Common.{inl, subst, chars}
+use Rattle.rl_syntax.proofs.Common.{inl, subst, chars}
 use Rattle.rl_lexer.specs.Cursors.{CursorState}
 use Rattle.rl_lexer.specs.Cuts.{BeginsNoLexeme}
 use Rattle.rl_settings.proofs.entries.pass_comma.Goals as goal

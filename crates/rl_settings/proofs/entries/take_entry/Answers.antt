@@ -1,4 +1,4 @@
-use Rattle.rl_text.proofs.Common.{inl, refl, sym, ◌∙◌}
+use Rattle.rl_syntax.proofs.Common.{inl, refl, sym, ◌∙◌}
 use Rattle.rl_settings.proofs.EntryLemmas.{name_same}
 use Rattle.rl_settings.proofs.entries.take_entry.Goals as goal
 

@@ -1,4 +1,4 @@
-use Rattle.rl_text.proofs.Common.{inl, inr, subst, chars, arith}
+use Rattle.rl_syntax.proofs.Common.{inl, inr, subst, chars, arith}
 use Rattle.rl_lexer.specs.Cursors.{CursorState, TakesNext}
 use Rattle.rl_lexer.specs.Cuts.{BeginsNoLexeme}
 use Rattle.rl_settings.proofs.entries.take_part.Goals as goal

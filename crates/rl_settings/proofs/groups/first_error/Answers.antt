@@ -1,5 +1,5 @@
--- Each turn goes one token further; at the end all is cut, or the first error stands here.
-use Rattle.rl_text.proofs.Common.{◌≡◌, [], ◌∙◌}
+-- Each iteration reads one token. At the end the whole text is lexed, or the result is its first error.
+use Rattle.rl_syntax.proofs.Common.{◌≡◌, [], ◌∙◌}
 use Rattle.rl_settings.specs.Groups.{open_in}
 use Rattle.rl_settings.proofs.GroupLemmas.{passed_none, passed_more, error_at_end, whole_at_end, rejected_token, error_told, told_end}
 use Rattle.rl_settings.proofs.groups.first_error.Goals as goal

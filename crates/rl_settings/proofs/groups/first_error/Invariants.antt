@@ -1,4 +1,4 @@
-use Rattle.rl_text.proofs.Common.{◌≡◌, length}
+use Rattle.rl_syntax.proofs.Common.{◌≡◌, length}
 use Rattle.rl_settings.specs.Groups.{open_in}
 use Rattle.rl_settings.proofs.GroupLemmas.{HasPassed}
 use Rattle.rl_settings.proofs.groups.first_error.Given as goal

@@ -1,5 +1,5 @@
-use Rattle.rl_text.proofs.Common.{chars}
-use Rattle.rl_reading.proofs.NextLiteralLemmas.{nothing_else}
+use Rattle.rl_syntax.proofs.Common.{chars}
+use Rattle.rl_lenient.proofs.NextLiteralLemmas.{nothing_else}
 use Rattle.rl_settings.proofs.SettingLemmas.{no_memory, some_rest}
 use Rattle.rl_settings.proofs.settings.missed.Goals as goal
 

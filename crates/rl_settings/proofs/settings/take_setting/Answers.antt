@@ -1,4 +1,4 @@
-use Rattle.rl_text.proofs.Common.{inl, refl}
+use Rattle.rl_syntax.proofs.Common.{inl, refl}
 use Rattle.rl_settings.proofs.settings.take_setting.Goals as goal
 
 pub returns-in-Err-clause-rejected : goal.returns-in-Err-clause-rejected

@@ -1,4 +1,4 @@
-use Rattle.rl_text.proofs.Common.{◌+◌, ◌≤◌, length}
+use Rattle.rl_syntax.proofs.Common.{◌+◌, ◌≤◌, length}
 use Rattle.rl_lexer.specs.Cursors.{form_view}
 use Rattle.rl_settings.specs.SettingSteps.{depth_after}
 use Rattle.rl_settings.proofs.SettingLemmas.{Leads}

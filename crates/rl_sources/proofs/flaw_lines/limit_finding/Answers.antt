@@ -1,4 +1,4 @@
-use Rattle.rl_text.proofs.Common.{ap, encodes-chars, length, refl, sym}
+use Rattle.rl_syntax.proofs.Common.{ap, encodes-chars, length, refl, sym}
 use Rattle.rl_sources.proofs.flaw_lines.limit_finding.Goals as goal
 
 pub returns : goal.returns

@@ -1,4 +1,4 @@
-use Rattle.rl_text.proofs.Common.{chars, on_ok_weaker, string_bytes, sym, ◌∙◌}
+use Rattle.rl_syntax.proofs.Common.{chars, on_ok_weaker, string_bytes, sym, ◌∙◌}
 use Rattle.rl_sources.proofs.HiddenLemmas.{shown_hidden, shown_plain}
 use Rattle.rl_sources.proofs.hidden.push_character.Goals as goal
 

@@ -1,4 +1,4 @@
-use Rattle.rl_text.proofs.Common.{chars-nil}
+use Rattle.rl_syntax.proofs.Common.{chars-nil}
 use Rattle.rl_sources.proofs.hidden.push_hidden_annotation.Goals as goal
 
 pub returns : goal.returns

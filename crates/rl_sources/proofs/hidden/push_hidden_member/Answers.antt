@@ -1,4 +1,4 @@
-use Rattle.rl_text.proofs.Common.{chars, codes, on_ok_weaker, refl, ◌≡◌}
+use Rattle.rl_syntax.proofs.Common.{chars, codes, on_ok_weaker, refl, ◌≡◌}
 use Rattle.rl_output.specs.Members.{string_member}
 use Rattle.rl_output.proofs.Pieces.{ascii_chars, three_pieces}
 use Rattle.rl_sources.specs.Hidden.{hidden_id}

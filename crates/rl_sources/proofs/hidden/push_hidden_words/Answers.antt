@@ -1,5 +1,5 @@
-use Rattle.rl_text.proofs.Common.{IsUtf8-string_bytes, chars, codes, on_ok_weaker}
-use Rattle.rl_lines.proofs.LineLemmas.{pushed}
+use Rattle.rl_syntax.proofs.Common.{IsUtf8-string_bytes, chars, codes, on_ok_weaker}
+use Rattle.rl_program.proofs.LineLemmas.{pushed}
 use Rattle.rl_output.proofs.Pieces.{two_pieces}
 use Rattle.rl_sources.proofs.hidden.push_hidden_words.Goals as goal
 

@@ -1,4 +1,4 @@
-use Rattle.rl_text.proofs.Common.{IsUtf8-string_bytes, on_ok_weaker}
+use Rattle.rl_syntax.proofs.Common.{IsUtf8-string_bytes, on_ok_weaker}
 use Rattle.rl_sources.proofs.JsonLemmas.{array_pushed}
 use Rattle.rl_sources.proofs.json.push_array.Goals as goal
 

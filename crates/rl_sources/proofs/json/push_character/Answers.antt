@@ -1,4 +1,4 @@
-use Rattle.rl_text.proofs.Common.{ap, encode_utf8, on_ok_weaker, ◌++◌, ◌≡◌, ◌∙◌}
+use Rattle.rl_syntax.proofs.Common.{ap, encode_utf8, on_ok_weaker, ◌++◌, ◌≡◌, ◌∙◌}
 use Rattle.std.proofs.Common.{rules}
 use Rattle.rl_sources.proofs.JsonLemmas.{character_value, one_char}
 use Rattle.rl_sources.proofs.json.push_character.Goals as goal

@@ -1,4 +1,4 @@
-use Rattle.rl_text.proofs.Common.{chars, inl, on_ok_weaker}
+use Rattle.rl_syntax.proofs.Common.{chars, inl, on_ok_weaker}
 use Rattle.rl_fronts.proofs.NumberFoundLemmas.{plain_digits}
 use Rattle.rl_sources.proofs.JsonLemmas.{digits_value}
 use Rattle.rl_sources.proofs.json.push_digits.Goals as goal

@@ -1,4 +1,4 @@
-use Rattle.rl_text.proofs.Common.{on_ok_weaker}
+use Rattle.rl_syntax.proofs.Common.{on_ok_weaker}
 use Rattle.rl_sources.proofs.JsonLemmas.{text_left_out, text_shown}
 use Rattle.rl_sources.proofs.json.push_flawed_text.Goals as goal
 

@@ -1,6 +1,6 @@
-use Rattle.rl_text.proofs.Common.{ap, chars, on_ok_weaker, ◌≡◌, ◌∙◌}
-use Rattle.rl_lines.specs.Lines.{kind_label}
-use Rattle.rl_lines.proofs.PrintLemmas.{word_chars}
+use Rattle.rl_syntax.proofs.Common.{ap, chars, on_ok_weaker, ◌≡◌, ◌∙◌}
+use Rattle.rl_program.specs.Lines.{kind_label}
+use Rattle.rl_program.proofs.PrintLemmas.{word_chars}
 use Rattle.rl_sources.proofs.JsonLemmas.{literal_is}
 use Rattle.rl_sources.proofs.json.push_found_members.Goals as goal
 

@@ -1,4 +1,4 @@
-use Rattle.rl_text.proofs.Common.{chars, codes, on_ok_weaker, ◌≡◌}
+use Rattle.rl_syntax.proofs.Common.{chars, codes, on_ok_weaker, ◌≡◌}
 use Rattle.rl_sources.specs.Findings.{reason_id, reason_message}
 use Rattle.rl_sources.specs.Json.{flawed_text_member}
 use Rattle.rl_output.specs.Members.{string_member}
@@ -9,8 +9,8 @@ use Rattle.rl_sources.proofs.json.push_json_finding.Goals as goal
 pub returns : goal.returns
 returns g c =
     let named : chars c.id.result.now ≡ reason_id c.args.reason = reason_id_is c.args.reason _ c.id.ensures in
-    let says : chars c.words.result.now ≡ reason_message c.args.reason = reason_words_are c.args.reason _
-    c.words.ensures in
+    let says : chars c.message.result.now ≡ reason_message c.args.reason = reason_words_are c.args.reason _
+    c.message.ensures in
     on_ok_weaker c.push_ascii.result (λ last. five_parts _ _ _ _ _ _
     (flawed_text_member (chars c.args.text.now)) (string_member (codes "id") (reason_id c.args.reason))
     (string_member (codes "error") (reason_message c.args.reason))

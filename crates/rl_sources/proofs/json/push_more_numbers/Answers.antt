@@ -1,4 +1,4 @@
-use Rattle.rl_text.proofs.Common.{IsUtf8-string_bytes, [], ap, append-nil, get_or, string_bytes, subst, sym, take, take_all, take_more, List, ℕ, ◌++◌, ◌+◌, ◌∙◌, ◌∷◌, ◌≡◌}
+use Rattle.rl_syntax.proofs.Common.{IsUtf8-string_bytes, [], ap, append-nil, get_or, string_bytes, subst, sym, take, take_all, take_more, List, ℕ, ◌++◌, ◌+◌, ◌∙◌, ◌∷◌, ◌≡◌}
 use Rattle.rl_sources.specs.Json.{more_numbers}
 use Rattle.rl_sources.proofs.JsonLemmas.{number_more, numbers_pushed}
 use Rattle.rl_sources.proofs.json.push_more_numbers.Goals as goal

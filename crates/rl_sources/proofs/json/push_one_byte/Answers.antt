@@ -1,4 +1,4 @@
-use Rattle.rl_text.proofs.Common.{chars, on_ok_weaker}
+use Rattle.rl_syntax.proofs.Common.{chars, on_ok_weaker}
 use Rattle.rl_sources.proofs.JsonLemmas.{byte_value}
 use Rattle.rl_sources.proofs.json.push_one_byte.Goals as goal
 

@@ -1,4 +1,4 @@
-use Rattle.rl_text.proofs.Common.{on_ok_weaker, sym, ◌∙◌}
+use Rattle.rl_syntax.proofs.Common.{on_ok_weaker, sym, ◌∙◌}
 use Rattle.rl_sources.proofs.JsonLemmas.{no_piece, some_piece}
 use Rattle.rl_sources.proofs.json.push_piece.Goals as goal
 

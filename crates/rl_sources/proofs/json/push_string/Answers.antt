@@ -1,7 +1,7 @@
-use Rattle.rl_text.proofs.Common.{ap, chars, on_ok_weaker}
-use Rattle.rl_forms.specs.Quoted.{is_string}
-use Rattle.rl_reading.proofs.BodyContents.{plain_contents}
-use Rattle.rl_reading.proofs.Names.{Characters, Str}
+use Rattle.rl_syntax.proofs.Common.{ap, chars, on_ok_weaker}
+use Rattle.rl_syntax.specs.Quoted.{is_string}
+use Rattle.rl_lenient.proofs.BodyContents.{plain_contents}
+use Rattle.rl_lenient.proofs.Names.{Characters, Str}
 use Rattle.rl_sources.proofs.JsonLemmas.{value_is}
 use Rattle.rl_sources.proofs.json.push_string.Goals as goal
 

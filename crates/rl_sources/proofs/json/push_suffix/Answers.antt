@@ -1,4 +1,4 @@
-use Rattle.rl_text.proofs.Common.{chars, codes, on_ok_weaker}
+use Rattle.rl_syntax.proofs.Common.{chars, codes, on_ok_weaker}
 use Rattle.rl_output.specs.Members.{string_member}
 use Rattle.rl_output.proofs.Pieces.{two_pieces}
 use Rattle.rl_sources.proofs.json.push_suffix.Goals as goal

@@ -1,4 +1,4 @@
-use Rattle.rl_text.proofs.Common.{on_ok_weaker}
+use Rattle.rl_syntax.proofs.Common.{on_ok_weaker}
 use Rattle.rl_sources.proofs.JsonLemmas.{truth_value}
 use Rattle.rl_sources.proofs.json.push_value.Goals as goal
 

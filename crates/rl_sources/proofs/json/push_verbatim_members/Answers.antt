@@ -1,5 +1,5 @@
-use Rattle.rl_text.proofs.Common.{chars, on_ok_weaker}
-use Rattle.rl_lines.proofs.PrintLemmas.{verbatim_chars, no_chars}
+use Rattle.rl_syntax.proofs.Common.{chars, on_ok_weaker}
+use Rattle.rl_program.proofs.PrintLemmas.{verbatim_chars, no_chars}
 use Rattle.rl_sources.proofs.JsonLemmas.{verbatim_is}
 use Rattle.rl_sources.proofs.json.push_verbatim_members.Goals as goal
 

@@ -16,6 +16,6 @@ pub range_from-inside-requires : goal.range_from-inside-requires
 range_from-inside-requires c = λ _. (cut_within c.args.token c.args.places.now c.args.rest.now c.args.first
     c.requires.rest c.requires.cut).boundary
 
-pub place_of-requires-clause-text : goal.place_of-requires-clause-text
-place_of-requires-clause-text c = cut_rest c.args.token c.args.places.now c.args.rest.now
+pub displayed_place-requires-clause-text : goal.displayed_place-requires-clause-text
+displayed_place-requires-clause-text c = cut_rest c.args.token c.args.places.now c.args.rest.now
     c.range_from-inside.result.now c.args.first c.requires.rest c.requires.cut c.range_from-inside.ensures.value

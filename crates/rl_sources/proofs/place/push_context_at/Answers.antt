@@ -1,4 +1,4 @@
-use Rattle.rl_text.proofs.Common.{ap, arith, chars, on_ok_weaker, refl, ◌∙◌, ℕ, string_bytes, ◌++◌}
+use Rattle.rl_syntax.proofs.Common.{ap, arith, chars, on_ok_weaker, refl, ◌∙◌, ℕ, string_bytes, ◌++◌}
 use Rattle.rl_lexer.proofs.ErrorKinds.{char_len}
 use Rattle.rl_output.specs.Contexts.{context_lines}
 use Rattle.rl_sources.proofs.place.push_context_at.Goals as goal

@@ -1,5 +1,5 @@
 use Rattle.std.proofs.Common.{◌≡◌, ◌≤◌, reverse, length}
-use Rattle.rl_text.specs.Classes.{is_hash}
+use Rattle.rl_syntax.specs.Classes.{is_hash}
 use Rattle.rl_sources.specs.Prefixes.{back_from}
 use Rattle.rl_sources.proofs.prefix.before_hashes.Given as goal
 

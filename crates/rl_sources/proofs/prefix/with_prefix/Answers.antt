@@ -1,4 +1,4 @@
-use Rattle.rl_text.proofs.Common.{ap, chars, refl, subst, sym, take, ◌-◌, ◌∙◌, IsCharBoundary, ℕ, List}
+use Rattle.rl_syntax.proofs.Common.{ap, chars, refl, subst, sym, take, ◌-◌, ◌∙◌, IsCharBoundary, ℕ, List}
 use Rattle.rl_sources.proofs.PrefixLemmas.{cut_around}
 use Rattle.rl_sources.proofs.ScanLemmas.{rest_boundary}
 use Rattle.rl_sources.specs.Prefixes.{prefix_start}

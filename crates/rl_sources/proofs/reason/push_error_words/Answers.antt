@@ -1,4 +1,4 @@
-use Rattle.rl_text.proofs.Common.{chars, codes, on_ok_weaker}
+use Rattle.rl_syntax.proofs.Common.{chars, codes, on_ok_weaker}
 use Rattle.rl_output.specs.declared.color.Paint.TheVariants as paint
 use Rattle.rl_output.specs.Colors.{painted}
 use Rattle.rl_output.proofs.Pieces.{two_pieces}

@@ -1,4 +1,4 @@
-use Rattle.rl_text.proofs.Common.{chars, on_ok_weaker, ◌+◌}
+use Rattle.rl_syntax.proofs.Common.{chars, on_ok_weaker, ◌+◌}
 use Rattle.rl_sources.specs.Scans.{IsOwnFindingLine}
 use Rattle.rl_sources.proofs.FlawLineLemmas.{finding_line}
 use Rattle.rl_sources.proofs.StepLemmas.{in_context}

@@ -1,4 +1,4 @@
-use Rattle.rl_text.proofs.Common.{IsUtf8-string_bytes, on_ok_weaker, sym, ◌∙◌}
+use Rattle.rl_syntax.proofs.Common.{IsUtf8-string_bytes, on_ok_weaker, sym, ◌∙◌}
 use Rattle.rl_sources.proofs.ReasonLemmas.{error_alone, error_of_piece}
 use Rattle.rl_sources.proofs.reason.push_reason.Goals as goal
 

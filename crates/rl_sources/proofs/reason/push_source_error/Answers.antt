@@ -1,4 +1,4 @@
-use Rattle.rl_text.proofs.Common.{[], chars-nil, on_ok_weaker}
+use Rattle.rl_syntax.proofs.Common.{[], chars-nil, on_ok_weaker}
 use Rattle.rl_output.specs.Fronts.{line_front}
 use Rattle.rl_output.proofs.Pieces.{two_pieces}
 use Rattle.rl_sources.specs.Scans.{error_end}

@@ -1,4 +1,4 @@
-use Rattle.rl_text.proofs.Common.{IsUtf8-string_bytes, chars, string_bytes}
+use Rattle.rl_syntax.proofs.Common.{IsUtf8-string_bytes, chars, string_bytes}
 use Rattle.rl_sources.proofs.WriteLemmas.{hidden_unwritten, hidden_written}
 use Rattle.rl_sources.proofs.scanner.scan_hidden.Goals as goal
 

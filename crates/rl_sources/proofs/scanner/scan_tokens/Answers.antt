@@ -1,4 +1,4 @@
-use Rattle.rl_text.proofs.Common.{IsUtf8-string_bytes, string_bytes, ◌∙◌}
+use Rattle.rl_syntax.proofs.Common.{IsUtf8-string_bytes, string_bytes, ◌∙◌}
 use Rattle.rl_sources.proofs.WriteLemmas.{write_fails, writes_on, writes_all, writes_up_to}
 use Rattle.rl_sources.proofs.scanner.scan_tokens.Goals as goal
 

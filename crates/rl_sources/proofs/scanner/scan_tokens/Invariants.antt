@@ -1,4 +1,4 @@
-use Rattle.rl_text.proofs.Common.{[], chars, length, string_bytes, ◌≡◌}
+use Rattle.rl_syntax.proofs.Common.{[], chars, length, string_bytes, ◌≡◌}
 use Rattle.rl_sources.specs.Steps.{IsCursorOver}
 use Rattle.rl_sources.proofs.ScanLemmas.{HasWritten}
 use Rattle.rl_sources.proofs.scanner.scan_tokens.Given as goal

@@ -1,4 +1,4 @@
-use Rattle.rl_text.proofs.Common.{List, ap, arith, chars, chars-nil, inl, inr, refl, string_bytes, subst, sym, ℕ, ◌∙◌}
+use Rattle.rl_syntax.proofs.Common.{List, ap, arith, chars, chars-nil, inl, inr, refl, string_bytes, subst, sym, ℕ, ◌∙◌}
 use Rattle.std.proofs.lemmas.Result.{IfOk-weaker}
 use Rattle.rl_lexer.specs.Cursors.{IsCursorState}
 use Rattle.rl_sources.specs.Steps.{Adds}

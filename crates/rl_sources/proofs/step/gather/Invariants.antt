@@ -1,4 +1,4 @@
-use Rattle.rl_text.proofs.Common.{[], chars, length, string_bytes, ◌<◌, ◌≡◌, ◌≤◌, ◌⊎◌}
+use Rattle.rl_syntax.proofs.Common.{[], chars, length, string_bytes, ◌<◌, ◌≡◌, ◌≤◌, ◌⊎◌}
 use Rattle.rl_sources.specs.Steps.{IsCursorOver, Adds}
 use Rattle.rl_sources.proofs.step.gather.Given as goal
 

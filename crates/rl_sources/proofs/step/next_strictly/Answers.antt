@@ -1,4 +1,4 @@
-use Rattle.rl_text.proofs.Common.{arith, both_ways}
+use Rattle.rl_syntax.proofs.Common.{arith, both_ways}
 use Rattle.rl_sources.proofs.ScanLemmas.{unshown_more}
 use Rattle.rl_sources.proofs.step.next_strictly.Goals as goal
 

@@ -1,4 +1,4 @@
--- Of what was cut off so far nothing is shown.
+-- The invariant of the loop in `next_strictly`: the tokens that were lexed have no output.
 use Rattle.std.proofs.Common.{◌≤◌, length}
 use Rattle.rl_sources.specs.Steps.{IsUnshown}
 use Rattle.rl_sources.proofs.step.next_strictly.Given as goal

@@ -1,4 +1,4 @@
-use Rattle.rl_text.proofs.Common.{chars, on_ok_weaker, ◌+◌}
+use Rattle.rl_syntax.proofs.Common.{chars, on_ok_weaker, ◌+◌}
 use Rattle.rl_sources.specs.Scans.{IsOwnLine}
 use Rattle.rl_sources.proofs.StepLemmas.{in_context, placed}
 use Rattle.rl_sources.proofs.step.push_inside.Goals as goal

@@ -1,4 +1,4 @@
-use Rattle.rl_text.proofs.Common.{chars, on_ok_weaker}
+use Rattle.rl_syntax.proofs.Common.{chars, on_ok_weaker}
 use Rattle.rl_sources.proofs.StepLemmas.{line_at}
 use Rattle.rl_sources.proofs.step.push_line_at.Goals as goal
 

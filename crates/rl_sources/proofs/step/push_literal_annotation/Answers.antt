@@ -1,4 +1,4 @@
-use Rattle.rl_text.proofs.Common.{ap, chars, on_ok_weaker, string_bytes, ◌∙◌}
+use Rattle.rl_syntax.proofs.Common.{ap, chars, on_ok_weaker, string_bytes, ◌∙◌}
 use Rattle.rl_output.specs.Contexts.{first_line}
 use Rattle.rl_sources.proofs.StepLemmas.{annotated}
 use Rattle.rl_sources.proofs.step.push_literal_annotation.Goals as goal

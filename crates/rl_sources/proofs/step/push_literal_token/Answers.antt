@@ -1,4 +1,4 @@
-use Rattle.rl_text.proofs.Common.{chars, on_ok_weaker, refl, string_bytes}
+use Rattle.rl_syntax.proofs.Common.{chars, on_ok_weaker, refl, string_bytes}
 use Rattle.std.proofs.lemmas.Bool.{false≢true}
 use Rattle.rl_sources.specs.Findings.{IsFoundIn}
 use Rattle.rl_output.specs.Spots.{bytes_before}
@@ -9,41 +9,49 @@ use Rattle.rl_sources.proofs.step.push_literal_token.Goals as goal
 pub returns-then-not-picks-clause-shown : goal.returns-then-not-picks-clause-shown
 returns-then-not-picks-clause-shown g c =
     let text = c.args.token.text.now in
-    let is_label = found_label text c.label_of-label.result.now c.kind_of.result c.find-found.result c.find-found.ensures.none
+    let is_label = found_label text c.label_of-label.result.now c.kind_of.result c.find-found.result
+    c.find-found.ensures.none
     c.find-found.ensures.found c.kind_of.ensures c.label_of-label.ensures in
     let read : IsFoundIn text c.find-found.result = record {
       none = c.find-found.ensures.none;
       some = c.find-found.ensures.found;
     } in
-    let picks = picks_found c.args.options.now (bytes_before (chars c.args.places.now) c.args.token.lo) text c.find-found.result _ _ _ _ c.is_some.ensures
-    (rw c.before-before.ensures at c.wrong_in-wrong.ensures.some) (rw c.before-before.ensures at c.wrong_in-wrong.ensures.none)
+    let picks = picks_found c.args.options.now (bytes_before (chars c.args.places.now) c.args.token.lo) text
+    c.find-found.result _ _ _ _ c.is_some.ensures
+    (rw c.before-before.ensures at c.find_wrong-wrong.ensures.some)
+    (rw c.before-before.ensures at c.find_wrong-wrong.ensures.none)
     c.if-not-picks.ensures in
     not_picked c.args.options.now (chars c.args.places.now) text c.find-found.result _ c.args.token.lo c.args.token.hi
     (chars (string_bytes c.args.out.now)) is_label read (λ p. false≢true (picks.1 p))
 
 pub before-before-requires : goal.before-before-requires
-before-before-requires g c = rest_boundary c.args.places.now c.args.places.now c.args.rest.now c.args.token.lo c.requires.cursor refl
+before-before-requires g c = rest_boundary c.args.places.now c.args.places.now c.args.rest.now c.args.token.lo
+    c.requires.cursor refl
     c.requires.lo_is
 
 pub push_picked-requires : goal.push_picked-requires
 push_picked-requires g c = record {
   begins = c.requires;
   is_read = record { none = c.find-found.ensures.none; some = c.find-found.ensures.found };
-  wrong = rw c.before-before.ensures at c.wrong_in-wrong.ensures.some;
-  right = rw c.before-before.ensures at c.wrong_in-wrong.ensures.none;
+  wrong = rw c.before-before.ensures at c.find_wrong-wrong.ensures.some;
+  right = rw c.before-before.ensures at c.find_wrong-wrong.ensures.none;
 }
 
 pub returns-clause-shown : goal.returns-clause-shown
 returns-clause-shown g c =
     let text = c.args.token.text.now in
-    let is_label = found_label text c.label_of-label.result.now c.kind_of.result c.find-found.result c.find-found.ensures.none
+    let is_label = found_label text c.label_of-label.result.now c.kind_of.result c.find-found.result
+    c.find-found.ensures.none
     c.find-found.ensures.found c.kind_of.ensures c.label_of-label.ensures in
     let read : IsFoundIn text c.find-found.result = record {
       none = c.find-found.ensures.none;
       some = c.find-found.ensures.found;
     } in
-    let picks = picks_found c.args.options.now (bytes_before (chars c.args.places.now) c.args.token.lo) text c.find-found.result _ _ _ _ c.is_some.ensures
-    (rw c.before-before.ensures at c.wrong_in-wrong.ensures.some) (rw c.before-before.ensures at c.wrong_in-wrong.ensures.none)
+    let picks = picks_found c.args.options.now (bytes_before (chars c.args.places.now) c.args.token.lo) text
+    c.find-found.result _ _ _ _ c.is_some.ensures
+    (rw c.before-before.ensures at c.find_wrong-wrong.ensures.some)
+    (rw c.before-before.ensures at c.find_wrong-wrong.ensures.none)
     c.if-not-picks.ensures in
-    on_ok_weaker c.push_picked.result (picked_line c.args.options.now (chars c.args.places.now) text c.find-found.result _
+    on_ok_weaker c.push_picked.result (picked_line c.args.options.now (chars c.args.places.now) text c.find-found.result
+    _
     c.args.token.lo c.args.token.hi _ _ is_label read (picks.0 refl)) c.push_picked.ensures.shown

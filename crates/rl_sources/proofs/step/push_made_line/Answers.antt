@@ -1,4 +1,4 @@
-use Rattle.rl_text.proofs.Common.{IsUtf8-string_bytes, chars, on_ok_weaker, string_bytes}
+use Rattle.rl_syntax.proofs.Common.{IsUtf8-string_bytes, chars, on_ok_weaker, string_bytes}
 use Rattle.rl_sources.proofs.StepLemmas.{ends_in_line, line_printed}
 use Rattle.rl_sources.proofs.step.push_made_line.Goals as goal
 

@@ -1,5 +1,5 @@
-use Rattle.rl_text.proofs.Common.{on_ok_weaker}
-use Rattle.rl_text.proofs.Common.{codes, refl, ◌++◌, chars}
+use Rattle.rl_syntax.proofs.Common.{on_ok_weaker}
+use Rattle.rl_syntax.proofs.Common.{codes, refl, ◌++◌, chars}
 use Rattle.rl_files.specs.Visible.{visible}
 use Rattle.rl_sources.proofs.step.push_printed.Goals as goal
 

@@ -1,4 +1,4 @@
-use Rattle.rl_text.proofs.Common.{IsUtf8-string_bytes, chars, string_bytes}
+use Rattle.rl_syntax.proofs.Common.{IsUtf8-string_bytes, chars, string_bytes}
 use Rattle.rl_sources.proofs.ReasonLemmas.{source_shown}
 use Rattle.rl_sources.proofs.step.push_source.Goals as goal
 

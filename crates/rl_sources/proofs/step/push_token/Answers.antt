@@ -1,4 +1,4 @@
-use Rattle.rl_text.proofs.Common.{chars, on_ok_weaker, refl}
+use Rattle.rl_syntax.proofs.Common.{chars, on_ok_weaker, refl}
 use Rattle.std.proofs.lemmas.Bool.{false≢true}
 use Rattle.rl_sources.proofs.ScanLemmas.{shown_other, shown_stray}
 use Rattle.rl_sources.proofs.step.push_token.Goals as goal

@@ -1,4 +1,4 @@
-use Rattle.rl_text.proofs.Common.{chars-nil}
+use Rattle.rl_syntax.proofs.Common.{chars-nil}
 use Rattle.rl_sources.proofs.step.stop_at.Goals as goal
 
 pub returns-then-options : goal.returns-then-options

@@ -1,4 +1,4 @@
-use Rattle.rl_text.proofs.Common.{[], refl}
+use Rattle.rl_syntax.proofs.Common.{[], refl}
 use Rattle.std.specs.Str.{chars}
 use Rattle.rl_strict.proofs.StrictRawLemmas.{str_run, c_run}
 use Rattle.rl_strict.proofs.InsideRuns.{inside_run}

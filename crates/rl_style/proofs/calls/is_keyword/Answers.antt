@@ -1,4 +1,4 @@
-use Rattle.rl_text.proofs.Common.{codes, refl}
+use Rattle.rl_syntax.proofs.Common.{codes, refl}
 use Rattle.rl_style.proofs.Keywords.{keyword, no_keyword}
 use Rattle.rl_style.proofs.calls.is_keyword.Goals as goal
 

@@ -1,4 +1,4 @@
-use Rattle.rl_text.proofs.Common.{◌≡◌, ◌∙◌, ◌+◌, ◌∷◌, [], ◌++◌, length, take, ap, sym, append_assoc, arith, rules, encode_utf8}
+use Rattle.rl_syntax.proofs.Common.{◌≡◌, ◌∙◌, ◌+◌, ◌∷◌, [], ◌++◌, length, take, ap, sym, append_assoc, arith, rules, encode_utf8}
 use Rattle.std.proofs.Common.{length-append}
 use Rattle.std.specs.Str.{chars}
 use Rattle.rl_style.proofs.CaseLemmas.{cased_more}

@@ -1,4 +1,4 @@
-use Rattle.rl_text.proofs.Common.{◌≡◌, ◌∙◌, ◌+◌, ◌++◌, length, take, flat_map, ap, arith, rules, encode_utf8, encode_utf8_all}
+use Rattle.rl_syntax.proofs.Common.{◌≡◌, ◌∙◌, ◌+◌, ◌++◌, length, take, flat_map, ap, arith, rules, encode_utf8, encode_utf8_all}
 use Rattle.std.proofs.Common.{length-append}
 use Rattle.std.specs.Str.{chars}
 use Rattle.rl_style.specs.Cases.{number_character}

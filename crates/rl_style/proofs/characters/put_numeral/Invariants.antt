@@ -1,5 +1,5 @@
--- What is left to be put comes after what stands in the slice, and has room there.
-use Rattle.rl_text.proofs.Common.{◌≡◌, ◌≤◌, ◌+◌, ◌++◌, take, length, flat_map, encode_utf8_all}
+-- The loop's invariant: the text that is still to be written fits after the bytes in the slice.
+use Rattle.rl_syntax.proofs.Common.{◌≡◌, ◌≤◌, ◌+◌, ◌++◌, take, length, flat_map, encode_utf8_all}
 use denote.Text.{Utf8}
 use denote.Shadow.{shadow}
 use Rattle.std.specs.Str.{chars}

@@ -1,9 +1,9 @@
--- The characters that were passed stand in the slice, but for underscores, and the rest has room after them.
-use Rattle.rl_text.proofs.Common.{◌≡◌, ◌≤◌, ◌+◌, ◌++◌, ℕ, List, take, length, map, encode_utf8_all}
+-- The loop's invariant: the characters read so far are in the slice, without underscores. The others fit after them.
+use Rattle.rl_syntax.proofs.Common.{◌≡◌, ◌≤◌, ◌+◌, ◌++◌, ℕ, List, take, length, map, encode_utf8_all}
 use denote.Text.{Utf8}
 use denote.Shadow.{shadow}
 use Rattle.std.specs.Str.{chars}
-use Rattle.rl_forms.specs.Spelling.{without_underscores}
+use Rattle.rl_syntax.specs.Spelling.{without_underscores}
 use Rattle.rl_style.specs.Cases.{cased}
 use Rattle.rl_style.proofs.codes.put_bare.Given as goal
 

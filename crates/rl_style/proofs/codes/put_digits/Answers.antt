@@ -1,4 +1,4 @@
-use Rattle.rl_text.proofs.Common.{◌≡◌, ◌∙◌, ◌++◌, Bool, true, false, not, take, refl, ap, sym, arith, rules, encode_utf8_all}
+use Rattle.rl_syntax.proofs.Common.{◌≡◌, ◌∙◌, ◌++◌, Bool, true, false, not, take, refl, ap, sym, arith, rules, encode_utf8_all}
 use Rattle.rl_style.proofs.UnitTexts.{cased_code, code_written, opened_length}
 use Rattle.rl_style.proofs.codes.put_digits.Goals as goal
 

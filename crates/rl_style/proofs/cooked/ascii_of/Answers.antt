@@ -1,5 +1,5 @@
-use Rattle.rl_text.proofs.Common.{◌∙◌, ap, sym}
-use Rattle.rl_reading.specs.Mirrors.UnitAt.{piece_value}
+use Rattle.rl_syntax.proofs.Common.{◌∙◌, ap, sym}
+use Rattle.rl_lenient.specs.Mirrors.UnitAt.{piece_value}
 use Rattle.rl_style.specs.Mirrors.{ascii_in}
 use Rattle.rl_style.proofs.UnitTexts.{content_ascii}
 use Rattle.rl_style.proofs.cooked.ascii_of.Goals as goal

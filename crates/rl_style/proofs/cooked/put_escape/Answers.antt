@@ -1,14 +1,14 @@
-use Rattle.rl_text.proofs.Common.{◌∙◌, ◌++◌, take, ap, sym}
+use Rattle.rl_syntax.proofs.Common.{◌∙◌, ◌++◌, take, ap, sym}
 use Rattle.rl_style.proofs.UnitTexts.{alone_bytes, bared_bytes, kept_bytes, number_bytes, other_bytes}
 use Rattle.rl_style.proofs.cooked.put_escape.Goals as goal
 
-pub returns-then-is_bared-clause-bytes : goal.returns-then-is_bared-clause-bytes
-returns-then-is_bared-clause-bytes c = c.put_text-then-is_bared.ensures.bytes
+pub returns-then-loses_backslash-clause-bytes : goal.returns-then-loses_backslash-clause-bytes
+returns-then-loses_backslash-clause-bytes c = c.put_text-then-loses_backslash.ensures.bytes
     ∙ ap (λ z. take c.args.at c.args.out.now ++ z)
     (sym (bared_bytes c.args.style c.args.kind c.args.byte c.args.unit.now c.args.escape.now _ c.in-Some.first
     c.utf8.escape
     c.requires.text c.in-Some.ensures.chars (sym c.is_quote.ensures ∙ c.if-is_quote.true)
-    (sym c.is_bared.ensures ∙ c.if-is_bared.true)))
+    (sym c.loses_backslash.ensures ∙ c.if-loses_backslash.true)))
 
 pub returns-then-is_quote-clause-bytes : goal.returns-then-is_quote-clause-bytes
 returns-then-is_quote-clause-bytes c = c.put_text-then-is_quote.ensures.bytes
@@ -16,7 +16,7 @@ returns-then-is_quote-clause-bytes c = c.put_text-then-is_quote.ensures.bytes
     (sym (kept_bytes c.args.style c.args.kind c.args.byte c.args.unit.now c.args.escape.now _ c.in-Some.first
     c.utf8.unit
     c.requires.text c.in-Some.ensures.chars (sym c.is_quote.ensures ∙ c.if-is_quote.true)
-    (sym c.is_bared.ensures ∙ c.if-is_bared.false)))
+    (sym c.loses_backslash.ensures ∙ c.if-loses_backslash.false)))
 
 pub returns-then-begins_number-clause-bytes : goal.returns-then-begins_number-clause-bytes
 returns-then-begins_number-clause-bytes c = c.put_number.ensures.bytes ∙ ap (λ z. take c.args.at c.args.out.now ++ z)

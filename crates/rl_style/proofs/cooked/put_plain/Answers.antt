@@ -1,4 +1,4 @@
-use Rattle.rl_text.proofs.Common.{◌∙◌, ◌++◌, take, ap, sym, append-nil, rules}
+use Rattle.rl_syntax.proofs.Common.{◌∙◌, ◌++◌, take, ap, sym, append-nil, rules}
 use Rattle.rl_style.proofs.UnitTexts.{empty_bytes, plain_bytes}
 use Rattle.rl_style.proofs.cooked.put_plain.Goals as goal
 

@@ -1,8 +1,8 @@
-use Rattle.rl_text.proofs.Common.{◌≡◌, ◌+◌, ◌∙◌, ◌++◌, length, take, ap, sym, arith, rules, encode_utf8_all, not}
+use Rattle.rl_syntax.proofs.Common.{◌≡◌, ◌+◌, ◌∙◌, ◌++◌, length, take, ap, sym, arith, rules, encode_utf8_all, not}
 use Rattle.std.proofs.Common.{length-append}
 use Rattle.std.specs.Str.{chars}
-use Rattle.rl_reading.specs.Mirrors.UnitAt.{unit_at}
-use Rattle.rl_style.specs.Mirrors.{lettered, restyled_text, stands_for_digit}
+use Rattle.rl_lenient.specs.Mirrors.UnitAt.{unit_at}
+use Rattle.rl_style.specs.Mirrors.{lettered, restyled_text, represents_digit}
 use Rattle.rl_style.proofs.UnitTexts.{unit_tail}
 use Rattle.rl_style.proofs.UnitRows.{passed_end, passed_step}
 use Rattle.rl_style.proofs.cooked.put_units.Goals as goal
@@ -24,8 +24,8 @@ loop-piece-preserved c =
           (chars c.in-Some.after.now) _ _ _ (l.invariant.passed us a) c.in-Some.ensures.value b.ensures.chars
           (p.bytes ∙ ap (λ n. take l.end l.out ++ encode_utf8_all (restyled_text c.args.style c.args.kind n
           (chars b.result.now))) (c.lettered-byte.ensures.value
-          ∙ ap (λ d. lettered (not d) c.ascii_of.result) c.stands_for_digit.ensures
-          ∙ ap (lettered (not (stands_for_digit (unit_at c.args.kind (chars c.in-Some.after.now)))))
+          ∙ ap (λ d. lettered (not d) c.ascii_of.result) c.represents_digit.ensures
+          ∙ ap (lettered (not (represents_digit (unit_at c.args.kind (chars c.in-Some.after.now)))))
           c.ascii_of.ensures.value));
       room = omega (arith, l.invariant.room, long, p.end);
       len = p.len ∙ l.invariant.len;

@@ -1,9 +1,9 @@
--- The units that were passed stand in the slice, written anew, and the rest has room after them.
-use Rattle.rl_text.proofs.Common.{◌≡◌, ◌≤◌, ◌+◌, ◌*◌, List, take, length}
+-- The loop's invariant: the new forms of the characters and escapes read so far are in the slice. The others fit after them.
+use Rattle.rl_syntax.proofs.Common.{◌≡◌, ◌≤◌, ◌+◌, ◌*◌, List, take, length}
 use denote.Text.{Utf8}
 use denote.Shadow.{shadow}
 use Rattle.std.specs.Str.{chars}
-use Rattle.rl_forms.specs.Strict.{StrictUnit}
+use Rattle.rl_syntax.specs.Strict.{StrictUnit}
 use Rattle.rl_style.specs.Mirrors.{AreUnits}
 use Rattle.rl_style.proofs.UnitRows.{UnitsPassed}
 use Rattle.rl_style.proofs.cooked.put_units.Given as goal

@@ -1,9 +1,9 @@
--- The digits that were passed, and those that are left, are those of the run.
-use Rattle.rl_text.proofs.Common.{◌≡◌, ◌≤◌, ◌+◌, length}
+-- The loop's invariant: the digits counted so far, and those of the rest, are the digits of the sequence.
+use Rattle.rl_syntax.proofs.Common.{◌≡◌, ◌≤◌, ◌+◌, length}
 use denote.Text.{Utf8}
 use denote.Shadow.{shadow}
 use Rattle.std.specs.Str.{chars}
-use Rattle.rl_forms.specs.Spelling.{without_underscores}
+use Rattle.rl_syntax.specs.Spelling.{without_underscores}
 use Rattle.rl_style.proofs.groups.count_digits.Given as goal
 
 abbrev pub invariant-loop-c : goal.invariant-loop-c

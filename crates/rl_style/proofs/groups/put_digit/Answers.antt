@@ -1,4 +1,4 @@
-use Rattle.rl_text.proofs.Common.{arith, length-encode, len_utf8_bounds}
+use Rattle.rl_syntax.proofs.Common.{arith, length-encode, len_utf8_bounds}
 use Rattle.rl_style.specs.Cases.{number_character}
 use Rattle.rl_style.proofs.WrittenNumbers.{digit_marked}
 use Rattle.rl_style.proofs.groups.put_digit.Goals as goal

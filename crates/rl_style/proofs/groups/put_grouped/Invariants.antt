@@ -1,9 +1,9 @@
--- What is left to be put comes after what stands in the slice, and has room there; so many digits are left.
-use Rattle.rl_text.proofs.Common.{◌≡◌, ◌≤◌, ◌+◌, ◌*◌, ◌++◌, take, length, encode_utf8_all}
+-- The loop's invariant: the text that is still to be written fits after the bytes in the slice, and `left` digits remain.
+use Rattle.rl_syntax.proofs.Common.{◌≡◌, ◌≤◌, ◌+◌, ◌*◌, ◌++◌, take, length, encode_utf8_all}
 use denote.Text.{Utf8}
 use denote.Shadow.{shadow}
 use Rattle.std.specs.Str.{chars}
-use Rattle.rl_forms.specs.Spelling.{without_underscores}
+use Rattle.rl_syntax.specs.Spelling.{without_underscores}
 use Rattle.rl_style.specs.Cases.{number_character}
 use Rattle.rl_style.specs.Groups.{ends}
 use Rattle.rl_style.specs.Mirrors.{run_placed}

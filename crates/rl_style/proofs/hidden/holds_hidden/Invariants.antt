@@ -1,5 +1,5 @@
--- Some character turns or hides text where one of those that are left does.
-use Rattle.rl_text.proofs.Common.{◌≡◌, length}
+-- The loop's invariant: the text contains an invisible or bidirectional character if and only if its rest does.
+use Rattle.rl_syntax.proofs.Common.{◌≡◌, length}
 use Rattle.std.specs.List.{list_any}
 use denote.Text.{Utf8}
 use denote.Shadow.{shadow}

@@ -1,4 +1,4 @@
-use Rattle.rl_text.proofs.Common.{◌∙◌, ◌++◌, take, ap, arith, encode_utf8_all}
+use Rattle.rl_syntax.proofs.Common.{◌∙◌, ◌++◌, take, ap, arith, encode_utf8_all}
 use Rattle.rl_style.specs.Mirrors.{digits_text}
 use Rattle.rl_style.proofs.HiddenUnits.{put_code_chars, put_code_fits, put_code_utf8, text_short}
 use Rattle.rl_style.proofs.hidden.put_styled_code.Goals as goal

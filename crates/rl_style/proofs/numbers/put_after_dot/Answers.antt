@@ -1,4 +1,4 @@
-use Rattle.rl_text.proofs.Common.{take, true}
+use Rattle.rl_syntax.proofs.Common.{take, true}
 use Rattle.std.specs.Str.{chars}
 use Rattle.rl_style.specs.Cases.{number_character}
 use Rattle.rl_style.specs.Groups.{least_by, regrouped}

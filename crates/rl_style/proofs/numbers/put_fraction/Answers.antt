@@ -1,4 +1,4 @@
-use Rattle.rl_text.proofs.Common.{◌∙◌, ◌++◌, take, true, refl, ap, sym, arith, rules, encode_utf8_all}
+use Rattle.rl_syntax.proofs.Common.{◌∙◌, ◌++◌, take, true, refl, ap, sym, arith, rules, encode_utf8_all}
 use Rattle.std.specs.Str.{chars}
 use Rattle.rl_style.specs.Cases.{number_character}
 use Rattle.rl_style.specs.Groups.{least_by, regrouped}

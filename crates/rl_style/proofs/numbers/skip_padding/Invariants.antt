@@ -1,9 +1,9 @@
--- What is left has the same end.
-use Rattle.rl_text.proofs.Common.{◌≡◌, ◌≤◌, length}
+-- The loop's invariant: the rest of the text, without its leading zeros, is the text without them.
+use Rattle.rl_syntax.proofs.Common.{◌≡◌, ◌≤◌, length}
 use denote.Text.{Utf8}
 use denote.Shadow.{shadow}
 use Rattle.std.specs.Str.{chars}
-use Rattle.rl_text.specs.Classes.{after_run}
+use Rattle.rl_syntax.specs.Classes.{after_run}
 use Rattle.rl_style.specs.Cases.{is_padding}
 use Rattle.rl_style.proofs.numbers.skip_padding.Given as goal
 

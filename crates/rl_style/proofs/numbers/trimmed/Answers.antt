@@ -1,4 +1,4 @@
-use Rattle.rl_text.proofs.Common.{◌≡◌, ◌∙◌, ◌∷◌, [], ◌++◌, ◌==◌, List, ℕ, refl, ap, sym, append_assoc, append-nil, append_cancel_right, rules, ne_eqb}
+use Rattle.rl_syntax.proofs.Common.{◌≡◌, ◌∙◌, ◌∷◌, [], ◌++◌, ◌==◌, List, ℕ, refl, ap, sym, append_assoc, append-nil, append_cancel_right, rules, ne_eqb}
 use Rattle.std.specs.Str.{chars}
 use Rattle.rl_style.specs.Cases.{trimmed}
 use Rattle.rl_style.proofs.Trimmed.{other_trims, trimmed_end, under_only}

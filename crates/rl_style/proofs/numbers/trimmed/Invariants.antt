@@ -1,5 +1,5 @@
--- What follows the last character that is no underscore, and the underscores that follow it.
-use Rattle.rl_text.proofs.Common.{◌≡◌, ◌++◌, ℕ, true, List, length}
+-- The loop's invariant: the text after the last character that isn't an underscore, and the underscores after this character.
+use Rattle.rl_syntax.proofs.Common.{◌≡◌, ◌++◌, ℕ, true, List, length}
 use denote.Text.{Utf8}
 use denote.Shadow.{shadow}
 use Rattle.std.specs.Str.{chars}

@@ -9,12 +9,12 @@ put_digit_run-at-requires-clause-no_plus c = (run_cut (chars c.kept_run-numeral.
 
 pub returns-clause-written : goal.returns-clause-written
 returns-clause-written c =
-    let m = c.manner_of-manner.ensures in
+    let m = c.number_style-manner.ensures in
     let run = (run_cut (chars c.kept_run-numeral.result.now) (chars c.before-3.result.now)
     (chars c.skip_class-rest.result.now) c.before-3.ensures.chars c.skip_class-rest.ensures.rest).0 in
     (float_written c.args.style c.args.text.now c.before-2.result.now c.kept_run-numeral.result.now c.args.suffix.now _
     c.requires.float.0 c.kept_run-numeral.utf8 c.utf8.suffix c.before-2.ensures.chars c.kept_run-numeral.ensures.kept
-    (float_put c.args.style c.manner_of-manner.result (chars c.kept_run-numeral.result.now)
+    (float_put c.args.style c.number_style-manner.result (chars c.kept_run-numeral.result.now)
     (chars c.before-3.result.now)
     (chars c.skip_class-rest.result.now) _ _ _ c.args.suffix.now m.style m.drops m.hex m.size c.put_digit_run-at.ensures.bytes
     c.put_fraction-at.ensures.bytes c.put_suffix.ensures.bytes run c.skip_class-rest.ensures.rest)
@@ -22,12 +22,12 @@ returns-clause-written c =
 
 pub returns-clause-utf8 : goal.returns-clause-utf8
 returns-clause-utf8 c =
-    let m = c.manner_of-manner.ensures in
+    let m = c.number_style-manner.ensures in
     let run = (run_cut (chars c.kept_run-numeral.result.now) (chars c.before-3.result.now)
     (chars c.skip_class-rest.result.now) c.before-3.ensures.chars c.skip_class-rest.ensures.rest).0 in
     (float_written c.args.style c.args.text.now c.before-2.result.now c.kept_run-numeral.result.now c.args.suffix.now _
     c.requires.float.0 c.kept_run-numeral.utf8 c.utf8.suffix c.before-2.ensures.chars c.kept_run-numeral.ensures.kept
-    (float_put c.args.style c.manner_of-manner.result (chars c.kept_run-numeral.result.now)
+    (float_put c.args.style c.number_style-manner.result (chars c.kept_run-numeral.result.now)
     (chars c.before-3.result.now)
     (chars c.skip_class-rest.result.now) _ _ _ c.args.suffix.now m.style m.drops m.hex m.size c.put_digit_run-at.ensures.bytes
     c.put_fraction-at.ensures.bytes c.put_suffix.ensures.bytes run c.skip_class-rest.ensures.rest)

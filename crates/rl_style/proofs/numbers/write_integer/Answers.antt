@@ -1,4 +1,4 @@
-use Rattle.rl_text.proofs.Common.{◌∙◌, List, ℕ, ap, rules}
+use Rattle.rl_syntax.proofs.Common.{◌∙◌, List, ℕ, ap, rules}
 use Rattle.std.specs.Str.{chars}
 use Rattle.rl_style.proofs.UnitTexts.{tail_of}
 use Rattle.rl_style.proofs.WrittenNumbers.{digits_found, integer_put, integer_written, row_plus, whole_digit}
@@ -24,24 +24,24 @@ put_digit_run-at-requires-clause-no_plus c = row_plus c.args.style c.args.text.n
 
 pub returns-clause-written : goal.returns-clause-written
 returns-clause-written c =
-    let m = c.manner_of.ensures in
+    let m = c.number_style.ensures in
     (integer_written c.args.style c.args.text.now c.split_radix-base.result.1.now c.args.suffix.now
     c.before-2.result.now c.kept_run-whole.result.now c.kept_digits-run.result.now c.before-3.result.now _
     c.split_radix-base.result.0 c.requires.integer.0 c.before-3.utf8 c.utf8.suffix c.kept_digits-run.utf8
     c.split_radix-base.ensures.value c.before-2.ensures.chars c.kept_run-whole.ensures.kept
     c.kept_digits-run.ensures.kept c.before-3.ensures.chars
-    (integer_put c.args.style c.manner_of.result c.split_radix-base.result.0 (chars c.kept_digits-run.result.now)
+    (integer_put c.args.style c.number_style.result c.split_radix-base.result.0 (chars c.kept_digits-run.result.now)
     c.before-3.result.now _ _ _ c.args.suffix.now m.style m.drops m.hex m.size c.put_text-at.ensures.bytes
     c.put_digit_run-at.ensures.bytes c.put_suffix.ensures.bytes) c.requires.integer.1).1
 
 pub returns-clause-utf8 : goal.returns-clause-utf8
 returns-clause-utf8 c =
-    let m = c.manner_of.ensures in
+    let m = c.number_style.ensures in
     (integer_written c.args.style c.args.text.now c.split_radix-base.result.1.now c.args.suffix.now
     c.before-2.result.now c.kept_run-whole.result.now c.kept_digits-run.result.now c.before-3.result.now _
     c.split_radix-base.result.0 c.requires.integer.0 c.before-3.utf8 c.utf8.suffix c.kept_digits-run.utf8
     c.split_radix-base.ensures.value c.before-2.ensures.chars c.kept_run-whole.ensures.kept
     c.kept_digits-run.ensures.kept c.before-3.ensures.chars
-    (integer_put c.args.style c.manner_of.result c.split_radix-base.result.0 (chars c.kept_digits-run.result.now)
+    (integer_put c.args.style c.number_style.result c.split_radix-base.result.0 (chars c.kept_digits-run.result.now)
     c.before-3.result.now _ _ _ c.args.suffix.now m.style m.drops m.hex m.size c.put_text-at.ensures.bytes
     c.put_digit_run-at.ensures.bytes c.put_suffix.ensures.bytes) c.requires.integer.1).0

@@ -1,4 +1,4 @@
-use Rattle.rl_text.proofs.Common.{inl, inr}
+use Rattle.rl_syntax.proofs.Common.{inl, inr}
 use Rattle.std.specs.Str.{chars}
 use Rattle.rl_style.proofs.WrittenNumbers.{float_of, integer_of}
 use Rattle.rl_style.proofs.numbers.write_number.Goals as goal

@@ -1,5 +1,5 @@
--- All characters get no backslash where those that are left get none.
-use Rattle.rl_text.proofs.Common.{◌≡◌, not, list_all, length}
+-- The loop's invariant: the text contains no character that needs a backslash if and only if its rest doesn't.
+use Rattle.rl_syntax.proofs.Common.{◌≡◌, not, list_all, length}
 use denote.Text.{Utf8}
 use denote.Shadow.{shadow}
 use Rattle.std.specs.Str.{chars}

@@ -1,4 +1,4 @@
-use Rattle.rl_text.proofs.Common.{◌≤◌, ◌-◌, ◌||◌, not, ◌==◌, length, get_or, sym, ap, ◌∙◌, arith}
+use Rattle.rl_syntax.proofs.Common.{◌≤◌, ◌-◌, ◌||◌, not, ◌==◌, length, get_or, sym, ap, ◌∙◌, arith}
 use Rattle.rl_style.proofs.FrontEnds.{empty_ends, ends_by_byte}
 use Rattle.rl_style.proofs.raw.may_precede_quote.Goals as goal
 

@@ -1,5 +1,5 @@
--- The characters that were passed stand in the slice, and the rest has room after them.
-use Rattle.rl_text.proofs.Common.{◌≡◌, ◌≤◌, ◌+◌, ◌*◌, ◌++◌, ℕ, List, take, length, encode_utf8_all}
+-- The loop's invariant: the characters read so far are in the slice. The others fit after them.
+use Rattle.rl_syntax.proofs.Common.{◌≡◌, ◌≤◌, ◌+◌, ◌*◌, ◌++◌, ℕ, List, take, length, encode_utf8_all}
 use denote.Text.{Utf8}
 use denote.Shadow.{shadow}
 use Rattle.std.specs.Str.{chars}

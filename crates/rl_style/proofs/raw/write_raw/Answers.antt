@@ -1,4 +1,4 @@
-use Rattle.rl_text.proofs.Common.{◌≡◌, ◌∙◌, sym, ap, arith, not-true, not, Bool, true, false, refl}
+use Rattle.rl_syntax.proofs.Common.{◌≡◌, ◌∙◌, sym, ap, arith, not-true, not, Bool, true, false, refl}
 use Rattle.std.specs.Str.{chars}
 use Rattle.rl_style.proofs.WrittenQuoted.{raw_kept, raw_lost, raw_room, raw_stands, raw_trimmed}
 use Rattle.rl_style.proofs.raw.write_raw.Goals as goal

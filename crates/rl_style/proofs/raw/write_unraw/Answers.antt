@@ -1,4 +1,4 @@
-use Rattle.rl_text.proofs.Common.{◌∙◌, length, ap, arith}
+use Rattle.rl_syntax.proofs.Common.{◌∙◌, length, ap, arith}
 use Rattle.std.specs.Str.{chars}
 use Rattle.rl_style.proofs.WrittenUnraw.{unraw_pieces, unraw_room, unraw_written}
 use Rattle.rl_style.proofs.raw.write_unraw.Goals as goal

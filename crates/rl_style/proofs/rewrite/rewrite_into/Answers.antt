@@ -1,4 +1,4 @@
-use Rattle.rl_text.proofs.Common.{◌∙◌, ap, inr, sym}
+use Rattle.rl_syntax.proofs.Common.{◌∙◌, ap, inr, sym}
 use Rattle.std.specs.Str.{chars}
 use Rattle.rl_style.proofs.QuotedParts.{word_kept}
 use Rattle.rl_style.proofs.rewrite.rewrite_into.Goals as goal

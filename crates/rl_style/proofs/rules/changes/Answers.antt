@@ -1,5 +1,5 @@
 use lib.Pointwise.{bytes_decides}
-use Rattle.rl_text.proofs.Common.{chars, sym, take, ◌∙◌}
+use Rattle.rl_syntax.proofs.Common.{chars, sym, take, ◌∙◌}
 use Rattle.rl_style.proofs.Changed.{changed}
 use Rattle.rl_style.proofs.rules.changes.Goals as goal
 

@@ -1,5 +1,6 @@
--- Each turn goes one token further; at the end all is cut, or the first error stands here.
-use Rattle.rl_text.proofs.Common.{◌≡◌, [], ◌∙◌, IfErr-weaker}
+-- Each iteration of the lexer's loop consumes one token. At the end the whole text is lexed, or the text's first error
+-- is at the current position.
+use Rattle.rl_syntax.proofs.Common.{◌≡◌, [], ◌∙◌, IfErr-weaker}
 use Rattle.std.proofs.lemmas.Result.{err_from_is_err_and}
 use Rattle.rl_tokens.specs.Mirrors.TreeBuilders.{groups_of, EndsInGroup}
 use Rattle.rl_tokens.proofs.LexLoop.{token_fits, has_none, has_more}

@@ -1,4 +1,4 @@
-use Rattle.rl_text.proofs.Common.{◌≡◌, length}
+use Rattle.rl_syntax.proofs.Common.{◌≡◌, length}
 use Rattle.rl_tokens.proofs.LexLoop.{HasCut}
 use Rattle.rl_tokens.proofs.lexer.trees_of.Given as goal
 

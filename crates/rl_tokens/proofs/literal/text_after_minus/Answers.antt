@@ -1,4 +1,4 @@
-use Rattle.rl_text.proofs.Common.{rules}
+use Rattle.rl_syntax.proofs.Common.{rules}
 use Rattle.rl_tokens.proofs.literal.text_after_minus.Goals as goal
 
 pub returns : goal.returns

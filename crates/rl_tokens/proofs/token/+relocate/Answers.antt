@@ -1,8 +1,8 @@
-use Rattle.rl_text.proofs.Common.{◌∙◌, ap}
+use Rattle.rl_syntax.proofs.Common.{◌∙◌, ap}
 use Rattle.std.specs.Prelude.{map}
-use Rattle.rl_text.specs.Spans.{looked_up}
+use Rattle.rl_syntax.specs.Spans.{looked_up}
 use Rattle.rl_tokens.specs.Trees.{relocated, stream_view}
-use Rattle.rl_text.specs.declared.span.Span.{Span}
+use Rattle.rl_syntax.specs.declared.span.Span.{Span}
 use Rattle.rl_tokens.specs.declared.token.Group.{roll-Group}
 use Rattle.rl_tokens.proofs.TreeLemmas.{relocated_parts}
 use Rattle.rl_tokens.proofs.token.+relocate.Goals as goal

@@ -1,4 +1,4 @@
-use Rattle.rl_text.proofs.Common.{◌≡◌, map, take}
+use Rattle.rl_syntax.proofs.Common.{◌≡◌, map, take}
 use Rattle.rl_tokens.specs.Trees.{tree_view, respanned}
 use Rattle.rl_tokens.proofs.token.+respan.Given as goal
 

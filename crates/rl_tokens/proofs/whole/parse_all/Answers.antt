@@ -1,4 +1,4 @@
-use Rattle.rl_text.proofs.Common.{arith, inr, common_steps, IfErr-weaker}
+use Rattle.rl_syntax.proofs.Common.{arith, inr, common_steps, IfErr-weaker}
 use Rattle.std.proofs.lemmas.Result.{IfOk-weaker}
 use Rattle.rl_tokens.specs.Trees.{stream_view}
 use Rattle.rl_tokens.proofs.whole.parse_all.Goals as goal

@@ -1,4 +1,4 @@
-use Rattle.rl_text.proofs.Common.{◌≡◌, ◌∙◌, ap, [], true, false, refl}
+use Rattle.rl_syntax.proofs.Common.{◌≡◌, ◌∙◌, ap, [], true, false, refl}
 use Rattle.std.specs.Prelude.{map, Ok}
 use Rattle.rl_tokens.specs.Trees.{stream_view, tree_view}
 use Rattle.rl_tokens.specs.Buffers.{trees_in, scope_of}

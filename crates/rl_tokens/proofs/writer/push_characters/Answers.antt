@@ -1,9 +1,9 @@
-use Rattle.rl_text.proofs.Common.{◌≡◌, ◌++◌, ◌∙◌, sym, ap, take, length, string_bytes, rules, arith, inl, common_steps, chars, encode_utf8, IsUtf8-string_bytes}
+use Rattle.rl_syntax.proofs.Common.{◌≡◌, ◌++◌, ◌∙◌, sym, ap, take, length, string_bytes, rules, arith, inl, common_steps, chars, encode_utf8, IsUtf8-string_bytes}
 use Rattle.std.proofs.lemmas.Iterator.{YieldsList-from_chars}
 use Rattle.std.proofs.lemmas.Iterator.Consumers.{YieldsList-end}
 use Rattle.std.proofs.lemmas.List.{map-id}
-use Rattle.rl_forms.specs.Written.{closer}
-use Rattle.rl_forms.proofs.WritingLemmas.{begun_start, begun_more_after, begun_whole_after, begun_front}
+use Rattle.rl_syntax.specs.Written.{closer}
+use Rattle.rl_syntax.proofs.WritingLemmas.{begun_start, begun_more_after, begun_whole_after, begun_front}
 use Rattle.rl_tokens.proofs.writer.push_characters.Goals as goal
 
 pub loop-c-init : goal.loop-c-init
@@ -32,9 +32,9 @@ returns-clause-text g c =
     let t = YieldsList-end (YieldsList-from_chars c.args.value.now c.utf8.value cc) c.loop-c.yielded _
     c.loop-c.yielded_by _ _ c.in-None.is c.next.ensures.steps in
     let last : string_bytes c.push.new.self ≡ string_bytes c.loop-c.out
-    ++ encode_utf8 c.closer.result = c.in_ok-push.ensures.bytes in
+    ++ encode_utf8 c.quote.result = c.in_ok-push.ensures.bytes in
     let pushed : string_bytes c.push.new.self ≡ string_bytes c.loop-c.out ++ encode_utf8 (closer c.args.kind) = last
-    ∙ ap (λ z. string_bytes c.loop-c.out ++ encode_utf8 z) c.closer.ensures.value in
+    ∙ ap (λ z. string_bytes c.loop-c.out ++ encode_utf8 z) c.quote.ensures.value in
     begun_whole_after c.args.kind (string_bytes c.args.out.now) _ _ c.loop-c.yielded (chars c.args.value.now)
     c.loop-c.invariant pushed (sym (map-id c.loop-c.yielded) ∙ t.0) (IsUtf8-string_bytes c.args.out.now)
     (IsUtf8-string_bytes c.push.new.self)

@@ -1,5 +1,5 @@
-use Rattle.rl_text.proofs.Common.{◌≡◌, ◌++◌, string_bytes}
-use Rattle.rl_forms.proofs.WritingLemmas.{begun}
+use Rattle.rl_syntax.proofs.Common.{◌≡◌, ◌++◌, string_bytes}
+use Rattle.rl_syntax.proofs.WritingLemmas.{begun}
 use Rattle.rl_tokens.proofs.writer.push_characters.Given as goal
 
 abbrev pub invariant-loop-c : goal.invariant-loop-c

@@ -1,7 +1,7 @@
-use Rattle.rl_text.proofs.Common.{refl, string_bytes, IsUtf8-string_bytes}
-use Rattle.rl_forms.specs.declared.kind.Kind.TheVariants.{Str}
-use Rattle.rl_forms.proofs.WrittenForms.{written_form}
-use Rattle.rl_forms.proofs.WritingLemmas.{cut_back}
+use Rattle.rl_syntax.proofs.Common.{refl, string_bytes, IsUtf8-string_bytes}
+use Rattle.rl_syntax.specs.declared.kind.Kind.TheVariants.{Str}
+use Rattle.rl_syntax.proofs.WrittenForms.{written_form}
+use Rattle.rl_syntax.proofs.WritingLemmas.{cut_back}
 use Rattle.rl_tokens.proofs.writer.push_str_literal.Goals as goal
 
 pub truncate-requires : goal.truncate-requires

@@ -1,9 +1,9 @@
-use Rattle.rl_text.proofs.Common.{◌≡◌, ◌++◌, ◌∙◌, sym, ap, subst, List, ℕ, string_bytes, take, get_or, rules, arith, encode_utf8, take_more, take_all, IsUtf8-string_bytes}
+use Rattle.rl_syntax.proofs.Common.{◌≡◌, ◌++◌, ◌∙◌, sym, ap, subst, List, ℕ, string_bytes, take, get_or, rules, arith, encode_utf8, take_more, take_all, IsUtf8-string_bytes}
 use Rattle.std.specs.Prelude.{encode_utf8_all}
-use Rattle.rl_forms.specs.Quoted.{unit_text}
-use Rattle.rl_forms.specs.Written.{closer, written_unit}
-use Rattle.rl_forms.proofs.WrittenForms.{written_form, all_bytes, bytes_value}
-use Rattle.rl_forms.proofs.WritingLemmas.{begun, begun_start, begun_more, begun_whole}
+use Rattle.rl_syntax.specs.Quoted.{unit_text}
+use Rattle.rl_syntax.specs.Written.{closer, written_unit}
+use Rattle.rl_syntax.proofs.WrittenForms.{written_form, all_bytes, bytes_value}
+use Rattle.rl_syntax.proofs.WritingLemmas.{begun, begun_start, begun_more, begun_whole}
 use Rattle.rl_tokens.proofs.writer.text_of_bytes.Goals as goal
 
 pub loop-byte-init : goal.loop-byte-init
@@ -27,7 +27,7 @@ pub returns : goal.returns
 returns g c =
     let pushed : string_bytes c.push.new.self ≡ string_bytes c.loop-byte.text
     ++ encode_utf8 (closer c.args.kind) = c.in_ok-push.ensures.bytes
-    ∙ ap (λ z. string_bytes c.loop-byte.text ++ encode_utf8 z) c.closer.ensures.value in
+    ∙ ap (λ z. string_bytes c.loop-byte.text ++ encode_utf8 z) c.quote.ensures.value in
     written_form c.args.kind _ _ (bytes_value c.args.kind c.args.value.now c.requires
     (all_bytes c.args.value.now (λ i l. omega (arith, c.type_inv.value i))))
     (begun_whole _ _ _ (take c.loop-byte.byte-index c.args.value.now) c.args.value.now c.loop-byte.invariant pushed

@@ -1,6 +1,6 @@
-use Rattle.rl_text.proofs.Common.{◌++◌, ◌∙◌, ap, chars, chars-nil}
-use Rattle.rl_forms.specs.Written.{written_text}
-use Rattle.rl_forms.proofs.WrittenForms.{written_form}
+use Rattle.rl_syntax.proofs.Common.{◌++◌, ◌∙◌, ap, chars, chars-nil}
+use Rattle.rl_syntax.specs.Written.{written_text}
+use Rattle.rl_syntax.proofs.WrittenForms.{written_form}
 use Rattle.rl_tokens.proofs.writer.text_of_characters.Goals as goal
 
 pub returns : goal.returns

@@ -1,5 +1,5 @@
--- What is left has the same end.
-use Rattle.rl_text.proofs.Common.{◌≡◌, length}
+-- The loop's invariant: the rest of the text has the same text after its first dot.
+use Rattle.rl_syntax.proofs.Common.{◌≡◌, length}
 use Rattle.rl_types.specs.FloatRange.{after_point}
 use denote.Text.{Utf8}
 use denote.Shadow.{shadow}

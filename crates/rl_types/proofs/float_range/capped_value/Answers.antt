@@ -1,4 +1,4 @@
-use Rattle.rl_text.proofs.Common.{[], ◌∷◌, ◌++◌, ◌∙◌, arith, append_assoc, sym, ap, rules}
+use Rattle.rl_syntax.proofs.Common.{[], ◌∷◌, ◌++◌, ◌∙◌, arith, append_assoc, sym, ap, rules}
 use Rattle.rl_types.proofs.FloatLemmas.{digit_small, more_capped, same_capped}
 use Rattle.rl_types.proofs.float_range.capped_value.Goals as goal
 

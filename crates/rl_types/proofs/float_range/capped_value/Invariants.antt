@@ -1,6 +1,6 @@
--- The value of the digits that were passed.
-use Rattle.rl_text.proofs.Common.{◌≡◌, ◌⊎◌, ◌≤◌, ◌<◌, ◌*◌, ◌^◌, ◌++◌, ℕ, List, length}
-use Rattle.rl_reading.proofs.Names.{place_value}
+-- The loop's invariant: the value is that of the digits read so far.
+use Rattle.rl_syntax.proofs.Common.{◌≡◌, ◌⊎◌, ◌≤◌, ◌<◌, ◌*◌, ◌^◌, ◌++◌, ℕ, List, length}
+use Rattle.rl_lenient.proofs.Names.{place_value}
 use Rattle.rl_types.specs.FloatRange.{digits_only}
 use denote.Text.{Utf8}
 use denote.Shadow.{shadow}

@@ -1,5 +1,5 @@
--- So many were passed.
-use Rattle.rl_text.proofs.Common.{◌≡◌, ◌≤◌, ◌+◌, length}
+-- The loop's invariant: the count is the number of digits read so far.
+use Rattle.rl_syntax.proofs.Common.{◌≡◌, ◌≤◌, ◌+◌, length}
 use Rattle.rl_types.specs.FloatRange.{digits_only}
 use denote.Text.{Utf8}
 use denote.Shadow.{shadow}

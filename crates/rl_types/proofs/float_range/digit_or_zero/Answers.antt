@@ -1,4 +1,4 @@
-use Rattle.rl_text.proofs.Common.{◌==◌, ◌∷◌, ◌∙◌, ap, chars-nil, cond, nat_lt, sym}
+use Rattle.rl_syntax.proofs.Common.{◌==◌, ◌∷◌, ◌∙◌, ap, chars-nil, cond, nat_lt, sym}
 use Rattle.rl_types.specs.FloatRange.{digits_only}
 use Rattle.rl_types.specs.Mirrors.Floats.{not_below}
 use Rattle.rl_types.proofs.float_range.digit_or_zero.Goals as goal

@@ -1,5 +1,5 @@
--- What is left has the answer.
-use Rattle.rl_text.proofs.Common.{◌≡◌, ◌==◌, length, list_any}
+-- The loop's invariant: the text contains a minus if and only if its rest does.
+use Rattle.rl_syntax.proofs.Common.{◌≡◌, ◌==◌, length, list_any}
 use denote.Text.{Utf8}
 use denote.Shadow.{shadow}
 use Rattle.std.specs.Str.{chars}

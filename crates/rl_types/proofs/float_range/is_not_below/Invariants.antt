@@ -1,5 +1,5 @@
--- What is left has the answer.
-use Rattle.rl_text.proofs.Common.{◌≡◌, length}
+-- The loop's invariant: the result of the comparison is that for the remaining digits.
+use Rattle.rl_syntax.proofs.Common.{◌≡◌, length}
 use Rattle.rl_types.specs.FloatRange.{digits_only}
 use Rattle.rl_types.specs.Mirrors.Floats.{not_below}
 use denote.Text.{Utf8}

@@ -1,4 +1,4 @@
-use Rattle.rl_text.proofs.Common.{◌≡◌, ◌==◌, ◌∙◌, ℕ, List, ap, arith, cond, length, list_any, not, sym}
+use Rattle.rl_syntax.proofs.Common.{◌≡◌, ◌==◌, ◌∙◌, ℕ, List, ap, arith, cond, length, list_any, not, sym}
 use Rattle.std.specs.Str.{chars}
 use Rattle.rl_types.specs.FloatRange.{digits_only}
 use Rattle.rl_types.specs.Mirrors.Floats.{not_below, without_zeros}

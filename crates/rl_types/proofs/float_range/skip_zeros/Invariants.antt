@@ -1,5 +1,5 @@
--- Zeros alone were passed.
-use Rattle.rl_text.proofs.Common.{◌≡◌, length}
+-- The loop's invariant: each digit read so far is a zero.
+use Rattle.rl_syntax.proofs.Common.{◌≡◌, length}
 use Rattle.rl_types.specs.FloatRange.{digits_only}
 use Rattle.rl_types.specs.Mirrors.Floats.{without_zeros}
 use denote.Text.{Utf8}

@@ -1,5 +1,5 @@
--- No digit was passed.
-use Rattle.rl_text.proofs.Common.{◌≡◌, ◌≤◌, length}
+-- The loop's invariant: the text read so far contains no digit.
+use Rattle.rl_syntax.proofs.Common.{◌≡◌, ◌≤◌, length}
 use Rattle.rl_types.specs.FloatRange.{digits_only}
 use denote.Text.{Utf8}
 use denote.Shadow.{shadow}

@@ -1,4 +1,4 @@
-use Rattle.rl_text.proofs.Common.{◌≡◌, [], ◌∷◌, ◌++◌, ◌∙◌, ℕ, List, append_assoc, append_cancel_right, sym, ap, rules}
+use Rattle.rl_syntax.proofs.Common.{◌≡◌, [], ◌∷◌, ◌++◌, ◌∙◌, ℕ, List, append_assoc, append_cancel_right, sym, ap, rules}
 use Rattle.std.specs.Str.{chars}
 use Rattle.rl_types.specs.FloatRange.{power_part, decimal_part}
 use Rattle.rl_types.proofs.FloatLemmas.{letter_ends, letter_next, tail_of}

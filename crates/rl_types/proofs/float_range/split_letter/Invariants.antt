@@ -1,5 +1,5 @@
--- What was passed holds no letter of an exponent.
-use Rattle.rl_text.proofs.Common.{◌≡◌, ◌++◌, ℕ, List, length}
+-- The loop's invariant: the text read so far contains no letter of an exponent.
+use Rattle.rl_syntax.proofs.Common.{◌≡◌, ◌++◌, ℕ, List, length}
 use Rattle.rl_types.specs.FloatRange.{power_part, decimal_part}
 use denote.Text.{Utf8}
 use denote.Shadow.{shadow}

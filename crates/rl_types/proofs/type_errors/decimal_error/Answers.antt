@@ -1,4 +1,4 @@
-use Rattle.rl_text.proofs.Common.{inr, refl}
+use Rattle.rl_syntax.proofs.Common.{inr, refl}
 use Rattle.std.specs.Str.{chars}
 use Rattle.rl_types.proofs.TypeLemmas.{cut_numeral, finite_float, infinite_float}
 use Rattle.rl_types.proofs.type_errors.decimal_error.Goals as goal

@@ -1,4 +1,4 @@
-use Rattle.rl_text.proofs.Common.{◌^◌, ◌-◌, ap, inr, refl, arith}
+use Rattle.rl_syntax.proofs.Common.{◌^◌, ◌-◌, ap, inr, refl, arith}
 use Rattle.rl_types.specs.NumberTypes.{infinite_from}
 use Rattle.rl_types.proofs.TypeLemmas.{in_floats}
 use Rattle.rl_types.proofs.type_errors.infinite_error.Goals as goal

@@ -1,7 +1,7 @@
-use Rattle.rl_text.proofs.Common.{both_ways, sym}
+use Rattle.rl_syntax.proofs.Common.{both_ways, sym}
 use Rattle.std.specs.Str.{chars}
-use Rattle.rl_reading.proofs.Names.{Int, Float}
-use Rattle.rl_reading.specs.Founds.{suffix_in}
+use Rattle.rl_lenient.proofs.Names.{Int, Float}
+use Rattle.rl_lenient.specs.Founds.{suffix_in}
 use Rattle.rl_types.proofs.TypeLemmas.{float_typed, same_typed}
 use Rattle.rl_types.proofs.type_errors.type_error.Goals as goal
 use Rattle.rl_types.proofs.type_errors.type_error.Goals.{in-Float, in_default}

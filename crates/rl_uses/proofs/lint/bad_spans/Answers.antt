@@ -1,4 +1,4 @@
-use Rattle.rl_text.proofs.Common.{[], arith, common_steps, take, ◌++◌, ◌+◌, ◌∷◌, ◌≡◌}
+use Rattle.rl_syntax.proofs.Common.{[], arith, common_steps, take, ◌++◌, ◌+◌, ◌∷◌, ◌≡◌}
 use Rattle.rust_literals.specs.LitParts.{lit_span}
 use Rattle.rl_uses.proofs.LintLemmas.{bad_spans_same, bad_spans_more}
 use Rattle.rl_uses.proofs.ShortageLemmas.{short_at}

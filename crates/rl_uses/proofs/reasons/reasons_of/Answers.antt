@@ -1,4 +1,4 @@
-use Rattle.rl_text.proofs.Common.{[], arith, common_steps, rules, take, ◌++◌, ◌+◌, ◌∷◌, ◌≡◌}
+use Rattle.rl_syntax.proofs.Common.{[], arith, common_steps, rules, take, ◌++◌, ◌+◌, ◌∷◌, ◌≡◌}
 use Rattle.rl_uses.specs.Reasons.{HasValue, IsReasonOf}
 use Rattle.rl_uses.proofs.ReasonLemmas.{reasons_same, reasons_more}
 use Rattle.rl_uses.proofs.reasons.reasons_of.Goals.{in-Some+else-is_err, in_default}

@@ -1,4 +1,4 @@
-use Rattle.rl_text.proofs.Common.{[], arith, common_steps, string_bytes, take, ◌++◌, ◌+◌, ◌∷◌, ◌≡◌}
+use Rattle.rl_syntax.proofs.Common.{[], arith, common_steps, string_bytes, take, ◌++◌, ◌+◌, ◌∷◌, ◌≡◌}
 use Rattle.rl_uses.proofs.RewriteLemmas.{lines_more}
 use Rattle.rl_uses.proofs.ShortageLemmas.{short_at}
 use Rattle.rl_uses.proofs.rewrite.lines.Goals as goal

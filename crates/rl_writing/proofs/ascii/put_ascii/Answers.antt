@@ -1,4 +1,4 @@
-use Rattle.rl_text.proofs.Common.{◌++◌, take, ap, length, ◌∙◌, arith}
+use Rattle.rl_syntax.proofs.Common.{◌++◌, take, ap, length, ◌∙◌, arith}
 use Rattle.rl_writing.proofs.AsciiLaws.{low_bytes}
 use Rattle.rl_writing.proofs.ascii.put_ascii.Goals as goal
 

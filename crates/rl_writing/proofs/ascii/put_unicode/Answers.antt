@@ -1,4 +1,4 @@
-use Rattle.rl_text.proofs.Common.{arith}
+use Rattle.rl_syntax.proofs.Common.{arith}
 use Rattle.rl_writing.proofs.UnicodeLemmas.{digits_fit, escape_pieces}
 use Rattle.rl_writing.proofs.ascii.put_unicode.Goals as goal
 

@@ -1,5 +1,5 @@
-use Rattle.rl_text.proofs.Common.{◌∷◌, [], ◌∙◌, ap, length, refl, arith, and_from}
-use Rattle.rl_forms.specs.declared.kind.Kind.TheVariants.{Char}
+use Rattle.rl_syntax.proofs.Common.{◌∷◌, [], ◌∙◌, ap, length, refl, arith, and_from}
+use Rattle.rl_syntax.specs.declared.kind.Kind.TheVariants.{Char}
 use Rattle.rl_writing.proofs.AsciiLaws.{char_fine, char_form, form_of, form_utf8, literal_pieces, one_piece}
 use Rattle.rl_writing.proofs.ascii.write_char_ascii_into.Goals as goal
 

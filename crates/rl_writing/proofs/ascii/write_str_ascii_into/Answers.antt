@@ -1,6 +1,6 @@
-use Rattle.rl_text.proofs.Common.{◌∙◌, ◌∷◌, [], ◌++◌, ap, length, length-append, sym, append_assoc, arith, rules, encode_utf8, chars}
+use Rattle.rl_syntax.proofs.Common.{◌∙◌, ◌∷◌, [], ◌++◌, ap, length, length-append, sym, append_assoc, arith, rules, encode_utf8, chars}
 use Rattle.std.proofs.lemmas.Str.{scalars-chars}
-use Rattle.rl_forms.specs.declared.kind.Kind.TheVariants.{Str}
+use Rattle.rl_syntax.specs.declared.kind.Kind.TheVariants.{Str}
 use Rattle.rl_writing.proofs.AsciiLaws.{first_scalar, form_of, form_utf8, piece_more, str_fine, str_form, whole_pieces}
 use Rattle.rl_writing.proofs.ascii.write_str_ascii_into.Goals as goal
 

@@ -1,7 +1,7 @@
--- What was passed stands in the slice as it is written, and the rest has room after it.
-use Rattle.rl_text.proofs.Common.{◌≡◌, ◌+◌, ◌*◌, ◌≤◌, ◌++◌, List, ℕ, length, take, chars, flat_map, Utf8, shadow}
-use Rattle.rl_forms.specs.declared.kind.Kind.TheVariants.{Str}
-use Rattle.rl_forms.specs.Quoted.{opener}
+-- The slice contains the written forms of the passed characters, and has room for the rest after them.
+use Rattle.rl_syntax.proofs.Common.{◌≡◌, ◌+◌, ◌*◌, ◌≤◌, ◌++◌, List, ℕ, length, take, chars, flat_map, Utf8, shadow}
+use Rattle.rl_syntax.specs.declared.kind.Kind.TheVariants.{Str}
+use Rattle.rl_syntax.specs.Quoted.{opener}
 use Rattle.rl_writing.specs.AsciiStrings.{ascii_text}
 use Rattle.rl_writing.proofs.ascii.write_str_ascii_into.Given as goal
 

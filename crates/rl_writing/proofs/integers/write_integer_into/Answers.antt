@@ -1,5 +1,5 @@
-use Rattle.rl_text.proofs.Common.{◌∙◌, arith}
-use Rattle.rl_writing.specs.Integers.{base_of}
+use Rattle.rl_syntax.proofs.Common.{◌∙◌, arith}
+use Rattle.rl_writing.specs.Integers.{argument_len}
 use Rattle.rl_writing.proofs.GroupLemmas.{count_is, grouped_short}
 use Rattle.rl_writing.proofs.IntegerLaws.{prefix_short, written_bytes, written_is, written_utf8}
 use Rattle.rl_writing.proofs.integers.write_integer_into.Goals as goal
@@ -7,9 +7,9 @@ use Rattle.rl_writing.proofs.integers.write_integer_into.Goals as goal
 pub returns-clause-written : goal.returns-clause-written
 returns-clause-written c =
     let bytes = written_bytes c.args.value c.args.style c.args.suffix _ _ _ _ _ c.radix.result
-    c.group_size.result c.put_reversed-count.result c.put_text.ensures.bytes
+    c.group_size_for-size.result c.put_reversed-count.result c.put_text.ensures.bytes
     c.put_grouped-at.ensures.bytes (c.put_text-at.ensures.bytes ∙ c.prefix.ensures)
-    c.put_reversed-count.ensures.digits c.radix.ensures c.group_size.ensures
+    c.put_reversed-count.ensures.digits c.radix.ensures c.group_size_for-size.ensures
     (count_is c.put_reversed-count.result c.put_reversed-count.new.room c.put_reversed-count.ensures.within)
     c.suffix_of.ensures.text in
     written_is c.args.value c.args.style c.args.suffix _ c.ranges.value.fits bytes
@@ -17,21 +17,21 @@ returns-clause-written c =
 pub returns-clause-utf8 : goal.returns-clause-utf8
 returns-clause-utf8 c =
     let bytes = written_bytes c.args.value c.args.style c.args.suffix _ _ _ _ _ c.radix.result
-    c.group_size.result c.put_reversed-count.result c.put_text.ensures.bytes
+    c.group_size_for-size.result c.put_reversed-count.result c.put_text.ensures.bytes
     c.put_grouped-at.ensures.bytes (c.put_text-at.ensures.bytes ∙ c.prefix.ensures)
-    c.put_reversed-count.ensures.digits c.radix.ensures c.group_size.ensures
+    c.put_reversed-count.ensures.digits c.radix.ensures c.group_size_for-size.ensures
     (count_is c.put_reversed-count.result c.put_reversed-count.new.room c.put_reversed-count.ensures.within)
     c.suffix_of.ensures.text in
     written_utf8 c.args.value c.args.style c.args.suffix _ bytes
 
 pub put_grouped-at-requires : goal.put_grouped-at-requires
 put_grouped-at-requires c =
-    let digits = grouped_short c.group_size.result c.put_reversed-count.result 128 c.put_reversed-count.new.room
+    let digits = grouped_short c.group_size_for-size.result c.put_reversed-count.result 128 c.put_reversed-count.new.room
     (omega (arith, c.put_reversed-count.ensures.within, c.put_reversed-count.ensures.len)) in
     omega (
       arith,
       digits,
-      prefix_short (base_of c.args.style.base) c.prefix.result.now c.prefix.ensures,
+      prefix_short (argument_len c.args.style.base) c.prefix.result.now c.prefix.ensures,
       c.put_text-at.ensures.end,
       c.put_text-at.ensures.len,
       c.requires,
@@ -39,12 +39,12 @@ put_grouped-at-requires c =
 
 pub put_text-requires : goal.put_text-requires
 put_text-requires c =
-    let digits = grouped_short c.group_size.result c.put_reversed-count.result 128 c.put_reversed-count.new.room
+    let digits = grouped_short c.group_size_for-size.result c.put_reversed-count.result 128 c.put_reversed-count.new.room
     (omega (arith, c.put_reversed-count.ensures.within, c.put_reversed-count.ensures.len)) in
     omega (
       arith,
       digits,
-      prefix_short (base_of c.args.style.base) c.prefix.result.now c.prefix.ensures,
+      prefix_short (argument_len c.args.style.base) c.prefix.result.now c.prefix.ensures,
       c.put_text-at.ensures.end,
       c.put_text-at.ensures.len,
       c.requires,
@@ -55,12 +55,12 @@ put_text-requires c =
 
 pub returns-clause-within : goal.returns-clause-within
 returns-clause-within c =
-    let digits = grouped_short c.group_size.result c.put_reversed-count.result 128 c.put_reversed-count.new.room
+    let digits = grouped_short c.group_size_for-size.result c.put_reversed-count.result 128 c.put_reversed-count.new.room
     (omega (arith, c.put_reversed-count.ensures.within, c.put_reversed-count.ensures.len)) in
     omega (
       arith,
       digits,
-      prefix_short (base_of c.args.style.base) c.prefix.result.now c.prefix.ensures,
+      prefix_short (argument_len c.args.style.base) c.prefix.result.now c.prefix.ensures,
       c.put_text-at.ensures.end,
       c.put_grouped-at.ensures.end,
       c.suffix_of.ensures.short,

@@ -1,5 +1,5 @@
--- What is written, and the groups of what is left, is what is to be written.
-use Rattle.rl_text.proofs.Common.{◌≡◌, ◌+◌, ◌≤◌, ◌++◌, length, take}
+-- The written text, with the groups of the remaining digits, is the text to write.
+use Rattle.rl_syntax.proofs.Common.{◌≡◌, ◌+◌, ◌≤◌, ◌++◌, length, take}
 use Rattle.std.specs.Prelude.{reverse}
 use Rattle.rl_writing.specs.Integers.{grouped}
 use Rattle.rl_writing.proofs.numerals.put_grouped.Given as goal

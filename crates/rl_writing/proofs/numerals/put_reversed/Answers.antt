@@ -1,4 +1,4 @@
-use Rattle.rl_text.proofs.Common.{length, refl, ◌∙◌, inl, inr, arith}
+use Rattle.rl_syntax.proofs.Common.{length, refl, ◌∙◌, inl, inr, arith}
 use Rattle.rl_writing.proofs.NumeralLemmas.{before_nothing, count_left, fits_more, put_first, put_more}
 use Rattle.rl_writing.proofs.numerals.put_reversed.Goals as goal
 

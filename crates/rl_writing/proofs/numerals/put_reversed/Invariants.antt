@@ -1,6 +1,6 @@
--- The digits of what is left, before those that stand there, are those of the number; what is left gets halved at
--- least.
-use Rattle.rl_text.proofs.Common.{◌≡◌, ◌*◌, ◌^◌, ◌<◌, ◌⊎◌, length, take}
+-- The digits of the remaining number, before the digits that were written, are those of the number. The remaining
+-- number is at least halved.
+use Rattle.rl_syntax.proofs.Common.{◌≡◌, ◌*◌, ◌^◌, ◌<◌, ◌⊎◌, length, take}
 use Rattle.std.specs.Prelude.{reverse}
 use Rattle.rl_writing.specs.Integers.{numeral}
 use Rattle.rl_writing.proofs.NumeralLemmas.{digits_before}

@@ -1,6 +1,6 @@
--- As many hashes as were counted stand there.
-use Rattle.rl_text.proofs.Common.{◌≡◌, ◌+◌, ◌++◌, length, replicate, take}
-use Rattle.rl_text.specs.Texts.{code}
+-- The slice contains the counted hashes.
+use Rattle.rl_syntax.proofs.Common.{◌≡◌, ◌+◌, ◌++◌, length, replicate, take}
+use Rattle.rl_syntax.specs.Texts.{code}
 use Rattle.rl_writing.proofs.raw_strings.put_hashes.Given as goal
 
 abbrev pub invariant-loop : goal.invariant-loop

@@ -1,6 +1,7 @@
--- What the whole text needs is what was needed so far, and what the rest needs; all that was passed may stand there.
-use Rattle.rl_text.proofs.Common.{◌≡◌, ◌+◌, ◌≤◌, length, list_all, chars, Utf8, shadow}
-use Rattle.rl_writing.specs.Mirrors.RawSteps.{stands_raw}
+-- The number of hashes that the whole text needs is the greater of that for the passed text and that for the rest. All
+-- passed characters are allowed.
+use Rattle.rl_syntax.proofs.Common.{◌≡◌, ◌+◌, ◌≤◌, length, list_all, chars, Utf8, shadow}
+use Rattle.rl_writing.specs.Mirrors.RawSteps.{raw_may_contain}
 use Rattle.rl_writing.proofs.HashLemmas.{needed_from, needed_in}
 use Rattle.rl_writing.proofs.raw_strings.raw_hashes.Given as goal
 
@@ -8,7 +9,7 @@ abbrev pub invariant-loop-c : goal.invariant-loop-c
 invariant-loop-c l = record {
   utf8 : shadow (Utf8 l.rest);
   needed : needed_in (chars l.text) ≡ needed_from l.needed l.opened (chars l.rest);
-  stand : list_all (stands_raw l.kind) (chars l.text) ≡ list_all (stands_raw l.kind) (chars l.rest);
+  stand : list_all (raw_may_contain l.kind) (chars l.text) ≡ list_all (raw_may_contain l.kind) (chars l.rest);
   opened : l.opened ≤ l.needed;
   short : l.opened + length l.rest ≤ length l.text;
 }

@@ -1,4 +1,4 @@
-use Rattle.rl_text.proofs.Common.{ap, chars, chars-nil, sym, ◌∙◌}
+use Rattle.rl_syntax.proofs.Common.{ap, chars, chars-nil, sym, ◌∙◌}
 use Rattle.rust_literals.proofs.FlatLemmas.{read_start, empty_text, read_more, read_whole}
 use Rattle.rust_literals.proofs.flat.read_flat.Goals as goal
 

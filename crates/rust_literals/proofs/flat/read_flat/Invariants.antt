@@ -1,4 +1,4 @@
-use Rattle.rl_text.proofs.Common.{chars, length, ◌≡◌}
+use Rattle.rl_syntax.proofs.Common.{chars, length, ◌≡◌}
 use Rattle.rust_literals.specs.Flat.{AreReadUpTo}
 use Rattle.rust_literals.proofs.flat.read_flat.Given as goal
 

@@ -1,11 +1,11 @@
 use Rattle.std.proofs.Common.{ap, rules, ◌≡◌, ◌∷◌, ◌∙◌, subst, inl, inr}
-use Rattle.rl_text.specs.declared.span.Span.{Span}
+use Rattle.rl_syntax.specs.declared.span.Span.{Span}
 use Rattle.rl_lexer.specs.Cursors.{form_view}
 use Rattle.rl_lexer.specs.Lexemes.{MarkForm}
 use Rattle.rust_literals.specs.declared.lit.Lit.TheVariants.{Bool as BoolLit}
 use Rattle.rust_literals.specs.Literals.{IsReadFrom}
 use Rattle.rust_literals.proofs.FlatLemmas.{literal_next, truth_next, joined_at, read_negative, none_number, none_word, no_some, the_some, when_some}
-use Rattle.rl_reading.proofs.NextLiteralLemmas.{no_number, other_form}
+use Rattle.rl_lenient.proofs.NextLiteralLemmas.{no_number, other_form}
 use Rattle.rust_literals.proofs.flat.take_next.Goals as goal
 
 pub returns-in_default-form-2 : goal.returns-in_default-form-2
@@ -30,12 +30,12 @@ returns-in_ok-literal_of-in-Literal-clause-next g c =
     literal_next c.args.file c.args.tokens.now c.next.new.self l lit c.in-Some.ensures.next
     (ap form_view c.in-Literal.is) read
 
-pub returns-in-Some-truth_of-clause-next : goal.returns-in-Some-truth_of-clause-next
-returns-in-Some-truth_of-clause-next g c =
-    let b = c.in-Some-truth_of.value in
+pub returns-in-Some-bool_of-clause-next : goal.returns-in-Some-bool_of-clause-next
+returns-in-Some-bool_of-clause-next g c =
+    let b = c.in-Some-bool_of.value in
     truth_next c.args.file c.args.tokens.now c.next.new.self c.in-Some.token (BoolLit c.new.result) b
     c.in-Some.ensures.next
-    (ap form_view c.in-Identifier.is) c.in-Some-truth_of.ensures.bytes
+    (ap form_view c.in-Identifier.is) c.in-Some-bool_of.ensures.bytes
     (ap BoolLit (c.new.ensures ∙ ap (λ s. record { value = b; span = s }) c.new-span.ensures))
 
 pub returns-in_default-2-clause-none : goal.returns-in_default-2-clause-none

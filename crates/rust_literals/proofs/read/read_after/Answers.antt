@@ -1,11 +1,11 @@
-use Rattle.rl_text.proofs.Common.{List, ap, chars, subst, sym, ◌++◌, ◌∙◌, ◌≡◌}
+use Rattle.rl_syntax.proofs.Common.{List, ap, chars, subst, sym, ◌++◌, ◌∙◌, ◌≡◌}
 use Rattle.std.proofs.lemmas.List.{append-nil}
 use Rattle.rust_literals.specs.declared.lit.Lit.{Lit}
 use Rattle.rust_literals.specs.Flat.{AreFirst}
 use Rattle.rust_literals.proofs.read.read_after.Given as given
 use Rattle.rust_literals.proofs.read.read_after.Goals as goal
 
--- after them the list is empty
+-- The empty list, which `read_after` passes on, adds nothing to the first literals of the text.
 none_more : (g : given.Over) (c : goal.After-read_from g) (first : List (Lit g.row.A.Denot))
     → AreFirst (chars c.args.text.now) c.args.file c.args.count first
     → AreFirst (chars c.args.text.now) c.args.file c.args.count (first ++ c.new.result.items)

@@ -1,4 +1,4 @@
-use Rattle.rl_text.proofs.Common.{Ok, [], chars, length, rules}
+use Rattle.rl_syntax.proofs.Common.{Ok, [], chars, length, rules}
 use Rattle.rust_literals.proofs.ReadLemmas.{text_exactly}
 use Rattle.rust_literals.proofs.PrintedLemmas.{printed_read}
 use Rattle.rust_literals.proofs.AgainLemmas.{again_read}

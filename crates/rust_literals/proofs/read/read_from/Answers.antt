@@ -1,4 +1,4 @@
-use Rattle.rl_text.proofs.Common.{List, ap, chars, inl, length, map, subst, sym, ◌++◌, ◌∙◌, ◌≡◌}
+use Rattle.rl_syntax.proofs.Common.{List, ap, chars, inl, length, map, subst, sym, ◌++◌, ◌∙◌, ◌≡◌}
 use Rattle.std.proofs.lemmas.Result.{err_from_is_err_and}
 use Rattle.rl_tokens.specs.Trees.{tree_view, stream_view}
 use Rattle.rl_tokens.specs.Buffers.{trees_in, scope_of}

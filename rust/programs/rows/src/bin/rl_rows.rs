@@ -1,4 +1,4 @@
-//! The program rl_rows.
+//! The program `rl_rows`, translated from Rattle: it prints the results of the libraries for rows of texts.
 
 use navyspindle_programs::rattle_std::prelude::HostRuntime;
 

@@ -1,9 +1,9 @@
-//! Prints rows of `rl_rows` on generated texts. `tools/same_programs` gives them to the proved `rl_rows` and to the one that Cargo
-//! builds.
+//! Prints input for `rl_rows` on generated texts. `tools/same_programs` passes this input to the proved `rl_rows` and to the
+//! `rl_rows` that Cargo builds, and compares their output.
 //!
-//! - `rl_texts texts COUNT SEED`: each command on COUNT texts of all kinds.
-//! - `rl_texts settings COUNT SEED`: `attr` on COUNT texts of settings.
-//! - `rl_texts characters`: each character in twelve places.
+//! - `rl_texts texts COUNT SEED`: each command, on COUNT texts of all kinds.
+//! - `rl_texts settings COUNT SEED`: the command `attr`, on COUNT texts of settings.
+//! - `rl_texts characters`: each character, in twelve positions of literals, lists and sources.
 
 use navyspindle_rows::{settings, texts};
 use std::env;

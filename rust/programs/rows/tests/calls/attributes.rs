@@ -1,4 +1,4 @@
-//! Attributes: calls whose answers `rl_tool` doesn't print.
+//! Tests calls on attributes whose results `rl_tool` doesn't print.
 
 use crate::rows::{check, check_headings};
 use crate::shown::{line, range, value_or_error, HERE};
@@ -15,7 +15,7 @@ fn headings() {
     check_headings(TABLE, include_str!("attributes.rs"));
 }
 
-/// Shows a setting's value, or the error, or that the setting is missing.
+/// Shows a setting's value, or the error, or the error that the setting is missing.
 fn set<T: Display>(value: Result<Option<T>, SettingError>, missing: SettingError) -> String {
     match value {
         Ok(Some(value)) => format!("{value}\n"),
@@ -24,7 +24,7 @@ fn set<T: Display>(value: Result<Option<T>, SettingError>, missing: SettingError
     }
 }
 
-/// The settings that the rows have.
+/// The settings that the rows of this table contain.
 const NAME: Setting = Setting {
     name: "name",
     expected: "a string",
@@ -38,7 +38,7 @@ const VERBOSE: Setting = Setting {
     expected: "`true` or `false`",
 };
 
-/// Three settings, by name and type.
+/// Reads three settings of a text by name and type.
 #[test]
 fn settings() {
     check(TABLE, "attr_settings", |text| {
@@ -50,7 +50,7 @@ fn settings() {
     });
 }
 
-/// What a required setting is set to, or the error.
+/// Shows the value of a required setting, or the error.
 fn required<T: Display>(value: Result<T, SettingError>) -> String {
     match value {
         Ok(value) => format!("{value}\n"),
@@ -69,7 +69,7 @@ fn required_settings() {
     });
 }
 
-/// A truth value by each of the two defaults.
+/// Reads a `bool` setting with the default `true`, and then with the default `false`.
 #[test]
 fn truth_or() {
     check(TABLE, "attr_truth_or", |text| {
@@ -84,7 +84,7 @@ fn count(attrs: &Attrs) -> String {
     format!("{}\n", attrs.entries().len())
 }
 
-/// The number of attributes inside a string, or the error message.
+/// Shows the number of attributes in the value of a string literal, or the error message.
 #[test]
 fn inside() {
     check(TABLE, "attr_inside", |text| {
@@ -96,7 +96,7 @@ fn inside() {
     });
 }
 
-/// The value of each name. A given text has the names, with commas between them, a US (0x1F), and attributes.
+/// Reads the value of each name. A row's text has the names, with commas between them, then U+001F, then attributes.
 #[test]
 fn values() {
     check(TABLE, "attr_values", |row| {
@@ -110,7 +110,8 @@ fn values() {
     });
 }
 
-/// The number of attributes in a text of that many, and the error where the first name is repeated at its end.
+/// Shows the number of attributes in a text that has as many as the row says, and the error for the same text with the first name
+/// repeated at its end.
 #[test]
 fn many() {
     check(TABLE, "attr_many", |count_of| {

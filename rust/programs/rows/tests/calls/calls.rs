@@ -1,4 +1,4 @@
-//! Calls of `rl_tool`. A given text has the arguments, one a line, a US (0x1F), and standard input.
+//! Runs `rl_tool` on rows. A row's text has the arguments, one in each line, then U+001F, then standard input.
 
 use crate::numbers::spelled;
 use crate::rows::{check, check_bytes, check_headings};
@@ -16,20 +16,20 @@ fn headings() {
     check_headings(TABLE, include_str!("calls.rs"));
 }
 
-/// How the standard streams of a call behave.
+/// The behaviour of the standard streams during a call of `rl_tool`.
 #[derive(Clone, Copy)]
 struct Streams {
-    /// The greatest number of bytes that one call of `read` or `write` passes.
+    /// The largest number of bytes that one call of `read` or `write` transfers.
     at_once: usize,
     /// The number of bytes after which `read` fails.
     readable: usize,
     /// The number of bytes after which `write` fails.
     writable: usize,
-    /// Whether `write` then writes no byte and returns no error.
+    /// Whether `write`, after its limit, writes no byte and returns no error.
     is_full: bool,
 }
 
-/// Streams that pass all bytes at once.
+/// Streams without limits.
 const WIDE: Streams = Streams {
     at_once: usize::MAX,
     readable: usize::MAX,
@@ -37,7 +37,7 @@ const WIDE: Streams = Streams {
     is_full: false,
 };
 
-/// Standard input.
+/// A replacement for standard input, with limits.
 struct Input<'a> {
     bytes: &'a [u8],
     streams: Streams,
@@ -58,7 +58,7 @@ impl Read for Input<'_> {
     }
 }
 
-/// Standard output.
+/// A replacement for standard output, with limits.
 struct Output {
     held: Vec<u8>,
     streams: Streams,
@@ -89,7 +89,7 @@ fn ended<E: RunError>(ending: &Ending<E>) -> String {
     format!("{} {ending}\n", ending.status())
 }
 
-/// Calls the program, and shows its output, exit status and error message.
+/// Runs the program, and shows its output, exit status and error message.
 fn called(words: &str, bytes: &[u8], streams: Streams) -> String {
     let words: Vec<Text> = words
         .split('\n')
@@ -101,7 +101,7 @@ fn called(words: &str, bytes: &[u8], streams: Streams) -> String {
         streams,
     };
     let ending = rl_commands::call(Global, &words, &mut input, &mut output);
-    // Output that ends inside a character isn't shown.
+    // If the output ends inside a character, it isn't shown.
     String::from_utf8(output.held).unwrap_or_default() + &ended(&ending)
 }
 
@@ -117,8 +117,9 @@ fn call() {
     });
 }
 
-/// The limits of the streams stand before the arguments: bytes at once, bytes before `read` fails, before `write` fails (`-`: no limit),
-/// and `full` where `write` then writes nothing. Standard input is written in parts.
+/// Runs `rl_tool` with limited streams. The limits are before the arguments: the bytes per call, the bytes before `read` fails, and
+/// the bytes before `write` fails. `-` means no limit. With `full`, `write` writes nothing after its limit. Standard input is given
+/// as repeated parts.
 #[test]
 fn call_by_streams() {
     check(TABLE, "call_by", |row| {

@@ -1,4 +1,4 @@
-//! Calls whose allocations fail.
+//! Tests calls whose allocations fail.
 
 use crate::rows::{check, check_headings};
 use crate::shown::{at, HERE};
@@ -14,7 +14,8 @@ fn headings() {
     check_headings(TABLE, include_str!("failing.rs"));
 }
 
-/// Every allocation fails: the literal, where none is needed, or the error and the token that comes back.
+/// Parses literals while every allocation fails. Shows the literal if no allocation is needed, or else the error and the token that
+/// is returned.
 #[test]
 fn every_allocation() {
     check(TABLE, "all_failing", |text| {
@@ -41,7 +42,8 @@ fn every_allocation() {
     });
 }
 
-/// All allocations after the first fail: whether a string of ten thousand copies of the text borrows its value, and the value's length.
+/// Computes the value of a string literal with ten thousand copies of the text, while all allocations after the first fail. Shows
+/// whether the literal borrows its value, and the value's length or the error.
 #[test]
 fn all_but_the_first() {
     check(TABLE, "second_failing", |text| {

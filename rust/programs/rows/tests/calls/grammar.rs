@@ -1,10 +1,10 @@
-//! The grammars' functions on one text.
+//! Tests the grammar functions on single texts.
 
 use crate::rows::{check, check_headings};
 use crate::shown::{debug_or_error, range};
 use navyspindle_programs::rattle_std::alloc::Global;
 use navyspindle_programs::rl_grammar::{
-    self, place_of, spans_of, Kind, Parts, SegmentValue, Segments,
+    self, byte_spans_of, text_offset, Kind, Parts, SegmentValue, Segments,
 };
 use navyspindle_programs::rl_tokens::{whitespace, Span};
 
@@ -15,7 +15,7 @@ fn headings() {
     check_headings(TABLE, include_str!("grammar.rs"));
 }
 
-/// Shows a kind, body and suffix, with a dot between body and suffix.
+/// Shows a literal's kind, body and suffix, with a dot between body and suffix.
 fn parts(parts: Option<Parts<'_>>) -> String {
     parts.map_or("None".to_owned(), |it| {
         format!("{:?} {}.{}", it.kind, it.body, it.suffix)
@@ -27,7 +27,7 @@ fn shape() {
     check(TABLE, "shape", |text| parts(rl_grammar::shape(text)));
 }
 
-/// An integer above 128 bits is shown as `past`.
+/// Shows the parts of an integer. An integer above 128 bits is shown as `past`.
 #[test]
 fn int_shape() {
     check(TABLE, "int_shape", |text| {
@@ -52,7 +52,8 @@ fn shape_negative() {
     });
 }
 
-/// Whether a text of a kind holds its decoded value as it is. The kind's name is the first line.
+/// Shows whether the text between a literal's quotes is its decoded value, unchanged. A row's first line is the name of the
+/// literal's kind.
 #[test]
 fn is_plain() {
     check(TABLE, "plain", |row| {
@@ -72,7 +73,7 @@ fn is_plain() {
     });
 }
 
-/// The decoded value: bytes, the number of a character, or digits.
+/// Shows a literal's decoded value: bytes, the number of a character, or digits.
 #[test]
 fn contents() {
     check(TABLE, "contents", |text| {
@@ -109,8 +110,8 @@ fn segment(lo: usize, hi: usize, value: SegmentValue<'_>) -> String {
     format!("{lo}..{hi} {value} ")
 }
 
-/// The segments; the byte range that each byte of the value comes from, by `spans_of`; and the same by `place_of` and `end_of`, up to
-/// two bytes past the end.
+/// Shows a literal's segments, and the byte range that each byte of the value comes from. The ranges are computed by `byte_spans_of`,
+/// and again by `text_offset` and `end_of`, up to two bytes beyond the value's end.
 #[test]
 fn segments() {
     check(TABLE, "segments", |text| {
@@ -122,12 +123,12 @@ fn segments() {
             .map(|it| segment(it.lo, it.hi, it.value))
             .collect();
         let bytes: usize = segments().map(|it| it.value.len()).sum();
-        let spans = spans_of(Global, segments(), Span::new(7, 0, text.len())).unwrap();
+        let spans = byte_spans_of(Global, segments(), Span::new(7, 0, text.len())).unwrap();
         let table: String = spans.iter().map(|span| range(*span) + " ").collect();
         let each = (0..=bytes + 1).filter_map(|at| {
             Some(format!(
                 "{}..{} ",
-                place_of(text, at)?,
+                text_offset(text, at)?,
                 segments().end_of(at)
             ))
         });

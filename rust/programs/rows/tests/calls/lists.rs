@@ -1,4 +1,4 @@
-//! Lists of literals, and pairs of literals with a separator between them.
+//! Tests lists of literals, and pairs of literals with a separator between them.
 
 use crate::rows::{check, check_headings};
 use crate::shown::{line, literal_of, range, spanned, value_or_error};
@@ -13,7 +13,7 @@ fn headings() {
     check_headings(TABLE, include_str!("lists.rs"));
 }
 
-/// Shows a literal's byte range and line.
+/// Shows a literal's byte range and its line.
 fn placed(literal: &Lit) -> String {
     format!("{} {}", range(literal.span()), line(literal))
 }
@@ -45,7 +45,7 @@ fn texts() {
     });
 }
 
-/// Each literal that the iterator returns, and its first two answers after the last one.
+/// Shows each literal that the iterator returns, and the results of two more calls after the last one.
 #[test]
 fn one_by_one() {
     check(TABLE, "one_by_one", |text| {
@@ -66,8 +66,9 @@ fn one_by_one() {
     });
 }
 
-/// The number of pairs that read as the two literals do alone, after each pair that doesn't. A given text has a separator, the first
-/// literals and the second ones, with U+001E between these and U+001F between literals.
+/// Counts the pairs of literals that are read, with a separator between them, as the two literals are read alone. Each pair that
+/// isn't is shown. A row's text has the separator, the first literals and the second literals. U+001E separates these three parts,
+/// and U+001F separates literals.
 #[test]
 fn pairs() {
     check(TABLE, "pairs", |row| {

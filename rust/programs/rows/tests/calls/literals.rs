@@ -1,4 +1,4 @@
-//! Calls on a literal.
+//! Tests calls on a single literal.
 
 use crate::rows::{check, check_headings};
 use crate::shown::{at, error, literal_of, spanned, trees, value_or_error, whole, HERE, THERE};
@@ -18,8 +18,8 @@ fn headings() {
     check_headings(TABLE, include_str!("literals.rs"));
 }
 
-/// The literal; whether its copy is equal, and the copy; its token trees; the literal parsed from these; its suffix; and its span once it
-/// is set.
+/// Shows a literal, whether its copy is equal, the copy, the literal's token trees, the literal parsed from these, its suffix, and
+/// its span after the span is set.
 #[test]
 fn literal() {
     check(TABLE, "literal", |text| {
@@ -38,7 +38,7 @@ fn literal() {
     });
 }
 
-/// The value that a string borrows from its text.
+/// Shows the value that a string literal borrows from its text.
 #[test]
 fn value_ref() {
     check(TABLE, "borrows", |text| {
@@ -57,7 +57,7 @@ fn value_ref() {
     });
 }
 
-/// A number's `Display`, or that of a token that isn't a literal.
+/// Shows the `Display` of a number, or of a token that isn't a literal.
 #[test]
 fn displayed() {
     check(TABLE, "shown", |text| {
@@ -70,12 +70,12 @@ fn displayed() {
     });
 }
 
-/// Shows a value right-aligned, left-aligned with stars, and its first three characters centred.
+/// Shows a value right-aligned, then left-aligned with stars, then its first three characters centred.
 fn padded<T: Display>(value: &T) -> String {
     format!("{value:>10}|{value:*<10}|{value:^10.3}|\n")
 }
 
-/// The `Lit`, and the struct in it.
+/// Shows the `Lit`, and the struct in it, formatted with a width.
 #[test]
 fn displayed_with_a_width() {
     check(TABLE, "padded", |text| {
@@ -101,7 +101,7 @@ fn hash_of<T: Hash>(value: &T) -> u64 {
     state.finish()
 }
 
-/// Whether two literals with different spans are equal, and have equal hashes. Each is a line.
+/// Shows whether two literals with different spans are equal, and have equal hashes. Each literal is a line of the row.
 #[test]
 fn equality() {
     check(TABLE, "equal", |text| {
@@ -118,7 +118,8 @@ fn equality() {
     });
 }
 
-/// Literals, one a line, as keys of a map: which one each replaces, and how many are left.
+/// Inserts literals, one from each line, as keys of a map. Shows which key each literal replaces, and how many keys there are at
+/// the end.
 #[test]
 fn keys() {
     check(TABLE, "map", |text| {
@@ -134,7 +135,7 @@ fn keys() {
     });
 }
 
-/// The literal that is made from a literal's value, and whether the two are equal.
+/// Shows the literal that is created from a literal's value, and whether the two literals are equal.
 #[test]
 fn rewritten_literals() {
     check(TABLE, "anew", |text| {

@@ -1,5 +1,5 @@
-//! Calls of the translated libraries. Each subject has a table of rows, `NAME.rows`, and beside it the tests, `NAME.rs`. The
-//! expected answers come from `syn`, from the grammars or are written by hand, and never come from our own output.
+//! Tests calls of the translated libraries. Each subject has a table of rows, `NAME.rows`, and the tests, `NAME.rs`. The expected
+//! results come from `syn` or from the grammars, or are written by hand. They never come from the output of this repository's code.
 
 mod attributes;
 mod calls;

@@ -1,4 +1,4 @@
-//! The message of each kind of error, and the `Debug` of some values.
+//! Tests the message of each kind of error, and the `Debug` output of some values.
 
 use crate::rows::{check, check_headings};
 use crate::shown::{error, HERE};
@@ -61,7 +61,7 @@ fn errors() {
     });
 }
 
-/// A C string of the text or its error, the text's parts, and the commands.
+/// Shows the `Debug` output of the C string of the text or its error, of the text's parts, and of the commands.
 #[test]
 fn debug_of_values() {
     check(TABLE, "debugs", |text| {

@@ -1,4 +1,4 @@
-//! Integers and floats, and numbers parsed from their digits.
+//! Tests integers and floats, and numbers that are parsed from a literal's digits.
 
 use crate::rows::{check, check_headings};
 use crate::shown::{at, debug_or_error, error, literal_of, value_or_error, whole, HERE, THERE};
@@ -26,7 +26,7 @@ pub fn spelled(row: &str, between: char) -> String {
     parts.collect()
 }
 
-/// Shows a text of up to forty bytes, or the first eight and last eight of a longer one, and its length.
+/// Shows a text of up to forty bytes. Of a longer text, shows the first eight bytes, the last eight bytes, and the length.
 fn brief(text: &str) -> String {
     if text.len() <= 40 {
         return text.to_owned();
@@ -34,7 +34,7 @@ fn brief(text: &str) -> String {
     format!("{}..{} {}", &text[..8], &text[text.len() - 8..], text.len())
 }
 
-/// The number that a text of repeated parts is.
+/// Shows the number in a text that is given as repeated parts.
 #[test]
 fn long() {
     check(TABLE, "long", |row| {
@@ -48,7 +48,7 @@ fn long() {
     });
 }
 
-/// Shows a number's digits, suffix, span and text, and its token once the span is set.
+/// Shows a number's digits, suffix, span and text, and its token after the span is set.
 fn moved<K: NumberKind>(made: Result<Number<K>, Error>) -> String {
     match made {
         Ok(mut number) => {
@@ -77,7 +77,7 @@ fn floats() {
     });
 }
 
-/// A token as an integer; where it isn't one, the token that comes back, as a float.
+/// Shows a token as an integer. If it isn't an integer, the token is returned, and shown as a float.
 #[test]
 fn kept() {
     check(TABLE, "kept", |text| {
@@ -95,7 +95,7 @@ fn kept() {
     });
 }
 
-/// Whether the text as an integer is equal to the text as a float.
+/// Shows whether the text as an integer literal is equal to the text as a float literal.
 #[test]
 fn across() {
     check(TABLE, "across", |text| {
@@ -105,7 +105,7 @@ fn across() {
     });
 }
 
-/// Shows the number that a type parses from an integer's digits, or the error's span.
+/// Shows the number that the type `N` parses from an integer's digits, or the error's span.
 fn parsed<N: FromStr<Err: Display> + Display>(literal: &LitInt) -> String {
     match literal.base10_parse::<N, Global>(Global) {
         Ok(number) => format!(" {number}"),
@@ -117,7 +117,7 @@ fn parsed<N: FromStr<Err: Display> + Display>(literal: &LitInt) -> String {
     }
 }
 
-/// The number as each integer type: a line of types up to 32 bits, and a line of the others.
+/// Shows the number as each integer type: a line for the types up to 32 bits, and a line for the larger types.
 #[test]
 #[cfg_attr(
     not(target_pointer_width = "64"),
@@ -152,7 +152,7 @@ fn base10_parse() {
     });
 }
 
-/// The `u8` that a float's digits parse as.
+/// Shows the `u8` that is parsed from a float's digits.
 #[test]
 fn byte_of_a_float() {
     check(TABLE, "float_byte", |text| {

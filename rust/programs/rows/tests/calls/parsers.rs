@@ -1,4 +1,4 @@
-//! Parsers and peeks on token trees, and parsers on the values of strings.
+//! Tests parsers and peeks on token trees, and parsers on the values of string literals.
 
 use crate::rows::{check, check_headings};
 use crate::shown::{at, debug_or_error, error, literal_of, trees_of, value_or_error, HERE, THERE};
@@ -17,7 +17,7 @@ fn headings() {
     check_headings(TABLE, include_str!("parsers.rs"));
 }
 
-/// Checks a type's name in messages, its peek, its parser's answer, and the buffer's position after that.
+/// Checks a type's name in messages, the result of its peek, the result of its parser, and the buffer's position after the parser.
 fn check_parser<T: Parse<Global> + Token>(table: &str, heading: &str) {
     check(table, heading, |text| {
         let Some(stream) = trees_of(text, 0) else {
@@ -48,7 +48,7 @@ fn parsers() {
     check_parser::<Sign>(TABLE, "Sign");
 }
 
-/// A caller's own type: one punctuation character.
+/// A parsable type that a caller defines: one punctuation character.
 struct Sign {
     ch: char,
 }
@@ -72,7 +72,7 @@ impl Token for Sign {
     }
 }
 
-/// Parses literals and signs in turn, up to the end or an error.
+/// Parses literals and signs alternately, up to the end or an error.
 fn turns_of(text: &str) -> Result<String, (String, Error)> {
     let stream = trees_of(text, 0).unwrap();
     let (mut input, mut out) = (
@@ -107,7 +107,7 @@ fn integer(answer: Result<LitInt, Error>) -> String {
     value_or_error(answer, |it| format!("{it} {}\n", at(it.span())))
 }
 
-/// The integer in a string's value.
+/// Shows the integer that is parsed from a string's value.
 #[test]
 fn inside() {
     check(TABLE, "inside", |text| {
@@ -118,7 +118,8 @@ fn inside() {
     });
 }
 
-/// A caller's own parser: the spans of a group, of the literal and the group in it, and of the literal in the inner group.
+/// A parser that a caller defines. It returns the spans of a group, of the literal and the group in it, and of the literal in the
+/// inner group.
 struct SpansOfGroup;
 
 impl<A: Allocator> Parser<A> for SpansOfGroup {
@@ -149,7 +150,7 @@ fn spans(answer: Result<[Span; 4], Error>) -> String {
     value_or_error(answer, |spans| spans.map(|it| at(it) + " ").concat() + "\n")
 }
 
-/// A caller's own parser on a string's value.
+/// Shows the result of a caller's parser on a string's value.
 #[test]
 fn group() {
     check(TABLE, "group", |text| {
@@ -160,8 +161,8 @@ fn group() {
     });
 }
 
-/// Parsers on a string's value, whose tokens have the spans of the file: an integer, a group, and the integer once the string's span is
-/// set.
+/// Parses a string's value with spans of the file that contains the string. Shows an integer, a group, and the integer after the
+/// string's span is set.
 #[test]
 fn in_file() {
     check(TABLE, "in_file", |text| {

@@ -1,19 +1,19 @@
-//! Tables of rows, and how they are checked.
+//! Reads tables of rows, and checks results against them.
 //!
-//! A heading, `# NAME`, begins the rows of one test. A row is a block of lines: those of the given text, after `<`, then those of the
-//! expected answer, after `>`. Empty lines separate headings and rows. `⟨41⟩` is the character of this hexadecimal number, `⟨xFF⟩` is a
-//! byte. White space at the end of an expected line isn't compared.
+//! A heading, `# NAME`, begins the rows of one test. A row is a block of lines: the lines of the given text, after `<`, then the
+//! lines of the expected result, after `>`. Empty lines separate headings and rows. `⟨41⟩` is the character with this hexadecimal
+//! number, `⟨xFF⟩` is a byte. White space at the end of an expected line isn't compared.
 
 use std::fs;
 use std::path::Path;
 
-/// A given text, and the expected answer.
+/// A given text, and the expected result.
 struct Row {
     given: Vec<u8>,
     expected: String,
 }
 
-/// The blocks of a table: headings, of one line each, and rows.
+/// Divides a table into blocks: headings, of one line each, and rows.
 fn blocks(table: &str) -> Vec<Vec<&str>> {
     let lines: Vec<&str> = table.split('\n').collect();
     let blocks = lines.split(|line| line.is_empty());
@@ -23,7 +23,7 @@ fn blocks(table: &str) -> Vec<Vec<&str>> {
         .collect()
 }
 
-/// Returns the heading that a block is, or nothing where it is a row.
+/// Returns the name in a block that is a heading, or `None` for a row.
 fn heading_of<'a>(block: &[&'a str]) -> Option<&'a str> {
     match block {
         [line] => line.strip_prefix("# "),
@@ -31,7 +31,7 @@ fn heading_of<'a>(block: &[&'a str]) -> Option<&'a str> {
     }
 }
 
-/// Reads a row. Panics where the block has other lines, or nothing given, or nothing expected.
+/// Parses a row. It panics if the block has other lines, or lacks a given text or an expected result.
 fn row_of(block: &[&str]) -> Row {
     let count = block
         .iter()
@@ -48,7 +48,8 @@ fn row_of(block: &[&str]) -> Row {
     }
 }
 
-/// The bytes that lines hold after their mark, with an LF between two lines.
+/// Returns the bytes that the lines of a stored call represent, with an LF between two lines. Each line begins with its mark, `<` or
+/// `>`, which is dropped. `⟨N⟩` in a line represents a byte or a character by its number.
 fn unescaped(lines: &[&str]) -> Vec<u8> {
     let lines = lines.iter().map(|line| &line[1..]);
     let lines: Vec<&str> = lines
@@ -65,7 +66,7 @@ fn unescaped(lines: &[&str]) -> Vec<u8> {
     bytes
 }
 
-/// The bytes of a character or a byte that a number names.
+/// Returns the bytes of the character or byte that the number in `⟨..⟩` represents.
 fn escaped(number: &str) -> Vec<u8> {
     if let Some(byte) = number.strip_prefix('x') {
         return vec![u8::from_str_radix(byte, 16).expect("the number of a byte")];
@@ -75,7 +76,7 @@ fn escaped(number: &str) -> Vec<u8> {
     character.to_string().into_bytes()
 }
 
-/// The rows below a heading.
+/// Returns the rows below a heading.
 fn below(table: &str, heading: &str) -> Vec<Row> {
     let blocks = blocks(table);
     let after = blocks
@@ -86,13 +87,14 @@ fn below(table: &str, heading: &str) -> Vec<Row> {
     rows.map(|block| row_of(block)).collect()
 }
 
-/// The lines of a text, without white space at their ends.
+/// Returns the lines of a text, without white space at their ends.
 fn trimmed(text: &str) -> Vec<&str> {
     let text = text.strip_suffix('\n').unwrap_or(text);
     text.split('\n').map(str::trim_end).collect()
 }
 
-/// Checks the answer to each row below a heading, where the given bytes needn't be UTF-8. Shows all rows that fail.
+/// Checks the result of `answer` for each row below a heading. The given bytes needn't be UTF-8. If rows fail, all of them are
+/// shown.
 pub fn check_bytes(table: &str, heading: &str, answer: impl Fn(&[u8]) -> String) {
     let rows = below(table, heading);
     assert!(!rows.is_empty(), "no rows below {heading}");
@@ -107,15 +109,15 @@ pub fn check_bytes(table: &str, heading: &str, answer: impl Fn(&[u8]) -> String)
     assert!(wrong.is_empty(), "{heading}:\n{wrong}");
 }
 
-/// Checks the answer to each row below a heading.
+/// Checks the result of `answer` for each row below a heading.
 pub fn check(table: &str, heading: &str, answer: impl Fn(&str) -> String) {
     check_bytes(table, heading, |bytes| {
         answer(std::str::from_utf8(bytes).expect("the given text is UTF-8"))
     });
 }
 
-/// Checks that a table is headings and rows, that no heading occurs twice, and that for each one a test calls `check` or its like with
-/// `TABLE` and the heading. `tests` is the text of the file of tests.
+/// Checks that a table consists of headings and rows, that no heading occurs twice, and that a test calls a check function with
+/// `TABLE` and each heading. `tests` is the text of the file of tests.
 pub fn check_headings(table: &str, tests: &str) {
     let mut headings = Vec::new();
     for block in blocks(table) {

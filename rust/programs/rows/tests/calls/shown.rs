@@ -1,4 +1,4 @@
-//! How rows show values, spans and errors.
+//! Functions that show values, spans and errors as the rows contain them.
 
 use navyspindle_programs::rattle_std::alloc::Global;
 use navyspindle_programs::rl_commands::line_of;
@@ -6,14 +6,14 @@ use navyspindle_programs::rl_tokens::{lex, Error, Literal, Span, TokenStream, To
 use navyspindle_programs::rust_literals::Lit;
 use std::fmt::Debug;
 
-/// A span that callers pass, and that no call makes by itself.
+/// A span that callers pass, and that no call creates by itself.
 pub const HERE: Span = Span {
     file: 7,
     lo: 3,
     hi: 9,
 };
 
-/// Another span that no call makes by itself.
+/// A second span that no call creates by itself.
 pub const THERE: Span = Span {
     file: 3,
     lo: 1,
@@ -76,12 +76,12 @@ pub fn token_or_error(answer: Result<Literal, Error>) -> String {
     value_or_error(answer, |token| format!("{token} {}\n", at(token.span())))
 }
 
-/// Reads the text as a literal.
+/// Parses the text as a literal with the given span.
 pub fn literal_of(text: &str, span: Span) -> Result<Lit, Error> {
     Ok(Lit::new(Global, Literal::from_text(Global, text, span)?)?)
 }
 
-/// Returns the token trees of a text, or nothing where the lexer rejects it.
+/// Returns the token trees of a text, or `None` if the lexer rejects it.
 pub fn trees_of(text: &str, file: u32) -> Option<TokenStream> {
     lex(Global, text, file).ok()
 }

@@ -1,4 +1,4 @@
-//! Spans, identifiers, tokens, token trees, and written literals.
+//! Tests spans, identifiers, tokens, token trees, and written literals.
 
 use crate::rows::{check, check_bytes, check_headings};
 use crate::shown::{
@@ -23,7 +23,7 @@ fn headings() {
     check_headings(TABLE, include_str!("tokens.rs"));
 }
 
-/// Shows each token tree with its byte range; after a group, the trees in it in angle brackets.
+/// Shows each token tree with its byte range. After a group, the trees in it follow in angle brackets.
 fn nested(trees: &[TokenTree]) -> String {
     let mut out = String::new();
     for tree in trees {
@@ -35,7 +35,7 @@ fn nested(trees: &[TokenTree]) -> String {
     out
 }
 
-/// The token trees of a text, or the error and its position.
+/// Shows the token trees of a text, or the error and its byte offset.
 #[test]
 fn trees_of_texts() {
     check(TABLE, "lex", |text| match lex(Global, text, 7) {
@@ -44,7 +44,7 @@ fn trees_of_texts() {
     });
 }
 
-/// The tokens of a text with their byte ranges, the error that ends them, and the rest of the text.
+/// Shows the tokens of a text with their byte ranges, the error that ends them, and the rest of the text.
 #[test]
 fn borrowed_tokens() {
     check(TABLE, "borrowed", |text| {
@@ -60,7 +60,7 @@ fn borrowed_tokens() {
     });
 }
 
-/// Makes a stream of token trees.
+/// Creates a stream of token trees.
 fn stream_of(trees: impl IntoIterator<Item = TokenTree>) -> TokenStream {
     let mut stream = TokenStream::new(Global);
     for tree in trees {
@@ -69,7 +69,7 @@ fn stream_of(trees: impl IntoIterator<Item = TokenTree>) -> TokenStream {
     stream
 }
 
-/// A group that holds a literal, before and after the spans are set.
+/// Shows a group that contains a literal, before and after the spans are set.
 #[test]
 fn built() {
     check(TABLE, "built", |_| {
@@ -100,7 +100,7 @@ fn spans() {
     });
 }
 
-/// An identifier, and its span once it is set.
+/// Shows an identifier, and its span after it is set.
 #[test]
 fn words() {
     check(TABLE, "word", |text| {
@@ -120,7 +120,7 @@ fn words() {
     });
 }
 
-/// A token of the text, and its span once it is set.
+/// Shows a token of the text, and its span after it is set.
 #[test]
 fn tokens_of_texts() {
     check(TABLE, "token", |text| {
@@ -139,7 +139,7 @@ fn string() {
     });
 }
 
-/// The bytes as a token, and as a literal after its value.
+/// Shows the given bytes as a token, as the value of a literal, and as that literal.
 #[test]
 fn byte_string() {
     check_bytes(TABLE, "byte_string", |bytes| {
@@ -151,7 +151,8 @@ fn byte_string() {
     });
 }
 
-/// The bytes as a C string, as a token, and as a literal after whether its value is the C string; or the position of the zero byte.
+/// Shows the given bytes as a C string literal: the token, whether the literal's value is the C string, and the literal. If a byte
+/// is 0, shows its offset.
 #[test]
 fn c_string() {
     check_bytes(TABLE, "c_string", |bytes| {
@@ -171,7 +172,7 @@ fn c_string() {
     });
 }
 
-/// Each byte as a literal, and as a token.
+/// Shows each byte as a literal, and as a token.
 #[test]
 fn bytes() {
     check_bytes(TABLE, "bytes", |bytes| {
@@ -185,7 +186,7 @@ fn bytes() {
     });
 }
 
-/// Each character as a token, and as a literal.
+/// Shows each character as a token, and as a literal.
 #[test]
 fn characters() {
     check(TABLE, "characters", |text| {
@@ -197,7 +198,7 @@ fn characters() {
     });
 }
 
-/// Both `bool` literals: value, span, token, and its span once it is set.
+/// Shows the literals `true` and `false`: value, span, token, and the token's span after it is set.
 #[test]
 fn truth() {
     check(TABLE, "truth", |_| {
@@ -214,7 +215,8 @@ fn truth() {
     });
 }
 
-/// Shows which of the four takers accept the next token tree, each on a fork, and takes it.
+/// Shows which of the four methods that take a token tree accept the next one, each on a fork of the buffer. Then it consumes the
+/// tree.
 fn taken(input: &mut ParseBuffer<'_>) -> String {
     let takes = [
         ("ident", input.fork().ident().is_some()),
@@ -246,7 +248,7 @@ fn taken(input: &mut ParseBuffer<'_>) -> String {
     front + &taken + "\n"
 }
 
-/// All token trees, and one step past the end.
+/// Shows all token trees by the methods that take them, and one step beyond the end.
 #[test]
 fn takers() {
     check(TABLE, "takers", |text| {
@@ -257,7 +259,7 @@ fn takers() {
     });
 }
 
-/// A minus and a number from two files, as one literal.
+/// Shows the literal that is parsed from a minus of one file and a number of another file.
 #[test]
 fn two_files() {
     check(TABLE, "two_files", |_| {
@@ -269,7 +271,8 @@ fn two_files() {
     });
 }
 
-/// Whether `=` is next, or is first in the group that is next; the answer of `take_punct`; and the buffer's position after that.
+/// Shows whether `=` is the next token, or the first token in the group that is next, the result of `take_punct`, and the buffer's
+/// position after that.
 #[test]
 fn mark() {
     check(TABLE, "mark", |text| {

@@ -1,4 +1,4 @@
-//! The small callers in `rl_uses`, and its examples.
+//! Tests the example callers in the crate `rl_uses`, and the examples of its documentation.
 
 use crate::rows::{check, check_headings};
 use crate::shown::{self, at, debug_or_error, value_or_error};
@@ -6,6 +6,14 @@ use navyspindle_programs::rattle_std::alloc::Global;
 use navyspindle_programs::rl_grammar::{find, next_literal};
 use navyspindle_programs::rl_tokens::{parse_all, ParseBuffer, Span, Tokens};
 use navyspindle_programs::rust_literals::read_all;
+use navyspindle_rows::rl_uses::callers::grammar::string_in;
+use navyspindle_rows::rl_uses::callers::lenient::integer_in;
+use navyspindle_rows::rl_uses::callers::literals::literal_count;
+use navyspindle_rows::rl_uses::callers::recovery::first_literal;
+use navyspindle_rows::rl_uses::callers::settings::is_lexed;
+use navyspindle_rows::rl_uses::callers::strict::first_bad_byte;
+use navyspindle_rows::rl_uses::callers::style::write_lower;
+use navyspindle_rows::rl_uses::callers::writing::write_ascii;
 use navyspindle_rows::rl_uses::examples::attributes::{
     host_in, host_of, missing_at, string_setting,
 };
@@ -14,7 +22,7 @@ use navyspindle_rows::rl_uses::examples::buffers::{
 };
 use navyspindle_rows::rl_uses::examples::grammar::{
     contents, digits_of_hex, exponent_of, first_escape, integer_of, is_plain_string, is_rust,
-    is_too_large, is_value, place_after_escape, reason, reason_in_file, suffix_of, why_no_value,
+    is_value, place_after_escape, reason, reason_in_file, suffix_of, why_no_value,
 };
 use navyspindle_rows::rl_uses::examples::literals::{
     after_literal, code_of, digits_or_text, first_flaw, second_string,
@@ -36,7 +44,7 @@ use std::fmt::Debug;
 
 const TABLE: &str = include_str!("uses.rows");
 
-/// The file of the spans.
+/// The number of the file in the spans.
 const FILE: u32 = 7;
 
 #[test]
@@ -62,7 +70,7 @@ fn attribute() {
     });
 }
 
-/// Two attributes that are parsed one after the other, and the buffer's position after each.
+/// Shows two attributes that are parsed one after the other, and the buffer's position after each.
 #[test]
 fn attributes() {
     check(TABLE, "attributes", |text| {
@@ -76,7 +84,7 @@ fn attributes() {
     });
 }
 
-/// Each item's kind and span.
+/// Shows each item's kind and span.
 #[test]
 fn list() {
     check(TABLE, "list", |text| {
@@ -90,7 +98,7 @@ fn list() {
     });
 }
 
-/// The errors of a list and of an item, and the buffer's position after these.
+/// Shows the errors of a list and of an item, and the buffer's position after each.
 #[test]
 fn rejected_list() {
     check(TABLE, "rejected_list", |text| {
@@ -102,7 +110,7 @@ fn rejected_list() {
     });
 }
 
-/// The spans of strings with control characters.
+/// Shows the spans of strings that contain control characters.
 #[test]
 fn lint() {
     check(TABLE, "lint", |text| {
@@ -112,7 +120,7 @@ fn lint() {
     });
 }
 
-/// The number of bad literals, and each one's error after its span.
+/// Shows the number of bad literals, and each one's error after its span.
 #[test]
 fn reasons() {
     check(TABLE, "reasons", |text| {
@@ -134,7 +142,7 @@ fn format_literals() {
     });
 }
 
-/// For each literal, the first one that is equal, and the number of those; and the number of distinct literals.
+/// Shows, for each literal, the first equal literal and the number of equal literals. Then shows the number of distinct literals.
 #[test]
 fn counts() {
     check(TABLE, "counts", |text| {
@@ -148,7 +156,7 @@ fn counts() {
     });
 }
 
-/// A `u16`, and an `i64`.
+/// Shows a `u16` and an `i64` that are parsed from literals.
 #[test]
 fn numbers() {
     check(TABLE, "settings", |text| {
@@ -157,7 +165,7 @@ fn numbers() {
     });
 }
 
-/// The port, `verbose`, and the name.
+/// Shows the settings of a configuration: the port, `verbose`, and the name.
 #[test]
 fn config() {
     check(TABLE, "config", |text| {
@@ -168,7 +176,7 @@ fn config() {
     });
 }
 
-/// The path, and whether nothing may be written.
+/// Shows the settings of a mount: the path, and whether writing is forbidden.
 #[test]
 fn mount() {
     check(TABLE, "mount", |text| match read_mount(Global, text) {
@@ -177,8 +185,8 @@ fn mount() {
     });
 }
 
-/// The number of the literal that is next, whether it has a suffix, and its number without one; and of the whole text's literal
-/// its number, and whether it has a suffix.
+/// Shows the signed number of the next literal, whether the literal has a suffix, and its value. Then shows the signed number of
+/// the whole text as a literal, and whether it has a suffix.
 #[test]
 fn values() {
     check(TABLE, "values", |text| {
@@ -194,7 +202,7 @@ fn sums() {
     check(TABLE, "sums", |text| format!("{:?}", evaluate(text)));
 }
 
-/// A string literal as a raw one.
+/// Shows a string literal rewritten as a raw string literal.
 #[test]
 fn raw() {
     check(TABLE, "raw", |text| {
@@ -206,7 +214,7 @@ fn raw() {
     });
 }
 
-/// A literal with its hexadecimal digits in upper case.
+/// Shows a literal rewritten with hexadecimal digits in upper case.
 #[test]
 fn upper() {
     check(TABLE, "upper", |text| {
@@ -218,7 +226,7 @@ fn upper() {
     });
 }
 
-/// The span of the first backslash of a path's value.
+/// Shows the span of the first backslash in the value of a path.
 #[test]
 fn path() {
     check(TABLE, "path", |text| {
@@ -229,7 +237,7 @@ fn path() {
     });
 }
 
-/// Shows a call as written, and its answer.
+/// Shows a call as written, and its result.
 fn example<T: Debug>(call: &str, value: T) -> String {
     format!("{} == {value:?}\n", call.replace("Global", "alloc"))
 }
@@ -275,8 +283,6 @@ fn examples() {
             reason_in_file("\"a\r\nb\"");
             is_value("-1.5");
             is_value("-\"a\"");
-            is_too_large("340282366920938463463374607431768211456");
-            is_too_large("340282366920938463463374607431768211455");
             why_no_value("-340282366920938463463374607431768211456");
             why_no_value("-1e");
             why_no_value("-1");
@@ -306,6 +312,20 @@ fn examples() {
             host_in(Global, "port = 80");
             missing_at(Global, "port = 80");
             string_setting(Global, "host = \"a\", port = 80", "host");
+            string_in(Global, "\"a\\x41\"");
+            string_in(Global, "5");
+            integer_in("-0x1F");
+            integer_in("1u8");
+            literal_count(Global, "1 \"a\" // two");
+            first_literal("1.5, 2");
+            first_literal("a");
+            is_lexed("f(1, \"a\")");
+            is_lexed("(1]");
+            first_bad_byte("0b102");
+            first_bad_byte("0b101");
+            write_lower("0xAB_u8", &mut [0; 64]);
+            write_lower("a", &mut [0; 64]);
+            write_ascii("é", &mut [0; 64]);
         }
     });
 }

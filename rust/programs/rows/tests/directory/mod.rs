@@ -1,14 +1,15 @@
-//! Directories of tests that go with them, since `rt ci` takes no links in a checkout.
+//! Temporary directories of tests, which are deleted after use. Tests create links only in such directories, since `rt ci` rejects
+//! links in a checkout.
 
 use std::fs;
 use std::ops::Deref;
 use std::path::{Path, PathBuf};
 
-/// A directory, and all in it, until it is dropped.
+/// A directory that is deleted with its contents when the value is dropped.
 pub struct Directory(PathBuf);
 
 impl Directory {
-    /// An empty one below the folder that Cargo keeps for tests.
+    /// Creates an empty directory below the folder that Cargo reserves for tests.
     pub fn new(group: &str, name: &str) -> Directory {
         let path = Path::new(env!("CARGO_TARGET_TMPDIR"))
             .join(group)

@@ -1,9 +1,9 @@
-//! Settings: the entries of a text, and settings by name and type.
+//! Compares settings of the package with those of the translated libraries: the entries of a text, and settings by name and type.
 
 use crate::flaws::proved_flaw_in_file;
 use crate::lists::{range_at, words_of};
 use crate::literals::{check_same, Proved};
-use navyspindle::{settings, Key, Lit, Number, SettingError, Settings};
+use navyspindle::{parse_settings, Key, Lit, Number, SettingError, Settings};
 use navyspindle_programs::rattle_std::alloc::Global;
 use navyspindle_programs::rl_attributes::{self, Attrs};
 use navyspindle_programs::rl_tokens::{parse_all, Error, ErrorKind};
@@ -12,7 +12,7 @@ use std::ops::Range;
 
 const EXPECTED: &str = "as it is expected";
 
-/// Requested names. Some are prefixes of others, or differ only in case.
+/// Names that the tests request. Some are prefixes of others, or differ only in case.
 pub const NAMES: [&str; 16] = [
     "a",
     "b",
@@ -32,9 +32,9 @@ pub const NAMES: [&str; 16] = [
     "maximum_size_of_b",
 ];
 
-/// Shows the package's reading of settings as `navyspindle_rows::settings` does.
+/// Shows the package's parse result of settings, in the form that `navyspindle_rows::settings` expects.
 pub fn reading(text: &str) -> String {
-    match settings(text) {
+    match parse_settings(text) {
         Ok(entries) => entries.iter().fold(String::new(), |mut out, it| {
             let (name, value) = (&it.name_range, &it.value_range);
             let _ = writeln!(out, "{} {name:?} {} {value:?}", it.name, it.value.text());
@@ -43,13 +43,23 @@ pub fn reading(text: &str) -> String {
         Err(error) => {
             let range = error.range();
             let words = error.to_string();
-            let words = words.trim_end_matches(&format!(" at byte {}", range.start));
+            let (words, _) = words
+                .split_once(&format!(" at byte {}", range.start))
+                .unwrap();
             format!("{words} at {range:?}\n")
         }
     }
 }
 
-/// A requested value, or the error's message and range.
+/// Returns the printed error with its hint. The proved parser has no hints.
+fn with_help(line: String, help: Option<&str>) -> String {
+    match help {
+        Some(help) => format!("{line}: {help}"),
+        None => line,
+    }
+}
+
+/// The value of a requested setting as text, or the error's message and range.
 type Told = Result<Option<String>, (String, Range<usize>)>;
 
 fn told<T: Display>(answer: Result<Option<T>, SettingError>) -> Told {
@@ -57,10 +67,8 @@ fn told<T: Display>(answer: Result<Option<T>, SettingError>) -> Told {
         Ok(value) => Ok(value.map(|it| it.to_string())),
         Err(error) => {
             let (words, range) = (error.kind().to_string(), error.range());
-            assert_eq!(
-                error.to_string(),
-                format!("{words} at byte {}", range.start)
-            );
+            let line = format!("{words} at byte {}", range.start);
+            assert_eq!(error.to_string(), with_help(line, error.help()));
             Err((words, range))
         }
     }
@@ -76,15 +84,16 @@ fn proved_told<T: Display>(answer: Result<Option<T>, rl_attributes::SettingError
     }
 }
 
-/// Returns the error of a value that Rust rejects. The package reports it first.
+/// Returns the error of a value that Rust rejects. The package reports this error before all others.
 fn rejection_of(value: &Proved, setting: Key) -> Option<(String, Range<usize>)> {
     let text = value.text();
     let flaw = proved_flaw_in_file(text)?;
-    let words = format!("{setting}: {}", flaw.kind.words());
+    let words = format!("{setting}: {}", flaw.kind.message());
     Some((words, range_in(value, flaw.lo..flaw.hi)))
 }
 
-/// Returns the range of some bytes of a value, or of all of it where white space or comments follow its minus.
+/// Converts a range of a value to a range of the settings' text. If white space or comments follow the value's minus, the result is
+/// the whole value.
 fn range_in(value: &Proved, bytes: Range<usize>) -> Range<usize> {
     let span = value.span();
     if span.hi - span.lo == value.text().len() {
@@ -94,7 +103,7 @@ fn range_in(value: &Proved, bytes: Range<usize>) -> Range<usize> {
     }
 }
 
-/// Returns a string's value, or an error where it has a suffix.
+/// Returns the expected result for a string: an error if it has a suffix, and otherwise `answer`.
 fn string_told(value: &Proved, setting: Key, answer: Told) -> Told {
     let suffix = value.suffix().len();
     if !matches!(value, Proved::Str(_)) || suffix == 0 {
@@ -105,10 +114,14 @@ fn string_told(value: &Proved, setting: Key, answer: Told) -> Told {
     Err((words, range_in(value, end - suffix..end)))
 }
 
-/// Returns the number that the package reads from the value's text. It is the proved reader's number, unless the value has a suffix or
-/// the number is infinite.
+/// Returns the number that the package reads from the value's text. It must be equal to the proved parser's `answer`, unless the
+/// value has a suffix or the number is infinite.
 fn number_told<N: Number + Display>(value: &Proved, setting: Key, answer: Told) -> Told {
     let number = match Lit::new(value.text()) {
+        // For a float type, an integer without a suffix is a value too.
+        Lit::Int(literal) if literal.suffix().is_empty() && "0.5".parse::<N>().is_ok() => {
+            return answer
+        }
         Lit::Int(literal) => literal.value::<N>(),
         Lit::Float(literal) => literal.value::<N>(),
         _ => return answer,
@@ -145,7 +158,7 @@ fn check_name(text: &str, ours: &Settings, proved: &Attrs, name: &'static str) {
     let string = expect(proved_told(proved.string(Global, b)), string_told);
     assert_eq!(told(ours.string(a)), string, "{text:?} {name}");
     let truth = expect(proved_told(proved.truth(b)), |_, _, answer| answer);
-    assert_eq!(told(ours.truth(a)), truth, "{text:?} {name}");
+    assert_eq!(told(ours.bool(a)), truth, "{text:?} {name}");
     let number = proved_told(proved.number::<u16>(Global, b));
     let number = expect(number, number_told::<u16>);
     assert_eq!(told(ours.number::<u16>(a)), number, "{text:?} {name}");
@@ -153,10 +166,14 @@ fn check_name(text: &str, ours: &Settings, proved: &Attrs, name: &'static str) {
     let number = expect(number, number_told::<f64>);
     assert_eq!(told(ours.number::<f64>(a)), number, "{text:?} {name}");
     let missing = proved_told::<u8>(Err(proved.missing(b)));
-    assert_eq!(told::<u8>(Err(ours.missing(a))), missing, "{text:?} {name}");
+    assert_eq!(
+        told::<u8>(Err(ours.missing_error(a))),
+        missing,
+        "{text:?} {name}"
+    );
 }
 
-/// Checks that the first unknown name is an error.
+/// Checks that the package reports the first unknown name, or no error if all names are known.
 fn check_known(text: &str, ours: &Settings, proved: &Attrs, known: &[&'static str]) {
     let expected = EXPECTED;
     let settings: Vec<_> = known.iter().map(|&name| Key::new(name, expected)).collect();
@@ -185,7 +202,7 @@ fn check_asked(text: &str, proved: &Attrs) {
     }
 }
 
-/// Returns the package's message, name and range for an error of the proved reader.
+/// Converts an error of the proved parser to the package's message, name and range.
 fn said_of(text: &str, error: &Error) -> (String, String, Range<usize>) {
     let span = error.span;
     match &error.kind {
@@ -225,8 +242,8 @@ fn shown(read: &Result<Attrs, Error>) -> Vec<String> {
     }
 }
 
-/// Checks the reading of settings, and returns the number of entries, or `None` for an error. The proved reader works on tokens, and the
-/// proved parser on token trees.
+/// Checks the package's parse result of settings. Returns the number of entries, or `None` for an error. The expected result comes
+/// from two translated parsers, one on tokens and one on token trees, which must agree.
 pub fn check_settings(text: &str) -> Option<usize> {
     let proved = rl_attributes::read(Global, text, 0);
     assert_eq!(
@@ -234,7 +251,7 @@ pub fn check_settings(text: &str) -> Option<usize> {
         shown(&parse_all::<Attrs, Global>(Global, text, 0)),
         "{text:?}"
     );
-    match (settings(text), proved) {
+    match (parse_settings(text), proved) {
         (Ok(ours), Ok(proved)) => {
             assert_eq!(ours.len(), proved.entries().len(), "{text:?}");
             for (a, b) in ours.iter().zip(proved.entries()) {
@@ -250,10 +267,10 @@ pub fn check_settings(text: &str) -> Option<usize> {
         (Err(ours), Err(proved)) => {
             let (words, name, range) = said_of(text, &proved);
             assert_eq!(ours.kind().to_string(), words, "{text:?}");
-            assert_eq!(ours.kind().words(), words, "{text:?}");
+            assert_eq!(ours.kind().message(), words, "{text:?}");
             assert_eq!(ours.range(), range, "{text:?}");
             let line = format!("{words}{name} at byte {}", range.start);
-            assert_eq!(ours.to_string(), line, "{text:?}");
+            assert_eq!(ours.to_string(), with_help(line, ours.help()), "{text:?}");
             let read = Settings::read(text).map(|_| None::<u8>);
             assert_eq!(told(read), Err((words + &name, range)), "{text:?}");
             None

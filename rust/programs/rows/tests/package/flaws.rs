@@ -1,4 +1,4 @@
-//! The texts that Rust accepts, and the errors of others.
+//! Compares the texts that the package accepts, and its errors for other texts, with the translated libraries.
 
 use crate::literals::{check_closely as check_literal_closely, check_same, Proved};
 use navyspindle::{
@@ -6,18 +6,18 @@ use navyspindle::{
     ParseError, ParseErrorKind,
 };
 use navyspindle_programs::rl_grammar::{
-    explain, explain_in_file, explain_limit, explain_signed, explain_value, explain_value_in_file,
-    is_float_by_suffix, strict, Flaw,
+    explain, explain_value, is_float_by_suffix, strict, Flaw, LineEnds,
 };
 
-/// Returns the error of a text that isn't a literal token after an optional minus, or is an integer above 128 bits.
+/// Returns the expected error of a text: it isn't a literal token after an optional minus, or it is an integer above 128 bits.
 fn proved_flaw(text: &str) -> Option<Flaw> {
-    explain_signed(text).or_else(|| explain_limit(text))
+    explain_value(text, LineEnds::Text, true)
 }
 
-/// Returns the flaw that `of` finds in the text without the CR of each CR LF, at its positions in the text.
+/// Returns the flaw that `of` finds in the text after each CR LF is replaced by LF, with byte offsets of the original text.
 fn flaw_by_hand(text: &str, of: impl Fn(&str) -> Option<Flaw>) -> Option<Flaw> {
-    // Where the text without the CR of each CR LF has a byte, this one has it there: at an LF, where its CR stands.
+    // `places` has, for each byte of the replaced text, its offset in the original text. The offset of an LF that replaces a CR LF
+    // is that of the CR.
     let (mut read, mut places) = (String::new(), Vec::new());
     let mut chars = text.char_indices().peekable();
     while let Some((at, c)) = chars.next() {
@@ -27,7 +27,7 @@ fn flaw_by_hand(text: &str, of: impl Fn(&str) -> Option<Flaw>) -> Option<Flaw> {
     }
     places.push(text.len());
     let flaw = of(&read)?;
-    // Of characters of several bytes the places are those of their first ones, and flaws stand nowhere else.
+    // A flaw's offsets are always at the first byte of a character, so `places` needs no exact offsets for the other bytes.
     Some(Flaw {
         kind: flaw.kind,
         from: places[flaw.from],
@@ -36,7 +36,7 @@ fn flaw_by_hand(text: &str, of: impl Fn(&str) -> Option<Flaw>) -> Option<Flaw> {
     })
 }
 
-/// Returns the error of a text in a file.
+/// Returns the expected error of a text in a file, where CR LF counts as LF.
 pub fn proved_flaw_in_file(text: &str) -> Option<Flaw> {
     flaw_by_hand(text, proved_flaw)
 }
@@ -45,7 +45,7 @@ pub fn proved_flaw_in_file(text: &str) -> Option<Flaw> {
 fn check_flaw(text: &str, error: ParseError, flaw: Flaw) {
     assert_eq!(error.range(), flaw.lo..flaw.hi, "{text:?}");
     assert_eq!(error.piece(), flaw.from..flaw.hi, "{text:?}");
-    let words = flaw.kind.words();
+    let words = flaw.kind.message();
     assert_eq!(error.kind().to_string(), words, "{text:?}");
     let line = format!("{words} at byte {}", flaw.lo);
     assert_eq!(error.to_string(), line, "{text:?}");
@@ -56,7 +56,10 @@ pub fn check_verbatim(ours: &Lit, proved: &Proved) {
     let Lit::Verbatim(literal) = ours else {
         panic!()
     };
-    match (literal.explain(), explain_value(proved.text())) {
+    match (
+        literal.explain(),
+        explain_value(proved.text(), LineEnds::Text, true),
+    ) {
         (None, None) => assert!(is_float_by_suffix(ours.text()), "{:?}", ours.text()),
         (Some(error), Some(flaw)) => check_flaw(ours.text(), error, flaw),
         (_, flaw) => panic!("{:?}: {:?}", ours.text(), flaw.map(|it| it.kind)),
@@ -72,7 +75,7 @@ pub fn check_parse(text: &str, proved: &Proved) {
     }
 }
 
-/// Checks all functions that parse a text.
+/// Checks all functions that parse a single text.
 pub fn check_closely(text: &str, proved: &Proved) {
     let read = [
         Lit::parse(text),
@@ -90,7 +93,7 @@ pub fn check_closely(text: &str, proved: &Proved) {
     check_kinds(text, proved);
 }
 
-/// Checks the parsers of one kind: each accepts only literals of its kind, and an error names both kinds.
+/// Checks the parsers of single kinds. Each parser accepts only literals of its kind, and its error names both kinds.
 fn check_kinds(text: &str, proved: &Proved) {
     macro_rules! check {
         ($($name:ident $kind:ident)*) => {
@@ -105,7 +108,7 @@ fn check_kinds(text: &str, proved: &Proved) {
                     Lit::parse(text).and_then(|it| match $name::try_from(it) {
                         Ok(it) => Ok(Lit::from(it)),
                         Err(it) => {
-                            // What is of another kind comes back as it was.
+                            // A literal of another kind is returned unchanged.
                             check_same(&it, proved);
                             $name::parse(text).map(Lit::from)
                         }
@@ -147,15 +150,19 @@ fn check_kind(text: &str, proved: &Proved, expected: Kind, read: [Result<Lit, Pa
     }
 }
 
-/// Checks whether Rust accepts a text in a file, where CR LF counts as LF.
+/// Checks whether the package accepts a text in a file, where CR LF counts as LF.
 pub fn check_file(text: &str) {
     assert_eq!(
-        explain_in_file(text),
+        strict::read(text, LineEnds::File, false).err(),
         flaw_by_hand(text, explain),
         "{text:?}"
     );
-    let value = flaw_by_hand(text, |read| explain(read).or_else(|| explain_limit(read)));
-    assert_eq!(explain_value_in_file(text), value, "{text:?}");
+    let value = flaw_by_hand(text, |read| explain(read).or_else(|| proved_flaw(read)));
+    assert_eq!(
+        explain_value(text, LineEnds::File, false),
+        value,
+        "{text:?}"
+    );
     match (Lit::new(text).check(), proved_flaw_in_file(text)) {
         (Ok(()), None) => {}
         (Err(error), Some(flaw)) => check_flaw(text, error, flaw),

@@ -1,21 +1,21 @@
-//! Lines and columns of bytes, and back.
+//! Compares the conversion of byte offsets to lines and columns, and back, with the translated libraries.
 
 use navyspindle::{LineColumn, LineIndex};
-use navyspindle_programs::rl_tokens::Lines;
+use navyspindle_programs::rl_output::Places;
 
-/// Checks the line and column of each character and of the end, in characters beside the proved `Lines`, and in bytes. A byte order mark
-/// at the start has no column.
+/// Checks the line and column of each character and of the text's end. Columns in characters are compared with the proved `Places`.
+/// Columns in bytes are checked too. A byte order mark at the start has no column.
 pub fn check(text: &str) {
     let index = LineIndex::new(text);
     let read = text.strip_prefix('\u{feff}').unwrap_or(text);
     let front = text.len() - read.len();
-    let mut lines = Lines::new(text);
+    let mut places = Places::new(text);
     let mut line_start = 0;
     assert_eq!(index.lines(), read.matches('\n').count() + 1, "{text:?}");
-    let places = read.char_indices().map(|(at, c)| (at, Some(c)));
-    for (at, c) in places.chain([(read.len(), None)]) {
-        let place = lines.at(&text[front + at..]);
-        let (line, column) = (place.line, place.column);
+    let characters = read.char_indices().map(|(at, c)| (at, Some(c)));
+    for (at, c) in characters.chain([(read.len(), None)]) {
+        let spot = places.at(&text[front + at..]);
+        let (line, column) = (spot.line, spot.column);
         let place = LineColumn { line, column };
         let column = at - line_start + 1;
         let in_bytes = LineColumn { line, column };
@@ -36,7 +36,7 @@ pub fn check(text: &str) {
             assert_eq!(index.byte_of_bytes(place), None, "{text:?} {place}");
         }
         if matches!(c, None | Some('\n')) {
-            // Past the line's last place there is none.
+            // After the line's last position there are no more columns.
             for past in 1..4 {
                 let place = LineColumn {
                     line,

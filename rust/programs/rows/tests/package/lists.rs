@@ -1,15 +1,17 @@
-//! Lists of literals, and the literals of sources: their ranges, and the errors that end them.
+//! Compares lists of literals, and the literals of sources, with the translated libraries: their ranges, and the errors that end
+//! them.
 
 use crate::literals::{check_closely, check_same, proved_of, Proved};
-use navyspindle::{literals, source, ListError, Lit, Literals, Recover, Source};
+use navyspindle::{parse_list, source, ListError, Lit, Literals, Recover, Source};
 use navyspindle_programs::rattle_std::alloc::Global;
 use navyspindle_programs::{rl_grammar, rl_tokens, rust_literals};
 use std::ops::Range;
 
 type Item<'t> = Result<(Range<usize>, Lit<'t>), ListError>;
 
-/// Returns the next item, which a copy of the iterator returns too. Nothing follows an error or the end.
-macro_rules! next_of {
+/// Returns the next item, after checking that a copy of the iterator returns the same item. After an error or the end, no item may
+/// follow.
+macro_rules! next_literal_of {
     ($name:ident, $iterator:ty) => {
         fn $name<'t>(items: &mut $iterator, copy: $iterator) -> Option<Item<'t>> {
             let (item, mut copy) = (items.next(), copy);
@@ -21,10 +23,10 @@ macro_rules! next_of {
         }
     };
 }
-next_of!(next_of_list, Literals<'t>);
-next_of!(next_of_source, Source<'t>);
+next_literal_of!(next_of_list, Literals<'t>);
+next_literal_of!(next_of_source, Source<'t>);
 
-/// Returns the next item of a recovering iterator, which its copy returns too.
+/// Returns the next item of a recovering iterator, after checking that a copy of it returns the same item.
 fn next_recovered<'t>(items: &mut Recover<'t>) -> Option<Item<'t>> {
     let mut copy = items.clone();
     let item = items.next();
@@ -32,7 +34,7 @@ fn next_recovered<'t>(items: &mut Recover<'t>) -> Option<Item<'t>> {
     item
 }
 
-/// Checks a literal and its range, closely where its text isn't that of the range.
+/// Checks a literal and its range. If the literal's text isn't the text of the range, all functions of the literal are checked.
 fn check_item(text: &str, range: Range<usize>, ours: &Lit, proved: &Proved, span: Range<usize>) {
     assert_eq!(range, span, "{text:?}");
     if text[range] == *ours.text() {
@@ -56,21 +58,21 @@ fn rejection_in(text: &str) -> (Range<usize>, String) {
         rl_grammar::RejectionKind::Lex(kind) => format!("{kind:?}"),
         rl_grammar::RejectionKind::Group => "Group".to_owned(),
         rl_grammar::RejectionKind::UnmatchedClose => "UnmatchedClose".to_owned(),
-        rl_grammar::RejectionKind::NoLiteral if text[rejection.at..].starts_with('-') => {
+        rl_grammar::RejectionKind::NotALiteral if text[rejection.at..].starts_with('-') => {
             "NoNumber".to_owned()
         }
-        rl_grammar::RejectionKind::NoLiteral => "NoLiteral".to_owned(),
+        rl_grammar::RejectionKind::NotALiteral => "NotALiteral".to_owned(),
     };
     (range_at(text, rejection.at, &name), name)
 }
 
-/// Returns the range of the token at a position. A token that isn't closed extends to the end of the text.
+/// Returns the range of the token at a byte offset. A token that isn't closed reaches to the end of the text.
 pub fn range_at(text: &str, at: usize, name: &str) -> Range<usize> {
     let rest = &text[at..];
     let len = match rl_tokens::Tokens::new(rest).next() {
         Some(token) => Some(token.hi),
         None if name == "StrayCharacter" => rest.chars().next().map(char::len_utf8),
-        // A source has tokens of which a list has none.
+        // Some tokens are allowed in a source, but not in a list.
         None => rl_tokens::Sources::new(rest).next().map(|it| it.hi),
     };
     at..at + len.unwrap_or(rest.len())
@@ -79,18 +81,18 @@ pub fn range_at(text: &str, at: usize, name: &str) -> Range<usize> {
 /// Returns the package's message for an error in a list, a source or settings.
 pub fn words_of(name: &str) -> &'static str {
     match name {
-        "NoLiteral" => "not a literal",
-        "NoNumber" => "minus without a number within 128 bits",
-        "DocComment" => "doc comment",
-        "UnclosedComment" => "block comment isn't closed",
-        "UnclosedQuote" => "quoted literal isn't closed",
-        "Lifetime" => "lifetime",
-        "RawIdentifier" => "raw identifier",
-        "StrayCharacter" => "character that begins no token",
+        "NotALiteral" => "not a literal",
+        "NoNumber" => "expected number up to 128 bits after `-`",
+        "DocComment" => "unexpected doc comment",
+        "UnclosedComment" => "unclosed block comment",
+        "UnclosedQuote" => "unclosed quote",
+        "Lifetime" => "unexpected lifetime: a string has double quotes",
+        "RawIdentifier" => "unexpected raw identifier",
+        "StrayCharacter" => "stray character",
         "UnmatchedClose" => "unmatched closing delimiter",
-        "UnclosedGroup" => "group isn't closed",
+        "UnclosedGroup" => "unclosed group",
         "TooDeep" => "groups nested too deep",
-        "Group" => "opening delimiter, and a group is no literal",
+        "Group" => "expected literal, found group",
         _ => panic!("{name}"),
     }
 }
@@ -98,7 +100,7 @@ pub fn words_of(name: &str) -> &'static str {
 fn check_error(error: &ListError, range: Range<usize>, name: &str, text: &str) {
     let words = words_of(name);
     assert_eq!(error.range(), range, "{text:?}");
-    assert_eq!(error.at(), range.start, "{text:?}");
+    assert_eq!(error.offset(), range.start, "{text:?}");
     assert_eq!(format!("{:?}", error.kind()), name, "{text:?}");
     assert_eq!(error.kind().to_string(), words, "{text:?}");
     let line = format!("{words} at byte {}", range.start);
@@ -107,7 +109,7 @@ fn check_error(error: &ListError, range: Range<usize>, name: &str, text: &str) {
 
 pub fn check_list(text: &str) {
     let mut proved = rust_literals::Literals::new(Global, text, 0);
-    let mut ours = literals(text);
+    let mut ours = parse_list(text);
     loop {
         let copy = ours.clone();
         match (next_of_list(&mut ours, copy), proved.next()) {
@@ -120,7 +122,7 @@ pub fn check_list(text: &str) {
                 return check_error(&error, range, &name, text);
             }
             (None, Ok(None)) => return,
-            // The proved list asks for all groups to be closed before it goes on.
+            // The proved list checks that all groups are closed before it returns a literal, so it may fail earlier.
             (Some(Ok(_)), Err(_)) if rl_tokens::lex(Global, text, 0).is_err() => return,
             (ours, proved) => panic!("{text:?}: {ours:?}, {:?}", proved.map(|it| it.is_some())),
         }
@@ -142,7 +144,7 @@ pub fn check_source(text: &str) {
             (Some(Err(error)), None) => {
                 let cause = proved.error().unwrap();
                 let name = format!("{:?}", cause.kind);
-                // A quote or a comment isn't closed.
+                // The error is a quote or a comment that isn't closed.
                 check_error(&error, cause.at..text.len(), &name, text);
                 let rest = source(text).recover().skip(returned);
                 assert!(ours.recover().eq(rest), "{text:?}");
@@ -157,9 +159,10 @@ pub fn check_source(text: &str) {
     }
 }
 
-/// Checks that recovery continues as a new source does, on the lines after each error.
+/// Checks that recovery after an error continues like a new source that consists of the lines after the error.
 fn check_recovery(text: &str) {
-    // Lines are joined there, or begin as a whole source alone may.
+    // Texts in which an error's line continues after a line end, or in which a line begins with text that is special at the start
+    // of a source, aren't compared.
     if ["\\\n", "\n\u{feff}", "\n#!"]
         .iter()
         .any(|it| text.contains(it))

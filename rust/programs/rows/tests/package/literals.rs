@@ -1,4 +1,4 @@
-//! One literal: its kind, value, suffix and text, and the functions of each kind.
+//! Compares single literals with the translated libraries: kind, value, suffix, text, and the functions of each kind.
 
 use crate::{flaws, numbers, quoted};
 use navyspindle::{write_byte, write_byte_str, write_char, write_str, Lit, LitBool};
@@ -10,7 +10,7 @@ use std::hash::{BuildHasher, BuildHasherDefault};
 
 pub type Proved = rust_literals::Lit;
 
-/// Shows a literal of the package as `rl_tool` prints it.
+/// Shows a literal of the package, in the form that `rl_tool` prints.
 fn line_of(literal: &Lit) -> String {
     let contents = match literal {
         Lit::Str(string) => write_str(&string.value()),
@@ -31,7 +31,7 @@ fn line_of(literal: &Lit) -> String {
     format!("{:?} {contents} {suffix}\n", literal.kind())
 }
 
-/// Shows a proved literal as `rl_tool` prints it.
+/// Shows a literal of the translated libraries, in the form that `rl_tool` prints.
 fn proved_line(literal: &Proved) -> String {
     rl_commands::line_of(Global, literal)
         .unwrap()
@@ -48,7 +48,7 @@ pub fn proved_of(text: &str) -> Proved {
     literal
 }
 
-/// Checks what literals of all kinds have.
+/// Checks the properties that literals of all kinds have.
 #[track_caller]
 pub fn check_same(ours: &Lit, proved: &Proved) {
     let text = proved.text();
@@ -60,7 +60,7 @@ pub fn check_same(ours: &Lit, proved: &Proved) {
     );
 }
 
-/// Checks all functions of a literal.
+/// Compares the results of all methods of the package's literal `ours` with those of the proved libraries' literal.
 #[track_caller]
 pub fn check_closely(ours: &Lit, proved: &Proved) {
     check_same(ours, proved);
@@ -89,7 +89,7 @@ pub fn check_closely(ours: &Lit, proved: &Proved) {
     }
 }
 
-/// Checks a text as one literal, by `syn`'s grammar and by Rust's.
+/// Checks a text as one literal, by `syn`'s grammar and by Rust's grammar.
 pub fn check_literal(text: &str) {
     let (ours, proved) = (Lit::new(text), proved_of(text));
     check_same(&ours, &proved);
@@ -108,7 +108,7 @@ pub fn check_text(text: &str) {
     quoted::check_written(text);
 }
 
-/// Checks that literals are equal if and only if their texts are, borrowed or owned.
+/// Checks that two literals, borrowed or owned, are equal if and only if their texts are equal.
 pub fn check_equal(a: &str, b: &str) {
     let hash_of = |literal: &Lit| BuildHasherDefault::<DefaultHasher>::default().hash_one(literal);
     let (ours, other) = (Lit::new(a), Lit::new(b.to_owned()));

@@ -1,8 +1,8 @@
-//! Generated texts of settings, and all short texts of some pieces.
+//! Generates texts of settings, and all short texts that consist of given pieces.
 
 use crate::asked::NAMES;
 
-/// Pseudorandom choices.
+/// A generator of pseudorandom choices. The field is its state.
 pub struct Picks(pub u64);
 
 impl Picks {
@@ -105,7 +105,7 @@ const ENDS: &[&str] = &[
     "", "", "", " ", "\n", ",", ", \t\r\n", " // a", "/* a */", "/* a", ")", ",,",
 ];
 
-/// Makes a text of settings. In a third of the texts, names, punctuation and commas may be invalid.
+/// Generates a text of settings. In a third of the texts, names, punctuation and commas may be invalid.
 pub fn settings(r: &mut Picks) -> String {
     let mut text = String::new();
     let is_good = r.below(3) > 0;

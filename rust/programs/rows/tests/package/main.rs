@@ -1,5 +1,6 @@
-//! Compares the types of the package `navyspindle`, which are written by hand, with the translated libraries. The expected answers come
-//! from these libraries, or are written here. `tools/package_wrong` tries whether the tests reject wrong bodies.
+//! Compares the types of the package `navyspindle`, which are written by hand, with the translated libraries. The expected results
+//! come from these libraries, or are written in the tests. `tools/package_wrong` checks that the tests reject wrong edits of the
+//! package's code.
 
 mod asked;
 mod flaws;
@@ -25,7 +26,7 @@ fn check_all(text: &str) {
     check_source(text);
 }
 
-/// Checks a text less closely than `check_all`, and in less time.
+/// Checks a text by fewer functions than `check_all` does, and in less time.
 fn check_most(text: &str) {
     check_literal(text);
     check_list(text);
@@ -33,7 +34,7 @@ fn check_most(text: &str) {
     check_source(text);
 }
 
-/// The number of generated texts that are tried by default. Ignored tests, which `rust/check` runs, try the rest.
+/// The number of generated texts that are tested by default. The ignored tests, which `rust/check` runs, test the remaining texts.
 const SAMPLE: usize = 2_000;
 const TEXTS: usize = 200_000;
 const SETTINGS: usize = 100_000;
@@ -110,7 +111,7 @@ fn more_generated_settings() {
     check_generated_settings(SAMPLE..SETTINGS);
 }
 
-/// Settings that are put together from parts, so that their reading is known.
+/// Checks generated texts of settings that are assembled from parts, so that their expected parse results are known.
 fn check_known_settings(tried: Range<usize>) {
     let mut random = texts::Random::new(3);
     for n in 0..tried.end {
@@ -353,7 +354,8 @@ fn lines_and_columns() {
     );
 }
 
-/// Checks a character in twelve places, and as it is written. Few characters are checked as closely as texts are.
+/// Checks a character in twelve positions, and as a written literal. Most characters are checked by fewer functions than other
+/// texts are.
 fn check_character(c: char) {
     let number = u32::from(c);
     quoted::check_written_character(c);
@@ -373,7 +375,7 @@ fn check_character(c: char) {
     }
 }
 
-/// Whether a character is tried by default.
+/// Whether a character is tested by default.
 fn is_in_sample(c: &char) -> bool {
     let number = u32::from(*c);
     number < 0x250 || number % 343 == 0
@@ -399,7 +401,7 @@ fn characters_of_the_upper_half() {
     others.for_each(check_character);
 }
 
-/// The paths of Rust and Rattle sources below a folder, without build folders and hidden ones.
+/// Returns the paths of the Rust and Rattle sources below a folder. Build folders and hidden folders are skipped.
 fn sources_below(folder: &Path) -> Vec<PathBuf> {
     let mut found = Vec::new();
     for entry in fs::read_dir(folder).unwrap() {
@@ -415,7 +417,7 @@ fn sources_below(folder: &Path) -> Vec<PathBuf> {
     found
 }
 
-/// Checks a source, its literals, and both with errors put in.
+/// Checks a source file, its literals, and changed texts of both with errors in them.
 fn check_file(random: &mut texts::Random, text: &str) {
     check_source(text);
     check_list(text);

@@ -1,4 +1,4 @@
-//! Integers and floats: digits, bases and the parts of their texts.
+//! Compares integers and floats with the translated libraries: digits, bases and the parts of their texts.
 
 use crate::literals::Proved;
 use navyspindle::{Base, Lit, NumberType};
@@ -14,13 +14,13 @@ fn shown<T: Display, E: Display>(answer: Result<T, E>) -> String {
     }
 }
 
-/// Returns the type that a suffix names.
+/// Returns the number type that a suffix names.
 fn type_of(suffix: &str) -> Option<&str> {
     let types = "u8 u16 u32 u64 u128 usize i8 i16 i32 i64 i128 isize f32 f64";
     types.split(' ').find(|name| *name == suffix)
 }
 
-/// Checks what integers and floats have in common.
+/// Checks the properties that integers and floats share.
 macro_rules! check_number {
     ($ours:expr, $proved:expr, $found:expr) => {{
         let (ours, proved) = ($ours, $proved);

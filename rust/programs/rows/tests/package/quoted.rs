@@ -1,4 +1,5 @@
-//! Quoted literals: values, borrowed where the proved ones are, parts, and the range that each byte comes from; and written literals.
+//! Compares quoted literals with the translated libraries: values, parts, and the range of the text that each byte of the value
+//! comes from. A value must be borrowed if the proved one is. Written literals are compared too.
 
 use crate::literals::Proved;
 use navyspindle::{
@@ -38,7 +39,7 @@ fn shown(segment: &Segment) -> String {
     }
 }
 
-/// Shows a proved segment.
+/// Shows a segment of the translated libraries.
 fn shown_proved(segment: &rl_grammar::Segment) -> String {
     let range = segment.lo..segment.hi;
     match segment.value {
@@ -49,15 +50,15 @@ fn shown_proved(segment: &rl_grammar::Segment) -> String {
     }
 }
 
-/// The package's functions for positions in a quoted literal's value.
+/// The package's functions that convert byte offsets of a quoted literal's value to its text.
 struct Places<'p> {
-    place_of: &'p dyn Fn(usize) -> usize,
-    range_of: &'p dyn Fn(Range<usize>) -> Range<usize>,
-    places: navyspindle::Places,
+    text_offset: &'p dyn Fn(usize) -> usize,
+    text_range: &'p dyn Fn(Range<usize>) -> Range<usize>,
+    places: navyspindle::OffsetMap,
 }
 
-/// Returns the first positions, some in the middle, and the last ones.
-fn some_of(len: usize) -> impl Iterator<Item = usize> {
+/// Returns the first offsets, some in the middle, and the last offsets of a value with `len` bytes.
+fn groups_if_any(len: usize) -> impl Iterator<Item = usize> {
     (0..=len + 1).filter(move |at| *at < 4 || (60..68).contains(at) || *at + 4 > len)
 }
 
@@ -65,28 +66,36 @@ fn some_of(len: usize) -> impl Iterator<Item = usize> {
 fn check_places<K: QuotedKind>(ours: &Places, proved: &Quoted<K>) {
     let text = proved.text();
     let base = rl_tokens::Span::new(0, 0, text.len());
-    let spans = rl_grammar::spans_of(Global, proved.segments(), base).unwrap();
+    let spans = rl_grammar::byte_spans_of(Global, proved.segments(), base).unwrap();
     let spans = spans.as_slice();
     for (at, span) in spans.iter().enumerate() {
-        assert_eq!(ours.places.byte(at), span.lo..span.hi, "{text:?} {at}");
+        assert_eq!(
+            ours.places.byte_range(at),
+            span.lo..span.hi,
+            "{text:?} {at}"
+        );
     }
-    for lo in some_of(spans.len()) {
-        assert_eq!((ours.place_of)(lo), proved.place_of(lo), "{text:?} {lo}");
-        for hi in some_of(spans.len()) {
-            // Of no bytes, where the next one comes from.
+    for lo in groups_if_any(spans.len()) {
+        assert_eq!(
+            (ours.text_offset)(lo),
+            proved.text_offset(lo),
+            "{text:?} {lo}"
+        );
+        for hi in groups_if_any(spans.len()) {
+            // For an empty range, the result is where the text of the next byte begins.
             let last = if lo < hi {
                 proved.end_of(hi - 1)
             } else {
-                proved.place_of(lo)
+                proved.text_offset(lo)
             };
-            let range = proved.place_of(lo)..last;
-            assert_eq!((ours.range_of)(lo..hi), range, "{text:?} {lo}..{hi}");
-            assert_eq!(ours.places.range(lo..hi), range, "{text:?} {lo}..{hi}");
+            let range = proved.text_offset(lo)..last;
+            assert_eq!((ours.text_range)(lo..hi), range, "{text:?} {lo}..{hi}");
+            assert_eq!(ours.places.text_range(lo..hi), range, "{text:?} {lo}..{hi}");
         }
     }
 }
 
-/// Checks what quoted literals of all five kinds have.
+/// Checks the properties that all five kinds of quoted literals share.
 macro_rules! check_quoted {
     ($literal:expr, $ours:expr, $proved:expr, $found:expr) => {{
         let (literal, ours, proved) = ($literal, $ours, $proved);
@@ -102,10 +111,10 @@ macro_rules! check_quoted {
             $found.body.suffix_at..text.len(),
             "{text:?}"
         );
-        for places in [Some(ours.places()), literal.places()] {
+        for places in [Some(ours.offset_map()), literal.offset_map()] {
             let places = Places {
-                place_of: &|at| ours.place_of(at),
-                range_of: &|range| ours.range_of(range),
+                text_offset: &|at| ours.text_offset(at),
+                text_range: &|range| ours.text_range(range),
                 places: places.unwrap(),
             };
             check_places(&places, proved);
@@ -113,7 +122,7 @@ macro_rules! check_quoted {
     }};
 }
 
-/// Checks what strings of all three kinds have.
+/// Checks the properties that strings, byte strings and C strings share.
 macro_rules! check_string {
     ($ours:expr, $found:expr, $text:expr, $value:expr, $is_borrowed:expr) => {{
         let (ours, text, body) = ($ours, $text, $found.body);
@@ -123,7 +132,7 @@ macro_rules! check_string {
         assert_eq!(ours.is_raw(), opener.contains('r'), "{text:?}");
         assert_eq!(ours.hashes(), opener.matches('#').count(), "{text:?}");
         check_value(ours.value(), $value, $is_borrowed, text);
-        // Of a text of its own, it is the text's room.
+        // If the literal owns its text, the value is owned too.
         let is_owned = matches!(ours.clone().into_text(), Cow::Owned(_));
         check_value(
             ours.clone().into_value(),
@@ -162,13 +171,13 @@ pub fn check(ours: &Lit, proved: &Proved, found: &Found) {
             assert_eq!(a.value(), b.value(), "{text:?}");
         }
         _ => assert!(
-            ours.segments().is_none() && ours.places().is_none(),
+            ours.segments().is_none() && ours.offset_map().is_none(),
             "{text:?}"
         ),
     }
 }
 
-/// Checks the text and its bytes, written as literals.
+/// Checks the literals that are written for the text and for its bytes.
 pub fn check_written(text: &str) {
     let string = rl_tokens::Literal::string(Global, text).unwrap();
     assert_eq!(write_str(text), string.text());
@@ -188,7 +197,7 @@ pub fn check_written(text: &str) {
     }
 }
 
-/// Checks a written character, and the written byte of its number.
+/// Checks the literal that is written for a character, and the one for the byte with the same number.
 pub fn check_written_character(c: char) {
     let character = rl_tokens::Literal::character(Global, c).unwrap();
     assert_eq!(write_char(c), character.text());

@@ -1,18 +1,18 @@
-//! Streams that do as they are told, and how an answer is spelled.
+//! Test streams that follow a list of steps, and the text form of a call's result.
 
 use crate::rattle_std::io::{Error, ErrorKind, Read, Result, Write};
 use crate::rattle_std::vec::Vec;
 use core::fmt::Debug;
 
-/// What a call of a stream does.
+/// The behaviour of a stream in one call.
 #[derive(Clone, Copy)]
 pub enum Step {
-    /// It passes so many bytes at most.
+    /// The stream transfers at most this number of bytes.
     Pass(usize),
     Fail(ErrorKind),
 }
 
-/// Steps, after which a stream passes all bytes, and for how many it was asked.
+/// The remaining steps of a stream, after which it transfers all bytes, and the number of bytes that each call so far requested.
 struct Steps<'a> {
     left: &'a [Step],
     asked: std::vec::Vec<usize>,
@@ -37,7 +37,7 @@ impl<'a> Steps<'a> {
     }
 }
 
-/// A reader by steps.
+/// A reader that follows steps.
 pub struct Script<'a> {
     steps: Steps<'a>,
     bytes: &'a [u8],
@@ -61,7 +61,7 @@ impl Read for &mut Script<'_> {
     }
 }
 
-/// A writer by steps.
+/// A writer that follows steps.
 pub struct Taker<'a> {
     steps: Steps<'a>,
     taken: std::vec::Vec<u8>,
@@ -96,7 +96,7 @@ pub fn text(bytes: &[u8]) -> &str {
     core::str::from_utf8(bytes).unwrap_or("(not UTF-8)")
 }
 
-/// The answer of a call: of an error its kind, and the system's number.
+/// Shows the result of a call. For an error it shows the error's kind and the system's error number.
 pub fn told<T: Debug>(answer: Result<T>) -> std::string::String {
     match answer {
         Ok(value) => format!("Ok({value:?})"),
@@ -104,7 +104,7 @@ pub fn told<T: Debug>(answer: Result<T>) -> std::string::String {
     }
 }
 
-/// The list of these items.
+/// Creates a list of these items.
 pub fn list_of<T: Copy>(items: &[T]) -> Vec<T> {
     let made = Vec::from_slice(crate::rattle_std::alloc::Global, items);
     made.unwrap_or_else(|_| panic!("no memory"))

@@ -1,4 +1,4 @@
-//! Files, directories and the environment of Linux.
+//! Tests files, directories and environment variables on Linux.
 
 use crate::directory::Directory;
 use crate::fakes::{list_of, text, told};
@@ -16,12 +16,12 @@ use std::os::unix::fs::{symlink, MetadataExt, PermissionsExt};
 use std::path::Path;
 use std::{fs, io, vec};
 
-/// An empty directory of this test's.
+/// Creates an empty directory for the test `name`.
 fn directory(name: &str) -> Directory {
     Directory::new("rattle_std", name)
 }
 
-/// What opening the path as a file, and listing it as a directory, answer.
+/// Shows the results of opening the path as a file, and of listing it as a directory.
 fn both(path: &str) -> (String, String) {
     let rt = HostRuntime::new();
     let opened = told(File::open(&rt, path).map(|_| "opened"));
@@ -64,7 +64,7 @@ fn paths_to_nothing() {
     assert_neither(&path_in(&here, "broken"), MISSING);
     assert_neither(&path_in(&here, "file/x"), NO_DIRECTORY);
     assert_neither(&path_in(&here, "file/"), NO_DIRECTORY);
-    // Rattle's kind is `FilesystemLoop`, which the sources don't tell apart.
+    // Rattle's kind of this error is `FilesystemLoop`. The sources don't use that kind, so it is `Other` here.
     assert_neither(&path_in(&here, "loop"), "Err(Other, Some(40))");
 }
 
@@ -74,7 +74,7 @@ fn long_paths() {
     let all = format!("/{}", "./".repeat(2048));
     let path = &all[..4094];
     assert_both(path, "Ok(\"opened\")", "Ok(\"listed\")");
-    // A directory's path gets a slash.
+    // Listing appends a slash to a directory's path.
     let path = format!("{}/.", &all[..4093]);
     assert_both(&path, "Ok(\"opened\")", TOO_LONG);
     assert_neither(&format!("{path}/"), TOO_LONG);
@@ -116,7 +116,7 @@ fn files_up_to_a_limit() {
     }
 }
 
-/// The entries, in the order of their lines: of each its name, and whether it is a directory, a file and a link.
+/// Returns a sorted line for each entry of a directory: its name, and whether it is a directory, a file and a link.
 fn listed(path: &str) -> vec::Vec<String> {
     let Ok(entries) = read_dir(&HostRuntime::new(), path) else {
         panic!("{path} is listed")
@@ -203,7 +203,7 @@ fn a_directory_that_vanishes() {
     assert!(entries.next().is_none());
 }
 
-/// As another user than root, who may do all.
+/// This test must run as a user other than root, because root may do everything.
 #[test]
 fn what_is_denied() {
     let here = directory("denied");
@@ -252,7 +252,7 @@ fn variables_that_are_not_texts() {
     assert!(value.is_ok_and(|value| value.as_str() == "a\u{e9}"));
 }
 
-/// Linux's numbers, as Rattle's std has them; the kinds that the sources don't tell apart are `Other`.
+/// Tests the conversion of Linux's error numbers to Rattle's kinds of errors. Kinds that the sources don't use are `Other`.
 #[test]
 fn kinds_of_the_systems_errors() {
     for (number, kind) in [
@@ -280,7 +280,7 @@ fn kinds_of_the_systems_errors() {
     }
 }
 
-/// What opening a new file at the path answers.
+/// Shows the result of creating a new file at the path.
 fn made(path: &str) -> String {
     let rt = HostRuntime::new();
     let mut options = OpenOptions::new();
@@ -318,7 +318,7 @@ fn files_that_are_filled() {
     assert_eq!(about.permissions().mode() & 0o7777, 0o640);
 }
 
-/// What the system says of a file that is opened for writing.
+/// Shows the result of `ask` on a file that is opened for writing, or the error of opening it.
 fn of_device(path: &str, ask: impl Fn(&mut File) -> Result<()>) -> String {
     let rt = HostRuntime::new();
     match OpenOptions::new().write(true).open(&rt, path) {
@@ -333,14 +333,14 @@ fn files_without_room() {
     assert_eq!(written, "Err(StorageFull, Some(28))");
 }
 
-/// Linux stores nothing of such a file, and says so.
+/// Linux can't store `/dev/null`, and reports an error.
 #[test]
 fn files_are_stored() {
     let stored = of_device("/dev/null", |file| file.sync_all());
     assert_eq!(stored, "Err(InvalidInput, Some(22))");
 }
 
-/// Root may give a file to any user, another user may give it to nobody.
+/// Root may give a file to any user. Another user may not give a file away.
 #[test]
 fn owners_that_change() {
     let here = directory("owners");

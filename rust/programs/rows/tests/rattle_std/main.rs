@@ -1,6 +1,6 @@
-//! What `rattle_std` answers at the corners: as Rattle's std answers, kit 13f.
+//! Tests that `rattle_std` has the results of Rattle's std, kit 13f, in special cases.
 //!
-//! Each expected value is what a program in Rattle printed that makes the same calls. Where the stand-in is narrower on purpose,
+//! Each expected value was printed by a Rattle program that makes the same calls. If the replacement is deliberately more limited,
 //! the test says so.
 
 #[cfg(target_os = "linux")]
@@ -12,6 +12,8 @@ mod files;
 mod memory;
 mod pieces;
 mod reading;
+#[cfg(target_os = "linux")]
+mod room;
 #[cfg(target_os = "linux")]
 mod streams;
 mod writing;

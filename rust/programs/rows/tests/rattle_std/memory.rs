@@ -1,4 +1,4 @@
-//! Growth that fails: what was there is unchanged.
+//! Tests that a collection is unchanged after its growth fails.
 
 use crate::failing::Failing;
 use crate::rattle_std::alloc::{AllocError, AllocFailed, Global};
@@ -15,19 +15,19 @@ fn scant() -> Failing<Global> {
     Failing::new(Global)
 }
 
-/// The list of these items, made while memory is ample.
+/// Creates a list of these items, while no allocation fails.
 fn list_of<'a>(failing: Scant<'a>, items: &[u8]) -> Vec<u8, Scant<'a>> {
     Vec::from_slice(failing, items).unwrap_or_else(|_| panic!("no memory"))
 }
 
-/// The text, made while memory is ample, with room for so many bytes.
+/// Creates a text with a capacity of `room` bytes, while no allocation fails.
 fn text_of<'a>(failing: Scant<'a>, text: &str, room: usize) -> String<Scant<'a>> {
     let mut made = String::with_capacity(failing, room).unwrap_or_else(|_| panic!("no memory"));
     made.push_str(text).unwrap_or_else(|_| panic!("no memory"));
     made
 }
 
-/// The calls, of so many, at which an allocation is asked for. None fails.
+/// Returns the numbers of the calls, among `calls` calls, that request an allocation. No call may fail.
 fn asking(
     failing: Scant<'_>,
     calls: usize,
@@ -152,7 +152,7 @@ fn texts() {
     assert_eq!(failing.succeed(), 3);
 }
 
-/// What shows half of itself, and fails.
+/// A value whose `fmt` writes half of its text and then fails.
 struct Broken;
 
 impl fmt::Display for Broken {
@@ -166,7 +166,7 @@ impl fmt::Display for Broken {
 fn write_and_writeln() {
     let failing = scant();
     let mut text = text_of(&failing, "ab", 6);
-    // By names, since Rust joins literals that it formats.
+    // The values are named because Rust joins literal arguments with the text when it compiles.
     let (word, number, rest) = ("cd", 123_456, "cdef");
     failing.fail(1, 99);
     assert_eq!(write!(text, "{word}-{number}"), Err(AllocError));
@@ -238,7 +238,7 @@ fn blocks_that_are_held() {
     assert_eq!(failing.held(), 0);
 }
 
-/// The items in an order of their own, each once.
+/// Returns item number `i` of a sequence without repetitions, in an irregular order.
 fn item(i: u32) -> u32 {
     i * 7919 % 2003
 }
@@ -265,7 +265,8 @@ fn sets() {
         failing.succeed();
         assert!(matches!(set.insert(item(i)), Ok(false)));
     }
-    // The first item, six at which the first row grew, and some at which one was split. Rattle's set asks at other items.
+    // Allocations fail at the first item, at the six items at which the first row grows, and at some items at which a row is split.
+    // Rattle's set allocates at other items.
     assert!(failures > 7);
     assert!(failing.held() > 0);
     drop(set);

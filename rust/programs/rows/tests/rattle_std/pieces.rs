@@ -1,4 +1,4 @@
-//! Pieces and lines of a reader.
+//! Tests `BufReader` of `rattle_std`: the chunks that it reads, and its lines.
 
 use crate::failing::Failing;
 use crate::fakes::{text, told, Script, Step};
@@ -25,7 +25,7 @@ fn line<A: Allocator>(line: Result<String<A>>) -> std::string::String {
     }
 }
 
-/// What comes of the bytes, with a space between.
+/// Shows the pieces between line ends, separated by spaces.
 fn split(bytes: &[u8]) -> std::string::String {
     let pieces = reader(bytes).split(Global, b'\n').map(piece);
     pieces.collect::<std::vec::Vec<_>>().join(" ")
@@ -74,7 +74,7 @@ fn failures_in_the_middle() {
     let mut script = Script::new(&steps, b"ab\ncd\nef\ngh");
     let pieces = reader(&mut script).split(Global, b'\n').map(piece);
     let told = pieces.collect::<std::vec::Vec<_>>().join(" ");
-    // What was read of the piece before the failure is lost.
+    // The bytes of a piece that were read before the failure are lost.
     assert_eq!(told, r#""ab" Err(NotFound, None) "" "ef" "gh""#);
     assert_eq!(script.asked(), [8192; 9]);
 }

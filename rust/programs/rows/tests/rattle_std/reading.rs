@@ -1,4 +1,4 @@
-//! Reading to the end.
+//! Tests reading a stream to its end.
 
 use crate::failing::Failing;
 use crate::fakes::{list_of, text, told, Script, Step};
@@ -29,7 +29,7 @@ fn a_failure_in_the_middle_keeps_what_was_read() {
     let failed = told(front.read_to_end(&mut list));
     assert_eq!(failed, "Err(PermissionDenied, None)");
     assert_eq!(text(&list), "ab01234");
-    // The bytes before the failure count towards the limit.
+    // The bytes that were read before the failure count towards the limit.
     assert_eq!(told(front.read_to_end(&mut list)), "Ok(3)");
     assert_eq!(text(&list), "ab01234567");
     assert_eq!(script.asked(), [8, 3, 3]);

@@ -1,4 +1,4 @@
-//! The standard streams. Each test runs itself again in a process of its own, whose streams it chooses.
+//! Tests the standard streams. Each test runs itself again in a separate process, whose streams it chooses.
 
 use crate::fakes::told;
 use crate::rattle_std::io::{Eprint, IsTerminal, Stdin, Stdout, Write};
@@ -9,14 +9,14 @@ use std::os::unix::net::UnixDatagram;
 use std::process::{self, Command, Stdio};
 use std::{env, str, vec};
 
-/// The variable that the process of a test's own sees.
+/// The environment variable that is set in the separate process of a test.
 const AGAIN: &str = "NAVYSPINDLE_STREAMS";
 
 fn is_again() -> bool {
     env::var_os(AGAIN).is_some()
 }
 
-/// The words that run the test of this name alone.
+/// Returns the command line that runs only the test `test`.
 fn words(test: &str) -> [String; 4] {
     let program = env::current_exe().expect("the test has a path");
     let program = program.to_str().expect("the path is a text").to_owned();
@@ -24,7 +24,7 @@ fn words(test: &str) -> [String; 4] {
     [program, name, "--exact".into(), "--nocapture".into()]
 }
 
-/// The test of this name in a process of its own.
+/// Returns the command that runs the test `test` in a separate process.
 fn again(test: &str) -> Command {
     let [program, words @ ..] = words(test);
     let mut command = Command::new(program);
@@ -32,7 +32,7 @@ fn again(test: &str) -> Command {
     command
 }
 
-/// What takes no byte: the system has no room for it.
+/// Returns an output stream that accepts no byte, because its device is full.
 fn full() -> Stdio {
     let full = OpenOptions::new().write(true).open("/dev/full");
     Stdio::from(full.expect("Linux has /dev/full"))
@@ -40,7 +40,7 @@ fn full() -> Stdio {
 
 const NO_ROOM: &str = "Err(StorageFull, Some(28))";
 
-/// What is kept back is lost when a process aborts.
+/// Output must not be buffered, because buffered output is lost when a process aborts.
 #[test]
 fn output_is_written_at_once() {
     if is_again() {
@@ -55,7 +55,7 @@ fn output_is_written_at_once() {
     assert!(printed.ends_with("[no line's end]"), "{printed}");
 }
 
-/// How many bytes each write to standard error has, where lines of so many bytes are printed.
+/// Prints lines of these lengths to standard error, and returns the number of bytes of each write.
 fn writes_of_lines(lens: &[usize]) -> vec::Vec<usize> {
     let (ours, theirs) = UnixDatagram::pair().expect("the sockets can be made");
     ours.set_nonblocking(true).expect("the socket can be set");
@@ -73,14 +73,14 @@ fn writes_of_lines(lens: &[usize]) -> vec::Vec<usize> {
     lens
 }
 
-/// A line of so many bytes, its LF among them, in two parts.
+/// Prints a line of `len` bytes, including its LF, in two parts.
 fn print_line(len: usize) {
     let rest = "x".repeat(len - 2);
     let printed = HostRuntime::new().eprintln(format_args!("{}{rest}", 'a'));
     assert_eq!(told(printed), "Ok(())");
 }
 
-/// Up to 1,024 bytes are one write, so that no other program's come between.
+/// A line of up to 1,024 bytes is one write, so that output of other programs can't come between its parts.
 #[test]
 fn errors_are_whole_lines() {
     if let Ok(lens) = env::var(AGAIN) {
@@ -134,7 +134,8 @@ fn errors_that_cannot_be_written() {
     );
 }
 
-/// Runs the words after the first with a terminal for the stream that the first one names.
+/// A Python program. Its first argument names a standard stream, and its other arguments are a command. It runs the command with a
+/// terminal as that stream.
 const ON_A_TERMINAL: &str = "
 import pty, subprocess, sys
 main, side = pty.openpty()
@@ -142,7 +143,7 @@ streams = {'stdin': subprocess.DEVNULL, 'stdout': subprocess.DEVNULL, sys.argv[1
 sys.exit(subprocess.run(sys.argv[2:], **streams).returncode)
 ";
 
-/// Whether standard input and standard output are terminals, where the one of this name is.
+/// Shows whether standard input and standard output are terminals, in a process in which `stream` is a terminal.
 fn terminals(stream: &str) -> String {
     let ran = Command::new("python3")
         .args(["-c", ON_A_TERMINAL, stream])

@@ -1,4 +1,4 @@
-//! Writing all, and writing with room in front.
+//! Tests writing all bytes of a buffer, and buffered writing.
 
 use crate::failing::Failing;
 use crate::fakes::{list_of, text, told, Step, Taker};

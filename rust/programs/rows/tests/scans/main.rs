@@ -1,8 +1,8 @@
-//! Calls of `rl_scan` on a small directory in memory.
+//! Runs `rl_scan` on a small directory in memory, and compares its output with `calls.txt`.
 //!
-//! `calls.txt` has a line `== ARGUMENTS` for each call. Below it are the files that the call rewrites (`> PATH`, the new text, `--`),
-//! standard output, `--`, standard error, and the exit status. Two marks may precede the arguments: `^` makes the output accept
-//! colours; `@20` closes the output after 20 bytes, and `!20` makes it fail after 20 bytes.
+//! `calls.txt` has a line `== ARGUMENTS` for each call. Below this line are the files that the call rewrites (`> PATH`, the new
+//! text, `--`), standard output, `--`, standard error, and the exit status. Two marks may precede the arguments. `^` makes the
+//! output accept colours. `@20` closes the output after 20 bytes, and `!20` makes it fail after 20 bytes.
 
 mod tree;
 
@@ -11,7 +11,7 @@ use navyspindle_programs::rattle_std::io::{self, ErrorKind, Write};
 use navyspindle_programs::rattle_std::string::String as Text;
 use navyspindle_programs::rattle_std::vec::Vec as Bytes;
 use navyspindle_programs::rl_files::MemoryReplacements;
-use navyspindle_programs::rl_reports::{self, Console};
+use navyspindle_programs::rl_scan::{self, Console};
 use tree::{Sample, UNWRITABLE};
 
 const CALLS: &[u8] = include_bytes!("calls.txt");
@@ -49,7 +49,7 @@ impl Write for Narrow {
     }
 }
 
-/// Makes the writer that a first mark requests, and returns the arguments after the mark.
+/// Creates the writer that the first mark requests, and returns the arguments after the mark.
 fn narrow_and_words(words: &str) -> (Narrow, &str) {
     let (first, rest) = words.split_once(' ').unwrap_or((words, ""));
     let kind = match first.chars().next() {
@@ -63,7 +63,7 @@ fn narrow_and_words(words: &str) -> (Narrow, &str) {
     }
 }
 
-/// Runs a call, and returns its part of `calls.txt`.
+/// Runs the call of a line, and returns the part of `calls.txt` for this call.
 fn answer(line: &str) -> Vec<u8> {
     let plain = line.strip_prefix("^ ");
     let (mut out, words) = narrow_and_words(plain.unwrap_or(line));
@@ -86,7 +86,7 @@ fn answer(line: &str) -> Vec<u8> {
         handed: Bytes::new(Global),
     };
     let mut reported = Bytes::new(Global);
-    let ending = rl_reports::call(
+    let ending = rl_scan::call(
         Global,
         &words,
         console,

@@ -5,11 +5,11 @@ use navyspindle_programs::rattle_std::string::String;
 use navyspindle_programs::rattle_std::vec::Vec;
 use navyspindle_programs::rl_files::{PathError, Tree, Unwritable};
 
-/// Standard input, files and directories, some of which can't be read.
+/// A directory in memory: standard input, files and directories, some of which can't be read.
 #[derive(Clone, Copy)]
 pub struct Sample;
 
-/// Literals that Rust rejects, a line each, and a line of literals that it accepts.
+/// Literals that Rust rejects, one in each line, and a line of literals that it accepts.
 const BAD: &str = "0x
 0b102
 0o9
@@ -25,31 +25,31 @@ b'\u{e9}'
 0x1F 'a' 1u9 1. r\"a\" \"a\"b true
 ";
 
-/// Literals whose texts and values need escapes in JSON, one of them a surrogate pair; bytes, and digits.
+/// Literals whose texts and values need escapes in JSON, one of them with a surrogate pair. Also byte literals and numbers.
 const JSON: &str = "\"\\u{e0041}\u{e0041}\u{202e}\x7f\\0\\x1f/é😀\" '\\u{1f600}' '\"'
 '\\\\' c\"\\xff\\\"\" b'\\xff' b\"\\\\a\" b\"\" \"\"
 1_000.5e-3_f64 0b1111_0000 340282366920938463463374607431768211455 \"a\"b false r\"\\ \t\" \"\\q\"";
 
-/// Literals whose values contain `ab`, written in several ways, and others.
+/// Literals whose values contain `ab`, written in several ways, and literals whose values don't.
 const HELD: &str = "\"\\u{61}b\" b\"ab\" c\"\\x61b\" 'a' b'a'
 \"x\\
    ab\" r#\"ab\"# \"äab\" \"\\\\u{61}\" // \"ab\"
 \"ba\" 'b'";
 
-/// Literals whose values contain `ab` in lower or upper case, as a word or as part of one.
+/// Literals whose values contain `ab` in lower or upper case, as a whole word or as a part of a word.
 const WORDS: &str =
     "\"ab\" \"AB\" \"cab aB\" \"abc\" \"ab_\" \"éab ab.\" \"-ab-\" b\"ab\\xff ab\\n\"
 \"abab ab\" \"é e é\" '-' \"a-b\" \"3ab a b\" r\"\\ab\"";
 
-/// Invisible and bidirectional characters in literals, comments, identifiers and between tokens; and text that isn't reported: escapes,
-/// tabs, a form feed, CR LF, a variation selector.
+/// Invisible and bidirectional characters in literals, comments, identifiers and between tokens. Also text that isn't reported:
+/// escapes, tabs, a form feed, CR LF, a variation selector.
 const HIDES: &str = "\u{feff}\"a\\u{202e}b\" \"a\u{202e}b\"
 '\u{200b}' r\"ä\u{feff}\" b\"\u{202e}\" // \"\u{202e}\"
 \"a\tb\" 1 \"\u{fe0f}\" \"\u{1bca3}\"\r
 \u{c}let a\u{200b}b\u{ad}; \"\x1b[8m\" // a\rb\x07\x00\u{85}\u{2028}\r";
 
-/// The published examples of Trojan Source (CVE-2021-42574) for Rust: a comment that is displayed as code, and a string whose end is
-/// displayed elsewhere.
+/// The published examples of Trojan Source (CVE-2021-42574) for Rust. In one a comment is displayed as code, and in the other the
+/// end of a string is displayed elsewhere.
 const TROJAN: &str = "fn main() {
     let is_admin = false;
     /*\u{202e} } \u{2066}if is_admin\u{2069} \u{2066} begin admins only */
@@ -74,12 +74,12 @@ const LARGE: &str = "340282366920938463463374607431768211456f64
 /// Literals with several flaws, one of them across lines that end with CR LF.
 const MANY: &str = "\"\\xff \\q\\u{1234567}\" b\"é\\u{41}\"\r\n\"\\q\r\n\\xg é\\z\"";
 
-/// Suffixes that Rust accepts, or only as macro input, and values in and out of their types' ranges.
+/// Suffixes that Rust accepts, suffixes that it accepts only as macro input, and values in and out of their types' ranges.
 const TYPED: &str = "1u8 256u8 -128i8 129i8 1u9
 \"a\"x 'b'y b\"c\"d r\"e\"u8
 1.0u8 0b1f32 1e5f64 1_f32 0xFFi8 1f16 true";
 
-/// Identifiers and hashes directly before quotes, some of them reserved, and the least number of a type with and without a minus.
+/// Identifiers and hashes directly before quotes, some of them reserved. Also the least number of a type, with and without a minus.
 const BEFORE: &str = "f\"a\" c'b' #\"c\"# 1u8\"d\" 128i8 -128i8
  -(128i8) /**/ 128i8 5 - 128i8";
 
@@ -104,7 +104,7 @@ pub const UNWRITABLE: [Unwritable<'static>; 2] = [
     },
 ];
 
-/// The contents of a file, where it is text.
+/// Returns the contents of the file at the path, or `None` if it isn't a text file.
 fn text_at(path: &str) -> Option<&'static str> {
     match path {
         "-" => Some("f(\"a\\n\", '\\q', 0xFF_u8)"),
@@ -122,7 +122,8 @@ fn text_at(path: &str) -> Option<&'static str> {
         "large" => Some(LARGE),
         "many" => Some(MANY),
         "typed" => Some(TYPED),
-        "before" => Some(BEFORE),
+        "before" | "./before" => Some(BEFORE),
+        "named/a.rs" => Some("1"),
         "prefixed" => Some(PREFIXED),
         "strays" => Some(STRAYS),
         "hides" => Some(HIDES),
@@ -145,11 +146,11 @@ fn text_at(path: &str) -> Option<&'static str> {
         "empty" => Some(""),
         "fix/a.rs" => Some(FIXED),
         "fix/bad.rs" => Some("1. 0b12 \""),
-        "fix/full.rs" | "fix/other.rs" => Some("1.\n"),
+        "fix/full.rs" | "fix/other.rs" | "./fix/other.rs" | ".//other.rs" => Some("1E5\n"),
         "fix/none.rs" => Some("1.0 \"it's\"\n"),
-        "fix/script.rs" => Some("#!/bin/x\n1.\n"),
-        "fix/space.rs" => Some("\u{feff}#! [allow(x)]\n1.\n"),
-        "fix/attr.rs" => Some("\u{feff}#![allow(x)]\n1.\n"),
+        "fix/script.rs" => Some("#!/bin/x\n1E5\n"),
+        "fix/space.rs" => Some("\u{feff}#! [allow(x)]\n1E5\n"),
+        "fix/attr.rs" => Some("\u{feff}#![allow(x)]\n1E5\n"),
         "fix/badscript.rs" => Some("#!/bin/x\n0b12\n"),
         "style" => Some("// raw strings\ndrop_raw = true\n"),
         "badstyle" => Some("drop_raw = true\nhex = 1\n"),
@@ -165,7 +166,7 @@ fn text_at(path: &str) -> Option<&'static str> {
     }
 }
 
-/// The contents of a file.
+/// Returns the contents of the file at the path, or an error.
 fn bytes_at(path: &str) -> Result<&'static [u8], PathError> {
     match path {
         "./b.rs" => Err(PathError::ReadFailed),
@@ -179,7 +180,7 @@ fn bytes_at(path: &str) -> Result<&'static [u8], PathError> {
     }
 }
 
-/// The names in a directory, with `|` between them.
+/// Returns the names in the directory at the path, separated by `|`.
 fn names_at(path: &str) -> Result<&'static str, PathError> {
     match path {
         "." => {
@@ -187,6 +188,7 @@ fn names_at(path: &str) -> Result<&'static str, PathError> {
         }
         "./b/" => Ok("c.rs"),
         "./.git/" | "./target/" => Ok("x.rs"),
+        "named" => Ok("|a.rs"),
         "package" => Ok("target/|src/|Cargo.toml|.hidden/"),
         "package/src/" => Ok("target/|.rs|x.rs.in"),
         "package/target/" | "package/src/target/" | "package/.hidden/" => Ok("x.rs"),

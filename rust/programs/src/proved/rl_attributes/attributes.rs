@@ -1,5 +1,5 @@
 // Rendered from crates/rl_attributes/src/attributes.rt by tools/render, which erases contracts: change that file, and render anew.
-//! Attributes, and what they hold.
+//! The types of attributes, which are settings `name = literal`, and of lists of them.
 
 use crate::rattle_std::prelude::{String, Vec};
 mod name;
@@ -11,35 +11,38 @@ use crate::rust_literals::Lit;
 use crate::rattle_std::alloc::{Allocator, Global};
 pub use whole::read;
 
-/// An attribute: a name, and the literal that it is set to.
+/// An attribute, `name = literal`: a name, and the literal that the name is set to.
 pub struct Entry<A: Allocator = Global> {
-    /// The name.
+    /// The attribute's name.
     pub name: String<A>,
-    /// Where the name stands.
+    /// The span of the attribute's name.
     pub span: Span,
-    /// What it is set to, `Verbatim` too.
+    /// The literal that the name is set to. It is `Verbatim` if the text isn't a valid literal or is an integer above
+    /// 128 bits.
     pub value: Lit<A>,
 }
 
-/// Attributes in their order. No two have one name, and each value is the reading of its literal.
+/// A list of attributes `name = literal`, in the order of their text. No two attributes have the same name, and each
+/// value is parsed from the text of its literal.
 pub struct Attrs<A: Allocator = Global> {
     entries: Vec<Entry<A>, A>,
     end: Span,
 }
 
 impl<A: Allocator> Attrs<A> {
-    /// The attributes, in their order.
+    /// Returns the list's attributes, in the order of their text, borrowed.
     pub fn entries(&self) -> &[Entry<A>] {
         self.entries.as_slice()
     }
 
-    /// Where they end, which is where a name that is missed is reported: of a text that [`read`] was given the span of no
-    /// bytes at its end; of what a parser took the scope of its buffer.
+    /// Returns the span of the error for a missing name. For attributes that [`read`] parsed it is the empty span at
+    /// the text's end. For attributes that were parsed from a parse buffer it is the buffer's scope.
     pub fn end(&self) -> Span {
         self.end
     }
 
-    /// What the name is set to; `None` where no attribute has the name. It goes over the entries.
+    /// Returns the value of the attribute with the name `name`, or `None` if no attribute has that name. The search is
+    /// linear.
     pub fn get(&self, name: &str) -> Option<&Lit<A>> {
         for entry in self.entries() {
             if entry.name.as_str() == name {

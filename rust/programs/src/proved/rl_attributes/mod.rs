@@ -1,5 +1,6 @@
 // Rendered from crates/rl_attributes/src/lib.rt by tools/render, which erases contracts: change that file, and render anew.
-//! Attributes, `name = literal` with commas between: a layer above the literals, by their public calls alone.
+//! A parser of settings: `name = literal`, with commas between the settings. The crate is built on the public functions
+//! of the crates of literals only.
 
 mod attributes;
 mod required;

@@ -1,5 +1,5 @@
 // Rendered from crates/rl_attributes/src/required.rt by tools/render, which erases contracts: change that file, and render anew.
-//! The value of a setting that has to be set, and of one with a default.
+//! Functions that return the value of a required setting, or of a setting with a default.
 
 use crate::rattle_std::prelude::{Drop, String};
 use crate::rl_attributes::attributes::Attrs;
@@ -9,11 +9,12 @@ use crate::rattle_std::fmt::Display;
 use crate::rattle_std::str::FromStr;
 
 impl<A: Allocator> Attrs<A> {
-    /// The string of a setting that has to be set, decoded.
+    /// Returns the decoded string that the setting `setting` is set to. The setting is required.
     ///
     /// # Errors
     ///
-    /// The errors of [`Attrs::string`], and `Missing` at the end of the settings if it isn't set.
+    /// Returns the errors of [`Attrs::string`]. Returns `Missing` at the end of the settings if no attribute has the
+    /// setting's name.
     pub fn required_string(&self, alloc: A, setting: Setting) -> Result<String<A>, SettingError<A>> {
         match self.string(alloc, setting) {
             Ok(Some(text)) => Ok(text),
@@ -22,11 +23,12 @@ impl<A: Allocator> Attrs<A> {
         }
     }
 
-    /// The number of a setting that has to be set.
+    /// Returns the number that the setting `setting` is set to. The setting is required.
     ///
     /// # Errors
     ///
-    /// The errors of [`Attrs::number`], and `Missing` at the end of the settings if it isn't set.
+    /// Returns the errors of [`Attrs::number`]. Returns `Missing` at the end of the settings if no attribute has the
+    /// setting's name.
     pub fn required_number<N: FromStr>(
         &self,
         alloc: A,
@@ -41,11 +43,12 @@ impl<A: Allocator> Attrs<A> {
         }
     }
 
-    /// The truth value of a setting that has to be set.
+    /// Returns the `bool` that the setting `setting` is set to. The setting is required.
     ///
     /// # Errors
     ///
-    /// The errors of [`Attrs::truth`], and `Missing` at the end of the settings if it isn't set.
+    /// Returns the errors of [`Attrs::truth`]. Returns `Missing` at the end of the settings if no attribute has the
+    /// setting's name.
     pub fn required_truth(&self, setting: Setting) -> Result<bool, SettingError<A>> {
         match self.truth(setting) {
             Ok(Some(truth)) => Ok(truth),
@@ -54,11 +57,11 @@ impl<A: Allocator> Attrs<A> {
         }
     }
 
-    /// The truth value of a setting, or this one if it isn't set.
+    /// Returns the `bool` that the setting `setting` is set to, or `default` if no attribute has the setting's name.
     ///
     /// # Errors
     ///
-    /// The errors of [`Attrs::truth`].
+    /// Returns the errors of [`Attrs::truth`].
     pub fn truth_or(&self, setting: Setting, default: bool) -> Result<bool, SettingError<A>> {
         let found = self.truth(setting);
         match found {

@@ -1,5 +1,5 @@
 // Rendered from crates/rl_attributes/src/settings.rt by tools/render, which erases contracts: change that file, and render anew.
-//! What a reader asks of settings: which names are known, that no value has a suffix, and what a value has to be.
+//! The type of settings, the check that names are known and values have no suffix, and the type of errors.
 
 use crate::rl_attributes::attributes::{Attrs, Entry};
 use crate::rl_tokens::{Error, Span};
@@ -7,16 +7,16 @@ use crate::rust_literals::Lit;
 use crate::rattle_std::alloc::{AllocError, Allocator, Global};
 use crate::rattle_std::fmt;
 
-/// A setting that a reader knows. Its two texts are what messages say of it.
+/// A setting that a program accepts, as the program describes it in error messages: its name, and its expected value.
 #[derive(Clone, Copy, PartialEq, Eq, Debug)]
 pub struct Setting {
-    /// The name.
+    /// The setting's name.
     pub name: &'static str,
-    /// What its value has to be, such as `an integer from 0 to 65535`.
+    /// The setting's expected value, as text for messages. An example is `an integer from 0 to 65535`.
     pub expected: &'static str,
 }
 
-/// The name, and what was expected of its value.
+/// Writes the setting's name and its expected value, as in `port: expected an integer`.
 impl fmt::Display for Setting {
     fn fmt(&self, f: &mut fmt::Formatter<'_>) -> fmt::Result {
         let name = self.name;
@@ -25,27 +25,27 @@ impl fmt::Display for Setting {
     }
 }
 
-/// Why a text gives a reader no settings. `Display` prints the message; [`SettingError::span`] is the place.
+/// An error of settings. `Display` prints the message. [`SettingError::span`] returns the position.
 pub enum SettingError<A: Allocator = Global> {
-    /// The text is no attributes, or an allocation failed.
+    /// The text isn't a list of attributes, or an allocation failed.
     Text(Error<A>),
-    /// The name at this span is none of the known ones.
+    /// An attribute's name, at this span, is unknown.
     Unknown(Span),
-    /// The value at this span has a suffix.
+    /// An attribute's value, at this span, has a suffix.
     Suffix(Span),
-    /// The setting's value, at this span, is a literal of another kind than was expected.
+    /// The setting's value, at this span, is a literal of another kind than the expected one.
     Kind(Setting, Span),
-    /// The setting's value, at this span, has no reading: a malformed literal, or an integer above 128 bits. Rust's grammar has
-    /// the reason (`explain_value` of `rl_grammar`, of the literal's text).
+    /// The setting's value, at this span, isn't a valid literal, or is an integer above 128 bits. `explain_value` of
+    /// `rl_grammar` returns the reason for the literal's text.
     Malformed(Setting, Span),
-    /// The setting's value was rejected for this error, as `base10_parse` reports one.
+    /// The number type of the setting rejected the value with this error, which `base10_parse` returned.
     Value(Setting, Error<A>),
-    /// The setting has to be set and isn't; this is where the settings end.
+    /// The setting is required, and no attribute has its name. The span is the end of the settings.
     Missing(Setting, Span),
 }
 
 impl<A: Allocator> SettingError<A> {
-    /// The place of the error, in bytes of the text.
+    /// Returns the error's span, a byte range of the text.
     pub fn span(&self) -> Span {
         match self {
             SettingError::Text(error) => error.span,
@@ -76,36 +76,37 @@ impl<A: Allocator> fmt::Display for SettingError<A> {
     }
 }
 
-/// What [`crate::rl_attributes::read`] reports, as `Text`.
+/// Converts an error of [`crate::rl_attributes::read`] to `Text`.
 impl<A: Allocator> From<Error<A>> for SettingError<A> {
     fn from(error: Error<A>) -> SettingError<A> {
         SettingError::Text(error)
     }
 }
 
-/// std's error for an allocation failure, which has no place: `Memory` at [`Span::call_site`], as `Text`.
+/// Converts std's error for an allocation failure, which has no position, to `Text` with `Memory` at
+/// [`Span::call_site`].
 impl<A: Allocator> From<AllocError> for SettingError<A> {
     fn from(_failed: AllocError) -> SettingError<A> {
         SettingError::Text(Error::memory(Span::call_site()))
     }
 }
 
-/// Whether one of the settings has the name.
+/// Whether one of `settings` has the name `name`.
 fn is_known(settings: &[Setting], name: &str) -> bool {
     settings.iter().any(|setting| setting.name == name)
 }
 
-/// Whether a text has characters.
+/// Whether `text` isn't empty.
 fn is_some(text: &str) -> bool {
     !text.is_empty()
 }
 
-/// Whether the literal has a suffix.
+/// Whether `literal` has a suffix.
 fn has_suffix<A: Allocator>(literal: &Lit<A>) -> bool {
     is_some(literal.suffix())
 }
 
-/// That the entry's name is known, and that its value has no suffix.
+/// Checks that one of `settings` has the name of the attribute `entry`, and that the attribute's value has no suffix.
 fn check_entry<A: Allocator>(entry: &Entry<A>, settings: &[Setting]) -> Result<(), SettingError<A>> {
     if !is_known(settings, entry.name.as_str()) {
         Err(SettingError::Unknown(entry.span))
@@ -117,12 +118,13 @@ fn check_entry<A: Allocator>(entry: &Entry<A>, settings: &[Setting]) -> Result<(
 }
 
 impl<A: Allocator> Attrs<A> {
-    /// That each name is one of the settings', and that no value has a suffix. It changes nothing, and takes no memory.
+    /// Checks that each attribute has the name of one of `settings`, and that no value has a suffix. Nothing is changed
+    /// or allocated.
     ///
     /// # Errors
     ///
-    /// That of the first attribute, in their order, that isn't so: `Unknown` at its name, where no setting has the name;
-    /// else `Suffix` at its value.
+    /// Returns the error of the first attribute with an unknown name or a suffix. The error is `Unknown` at the
+    /// attribute's name if the name is unknown. Otherwise it is `Suffix` at the attribute's value.
     pub fn check(&self, settings: &[Setting]) -> Result<(), SettingError<A>> {
         for entry in self.entries() {
             check_entry(entry, settings)?;

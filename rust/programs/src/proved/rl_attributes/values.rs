@@ -1,5 +1,5 @@
 // Rendered from crates/rl_attributes/src/values.rt by tools/render, which erases contracts: change that file, and render anew.
-//! What a setting is set to: a string, a number or a truth value.
+//! Functions that return the value of a setting as a string, a number or a `bool`.
 
 use crate::rattle_std::prelude::{Drop, String};
 use crate::rl_attributes::attributes::Attrs;
@@ -9,7 +9,8 @@ use crate::rattle_std::alloc::Allocator;
 use crate::rattle_std::fmt::Display;
 use crate::rattle_std::str::FromStr;
 
-/// The error that the literal is of another kind than the setting expects, or has no reading.
+/// Returns the error for a setting whose value is of another kind than expected: `Kind` at the value, or `Malformed` if
+/// the value isn't a valid literal or is an integer above 128 bits.
 fn other_kind<A: Allocator>(setting: Setting, value: &Lit<A>) -> SettingError<A> {
     match value {
         Lit::Verbatim(literal) => SettingError::Malformed(setting, literal.span()),
@@ -17,7 +18,8 @@ fn other_kind<A: Allocator>(setting: Setting, value: &Lit<A>) -> SettingError<A>
     }
 }
 
-/// The contents of a string that a setting is set to.
+/// Returns the decoded value of `value`, the literal that the setting `setting` is set to, which must be a string
+/// literal.
 fn string_of<A: Allocator>(
     alloc: A,
     setting: Setting,
@@ -29,15 +31,17 @@ fn string_of<A: Allocator>(
     }
 }
 
-/// The truth value that a setting is set to.
-fn truth_of<A: Allocator>(setting: Setting, value: &Lit<A>) -> Result<bool, SettingError<A>> {
+/// Returns the `bool` that the literal `value` represents. `value` is the value of the setting `setting`, and must be a
+/// `bool` literal.
+fn bool_of<A: Allocator>(setting: Setting, value: &Lit<A>) -> Result<bool, SettingError<A>> {
     match value {
         Lit::Bool(literal) => Ok(literal.value()),
         other => Err(other_kind(setting, other)),
     }
 }
 
-/// The number that a setting is set to.
+/// Returns the number that the literal `value` represents, as the number type `N` parses it. `value` is the value of
+/// the setting `setting`, and must be an integer or float literal.
 fn number_of<N: FromStr, A: Allocator>(
     alloc: A,
     setting: Setting,
@@ -57,7 +61,8 @@ where
 }
 
 impl<A: Allocator> Attrs<A> {
-    /// The string that a setting is set to.
+    /// Returns the decoded string that the setting `setting` is set to, or `None` if no attribute has the setting's
+    /// name.
     fn found_string(&self, alloc: A, setting: Setting) -> Result<Option<String<A>>, SettingError<A>> {
         let Some(value) = self.get(setting.name) else {
             return Ok(None);
@@ -68,7 +73,7 @@ impl<A: Allocator> Attrs<A> {
         }
     }
 
-    /// The number that a setting is set to.
+    /// Returns the number that the setting `setting` is set to, or `None` if no attribute has the setting's name.
     fn found_number<N: FromStr>(
         &self,
         alloc: A,
@@ -85,12 +90,12 @@ impl<A: Allocator> Attrs<A> {
         }
     }
 
-    /// The truth value that a setting is set to.
+    /// Returns the `bool` that the setting `setting` is set to, or `None` if no attribute has the setting's name.
     fn found_truth(&self, setting: Setting) -> Result<Option<bool>, SettingError<A>> {
         let Some(value) = self.get(setting.name) else {
             return Ok(None);
         };
-        match truth_of(setting, value) {
+        match bool_of(setting, value) {
             Ok(truth) => Ok(Some(truth)),
             Err(error) => Err(error),
         }
@@ -98,23 +103,25 @@ impl<A: Allocator> Attrs<A> {
 }
 
 impl<A: Allocator> Attrs<A> {
-    /// The string that a setting is set to, decoded; `None` where it isn't set.
+    /// Returns the decoded string that the setting `setting` is set to, or `None` if no attribute has the setting's
+    /// name.
     ///
     /// # Errors
     ///
-    /// `Malformed` at a value without a reading, `Kind` at another value that isn't a string, and `Text` there if an allocation
-    /// fails.
+    /// Returns `Malformed` at a value that isn't a valid literal or is an integer above 128 bits. Returns `Kind` at any
+    /// other literal that isn't a string. Returns `Text` with `Memory` at the value if an allocation fails.
     pub fn string(&self, alloc: A, setting: Setting) -> Result<Option<String<A>>, SettingError<A>> {
         self.found_string(alloc, setting)
     }
 
-    /// The number that a setting is set to, as its type makes one of the digits in base ten; `None` where it isn't set. Of
-    /// `0x50` as a `u16` it is 80.
+    /// Returns the number that the setting `setting` is set to, or `None` if no attribute has the setting's name. The
+    /// number type `N` parses the digits of the value in base ten: `0x50` as a `u16` is 80.
     ///
     /// # Errors
     ///
-    /// `Malformed` at a value without a reading, `Kind` at another value that is neither an integer nor a float, and else
-    /// `Value` with the error that `base10_parse` reports.
+    /// Returns `Malformed` at a value that isn't a valid literal or is an integer above 128 bits. Returns `Kind` at any
+    /// other literal that is neither an integer nor a float. Returns `Value` with the error of `base10_parse` if the
+    /// number type rejects the value.
     pub fn number<N: FromStr>(
         &self,
         alloc: A,
@@ -125,17 +132,19 @@ impl<A: Allocator> Attrs<A> {
         self.found_number(alloc, setting)
     }
 
-    /// The truth value that a setting is set to; `None` where it isn't set. It takes no memory.
+    /// Returns the `bool` that the setting `setting` is set to, or `None` if no attribute has the setting's name.
+    /// Nothing is allocated.
     ///
     /// # Errors
     ///
-    /// `Malformed` at a value without a reading, and `Kind` at another value that is neither `true` nor `false`.
+    /// Returns `Malformed` at a value that isn't a valid literal or is an integer above 128 bits. Returns `Kind` at any
+    /// other literal that is neither `true` nor `false`.
     pub fn truth(&self, setting: Setting) -> Result<Option<bool>, SettingError<A>> {
         self.found_truth(setting)
     }
 
-    /// The error that a setting has to be set and isn't, where the settings end: what a reader returns who was given `None`
-    /// of a setting that it requires.
+    /// Returns the error `Missing` for the required setting `setting`, at the end of the settings. A caller that
+    /// requires a setting returns this error if the setting's value is `None`.
     pub fn missing(&self, setting: Setting) -> SettingError<A> {
         SettingError::Missing(setting, self.end())
     }

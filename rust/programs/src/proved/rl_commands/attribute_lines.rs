@@ -1,5 +1,5 @@
 // Rendered from crates/rl_commands/src/attribute_lines.rt by tools/render, which erases contracts: change that file, and render anew.
-//! The lines of attributes.
+//! Writes the output lines of attributes.
 
 use crate::rattle_std::prelude::{String};
 use crate::rl_commands::attr::{Entry, read};
@@ -7,7 +7,7 @@ use crate::rl_commands::lit_line::push_literal;
 use crate::rl_program::ProgramError;
 use crate::rattle_std::alloc::{AllocError, Allocator};
 
-/// Writes an attribute's line at the end: its name, a space, and its literal's line.
+/// Appends the output line of an attribute: its name, a space, and the output line of its literal.
 fn push_entry<A: Allocator + Copy>(
     alloc: A,
     out: &mut String<A>,
@@ -18,11 +18,11 @@ fn push_entry<A: Allocator + Copy>(
     push_literal(alloc, out, &entry.value)
 }
 
-/// The lines of attributes, one after another: of each its name, a space, and its literal's line.
+/// Returns the output lines of attributes, in order. Each has the attribute's name, a space, and the output line of its literal.
 ///
 /// # Errors
 ///
-/// An allocation failure.
+/// Returns an error if an allocation fails.
 pub fn entry_lines<A: Allocator + Copy>(
     alloc: A,
     entries: &[Entry<A>],
@@ -34,7 +34,7 @@ pub fn entry_lines<A: Allocator + Copy>(
     Ok(lines)
 }
 
-/// The lines of the text's attributes.
+/// Parses a text as attributes, and returns their output lines.
 pub fn attribute_lines<A: Allocator + Copy>(
     alloc: A,
     text: &str,

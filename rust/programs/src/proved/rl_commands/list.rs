@@ -1,5 +1,5 @@
 // Rendered from crates/rl_commands/src/list.rt by tools/render, which erases contracts: change that file, and render anew.
-//! The lines of a list, made as its literals are read: each literal is let go when its line stands.
+//! Writes the output lines of the literals in a list. Each literal is dropped after its line is written.
 
 use crate::rattle_std::prelude::{String};
 use crate::rl_commands::lit_line::push_literal;
@@ -7,7 +7,8 @@ use crate::rl_program::ProgramError;
 use crate::rust_literals::{Lit, Literals};
 use crate::rattle_std::alloc::Allocator;
 
-/// The lines, and after them that of the literal. `None` where an allocation fails, or was before.
+/// Returns `lines` with the output line of the literal appended. Returns `None` if the allocation for it fails, or if `lines` is
+/// `None`.
 fn with_line<A: Allocator + Copy>(
     alloc: A,
     lines: Option<String<A>>,
@@ -15,7 +16,7 @@ fn with_line<A: Allocator + Copy>(
 ) -> Option<String<A>> {
     let mut longer = lines?;
     let pushed = push_literal(alloc, &mut longer, &literal);
-    // By a call: letting go of a literal here is as many steps again to prove.
+    // A call of `drop`: dropping the literal in place, without a call, doubles the steps of the proof.
     drop(literal);
     match pushed {
         Ok(()) => Some(longer),
@@ -23,7 +24,7 @@ fn with_line<A: Allocator + Copy>(
     }
 }
 
-/// The lines of the text's literals.
+/// Parses a text as a list of literals, and returns their output lines.
 pub fn literal_lines<A: Allocator + Copy>(
     alloc: A,
     text: &str,

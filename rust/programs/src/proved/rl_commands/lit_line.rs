@@ -1,14 +1,14 @@
 // Rendered from crates/rl_commands/src/lit_line.rt by tools/render, which erases contracts: change that file, and render anew.
-//! The line of a literal that is held.
+//! Writes the output line of a `Lit`.
 
 use crate::rattle_std::prelude::{String};
-use crate::rl_lines::{push_found, push_kind, push_verbatim, truth_word};
+use crate::rl_program::{push_found, push_kind, push_verbatim, truth_word};
 use crate::rl_quoted::{Quoted, QuotedKind};
 use crate::rl_tokens::Kind;
 use crate::rust_literals::Lit;
 use crate::rattle_std::alloc::{AllocError, Allocator};
 
-/// Appends the line of a quoted literal, by the places that it keeps.
+/// Appends the output line of a quoted literal, from the parse result that it stores.
 fn push_quoted_literal<K: QuotedKind, A: Allocator + Copy>(
     alloc: A,
     out: &mut String<A>,
@@ -17,11 +17,11 @@ fn push_quoted_literal<K: QuotedKind, A: Allocator + Copy>(
     push_found(alloc, out, literal.text(), Some(literal.found()))
 }
 
-/// Appends a literal's line.
+/// Appends the output line of a literal.
 ///
 /// # Errors
 ///
-/// An allocation failure, as std reports it. A part of the line may have been appended then.
+/// Returns an error if an allocation fails. The error is the standard library's. A part of the line may have been appended then.
 pub fn push_literal<A: Allocator + Copy>(
     alloc: A,
     out: &mut String<A>,
@@ -40,11 +40,11 @@ pub fn push_literal<A: Allocator + Copy>(
     }
 }
 
-/// The line of a literal: its kind, its contents as they are written, and its suffix, with LF after it.
+/// Returns the output line of a literal: its kind, its value as a newly written literal, and its suffix, with an LF at the end.
 ///
 /// # Errors
 ///
-/// An allocation failure, as std reports it, with no place.
+/// Returns an error if an allocation fails. The error is the standard library's and has no position.
 pub fn line_of<A: Allocator + Copy>(alloc: A, literal: &Lit<A>) -> Result<String<A>, AllocError> {
     let mut line = String::new(alloc);
     push_literal(alloc, &mut line, literal)?;

@@ -1,5 +1,5 @@
 // Rendered from crates/rl_commands/src/run.rt by tools/render, which erases contracts: change that file, and render anew.
-//! A run of the program, over any reader and writer.
+//! Runs a command of `rl_tool` with any reader and writer.
 
 use crate::rattle_std::prelude::{String, Vec};
 use crate::rl_commands::attribute_lines::attribute_lines;
@@ -12,7 +12,7 @@ use crate::rust_literals::Lit;
 use crate::rattle_std::alloc::Allocator;
 use crate::rattle_std::io::{Read, Write};
 
-/// The whole input as one token. The input is let go.
+/// Returns the whole input as one token. The bytes of the input are dropped.
 fn token_of<A: Allocator + Copy>(alloc: A, bytes: Vec<u8, A>) -> Result<Literal<A>, ProgramError<A>> {
     let text = text_of(bytes.as_slice())?;
     let span = Span::new(0, 0, text.len());
@@ -22,7 +22,7 @@ fn token_of<A: Allocator + Copy>(alloc: A, bytes: Vec<u8, A>) -> Result<Literal<
     }
 }
 
-/// The literal that a token is. An allocation failure is the literal's.
+/// Parses a token as a literal. A failed allocation is an error of the literal.
 fn literal_of<A: Allocator + Copy>(alloc: A, token: Literal<A>) -> Result<Lit<A>, ProgramError<A>> {
     match Lit::new(alloc, token) {
         Ok(literal) => Ok(literal),
@@ -30,7 +30,7 @@ fn literal_of<A: Allocator + Copy>(alloc: A, token: Literal<A>) -> Result<Lit<A>
     }
 }
 
-/// The line of the whole input as one literal.
+/// Parses the whole input as one literal, and returns its output line.
 fn literal_line<A: Allocator + Copy>(
     alloc: A,
     bytes: Vec<u8, A>,
@@ -41,7 +41,7 @@ fn literal_line<A: Allocator + Copy>(
     Ok(line)
 }
 
-/// All lines of the input.
+/// Parses the whole input as the command requests, and returns its output lines.
 fn lines_of_input<A: Allocator + Copy>(
     alloc: A,
     command: Command,
@@ -54,16 +54,16 @@ fn lines_of_input<A: Allocator + Copy>(
     }
 }
 
-/// Reads the whole input, and writes the lines of its literals or attributes.
+/// Reads the whole input, and writes the output lines of its literals or attributes.
 ///
-/// All lines are made before the first is written, so an error writes nothing; a write that fails leaves a beginning
-/// of the lines' bytes written.
+/// All lines are formatted before the first one is written, so that nothing is written if the input has an error. After a failed
+/// write, a beginning of the lines has been written.
 ///
 /// # Errors
 ///
-/// `NotText` exactly where the input was read whole and isn't UTF-8. `Literal` has the error of `Lit::new`,
-/// `read_all` or `attr::read`, and `Memory` is reported of every other growth that failed. `Read` and `Write` come
-/// where a call of the reader or the writer failed, or where 4,294,967,295 turns of reading brought no end.
+/// Returns `NotText` if the whole input was read and isn't UTF-8. Returns `Literal` with the error of `Lit::new`, `read_all` or
+/// `attr::read`. Returns `Memory` if another allocation fails. Returns `Read` or `Write` if a call of the reader or the writer
+/// fails. `Read` is also the error if the input hasn't ended after 4,294,967,295 reads.
 pub fn run<A: Allocator + Copy, R: Read, W: Write>(
     alloc: A,
     command: Command,

@@ -1,5 +1,5 @@
 // Rendered from crates/rl_files/src/lib.rt by tools/render, which erases contracts: change that file, and render anew.
-//! Trees of files: what a path holds, which files a walk visits, in which order, and files that are replaced as a whole.
+//! Trees of files: directories with the files in them. Reads files, walks through directories, and replaces files.
 
 mod glob;
 mod host;
@@ -18,5 +18,5 @@ pub use crate::rl_files::memory::{
 pub use crate::rl_files::replace::Replace;
 pub use crate::rl_files::tree::{PathError, Tree};
 pub use crate::rl_files::visible::{make_visible, push_visible};
-pub use crate::rl_files::walk::{Pending, Selection, Visit, Walk, WalkError};
-pub use crate::rl_writing::{is_hiding, needs_escape};
+pub use crate::rl_files::walk::{Selection, Visit, Walk, WalkEntry, WalkError};
+pub use crate::rl_writing::{is_invisible_or_bidi, needs_escape};

@@ -1,16 +1,16 @@
 // Rendered from crates/rl_files/src/replace.rt by tools/render, which erases contracts: change that file, and render anew.
-//! What takes a file's new bytes.
+//! A trait for types that replace files.
 
 use crate::rl_files::tree::PathError;
 use crate::rattle_std::alloc::Allocator;
 
-/// What takes the new bytes of files, each file's as a whole.
+/// A type that replaces files. A file has either its old or its new bytes, and no mixture of both.
 pub trait Replace {
-    /// Puts new bytes in place of those that the file at a path held when it was read.
+    /// Replaces the file at `path` with the bytes `new`. `old` are the bytes of the file when it was read.
     ///
     /// # Errors
     ///
-    /// Why it can't be; `OutOfMemory` where an allocation failed. The file holds what it held then.
+    /// Returns the reason why the file can't be replaced, or `OutOfMemory` if an allocation fails. The file is unchanged then.
     fn replace<A: Allocator + Copy>(
         &mut self,
         alloc: A,

@@ -1,44 +1,44 @@
 // Rendered from crates/rl_files/src/tree.rt by tools/render, which erases contracts: change that file, and render anew.
-//! What is read: the bytes of a file, and the names in a directory.
+//! A trait for trees of files. It returns the bytes of a file, and the names in a directory.
 
 use crate::rattle_std::prelude::{String, Vec};
 use crate::rattle_std::alloc::Allocator;
 use crate::rattle_std::fmt;
 
-/// Why a path can't be read, or its file can't be replaced.
+/// The reason why a path can't be read, or why its file can't be replaced.
 #[derive(Clone, Copy)]
 pub enum PathError {
-    /// Nothing is there.
+    /// The path doesn't exist.
     NotFound,
-    /// There is no leave to read it.
+    /// The program has no permission to read the path.
     PermissionDenied,
-    /// It is a directory, and a file was wanted.
+    /// The path is a directory, but a file was expected.
     IsADirectory,
-    /// It is no directory, and one was wanted.
+    /// The path isn't a directory, but a directory was expected.
     NotADirectory,
-    /// The system takes no path as long.
+    /// The path is longer than the system allows.
     PathTooLong,
-    /// A name in it isn't UTF-8.
+    /// A name in the path isn't UTF-8.
     NameNotUtf8,
-    /// What it holds isn't UTF-8, from this byte on.
+    /// The file isn't UTF-8. The field is the offset of the first invalid byte.
     NotUtf8(usize),
-    /// It holds more than `LONGEST` bytes.
+    /// The file has more than `LONGEST` bytes, which is 1 GiB.
     TooLong,
     /// An allocation failed.
     OutOfMemory,
-    /// It is neither a file nor a directory, but a device, a pipe or standard input.
+    /// The path is neither a file nor a directory, but a device, a pipe or standard input.
     NotAFile,
-    /// It holds other bytes than when it was read.
+    /// The file has other bytes than when it was read.
     Changed,
-    /// There is no room for its new bytes.
+    /// The device has no space for the file's new bytes.
     NoRoom,
-    /// Nothing can be written where it lies.
+    /// The file's device can't be written.
     ReadOnly,
-    /// There is no leave to write in its directory.
+    /// The program has no permission to write in the file's directory.
     DirectoryDenied,
-    /// Another failure of the system, as it was read.
+    /// Reading failed for another reason.
     ReadFailed,
-    /// Another failure of the system, as its new bytes were written.
+    /// Writing failed for another reason.
     WriteFailed,
 }
 
@@ -50,7 +50,7 @@ impl fmt::Display for PathError {
             PathError::IsADirectory => write!(f, "is a directory"),
             PathError::NotADirectory => write!(f, "not a directory"),
             PathError::PathTooLong => write!(f, "path too long"),
-            PathError::NameNotUtf8 => write!(f, "holds a name that is not UTF-8"),
+            PathError::NameNotUtf8 => write!(f, "skipped a name that is not UTF-8"),
             PathError::NotUtf8(at) => write!(f, "not UTF-8 at byte {at}"),
             PathError::TooLong => write!(f, "longer than 1 GiB"),
             PathError::OutOfMemory => write!(f, "out of memory"),
@@ -65,21 +65,23 @@ impl fmt::Display for PathError {
     }
 }
 
-/// A tree of files.
+/// A tree of files: it returns the bytes of files, and the names in directories.
 pub trait Tree {
-    /// The bytes of the file at a path.
+    /// Returns the bytes of the file at a path.
     ///
     /// # Errors
     ///
-    /// Why it can't be read; `OutOfMemory` where an allocation failed.
+    /// Returns the reason why the file can't be read, or `OutOfMemory` if an allocation fails.
     fn bytes<A: Allocator>(&self, alloc: A, path: &str) -> Result<Vec<u8, A>, PathError>;
 
-    /// The names in the directory at a path, in any order: of a file its name, of a directory its name and
-    /// a slash, and an empty one for each name that isn't UTF-8. Links and devices are left out.
+    /// Returns the names in the directory at a path, in any order.
+    ///
+    /// A directory's name ends with a slash. A name that isn't UTF-8 is an empty text. Links and devices are left out.
     ///
     /// # Errors
     ///
-    /// Why it can't be read, `NotADirectory` where it is none; `OutOfMemory` where an allocation failed.
+    /// Returns the reason why the directory can't be read. It is `NotADirectory` if the path is another file, and `OutOfMemory` if
+    /// an allocation fails.
     fn names<A: Allocator + Copy>(
         &self,
         alloc: A,

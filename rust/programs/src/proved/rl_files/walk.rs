@@ -1,5 +1,5 @@
 // Rendered from crates/rl_files/src/walk.rt by tools/render, which erases contracts: change that file, and render anew.
-//! A walk of a tree: which files are visited, and in which order.
+//! Walks through directories: determines the files to read, and their order.
 
 use crate::rattle_std::prelude::{String, Vec};
 use crate::rl_files::glob::is_excluded;
@@ -7,45 +7,45 @@ use crate::rl_files::tree::{PathError, Tree};
 use crate::rattle_std::alloc::{AllocError, Allocator, Global};
 use crate::rattle_std::fmt;
 
-/// How many directories a walk goes into at most, from one file to the next.
+/// The maximum number of directories that a walk enters between two files.
 const TURNS: u32 = u32::MAX;
 
-/// Which files are read of the directories that a walk goes to.
+/// The selection of the files that a walk reads in directories.
 #[derive(Clone, Copy)]
 pub struct Selection<'a> {
-    /// Whether those of hidden directories are read too, and those of `target` in a package of Cargo.
+    /// Whether hidden files, hidden directories and the directory `target` of a Cargo package are visited too.
     pub all: bool,
-    /// What their names end with after a dot: one of these.
+    /// The extensions of the files to read, without the dot.
     pub extensions: &'a [&'a str],
-    /// What is left out: what one of these patterns matches, from the directory on that an argument names.
+    /// The patterns of the paths to leave out. They are relative to the directory that the user passed.
     pub excludes: &'a [&'a str],
 }
 
-/// What a walk has still to go to.
-pub enum Pending<A: Allocator = Global> {
-    /// A directory, and how many bytes of its path are those of the one that an argument names; or what an argument names, which
-    /// may be a file.
+/// An entry that a walk still has to visit.
+pub enum WalkEntry<A: Allocator = Global> {
+    /// A path that may be a directory. The number is the length of its start that is the directory passed by the user, with a
+    /// slash. Without the number, the path itself was passed, and may also be a file.
     Directory(Option<usize>, String<A>),
-    /// A file.
+    /// A file in a directory.
     File(String<A>),
-    /// A name in a directory that isn't UTF-8.
+    /// A directory with a name that isn't UTF-8. The path is that of the directory.
     BadName(String<A>),
 }
 
-/// What a walk meets.
+/// The next result of a walk.
 pub enum Visit<A: Allocator = Global> {
     /// A file to read.
     File(String<A>),
-    /// A path that it can't go into.
+    /// A path that the walk can't read, and the reason.
     Failed(String<A>, PathError),
 }
 
-/// Why a walk ends early.
+/// The reason why a walk ends before all files are visited.
 #[derive(Clone, Copy)]
 pub enum WalkError {
     /// An allocation failed.
     OutOfMemory,
-    /// There are more than 4,294,967,295 directories.
+    /// The walk entered 4,294,967,295 directories without a file between them.
     TooManyDirectories,
 }
 
@@ -58,25 +58,25 @@ impl fmt::Display for WalkError {
     }
 }
 
-/// A walk of a tree.
+/// A walk through directories, which returns their files one by one.
 pub struct Walk<A: Allocator = Global> {
-    // the last is the first to go to
-    pending: Vec<Pending<A>, A>,
+    // the entries to visit, in reverse order
+    pending: Vec<WalkEntry<A>, A>,
 }
 
-/// Whether a name is a directory's.
+/// Whether a name is that of a directory: it ends with a slash.
 fn is_directory(name: &str) -> bool {
     name.as_bytes().ends_with(b"/".as_slice())
 }
 
-/// Whether a name ends with a dot and this.
+/// Whether a name ends with a dot and `extension`.
 fn has_extension(extension: &str, name: &str) -> bool {
     let bytes = name.as_bytes();
     let ending = extension.as_bytes();
     bytes.ends_with(ending) && bytes[..bytes.len() - ending.len()].ends_with(b".".as_slice())
 }
 
-/// Whether a name ends with a dot and one of these.
+/// Whether a name ends with a dot and one of the `extensions`.
 fn has_one_of(extensions: &[&str], name: &str) -> bool {
     let mut rest = extensions;
     while let [extension, after @ ..] = rest {
@@ -88,7 +88,7 @@ fn has_one_of(extensions: &[&str], name: &str) -> bool {
     false
 }
 
-/// Whether names are those of a directory that holds a package of Cargo.
+/// Whether the names in a directory include `Cargo.toml`, so that it is a Cargo package.
 fn are_of_package<A: Allocator>(names: &[String<A>]) -> bool {
     let mut rest = names;
     while let [name, after @ ..] = rest {
@@ -100,21 +100,19 @@ fn are_of_package<A: Allocator>(names: &[String<A>]) -> bool {
     false
 }
 
-/// Whether a directory is left out: a hidden one, and in a package `target`, into which Cargo builds.
+/// Whether a name is left out: a hidden one, and in a Cargo package the directory `target`, into which Cargo builds.
 fn is_left_out(in_package: bool, name: &str) -> bool {
     name.as_bytes().starts_with(b".".as_slice()) || in_package && name == "target/"
 }
 
-/// Whether a walk goes on to a name.
+/// Whether a walk visits a name. Directories and files with a selected extension are visited, unless the name is left out. A name
+/// that isn't UTF-8 is visited to be reported.
 fn is_wanted(selection: Selection<'_>, in_package: bool, name: &str) -> bool {
-    if is_directory(name) {
-        selection.all || !is_left_out(in_package, name)
-    } else {
-        has_one_of(selection.extensions, name) || name.as_bytes().len() == 0
-    }
+    (selection.all || !is_left_out(in_package, name))
+        && (is_directory(name) || has_one_of(selection.extensions, name) || name.is_empty())
 }
 
-/// The path of a name in a directory.
+/// Returns the path of a name in a directory.
 fn path_in<A: Allocator>(alloc: A, directory: &str, name: &str) -> Result<String<A>, AllocError> {
     let mut path = String::from_str(alloc, directory)?;
     if !is_directory(directory) {
@@ -124,13 +122,14 @@ fn path_in<A: Allocator>(alloc: A, directory: &str, name: &str) -> Result<String
     Ok(path)
 }
 
-/// Whether this is what an argument names, and not a directory in it.
+/// Whether a path is one that the user passed, and not the path of a directory below it: `from` is `None`.
 fn is_given(from: Option<usize>) -> bool {
     from.is_none()
 }
 
-/// How many bytes of the paths in a directory are those of the directory that an argument names.
-fn base_of(from: Option<usize>, path: &str) -> usize {
+/// Returns the length, with a slash, of the directory that the user passed. If `from` is `None`, that directory is `path`, else
+/// `path` is below it, and `from` is the length.
+fn argument_len(from: Option<usize>, path: &str) -> usize {
     match from {
         Some(from) => from,
         None if is_directory(path) => path.len(),
@@ -138,7 +137,7 @@ fn base_of(from: Option<usize>, path: &str) -> usize {
     }
 }
 
-/// The bytes from one on.
+/// Returns the bytes from an offset, or no bytes if the offset is too large.
 fn bytes_from(bytes: &[u8], from: usize) -> &[u8] {
     if from > bytes.len() {
         return &bytes[bytes.len()..];
@@ -146,52 +145,53 @@ fn bytes_from(bytes: &[u8], from: usize) -> &[u8] {
     &bytes[from..]
 }
 
-/// Whether a pattern that is to be left out matches the path of a name in a directory.
+/// Whether a pattern of `selection` excludes a path. The first `from` bytes of the path aren't compared.
 fn is_pruned(selection: Selection<'_>, from: usize, path: &str) -> bool {
     is_excluded(selection.excludes, bytes_from(path.as_bytes(), from))
 }
 
-/// Where a walk goes to for a name in a directory, at this path.
+/// Returns the entry to visit for a name in a directory. `path` is the path of the name, and `from` the length of the directory
+/// that the user passed.
 fn pending_of<A: Allocator>(
     alloc: A,
     from: usize,
     directory: &str,
     name: &str,
     path: String<A>,
-) -> Result<Pending<A>, AllocError> {
+) -> Result<WalkEntry<A>, AllocError> {
     if is_directory(name) {
-        return Ok(Pending::Directory(Some(from), path));
+        return Ok(WalkEntry::Directory(Some(from), path));
     }
     if name.len() == 0 {
-        return Ok(Pending::BadName(String::from_str(alloc, directory)?));
+        return Ok(WalkEntry::BadName(String::from_str(alloc, directory)?));
     }
-    Ok(Pending::File(path))
+    Ok(WalkEntry::File(path))
 }
 
 impl<A: Allocator> Walk<A> {
-    /// From nowhere.
+    /// Returns a walk without any entries.
     fn new(alloc: A) -> Walk<A> {
         Walk {
             pending: Vec::new(alloc),
         }
     }
 
-    /// Goes to this pending before the others.
-    fn push(&mut self, pending: Pending<A>) -> Result<(), AllocError> {
+    /// Adds an entry that is visited next, before the other entries.
+    fn push(&mut self, pending: WalkEntry<A>) -> Result<(), AllocError> {
         self.pending.push(pending)?;
         Ok(())
     }
 
-    /// Goes to what an argument names before the other places.
+    /// Adds a path that the user passed. It is visited next, before the other entries.
     fn push_given(&mut self, path: String<A>) -> Result<(), AllocError> {
-        self.push(Pending::Directory(None, path))
+        self.push(WalkEntry::Directory(None, path))
     }
 
-    /// A walk of what these paths name, in their order.
+    /// Returns a walk that visits the paths in their order.
     ///
     /// # Errors
     ///
-    /// An allocation failure.
+    /// Returns an error if an allocation fails.
     pub fn of_paths(alloc: A, paths: &mut Vec<String<A>, A>) -> Result<Walk<A>, AllocError>
     where
         A: Copy, {
@@ -202,12 +202,14 @@ impl<A: Allocator> Walk<A> {
         Ok(walk)
     }
 
-    /// Takes the first pending.
-    fn take(&mut self) -> Option<Pending<A>> {
+    /// Removes and returns the next entry to visit.
+    fn take(&mut self) -> Option<WalkEntry<A>> {
         self.pending.pop()
     }
 
-    /// Goes to a name in a directory before the other places, if it is wanted.
+    /// Adds a name in a directory, if it is selected and not excluded. It is visited next, before the other entries.
+    ///
+    /// `in_package` tells whether the directory is a Cargo package, and `from` is the length of the directory that the user passed.
     fn push_name(
         &mut self,
         alloc: A,
@@ -230,7 +232,8 @@ impl<A: Allocator> Walk<A> {
         self.push(pending)
     }
 
-    /// Goes to the names in a directory before the other places, the last of them the last.
+    /// Adds the names in a directory that are selected and not excluded. They are visited next, in their order, before the other
+    /// entries.
     fn push_names(
         &mut self,
         alloc: A,
@@ -248,7 +251,8 @@ impl<A: Allocator> Walk<A> {
         Ok(())
     }
 
-    /// Goes to the names in a directory before the other places, in the order of their bytes.
+    /// Adds the names in a directory that are selected and not excluded. They are visited next, in the order of their bytes, before
+    /// the other entries.
     fn enter(
         &mut self,
         alloc: A,
@@ -264,11 +268,11 @@ impl<A: Allocator> Walk<A> {
         Ok(())
     }
 
-    /// What is visited next.
+    /// Returns the next file to read, or the next path that can't be read. At the end the result is `None`.
     ///
     /// # Errors
     ///
-    /// Where an allocation failed, or there was no end of directories.
+    /// Returns an error if an allocation fails, or if the walk enters 4,294,967,295 directories without a result.
     pub fn next<T: Tree>(
         &mut self,
         alloc: A,
@@ -282,13 +286,13 @@ impl<A: Allocator> Walk<A> {
                 return Ok(None);
             };
             match pending {
-                Pending::File(path) => return Ok(Some(Visit::File(path))),
-                Pending::BadName(directory) => {
+                WalkEntry::File(path) => return Ok(Some(Visit::File(path))),
+                WalkEntry::BadName(directory) => {
                     return Ok(Some(Visit::Failed(directory, PathError::NameNotUtf8)));
                 }
-                Pending::Directory(from, path) => match tree.names(alloc, path.as_str()) {
+                WalkEntry::Directory(from, path) => match tree.names(alloc, path.as_str()) {
                     Ok(mut names) => {
-                        let base = base_of(from, path.as_str());
+                        let base = argument_len(from, path.as_str());
                         match self.enter(alloc, selection, base, path.as_str(), &mut names) {
                             Ok(()) => {}
                             Err(_) => return Err(WalkError::OutOfMemory),

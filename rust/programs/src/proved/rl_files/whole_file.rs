@@ -1,5 +1,6 @@
 // Rendered from crates/rl_files/src/whole_file.rt by tools/render, which erases contracts: change that file, and render anew.
-//! A file of the system that is replaced as a whole: whatever fails or ends the program, it holds its old bytes or its new ones.
+//! Replaces a file of the operating system as a whole. After any error, and however the program ends, it has its
+//! old or its new bytes.
 
 use crate::rattle_std::prelude::{Alloc, String, format};
 use crate::rl_files::host::{error_of, is_bad_name, read_all};
@@ -11,16 +12,16 @@ use crate::rattle_std::os::unix::fs::{MetadataExt, OpenOptionsExt, PermissionsEx
 use crate::rattle_std::rt::Files;
 use crate::rattle_std::{fs, io};
 
-/// How many names are tried for a new file.
+/// The number of names that are tried for a new file.
 const TRIES: u32 = 100;
 
-/// Of a file's permissions those that stay: who may read, write and run it.
+/// The permission bits of a file that its replacement keeps: who may read, write and execute it.
 const KEPT: u32 = 0o777;
 
-/// Those of a new file until it is filled: its owner alone may read and write it.
+/// The permission bits of a new file before it is filled: only its owner may read and write it.
 const OWNERS: u32 = 0o600;
 
-/// Why new bytes can't be written.
+/// Returns the reason why a file can't be written, for the kind of the standard library's error.
 fn write_error_of(kind: ErrorKind) -> PathError {
     match kind {
         ErrorKind::StorageFull => PathError::NoRoom,
@@ -32,20 +33,20 @@ fn write_error_of(kind: ErrorKind) -> PathError {
     }
 }
 
-/// Why no new file can be made beside another.
+/// Returns the reason why a new file can't be created in a directory, for the kind of the standard library's error.
 fn create_error_of(kind: ErrorKind) -> PathError {
-    match write_error_of(kind) {
-        PathError::PermissionDenied => PathError::DirectoryDenied,
-        why => why,
+    match kind {
+        ErrorKind::PermissionDenied => PathError::DirectoryDenied,
+        _ => write_error_of(kind),
     }
 }
 
-/// The path of the new file beside this one, of this number.
+/// Returns the path of a new file in the directory of `path`: `path`, `.rl_scan-` and the number.
 fn path_beside<A: Allocator>(alloc: A, path: &str, number: u32) -> Result<String<A>, AllocError> {
     format!(in alloc; "{path}.rl_scan-{number}")
 }
 
-/// Where the file lies: at its path, or where the link leads that stands there.
+/// Returns the path of a file: `path`, or the target if `path` is a symbolic link.
 fn real_path<A: Allocator, R: Files + Alloc>(
     rt: &R,
     alloc: A,
@@ -58,7 +59,7 @@ fn real_path<A: Allocator, R: Files + Alloc>(
     Ok(String::from_str(alloc, real.as_str())?)
 }
 
-/// A new file beside this one, and its path.
+/// Creates a new file in the directory of `path`, and returns the file and its path.
 fn open_beside<A: Allocator + Copy, R: Files>(
     rt: &R,
     alloc: A,
@@ -82,7 +83,7 @@ fn open_beside<A: Allocator + Copy, R: Files>(
     Err(PathError::WriteFailed)
 }
 
-/// Writes all bytes of a new file, gives it these permissions, and waits until it is stored.
+/// Writes all bytes of a new file, sets its permissions, and waits until it is stored.
 fn fill<F: Write + OpenFile>(
     file: &mut F,
     bytes: &[u8],
@@ -93,7 +94,7 @@ fn fill<F: Write + OpenFile>(
     file.sync_all()
 }
 
-/// Whether a file still holds these bytes.
+/// Returns an error if the file at `path` doesn't have the bytes `old`.
 fn check_unchanged<A: Allocator, R: Files>(
     rt: &R,
     alloc: A,
@@ -111,7 +112,7 @@ fn check_unchanged<A: Allocator, R: Files>(
     }
 }
 
-/// Fills a new file, and gives it the path of the old one, which still has to hold these bytes.
+/// Writes the new file and renames it to `path`, if the file at `path` still has the bytes `old`.
 fn fill_and_rename<A: Allocator, R: Files>(
     rt: &R,
     alloc: A,
@@ -132,15 +133,15 @@ fn fill_and_rename<A: Allocator, R: Files>(
     }
 }
 
-/// Of a file's permissions those that stay. One that nobody may write isn't replaced.
-fn kept_of(permissions: Permissions) -> Result<Permissions, PathError> {
+/// Returns the permissions that the replacement of a file keeps, or an error if nobody may write the file.
+fn kept_permissions(permissions: Permissions) -> Result<Permissions, PathError> {
     if permissions.readonly() {
         return Err(PathError::PermissionDenied);
     }
     Ok(Permissions::from_mode(permissions.mode() & KEPT))
 }
 
-/// What the system knows of a file that may be replaced: no directory, device or pipe.
+/// Returns the metadata of a file that may be replaced, or an error for a directory, a device or a pipe.
 fn metadata_of<R: Files>(rt: &R, path: &str) -> Result<Metadata, PathError> {
     match fs::metadata(rt, path) {
         Ok(about) if about.is_file() => Ok(about),
@@ -150,19 +151,21 @@ fn metadata_of<R: Files>(rt: &R, path: &str) -> Result<Metadata, PathError> {
     }
 }
 
-/// Gives a new file the group and the owner of the old one, where the system allows it.
+/// Sets the group and the owner of a new file to those of the old one. Failures are ignored.
 fn keep_owner<R: Files>(rt: &R, path: &str, about: &Metadata) {
     let _ = chown(rt, path, None, Some(about.gid()));
     let _ = chown(rt, path, Some(about.uid()), None);
 }
 
-/// Puts new bytes in place of those that the file at this path held when it was read: writes them to a new file beside it, which
-/// then gets its path. The file of a link is replaced, and the link stays. Of its permissions those of `KEPT` stay, and its owner and
-/// its group where the system allows it; other names of it and what else the system knows of it don't.
+/// Replaces the file at `path` with the bytes `new`. `old` are the bytes of the file when it was read.
+///
+/// The bytes are written to a new file in the same directory, which is then renamed to `path`. If `path` is a symbolic link, its
+/// target is replaced, and the link stays. The permission bits in `KEPT` stay. Owner and group stay if the system allows it. Other
+/// hard links of the file don't get the new bytes, and other metadata isn't kept.
 ///
 /// # Errors
 ///
-/// Why it can't be. The file holds what it held then, and the new one is removed, unless that fails too.
+/// Returns the reason why the file can't be replaced. The file is unchanged then. The new file is removed, unless that fails too.
 pub(crate) fn replace_file<A: Allocator + Copy, R: Files + Alloc>(
     rt: &R,
     alloc: A,
@@ -176,7 +179,7 @@ pub(crate) fn replace_file<A: Allocator + Copy, R: Files + Alloc>(
         Err(e) => return Err(error_of(e.kind())),
     };
     let about = metadata_of(rt, real.as_str())?;
-    let permissions = kept_of(about.permissions())?;
+    let permissions = kept_permissions(about.permissions())?;
     let (mut file, beside) = open_beside(rt, alloc, real.as_str())?;
     keep_owner(rt, beside.as_str(), &about);
     let done = fill_and_rename(

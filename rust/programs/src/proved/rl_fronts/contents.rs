@@ -1,13 +1,14 @@
 // Rendered from crates/rl_fronts/src/contents.rt by tools/render, which erases contracts: change that file, and render anew.
-//! What quoted literals stand for, in memory that is taken.
+//! Functions that return the decoded values of string, byte string and C string literals as new strings or vectors.
 
 use crate::rattle_std::prelude::{String, Vec, vec};
-use crate::rl_reading::contents::decode_into;
-use crate::rl_reading::found::found_in;
+use crate::rl_lenient::contents::decode_into;
+use crate::rl_lenient::found::found_in;
 use crate::rl_tokens::{Error, Kind};
 use crate::rattle_std::alloc::{AllocError, Allocator};
 
-/// The bytes of the units at the front of a text, in one allocation: they are never more than the text's own.
+/// Returns the bytes to which the characters and escapes at the start of `text` decode, in one allocation. The result
+/// is never longer than the text.
 fn decode<A: Allocator>(alloc: A, kind: Kind, text: &str) -> Result<Vec<u8, A>, AllocError> {
     let mut bytes = vec![in alloc; 0; text.len()]?;
     let len = decode_into(kind, text, bytes.as_mut_slice());
@@ -15,7 +16,8 @@ fn decode<A: Allocator>(alloc: A, kind: Kind, text: &str) -> Result<Vec<u8, A>, 
     Ok(bytes)
 }
 
-/// The bytes that the body of a string stands for, those of characters in UTF-8: the body itself where it is plain.
+/// Returns the bytes to which `body`, the text between a string's quotes, decodes. Characters become UTF-8. If `plain`
+/// is `true`, the decoded value equals the body, which is copied.
 fn body_bytes<A: Allocator>(
     alloc: A,
     kind: Kind,
@@ -29,43 +31,46 @@ fn body_bytes<A: Allocator>(
     }
 }
 
-/// The text that a string literal stands for. The text has to read as `Str`, as [`shape`](crate::rl_fronts::shape) says.
+/// Returns the decoded value of the string literal `text`. The text must be a literal of the kind `Str`, which
+/// [`shape`](crate::rl_fronts::shape) checks.
 ///
 /// # Errors
 ///
-/// `Memory` where an allocation fails, reported at `Span::call_site`.
+/// Returns `Memory` at `Span::call_site` if an allocation fails.
 pub fn str_of<A: Allocator>(alloc: A, text: &str) -> Result<String<A>, Error<A>> {
     let found = found_in(text);
     str_of_body(alloc, found.body_in(text), found.body.plain)
 }
 
-/// The bytes that a byte string or a C string literal stands for, with no zero added at the end. The text has to
-/// read as `ByteStr` or `CStr`, as [`shape`](crate::rl_fronts::shape) says.
+/// Returns the decoded bytes of the byte string or C string literal `text`. No zero is added at the end. The text must
+/// be a literal of the kind `ByteStr` or `CStr`, which [`shape`](crate::rl_fronts::shape) checks.
 ///
 /// # Errors
 ///
-/// `Memory` where an allocation fails, reported at `Span::call_site`.
+/// Returns `Memory` at `Span::call_site` if an allocation fails.
 pub fn bytes_of<A: Allocator>(alloc: A, text: &str) -> Result<Vec<u8, A>, Error<A>> {
     let found = found_in(text);
     bytes_of_body(alloc, found.kind, found.body_in(text), found.body.plain)
 }
 
-/// The text that a string literal with this body stands for, as [`find`](crate::rl_fronts::find) returned it.
+/// Returns the decoded value of a string literal from `body`, the text between its quotes. `plain` tells whether the
+/// decoded value equals the body. [`find`](crate::rl_fronts::find) returns both.
 ///
 /// # Errors
 ///
-/// `Memory` where an allocation fails, reported at `Span::call_site`.
+/// Returns `Memory` at `Span::call_site` if an allocation fails.
 pub fn str_of_body<A: Allocator>(alloc: A, body: &str, plain: bool) -> Result<String<A>, Error<A>> {
     let value = body_bytes(alloc, Kind::Str, body, plain)?;
-    // SAFETY: the bytes are those of characters in UTF-8, which is proved.
+    // SAFETY: it is proved that the bytes are UTF-8.
     Ok(String::from_utf8_unchecked(value))
 }
 
-/// The bytes that a byte string or a C string literal with this body stands for, with no zero added at the end.
+/// Returns the decoded bytes of a byte string or C string literal from `body`, the text between its quotes. `plain`
+/// tells whether the decoded value equals the body. No zero is added at the end.
 ///
 /// # Errors
 ///
-/// `Memory` where an allocation fails, reported at `Span::call_site`.
+/// Returns `Memory` at `Span::call_site` if an allocation fails.
 pub fn bytes_of_body<A: Allocator>(
     alloc: A,
     kind: Kind,

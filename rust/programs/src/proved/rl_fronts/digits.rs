@@ -1,33 +1,32 @@
 // Rendered from crates/rl_fronts/src/digits.rt by tools/render, which erases contracts: change that file, and render anew.
-//! The digits of numbers, in memory that is taken.
+//! Functions that return the digits of an integer or float literal as a new string.
 
 use crate::rattle_std::prelude::{String, vec};
-use crate::rl_reading::digit_runs::is_negative;
-use crate::rl_reading::found::found_in;
-use crate::rl_reading::{Found, find_float, numeral_into};
+use crate::rl_lenient::digit_runs::is_negative;
+use crate::rl_lenient::found::found_in;
+use crate::rl_lenient::{Found, find_float, float_digits_into};
 use crate::rl_tokens::{Error, Kind};
 use crate::rattle_std::alloc::{AllocError, Allocator};
 
-/// A minus, and the digits of the greatest magnitude.
+/// The number of characters of a minus and the 39 decimal digits of the greatest 128-bit magnitude.
 const INTEGER_DIGITS: usize = 40;
 
-/// The digits of a number in base ten.
+/// Returns the digits of the integer or float literal `text` in base ten, as a new string.
 ///
-/// An integer's digits are its magnitude in base ten, after a minus where the text begins with one.
-/// A float's are all that stands before its suffix, without underscores and pluses and with `E` as
-/// `e`.
+/// An integer's digits are its magnitude in base ten, after a minus if the text begins with one. A float's digits are
+/// everything before its suffix, without underscores and pluses and with `E` as `e`.
 ///
-/// The text has to be a number of the kind: an integer within 128 bits, or a float, whether or not
-/// an integer stands there too.
+/// `text` must be a number of the kind `kind`. For `Kind::Int` it is an integer within 128 bits. For `Kind::Float` it
+/// is a float, even if the text is an integer too.
 ///
 /// # Errors
 ///
-/// `Memory` where an allocation fails, reported at `Span::call_site`.
+/// Returns `Memory` at `Span::call_site` if an allocation fails.
 pub fn digits_of<A: Allocator>(alloc: A, kind: Kind, text: &str) -> Result<String<A>, Error<A>> {
     digits_of_found(alloc, text, found_number(kind, text))
 }
 
-/// The reading of a text that is a number of the kind.
+/// Returns the parse result of `text`, which must be a number of the kind `kind`.
 fn found_number(kind: Kind, text: &str) -> Found {
     match kind {
         Kind::Int => found_in(text),
@@ -38,12 +37,13 @@ fn found_number(kind: Kind, text: &str) -> Found {
     }
 }
 
-/// The digits of a number that was found in the text, in base ten, as [`digits_of`] returns them. Nothing is read again:
-/// a plain body is copied, and an integer's magnitude is written.
+/// Returns the digits of the integer or float literal `text` in base ten, from the literal's parse result `found`. The
+/// digits are those that [`digits_of`] returns. The text isn't parsed again. Digits that are already in their final
+/// form are copied, and otherwise an integer's magnitude is written.
 ///
 /// # Errors
 ///
-/// `Memory` where an allocation fails, reported at `Span::call_site`.
+/// Returns `Memory` at `Span::call_site` if an allocation fails.
 pub fn digits_of_found<A: Allocator>(
     alloc: A,
     text: &str,
@@ -52,7 +52,7 @@ pub fn digits_of_found<A: Allocator>(
     Ok(found_digits(alloc, text, found)?)
 }
 
-/// The digits of a number that was found in the text.
+/// Returns the digits of the integer or float literal `text` in base ten, from the literal's parse result `found`.
 fn found_digits<A: Allocator>(alloc: A, text: &str, found: Found) -> Result<String<A>, AllocError> {
     let body = found.body_in(text);
     if found.body.plain {
@@ -64,7 +64,7 @@ fn found_digits<A: Allocator>(alloc: A, text: &str, found: Found) -> Result<Stri
     }
 }
 
-/// A magnitude in base ten, after a minus where the text begins with one.
+/// Returns `magnitude` in base ten, after a minus if `text` begins with one.
 fn signed_decimal<A: Allocator>(
     alloc: A,
     text: &str,
@@ -76,7 +76,7 @@ fn signed_decimal<A: Allocator>(
     Ok(digits)
 }
 
-/// Writes a minus where the text begins with one.
+/// Appends a minus to `digits` if `text` begins with one.
 fn push_sign<A: Allocator>(digits: &mut String<A>, text: &str) -> Result<(), AllocError> {
     if is_negative(text) {
         digits.push('-')
@@ -85,7 +85,7 @@ fn push_sign<A: Allocator>(digits: &mut String<A>, text: &str) -> Result<(), All
     }
 }
 
-/// Writes a number in base ten. One that 64 bits hold is divided in them.
+/// Appends `number` in base ten to `digits`. A number that fits 64 bits is divided with 64-bit arithmetic.
 fn push_decimal<A: Allocator>(digits: &mut String<A>, number: u128) -> Result<(), AllocError> {
     let written = match u64::try_from(number) {
         Ok(small) => write!(digits, "{small}"),
@@ -97,11 +97,11 @@ fn push_decimal<A: Allocator>(digits: &mut String<A>, number: u128) -> Result<()
     }
 }
 
-/// A numeral without its underscores and pluses, and with a small `e`.
+/// Returns the float `numeral` without its underscores and pluses, and with `E` as `e`.
 fn plain_numeral<A: Allocator>(alloc: A, numeral: &str) -> Result<String<A>, AllocError> {
     let mut digits = vec![in alloc; 0; numeral.len()]?;
-    let len = numeral_into(numeral, digits.as_mut_slice());
+    let len = float_digits_into(numeral, digits.as_mut_slice());
     digits.truncate(len);
-    // SAFETY: the digits are characters in UTF-8, which is proved.
+    // SAFETY: it is proved that the digits are UTF-8.
     Ok(String::from_utf8_unchecked(digits))
 }

@@ -1,37 +1,39 @@
 // Rendered from crates/rl_fronts/src/front.rt by tools/render, which erases contracts: change that file, and render anew.
-//! The literal that begins a buffer's trees.
+//! The literal at the start of a parse buffer: a literal token, `true` or `false`, or a minus and a number.
 
-use crate::rl_reading::{Found, find, find_negative, truth_of};
+use crate::rl_lenient::{Found, bool_of, find, find_negative};
 use crate::rl_tokens::{Error, Ident, Kind, Literal, ParseBuffer, Punct, Span};
 use crate::rattle_std::alloc::Allocator;
 
-/// A minus and a literal token that read together, and what reading them found.
+/// A minus token and the number token after it, which together are one literal, and the literal's parse result.
 pub struct Negative<'a, A: Allocator> {
     minus: &'a Punct,
     number: &'a Literal<A>,
     found: Found,
 }
 
-/// A literal at the front of trees, as the tokens that it is made of.
+/// The literal at the start of a sequence of token trees, as the one or two tokens that it consists of.
 pub enum Front<'a, A: Allocator> {
-    /// A literal token, with any text.
+    /// A literal token. Its text isn't checked.
     Literal(&'a Literal<A>),
-    /// The word `true` or `false`.
+    /// The identifier `true` or `false`.
     Word(&'a Ident<A>),
-    /// A minus and a literal token that read together.
+    /// A minus and a number token, which together are one literal.
     Negative(Negative<'a, A>),
 }
 
-/// Takes the word `true` or `false`; else the buffer stays.
+/// Consumes the next token tree of `input` if it is the identifier `true` or `false`, and returns the identifier.
+/// Otherwise the result is `None` and the buffer is unchanged.
 fn take_word<'a, A: Allocator>(input: &mut ParseBuffer<'a, A>) -> Option<&'a Ident<A>> {
     let mut ahead = input.fork();
     let word = ahead.ident()?;
-    truth_of(word.text())?;
+    bool_of(word.text())?;
     *input = ahead;
     Some(word)
 }
 
-/// Takes a minus and a literal token that read together; else the buffer stays.
+/// Consumes the next two token trees of `input` if they are a minus and a number token, which together are one literal.
+/// Otherwise the result is `None` and the buffer is unchanged.
 fn take_negative<'a, A: Allocator>(input: &mut ParseBuffer<'a, A>) -> Option<Negative<'a, A>> {
     let mut ahead = input.fork();
     let minus = ahead.punct()?;
@@ -48,7 +50,8 @@ fn take_negative<'a, A: Allocator>(input: &mut ParseBuffer<'a, A>) -> Option<Neg
     })
 }
 
-/// From a minus to its number, where both stand in one file, else the minus alone.
+/// Returns the span of a negative number, from the span of its minus to the span of the number token. If the two spans
+/// aren't in one file, the result is the span of the minus.
 fn joined_span(minus: Span, number: Span) -> Span {
     match minus.join(number) {
         Some(span) => span,
@@ -57,8 +60,9 @@ fn joined_span(minus: Span, number: Span) -> Span {
 }
 
 impl<'a, A: Allocator> Front<'a, A> {
-    /// Takes the literal that stands next: a literal token with any text, the word `true` or `false`, or a minus and a
-    /// literal token that read together. Where none does, the buffer stays.
+    /// Consumes the literal at the start of `input`: a literal token with any text, the identifier `true` or `false`,
+    /// or a minus and a number token that together are one literal. If `input` doesn't begin with a literal, the result
+    /// is `None` and the buffer is unchanged.
     #[inline(always)]
     pub fn take(input: &mut ParseBuffer<'a, A>) -> Option<Front<'a, A>> {
         if let Some(token) = input.literal() {
@@ -71,8 +75,9 @@ impl<'a, A: Allocator> Front<'a, A> {
         Some(Front::Negative(negative))
     }
 
-    /// The reading of the literal; the places count in its token's text, a minus included. None where it has no
-    /// reading.
+    /// Returns the literal's parse result, or `None` if the text of the literal token isn't a valid literal or is an
+    /// integer above 128 bits. The byte offsets in the result count from the start of the literal's text, which
+    /// includes a minus.
     pub fn find(&self) -> Option<Found> {
         match self {
             Front::Literal(token) => find(token.text()),
@@ -81,14 +86,15 @@ impl<'a, A: Allocator> Front<'a, A> {
         }
     }
 
-    /// The kind that the literal reads as; `None` where it has no reading.
+    /// Returns the literal's kind, or `None` if the text of the literal token isn't a valid literal or is an integer
+    /// above 128 bits.
     pub fn kind(&self) -> Option<Kind> {
         let found = self.find()?;
         Some(found.kind)
     }
 
-    /// The reading of the literal, where it is of this kind.
-    fn find_as(&self, kind: Kind) -> Option<Found> {
+    /// Returns the literal's parse result if the literal is valid and of the kind `kind`, and otherwise `None`.
+    fn find_of_kind(&self, kind: Kind) -> Option<Found> {
         let found = self.find()?;
         if found.kind == kind {
             Some(found)
@@ -97,21 +103,22 @@ impl<'a, A: Allocator> Front<'a, A> {
         }
     }
 
-    /// Whether the literal reads as this kind. No memory is taken.
-    fn is_of(&self, kind: Kind) -> bool {
-        self.find_as(kind).is_some()
+    /// Whether the literal is valid and of the kind `kind`. Nothing is allocated.
+    fn is_of_kind(&self, kind: Kind) -> bool {
+        self.find_of_kind(kind).is_some()
     }
 
-    /// The truth value that the literal is; `None` where it is another one.
+    /// Returns the value of a literal `true` or `false`, or `None` for any other literal.
     pub fn truth(&self) -> Option<bool> {
         match self {
-            Front::Literal(token) => truth_of(token.text()),
-            Front::Word(word) => truth_of(word.text()),
+            Front::Literal(token) => bool_of(token.text()),
+            Front::Word(word) => bool_of(word.text()),
             Front::Negative(_) => None,
         }
     }
 
-    /// Where the literal stands: from a minus to its number, where both stand in one file, else the minus alone.
+    /// Returns the literal's span. The span of a negative number is from its minus to its number token if both are in
+    /// one file, and otherwise the span of the minus.
     pub fn span(&self) -> Span {
         match self {
             Front::Literal(token) => token.span(),
@@ -120,11 +127,12 @@ impl<'a, A: Allocator> Front<'a, A> {
         }
     }
 
-    /// The literal as one token: of a minus and its number, `-` and the number's text.
+    /// Returns the literal as one new token. The text of a negative number's token is `-` followed by the number's
+    /// text.
     ///
     /// # Errors
     ///
-    /// `Memory` at the literal's span.
+    /// Returns `Memory` at the literal's span if an allocation fails.
     pub fn token<B: Allocator>(&self, alloc: B) -> Result<Literal<B>, Error<B>> {
         match self {
             Front::Literal(token) => Literal::clone(token, alloc),
@@ -134,22 +142,26 @@ impl<'a, A: Allocator> Front<'a, A> {
     }
 }
 
-/// Whether a literal of this kind stands next. The buffer stays, and no memory is taken.
-pub fn next_is<A: Allocator>(input: &ParseBuffer<'_, A>, kind: Kind) -> bool {
+/// Returns `true` if `input` begins with a valid literal of the kind `kind`. Nothing is consumed or allocated.
+pub fn begins_with_kind<A: Allocator>(input: &ParseBuffer<'_, A>, kind: Kind) -> bool {
     let mut ahead = input.fork();
     match Front::take(&mut ahead) {
-        Some(front) => front.is_of(kind),
+        Some(front) => front.is_of_kind(kind),
         None => false,
     }
 }
 
-/// Takes the literal of this kind that stands next, as a token, with what reading it finds.
+/// Consumes the literal at the start of `input`, which must be valid and of the kind `kind`. Returns the literal as one
+/// new token, and its parse result.
 ///
 /// # Errors
 ///
-/// `Expected`, at the end `EndOfInput`, with the word: where a literal of another kind stands, the
-/// buffer moves past it; where none does, it stays. `Memory` at the literal, and the buffer stays.
-pub fn take_kind<A: Allocator>(
+/// Returns `Expected(word)` if `input` doesn't begin with a literal of the kind `kind`, or `EndOfInput(word)` if all
+/// token trees have been consumed. In this case a literal of another kind is consumed, and otherwise the buffer is
+/// unchanged.
+///
+/// Returns `Memory` at the literal if an allocation fails. The buffer is unchanged then.
+pub fn take_literal_of_kind<A: Allocator>(
     alloc: A,
     input: &mut ParseBuffer<'_, A>,
     kind: Kind,
@@ -159,7 +171,7 @@ pub fn take_kind<A: Allocator>(
     let Some(front) = Front::take(&mut ahead) else {
         return Err(input.error(word));
     };
-    let Some(found) = front.find_as(kind) else {
+    let Some(found) = front.find_of_kind(kind) else {
         let error = input.error(word);
         *input = ahead;
         return Err(error);

@@ -1,12 +1,13 @@
 // Rendered from crates/rl_fronts/src/span_table.rt by tools/render, which erases contracts: change that file, and render anew.
-//! Where each byte of a quoted literal's contents comes from, all at once.
+//! A table of the spans from which the bytes of a quoted literal's decoded value come.
 
 use crate::rattle_std::prelude::{Vec};
-use crate::rl_reading::{Segment, Segments};
+use crate::rl_lenient::{Segment, Segments};
 use crate::rl_tokens::Span;
 use crate::rattle_std::alloc::{AllocError, Allocator};
 
-/// Adds the spans of the bytes that a segment stands for. The literal's text stands from the base's first byte on.
+/// Appends a span to `spans` for each byte that `segment`, a part of a quoted literal, decodes to: the range in the
+/// file of the text from which the byte comes. The literal's text begins at the first byte of `base`.
 fn push_spans<A: Allocator>(
     spans: &mut Vec<Span, A>,
     base: Span,
@@ -15,21 +16,25 @@ fn push_spans<A: Allocator>(
     for i in 0..segment.value.len() {
         spans.push(Span {
             file: base.file,
-            lo: base.lo + segment.place_of(i),
+            lo: base.lo + segment.text_offset(i),
             hi: base.lo + segment.end_of(i),
         })?;
     }
     Ok(())
 }
 
-/// For each byte of the contents from the next segment on, where in the file what gives it stands, and for their end the
-/// closing quote's place, as a span of no bytes: all that [`place_of`](Segments::place_of) and
-/// [`end_of`](Segments::end_of) say, in one walk. The literal's text stands from the base's first byte on, up to its last.
+/// Returns a table with a span for each byte of a quoted literal's decoded value, from the next segment of `segments`
+/// on. A byte's span is the range in the file of the character or escape from which the byte comes. The table has one
+/// more span at the end, which is empty and at the closing quote.
+///
+/// `base` is the literal's span: the literal's text begins at its first byte and ends at its last one. The function
+/// walks over the segments once. [`text_offset`](Segments::text_offset) and [`end_of`](Segments::end_of) return the
+/// same offsets for one byte at a time.
 ///
 /// # Errors
 ///
-/// An allocation failure.
-pub fn spans_of<A: Allocator>(
+/// Returns an error if an allocation fails.
+pub fn byte_spans_of<A: Allocator>(
     alloc: A,
     mut segments: Segments<'_>,
     base: Span,

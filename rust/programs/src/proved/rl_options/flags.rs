@@ -1,13 +1,13 @@
 // Rendered from crates/rl_options/src/flags.rt by tools/render, which erases contracts: change that file, and render anew.
-//! The options of a command line, and what they take.
+//! The options of the program `rl_scan`, and their values.
 
-use crate::rl_options::command::{Command, Macros, Output, PlaceForm, Restyling, Wish};
-use crate::rl_options::words::WordError;
+use crate::rl_options::arguments::ArgumentError;
+use crate::rl_options::command::{Action, Command, Macros, Output, PlaceForm, Restyling};
 use crate::rl_output::{Form, Matching, Shown, Spelling};
 use crate::rl_types::Edition;
 use crate::rattle_std::alloc::Allocator;
 
-/// An option.
+/// An option of `rl_scan`.
 #[derive(Clone, Copy)]
 pub(crate) enum Flag {
     Bad,
@@ -49,73 +49,73 @@ pub(crate) enum Flag {
     Paths,
 }
 
-/// What an option takes, in the word after it, or in its own word after `=`.
+/// The kind of value that an option has. The value is the next argument, or is in the option's own argument after `=`.
 #[derive(Clone, Copy)]
 pub(crate) enum Operand {
-    /// A list of kinds.
+    /// A list of kinds of literals.
     Kinds,
-    /// A text that is looked for.
+    /// A text that literals are searched for.
     Text,
-    /// When lines have colours.
+    /// A word that determines whether lines have colours.
     Color,
-    /// What the names of files end with.
+    /// A file extension.
     Extension,
-    /// A pattern of what is left out.
+    /// A pattern of paths that aren't read.
     Pattern,
-    /// A file that names paths.
+    /// A file that lists paths to read.
     List,
     /// An edition of Rust.
     Edition,
-    /// How lines are written.
+    /// The name of a format of lines.
     Format,
-    /// How many lines are shown before and after that of a place.
+    /// The number of lines of context on both sides of a line.
     Around,
-    /// How many are shown before it.
+    /// The number of lines of context before a line.
     Before,
-    /// How many are shown after it.
+    /// The number of lines of context after a line.
     After,
     /// A file with the rules of a style.
     Style,
-    /// Which literals in calls of macros are written anew.
+    /// A word that determines whether literals in macro calls are rewritten.
     Macros,
 }
 
-/// What the next word may be.
+/// The kinds of argument that may follow in a command line.
 #[derive(Clone, Copy)]
 pub(crate) enum Next {
     /// An option or a path.
     Any,
-    /// What the option before it takes.
+    /// The value of the option before the argument.
     Operand(Operand),
-    /// A path.
+    /// A path, even if it begins with a dash.
     Path,
 }
 
-/// When lines have colours.
+/// The value of `--color`: whether lines have colours.
 #[derive(Clone, Copy)]
 pub(crate) enum When {
-    /// Where output takes them.
+    /// Lines have colours if the output accepts them.
     Auto,
     Always,
     Never,
 }
 
-/// How lines are written.
+/// The value of `--format`: the format of lines.
 #[derive(Clone, Copy)]
 pub(crate) enum Format {
-    /// As text.
+    /// Lines of text.
     Text,
-    /// As objects of JSON.
+    /// One JSON object a line.
     Json,
-    /// As annotations of GitHub.
+    /// GitHub annotations.
     Github,
 }
 
-/// The option that a word is.
+/// Returns the option with the name `word`, as `--bad`, or `None` if there is no such option.
 pub(crate) fn flag_of(word: &str) -> Option<Flag> {
     match word {
         "--bad" => Some(Flag::Bad),
-        "--hidden" => Some(Flag::Hidden),
+        "--invisible" => Some(Flag::Hidden),
         "--only" => Some(Flag::Only),
         "--find" => Some(Flag::Find),
         "--ignore-case" => Some(Flag::IgnoreCase),
@@ -155,7 +155,7 @@ pub(crate) fn flag_of(word: &str) -> Option<Flag> {
     }
 }
 
-/// The option that a letter after a dash is.
+/// Returns the short option with the letter `c`, or `None` if there is no such option.
 pub(crate) fn letter_of(c: char) -> Option<Flag> {
     match c {
         'e' => Some(Flag::Find),
@@ -174,12 +174,12 @@ pub(crate) fn letter_of(c: char) -> Option<Flag> {
     }
 }
 
-/// What stands after the front of a word, where the word begins with that.
+/// Returns the text of `word` after its start `front`, or `None` if `word` doesn't begin with `front`.
 pub(crate) fn after_front<'w>(front: &str, word: &'w str) -> Option<&'w str> {
     word.strip_prefix(front)
 }
 
-/// What a word has after an option and `=`.
+/// Returns the kind of value and the value of an argument `--option=VALUE`, or `None` for another argument.
 pub(crate) fn joined_of(word: &str) -> Option<(Operand, &str)> {
     if let Some(list) = after_front("--only=", word) {
         return Some((Operand::Kinds, list));
@@ -223,7 +223,7 @@ pub(crate) fn joined_of(word: &str) -> Option<(Operand, &str)> {
     None
 }
 
-/// The option that takes this.
+/// Returns the option whose value is of the kind `operand`.
 pub(crate) fn taken_by(operand: Operand) -> Flag {
     match operand {
         Operand::Kinds => Flag::Only,
@@ -242,7 +242,7 @@ pub(crate) fn taken_by(operand: Operand) -> Flag {
     }
 }
 
-/// Whether an option goes with what the command says of which literals are printed: only one says that, once.
+/// Whether `flag` may be added to the command: `--bad`, `--invisible` and `--only` only if the command has none of them.
 fn chooses_once(command: Command<'_>, flag: Flag) -> bool {
     match flag {
         Flag::Bad | Flag::Hidden | Flag::Only => matches!(command.shown, Shown::All),
@@ -250,7 +250,7 @@ fn chooses_once(command: Command<'_>, flag: Flag) -> bool {
     }
 }
 
-/// Adds an option to the command: what one takes is added after it.
+/// Adds the option `flag` to the command. The value of an option is added by another function.
 fn set_flag(command: &mut Command<'_>, flag: Flag) {
     match flag {
         Flag::Bad => command.shown = Shown::Bad,
@@ -273,16 +273,16 @@ fn set_flag(command: &mut Command<'_>, flag: Flag) {
         Flag::FilesWithMatches => command.output = Output::Path,
         Flag::Nul => command.nul_after_paths = true,
         Flag::Quiet => command.output = Output::Nothing,
-        Flag::Files => command.wish = Wish::Files,
-        Flag::Help => command.wish = Wish::Help,
-        Flag::Version => command.wish = Wish::Version,
+        Flag::Files => command.action = Action::Files,
+        Flag::Help => command.action = Action::Help,
+        Flag::Version => command.action = Action::Version,
         Flag::Only | Flag::Find | Flag::Color | Flag::Extension | Flag::Exclude => {}
         Flag::FilesFrom | Flag::Edition | Flag::Format | Flag::Paths => {}
         Flag::Context | Flag::Before | Flag::After | Flag::Style | Flag::Macros => {}
     }
 }
 
-/// Whether an option goes with what is looked for: no text is where what is bad or hidden is wanted.
+/// Whether `flag` may be added to the command: `--bad` and `--invisible` can't be combined with `--find`.
 fn goes_with_find(command: Command<'_>, flag: Flag) -> bool {
     match (flag, command.shown) {
         (Flag::Bad | Flag::Hidden, _) => !command.searches,
@@ -291,7 +291,7 @@ fn goes_with_find(command: Command<'_>, flag: Flag) -> bool {
     }
 }
 
-/// Whether an option goes with what the command says of writing literals anew: only one says that, once.
+/// Whether `flag` may be added to the command: `--fix`, `--check` and `--diff` only if the command has none of them.
 fn restyles_once(command: Command<'_>, flag: Flag) -> bool {
     match flag {
         Flag::Fix | Flag::Check | Flag::Diff => command.restyle.is_none(),
@@ -299,30 +299,30 @@ fn restyles_once(command: Command<'_>, flag: Flag) -> bool {
     }
 }
 
-/// The command with an option more.
+/// Returns the command with the option `flag` added.
 ///
 /// # Errors
 ///
-/// `TwoChoices`, `BadAndFind` or `TwoRestylings`, where the option doesn't go with what the command asks for.
+/// Returns `TwoChoices`, `BadAndFind` or `TwoRestylings` if the option contradicts the command.
 pub(crate) fn add_flag<A: Allocator>(
     command: Command<'_>,
     flag: Flag,
-) -> Result<Command<'_>, WordError<A>> {
+) -> Result<Command<'_>, ArgumentError<A>> {
     if !chooses_once(command, flag) {
-        return Err(WordError::TwoChoices);
+        return Err(ArgumentError::TwoChoices);
     }
     if !goes_with_find(command, flag) {
-        return Err(WordError::BadAndFind);
+        return Err(ArgumentError::BadAndFind);
     }
     if !restyles_once(command, flag) {
-        return Err(WordError::TwoRestylings);
+        return Err(ArgumentError::TwoRestylings);
     }
     let mut next = command;
     set_flag(&mut next, flag);
     Ok(next)
 }
 
-/// What a word after an option may be.
+/// Returns what the argument after the option `flag` may be.
 pub(crate) fn next_after(flag: Flag) -> Next {
     match flag {
         Flag::Only => Next::Operand(Operand::Kinds),
@@ -343,7 +343,7 @@ pub(crate) fn next_after(flag: Flag) -> Next {
     }
 }
 
-/// When lines have colours, by its word.
+/// Returns the value of `--color` that `word` names, or `None` if it is unknown.
 pub(crate) fn when_of(word: &str) -> Option<When> {
     match word {
         "auto" => Some(When::Auto),
@@ -353,7 +353,8 @@ pub(crate) fn when_of(word: &str) -> Option<When> {
     }
 }
 
-/// How lines are written that have colours then; `has_colors` says whether output takes them.
+/// Returns the format of lines, with or without colours, from the value of `--color`. `has_colors` is true if the output accepts
+/// colours.
 pub(crate) fn form_when(has_colors: bool, when: When) -> Form {
     match (when, has_colors) {
         (When::Always, _) | (When::Auto, true) => Form::Colored,
@@ -361,7 +362,7 @@ pub(crate) fn form_when(has_colors: bool, when: When) -> Form {
     }
 }
 
-/// How lines are written by a later word; objects of JSON and annotations stay so.
+/// Returns the format of lines with the colours of `later`. JSON objects and GitHub annotations are returned unchanged.
 pub(crate) fn recolored(form: Form, later: Form) -> Form {
     match form {
         Form::Json => Form::Json,
@@ -370,7 +371,7 @@ pub(crate) fn recolored(form: Form, later: Form) -> Form {
     }
 }
 
-/// An edition, by its word.
+/// Returns the edition that `word` names, or `None` if it is unknown.
 pub(crate) fn edition_of(word: &str) -> Option<Edition> {
     match word {
         "2015" => Some(Edition::E2015),
@@ -381,7 +382,7 @@ pub(crate) fn edition_of(word: &str) -> Option<Edition> {
     }
 }
 
-/// How lines are written, by its word.
+/// Returns the value of `--format` that `word` names, or `None` if it is unknown.
 pub(crate) fn format_of(word: &str) -> Option<Format> {
     match word {
         "text" => Some(Format::Text),
@@ -391,7 +392,7 @@ pub(crate) fn format_of(word: &str) -> Option<Format> {
     }
 }
 
-/// Which literals in calls of macros are written anew, by its word.
+/// Returns the value of `--macros` that `word` names, or `None` if it is unknown.
 pub(crate) fn macros_of(word: &str) -> Option<Macros> {
     match word {
         "skip" => Some(Macros::Skip),
@@ -400,7 +401,7 @@ pub(crate) fn macros_of(word: &str) -> Option<Macros> {
     }
 }
 
-/// How many lines a word says: a number in base ten.
+/// Returns the number of lines that `word` is in base ten, or `None`.
 pub(crate) fn count_of(word: &str) -> Option<usize> {
     match word.parse::<usize>() {
         Ok(count) => Some(count),
@@ -408,14 +409,14 @@ pub(crate) fn count_of(word: &str) -> Option<usize> {
     }
 }
 
-/// Whether a pattern has a mark that has another meaning in gitignore: `[` or `\`, or `!` at its front.
+/// Whether a pattern of paths contains a character that gitignore files interpret in another way: `[` or `\`, or `!` at its start.
 pub(crate) fn has_other_mark(pattern: &str) -> bool {
     let bytes = pattern.as_bytes();
     bytes.starts_with(b"!".as_slice()) || bytes.contains(&b'[') || bytes.contains(&b'\\')
 }
 
-/// Whether a pattern matches no path below a directory: `./` or `../` stands at its front, or it is a slash alone; or a space stands at
-/// its end, which gitignore drops.
+/// Whether a pattern matches no path below a directory. It begins with `./` or `../`, or is only a slash, or ends with a space,
+/// which gitignore drops.
 pub(crate) fn matches_nothing(pattern: &str) -> bool {
     let bytes = pattern.as_bytes();
     bytes.starts_with(b"./".as_slice())
@@ -424,13 +425,15 @@ pub(crate) fn matches_nothing(pattern: &str) -> bool {
         || bytes.ends_with(b" ".as_slice())
 }
 
-/// Whether a word is more than an extension: a list, a pattern or a path.
+/// Whether `word` can't be a file extension: it contains a comma, `*` or `/`.
 pub(crate) fn has_more_than_extension(word: &str) -> bool {
     let bytes = word.as_bytes();
     bytes.contains(&b',') || bytes.contains(&b'*') || bytes.contains(&b'/')
 }
 
-/// How lines are written in this format: as text, lines that are written so stay as they are.
+/// Returns the format of lines from the value of `--format`, where `form` is the format before.
+///
+/// The value `text` keeps the colours of a text format. `has_colors` is true if the output accepts colours.
 pub(crate) fn form_in(has_colors: bool, form: Form, format: Format) -> Form {
     match (format, form) {
         (Format::Json, _) => Form::Json,

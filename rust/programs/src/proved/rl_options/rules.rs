@@ -1,26 +1,26 @@
 // Rendered from crates/rl_options/src/rules.rt by tools/render, which erases contracts: change that file, and render anew.
-//! The rules of a style, in a file.
+//! Reads the rules of a style from a file. Literals are rewritten by a style.
 
 use crate::rattle_std::prelude::{String};
-use crate::rl_options::meant::near_rule;
+use crate::rl_options::suggestion::near_rule;
 use crate::rl_options::visible::visible_text;
 use crate::rl_files::{PathError, Tree};
-use crate::rl_lexer::without_mark;
-use crate::rl_output::count_ends;
+use crate::rl_lexer::without_byte_order_mark;
+use crate::rl_output::count_line_feeds;
+use crate::rl_restyle::{StyleError, StyleErrorKind, style_of};
 use crate::rl_style::Style;
-use crate::rl_styles::{StyleError, StyleErrorKind, style_of};
 use crate::rattle_std::alloc::{AllocError, Allocator, Global};
 use crate::rattle_std::fmt;
 
-/// What is wrong in a line of a file that says no style.
+/// An error in a line of a file with the rules of a style.
 pub struct LineError<A: Allocator = Global> {
-    /// The line, from 1.
+    /// The number of the line, from 1.
     pub line: usize,
-    /// The name of the entry, as it is printed, where one stands there.
+    /// The name of the entry with the error, with escapes for invisible characters. It is `None` if the error has no entry.
     pub name: Option<String<A>>,
-    /// What is wrong.
+    /// The kind of error in the rules of a style.
     pub kind: StyleErrorKind,
-    /// The rule that was likely meant, where none has the name.
+    /// The rule that was likely meant, if the entry's name is unknown.
     pub meant: Option<&'static str>,
 }
 
@@ -38,21 +38,21 @@ impl<A: Allocator> fmt::Display for LineError<A> {
     }
 }
 
-/// Why the rules of a style can't be had.
+/// The reason why the rules of a style can't be read.
 pub enum RulesError<A: Allocator = Global> {
     /// The file can't be read.
     Unread(PathError),
-    /// What it holds is no style.
+    /// The text of the file has an error.
     Style(LineError<A>),
 }
 
-/// The line, from 1, in which a byte of a text stands.
+/// Returns the number, from 1, of the line of `text` that contains the byte offset `at`.
 fn line_at(text: &str, at: usize) -> usize {
     let before = &text.as_bytes()[..at.min(text.len())];
-    count_ends(before) + 1
+    count_line_feeds(before) + 1
 }
 
-/// The first rule that a name may stand for, where one stands there.
+/// Returns the first rule of a style that `name` is similar to, if there is a name.
 fn near_name(name: Option<&str>) -> Option<&'static str> {
     match name {
         Some(name) => near_rule(name),
@@ -60,7 +60,7 @@ fn near_name(name: Option<&str>) -> Option<&'static str> {
     }
 }
 
-/// The rule that was likely meant by the name of an entry, where none has it.
+/// Returns the rule that was likely meant, if the error is an unknown name of a rule.
 fn rule_meant(error: StyleError<'_>) -> Option<&'static str> {
     match error.kind {
         StyleErrorKind::Unknown => near_name(error.name),
@@ -68,7 +68,7 @@ fn rule_meant(error: StyleError<'_>) -> Option<&'static str> {
     }
 }
 
-/// A name as it is printed, where one stands there.
+/// Returns a copy of a name with escapes for invisible characters, if there is a name.
 fn shown_name<A: Allocator>(alloc: A, name: Option<&str>) -> Result<Option<String<A>>, AllocError> {
     match name {
         Some(name) => Ok(Some(visible_text(alloc, name)?)),
@@ -76,7 +76,7 @@ fn shown_name<A: Allocator>(alloc: A, name: Option<&str>) -> Result<Option<Strin
     }
 }
 
-/// The error of a text that says no style, as it is reported.
+/// Returns the reported form of an error in the rules of a style: with its line, its name and a suggestion.
 fn line_error<A: Allocator>(
     alloc: A,
     text: &str,
@@ -91,7 +91,7 @@ fn line_error<A: Allocator>(
     })
 }
 
-/// The rules that a text says.
+/// Parses the text of a file with the rules of a style.
 fn rules_of<A: Allocator>(alloc: A, text: &str) -> Result<Style, RulesError<A>> {
     match style_of(text) {
         Ok(rules) => Ok(rules),
@@ -102,7 +102,7 @@ fn rules_of<A: Allocator>(alloc: A, text: &str) -> Result<Style, RulesError<A>> 
     }
 }
 
-/// The rules that a file says, after a byte order mark or none.
+/// Reads and parses a file with the rules of a style. A byte order mark at its start is skipped.
 pub fn rules_in<A: Allocator + Copy, T: Tree>(
     alloc: A,
     tree: &T,
@@ -113,7 +113,7 @@ pub fn rules_in<A: Allocator + Copy, T: Tree>(
         Err(why) => return Err(RulesError::Unread(why)),
     };
     match crate::rattle_std::str::from_utf8(bytes.as_slice()) {
-        Ok(text) => rules_of(alloc, without_mark(text)),
+        Ok(text) => rules_of(alloc, without_byte_order_mark(text)),
         Err(error) => Err(RulesError::Unread(PathError::NotUtf8(error.valid_up_to()))),
     }
 }

@@ -1,25 +1,25 @@
 // Rendered from crates/rl_output/src/color.rt by tools/render, which erases contracts: change that file, and render anew.
-//! Colours of a terminal.
+//! Colours of output on a terminal.
 
 use crate::rattle_std::prelude::{String};
 use crate::rl_output::form::Form;
 use crate::rattle_std::alloc::{AllocError, Allocator};
 
-/// What ends a colour.
+/// The terminal sequence that ends a colour.
 pub(crate) const PAINT_END: &str = "\x1b[0m";
 
-/// What of a line has a colour.
+/// A part of an output line that may have a colour.
 #[derive(Clone, Copy)]
 pub enum Paint {
-    /// Its path: magenta.
+    /// The path of a file, in magenta.
     Path,
-    /// Its place: green.
+    /// The position in a file, in green.
     Place,
-    /// The word `error`: bold red.
+    /// The word `error`, in bold red.
     Error,
 }
 
-/// What begins a colour.
+/// Returns the terminal sequence that starts the colour of a part of a line.
 pub(crate) fn start_of(paint: Paint) -> &'static str {
     match paint {
         Paint::Path => "\x1b[35m",
@@ -28,17 +28,17 @@ pub(crate) fn start_of(paint: Paint) -> &'static str {
     }
 }
 
-/// Whether lines have colours.
+/// Whether the format of lines has colours.
 #[inline(always)]
 pub(crate) fn has_colors(form: Form) -> bool {
     matches!(form, Form::Colored)
 }
 
-/// Appends a text, in a colour where lines have colours.
+/// Appends a text, with its colour if the format of lines has colours.
 ///
 /// # Errors
 ///
-/// An allocation failure. A beginning may have been appended then.
+/// Returns an error if an allocation fails. A beginning of the text may have been appended then.
 pub fn push_painted<A: Allocator>(
     out: &mut String<A>,
     form: Form,
@@ -52,11 +52,11 @@ pub fn push_painted<A: Allocator>(
     Ok(())
 }
 
-/// Appends the word that the line of an error begins with.
+/// Appends the word `error`, with its colour if the format of lines has colours.
 ///
 /// # Errors
 ///
-/// An allocation failure. A beginning may have been appended then.
+/// Returns an error if an allocation fails. A beginning of the word may have been appended then.
 pub fn push_error_word<A: Allocator>(out: &mut String<A>, form: Form) -> Result<(), AllocError> {
     push_painted(out, form, Paint::Error, "error")
 }

@@ -1,9 +1,9 @@
 // Rendered from crates/rl_output/src/error_id.rt by tools/render, which erases contracts: change that file, and render anew.
-//! Names of the errors of a source.
+//! Identifiers of the errors of a source, for output that programs read.
 
 use crate::rl_lexer::LexKind;
 
-/// What is wrong with a source, by a name that stays.
+/// Returns the identifier of an error of a source, as `unclosed-comment`. It never changes.
 pub fn id_of(kind: LexKind) -> &'static str {
     match kind {
         LexKind::DocComment => "doc-comment",

@@ -1,21 +1,22 @@
 // Rendered from crates/rl_output/src/github.rt by tools/render, which erases contracts: change that file, and render anew.
-//! Annotations that a workflow of GitHub makes of lines: `::error file=PATH,line=L,endLine=L,col=C,endColumn=C,title=ID::MESSAGE`.
+//! Annotations for GitHub workflows: `::error file=PATH,line=L,endLine=L,col=C,endColumn=C,title=ID::MESSAGE`.
 
 use crate::rattle_std::prelude::{String};
 use crate::rl_output::member::push_ascii;
+use crate::rl_output::path::without_dot;
 use crate::rl_files::needs_escape;
 use crate::rattle_std::alloc::{AllocError, Allocator};
 
-/// What an annotation is.
+/// The level of a GitHub annotation.
 #[derive(Clone, Copy)]
 pub enum Level {
-    /// Of something wrong.
+    /// The level for an error, an invisible character, or a literal that is rewritten.
     Error,
-    /// Of what was found.
+    /// The level for a literal that is only listed.
     Notice,
 }
 
-/// The word of what an annotation is.
+/// Returns the name of an annotation's level: `error` or `notice`.
 pub(crate) fn word_of(level: Level) -> &'static str {
     match level {
         Level::Error => "error",
@@ -23,7 +24,7 @@ pub(crate) fn word_of(level: Level) -> &'static str {
     }
 }
 
-/// Appends a character of a message: a percent sign and the ends of lines by their numbers.
+/// Appends a character of an annotation's message. A percent sign, CR and LF are escaped, as `%25`.
 fn push_data_char<A: Allocator>(out: &mut String<A>, c: char) -> Result<(), AllocError> {
     match c {
         '%' => out.push_str("%25"),
@@ -33,7 +34,8 @@ fn push_data_char<A: Allocator>(out: &mut String<A>, c: char) -> Result<(), Allo
     }
 }
 
-/// Appends a character of a property: a colon and a comma by their numbers too.
+/// Appends a character of an annotation's property, as of its path. A colon, a comma, a percent sign, CR and LF are escaped, as
+/// `%3A`.
 fn push_property_char<A: Allocator>(out: &mut String<A>, c: char) -> Result<(), AllocError> {
     match c {
         ':' => out.push_str("%3A"),
@@ -42,11 +44,11 @@ fn push_property_char<A: Allocator>(out: &mut String<A>, c: char) -> Result<(), 
     }
 }
 
-/// Appends a text as it stands in a message.
+/// Appends a text of an annotation's message. A percent sign, CR and LF are escaped, as `%25`.
 ///
 /// # Errors
 ///
-/// An allocation failure. A beginning may have been appended then.
+/// Returns an error if an allocation fails. A beginning of the text may have been appended then.
 pub fn push_data<A: Allocator>(out: &mut String<A>, text: &str) -> Result<(), AllocError> {
     for c in text.chars() {
         push_data_char(out, c)?;
@@ -54,7 +56,7 @@ pub fn push_data<A: Allocator>(out: &mut String<A>, text: &str) -> Result<(), Al
     Ok(())
 }
 
-/// Appends a text as it stands in a property.
+/// Appends a text of an annotation's property, as a path. A colon, a comma, a percent sign, CR and LF are escaped, as `%3A`.
 fn push_property<A: Allocator>(out: &mut String<A>, text: &str) -> Result<(), AllocError> {
     for c in text.chars() {
         push_property_char(out, c)?;
@@ -62,7 +64,7 @@ fn push_property<A: Allocator>(out: &mut String<A>, text: &str) -> Result<(), Al
     Ok(())
 }
 
-/// Appends the characters of an escape as they stand in a message.
+/// Appends the escape of the invisible character `c`, as `\u{202e}`, in an annotation's message.
 fn push_escape_data<A: Allocator>(out: &mut String<A>, c: char) -> Result<(), AllocError> {
     for piece in c.escape_default() {
         push_data_char(out, piece)?;
@@ -70,7 +72,7 @@ fn push_escape_data<A: Allocator>(out: &mut String<A>, c: char) -> Result<(), Al
     Ok(())
 }
 
-/// Appends a character as it is printed, and as that stands in a message.
+/// Appends the character `c` of an annotation's message, or its escape if it is invisible or bidirectional.
 fn push_shown_char<A: Allocator>(out: &mut String<A>, c: char) -> Result<(), AllocError> {
     if needs_escape(c) {
         return push_escape_data(out, c);
@@ -78,7 +80,7 @@ fn push_shown_char<A: Allocator>(out: &mut String<A>, c: char) -> Result<(), All
     push_data_char(out, c)
 }
 
-/// Appends a text as it is printed, and as that stands in a message.
+/// Appends a text of an annotation's message, with escapes for invisible and bidirectional characters.
 fn push_shown_data<A: Allocator>(out: &mut String<A>, text: &str) -> Result<(), AllocError> {
     for c in text.chars() {
         push_shown_char(out, c)?;
@@ -86,7 +88,8 @@ fn push_shown_data<A: Allocator>(out: &mut String<A>, text: &str) -> Result<(), 
     Ok(())
 }
 
-/// Appends words, and a piece of a text as it is printed, where there is one, as a message.
+/// Appends an annotation's message: `words`, and after a colon `piece` if it isn't empty, with escapes for invisible and
+/// bidirectional characters.
 fn push_message<A: Allocator>(
     out: &mut String<A>,
     words: &str,
@@ -100,7 +103,7 @@ fn push_message<A: Allocator>(
     push_shown_data(out, piece)
 }
 
-/// Appends the path of an annotation.
+/// Appends the property `file` of an annotation, if there is a path. It is the path without `./` at its start.
 pub(crate) fn push_annotation_path<A: Allocator>(
     out: &mut String<A>,
     path: Option<&str>,
@@ -109,18 +112,19 @@ pub(crate) fn push_annotation_path<A: Allocator>(
         None => Ok(()),
         Some(path) => {
             push_ascii(out, "file=")?;
-            push_property(out, path)?;
+            push_property(out, without_dot(path))?;
             push_ascii(out, ",")
         }
     }
 }
 
-/// Appends what stands after the place of an annotation: its title, and words, and a piece of a text as it is printed, where there
-/// is one.
+/// Appends an annotation's text after its position: its title, its message, and a line end.
+///
+/// The message is `words`, and after a colon `piece` if it isn't empty, with escapes for invisible and bidirectional characters.
 ///
 /// # Errors
 ///
-/// An allocation failure. A beginning may have been appended then.
+/// Returns an error if an allocation fails. A beginning of the text may have been appended then.
 pub fn push_annotation_end<A: Allocator>(
     out: &mut String<A>,
     title: &str,

@@ -1,12 +1,12 @@
 // Rendered from crates/rl_output/src/json_string.rt by tools/render, which erases contracts: change that file, and render anew.
-//! Texts as strings of JSON.
+//! Writes texts as JSON strings.
 
 use crate::rattle_std::prelude::{String};
 use crate::rl_files::needs_escape;
-use crate::rl_lines::are_bare;
+use crate::rl_program::need_no_escapes;
 use crate::rattle_std::alloc::{AllocError, Allocator};
 
-/// A hexadecimal digit.
+/// Returns the hexadecimal digit for a value below 16.
 fn digit(value: u32) -> char {
     char::from_digit(value, 16).unwrap()
 }
@@ -23,14 +23,14 @@ fn push_byte<A: Allocator>(out: &mut String<A>, byte: u32) -> Result<(), AllocEr
     push_pair(out, digit(byte / 16), digit(byte % 16))
 }
 
-/// Appends the escape of a unit of UTF-16 by its number.
+/// Appends the escape of a UTF-16 code unit, as `\u202e`.
 fn push_unit<A: Allocator>(out: &mut String<A>, unit: u32) -> Result<(), AllocError> {
     push_pair(out, '\\', 'u')?;
     push_byte(out, unit / 256)?;
     push_byte(out, unit % 256)
 }
 
-/// Appends a character by its number, one past FFFF by those of its two halves.
+/// Appends the escape of a character, as `\u202e`. A character above U+FFFF has two escapes, for its two surrogates.
 fn push_number<A: Allocator>(out: &mut String<A>, c: char) -> Result<(), AllocError> {
     let code = u32::from(c);
     if code < 0x1_0000 {
@@ -41,12 +41,13 @@ fn push_number<A: Allocator>(out: &mut String<A>, c: char) -> Result<(), AllocEr
     push_unit(out, 0xDC00 + above % 0x400)
 }
 
-/// Appends a letter after a backslash.
+/// Appends a backslash and a letter, which are an escape in a JSON string.
 fn push_letter<A: Allocator>(out: &mut String<A>, letter: char) -> Result<(), AllocError> {
     push_pair(out, '\\', letter)
 }
 
-/// Appends a character that is no quote, no backslash, and no LF, CR or tab.
+/// Appends a character other than a quote, a backslash, LF, CR and a tab. A control, invisible or bidirectional character is
+/// escaped by its number.
 fn push_other<A: Allocator>(out: &mut String<A>, c: char) -> Result<(), AllocError> {
     if needs_escape(c) {
         return push_number(out, c);
@@ -55,7 +56,7 @@ fn push_other<A: Allocator>(out: &mut String<A>, c: char) -> Result<(), AllocErr
     Ok(())
 }
 
-/// Appends a character as it is written in a string.
+/// Appends a character, or its escape in a JSON string.
 fn push_char<A: Allocator>(out: &mut String<A>, c: char) -> Result<(), AllocError> {
     match c {
         '"' => push_letter(out, '"'),
@@ -67,7 +68,7 @@ fn push_char<A: Allocator>(out: &mut String<A>, c: char) -> Result<(), AllocErro
     }
 }
 
-/// Appends the characters of a text as they are written in a string.
+/// Appends the characters of a text, with their escapes in a JSON string.
 fn push_chars<A: Allocator>(out: &mut String<A>, text: &str) -> Result<(), AllocError> {
     for c in text.chars() {
         push_char(out, c)?;
@@ -75,21 +76,24 @@ fn push_chars<A: Allocator>(out: &mut String<A>, text: &str) -> Result<(), Alloc
     Ok(())
 }
 
-/// Appends what stands between the quotes of a text's string. A text of bare ASCII is copied at once.
+/// Appends a text, with the escapes of a JSON string but without its quotes. Printable ASCII without quotes and backslashes is
+/// copied at once.
 fn push_json_body<A: Allocator>(out: &mut String<A>, text: &str) -> Result<(), AllocError> {
-    if are_bare(text.as_bytes()) {
+    if need_no_escapes(text.as_bytes()) {
         out.push_str(text)?;
         return Ok(());
     }
     push_chars(out, text)
 }
 
-/// Appends a text as a string of JSON: a quote, a backslash, LF, CR and a tab by a letter after a backslash, other control
-/// characters and what turns or hides text by their numbers, as `\u202e`, all else as it is.
+/// Appends a text as a JSON string.
+///
+/// A quote, a backslash, LF, CR and a tab are escaped by a backslash and a letter. Other control characters, and invisible or
+/// bidirectional characters, are escaped by their numbers, as `\u202e`. All other characters are unchanged.
 ///
 /// # Errors
 ///
-/// An allocation failure. A beginning may have been appended then.
+/// Returns an error if an allocation fails. A beginning of the string may have been appended then.
 pub fn push_json_string<A: Allocator>(out: &mut String<A>, text: &str) -> Result<(), AllocError> {
     out.push_str("\"")?;
     push_json_body(out, text)?;
@@ -97,5 +101,5 @@ pub fn push_json_string<A: Allocator>(out: &mut String<A>, text: &str) -> Result
     Ok(())
 }
 
-/// What is written of a text is a string of JSON that stands for the text, and nothing in it turns or hides text.
-pub fn json_strings_stand(text: &str) {}
+/// Proves that `json_string` of a text is a JSON string that represents the text, without invisible and bidirectional characters.
+pub fn a_json_string_represents_its_text(text: &str) {}

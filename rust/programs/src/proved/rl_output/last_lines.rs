@@ -1,13 +1,13 @@
 // Rendered from crates/rl_output/src/last_lines.rt by tools/render, which erases contracts: change that file, and render anew.
-//! How many lines there are, and the last of them.
+//! Counts the lines of a text, and finds its last lines.
 
-/// How many LFs are among so few bytes that the count fits a byte, which is what lets the compiler count sixteen at once.
+/// Returns the number of LFs in at most 255 bytes. The count fits a byte, so that the compiler can count sixteen bytes at once.
 fn ends_in(block: &[u8]) -> u8 {
     block.iter().map(|byte| (*byte == b'\n') as u8).sum()
 }
 
-/// How many LFs are among bytes: of whole lines how many there are.
-pub fn count_ends(bytes: &[u8]) -> usize {
+/// Returns the number of LFs in the bytes. If the bytes end with an LF, it is the number of lines.
+pub fn count_line_feeds(bytes: &[u8]) -> usize {
     let mut ends = 0;
     let mut rest = bytes;
     while rest.len() > 255 {
@@ -18,7 +18,7 @@ pub fn count_ends(bytes: &[u8]) -> usize {
     ends + ends_in(rest) as usize
 }
 
-/// The bytes through the last LF among them.
+/// Returns the bytes up to and including the last LF. Without an LF the result is empty.
 pub(crate) fn through_end(bytes: &[u8]) -> &[u8] {
     let mut left = bytes;
     while let [rest @ .., byte] = left {
@@ -30,7 +30,7 @@ pub(crate) fn through_end(bytes: &[u8]) -> &[u8] {
     left
 }
 
-/// Where the last of some lines begin, so many, or all where there are fewer.
+/// Returns the byte offset where the last `count` lines begin, or 0 if there are fewer lines.
 fn last_lines_at(lines: &[u8], count: usize) -> usize {
     let mut left = lines;
     let mut wanted = count;
@@ -44,7 +44,7 @@ fn last_lines_at(lines: &[u8], count: usize) -> usize {
     left.len()
 }
 
-/// The last of some lines, so many, or all where there are fewer.
+/// Returns the last `count` lines, or all lines if there are fewer.
 pub(crate) fn last_lines(lines: &str, count: usize) -> &str {
     &lines[last_lines_at(lines.as_bytes(), count)..]
 }

@@ -1,21 +1,21 @@
 // Rendered from crates/rl_output/src/member.rt by tools/render, which erases contracts: change that file, and render anew.
-//! Members of objects of JSON.
+//! Writes members of JSON objects.
 
 use crate::rattle_std::prelude::{String};
 use crate::rl_output::json_string::push_json_string;
 use crate::rattle_std::alloc::{AllocError, Allocator};
 
-/// Appends ASCII.
+/// Appends an ASCII text.
 ///
 /// # Errors
 ///
-/// An allocation failure.
+/// Returns an error if an allocation fails.
 pub fn push_ascii<A: Allocator>(out: &mut String<A>, piece: &str) -> Result<(), AllocError> {
     out.push_str(piece)?;
     Ok(())
 }
 
-/// Appends where an object begins.
+/// Appends the start of a JSON object: the brace, and the member `path` if there is a path.
 pub(crate) fn push_object_front<A: Allocator>(
     out: &mut String<A>,
     path: Option<&str>,
@@ -30,11 +30,11 @@ pub(crate) fn push_object_front<A: Allocator>(
     }
 }
 
-/// Appends a member after others, whose value is a string.
+/// Appends a comma and a member of a JSON object: its name and its value, a string.
 ///
 /// # Errors
 ///
-/// An allocation failure. A beginning may have been appended then.
+/// Returns an error if an allocation fails. A beginning of the member may have been appended then.
 pub fn push_member<A: Allocator>(
     out: &mut String<A>,
     name: &str,

@@ -1,6 +1,6 @@
 // Rendered from crates/rl_output/src/lib.rt by tools/render, which erases contracts: change that file, and render anew.
-//! What a line of the programs looks like: places, colours, strings of JSON, annotations of GitHub, and the line of the source
-//! with a mark below, and lines about it; and which literals have one.
+//! The parts of the output lines for literals: positions, colours, JSON strings, GitHub annotations, and the lines of the source
+//! with carets below a range. Also selects the literals that have an output line.
 
 mod choice;
 mod color;
@@ -10,9 +10,10 @@ mod form;
 mod github;
 mod json_string;
 mod last_lines;
+mod line_column;
 mod member;
+mod path;
 mod place;
-mod spot;
 
 pub use crate::rl_output::choice::{Matching, Shown, Spelling, names};
 pub use crate::rl_output::color::{Paint, push_error_word, push_painted};
@@ -20,8 +21,9 @@ pub use crate::rl_output::context::{Context, first_line, push_context};
 pub use crate::rl_output::error_id::id_of;
 pub use crate::rl_output::form::{Form, has_extents, is_github, is_json};
 pub use crate::rl_output::github::{Level, push_annotation_end, push_data};
-pub use crate::rl_output::json_string::{json_strings_stand, push_json_string};
-pub use crate::rl_output::last_lines::count_ends;
+pub use crate::rl_output::json_string::{a_json_string_represents_its_text, push_json_string};
+pub use crate::rl_output::last_lines::count_line_feeds;
+pub use crate::rl_output::line_column::{Extent, Places, Position};
 pub use crate::rl_output::member::{push_ascii, push_member};
-pub use crate::rl_output::place::{Place, push_front};
-pub use crate::rl_output::spot::{Extent, Places, Spot};
+pub use crate::rl_output::path::without_dot;
+pub use crate::rl_output::place::{LineColumn, Place, push_front};

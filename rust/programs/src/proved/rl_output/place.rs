@@ -1,28 +1,36 @@
 // Rendered from crates/rl_output/src/place.rt by tools/render, which erases contracts: change that file, and render anew.
-//! Places, as they are printed, and what stands before a line.
+//! Writes positions, and the start of an output line.
 
 use crate::rattle_std::prelude::{String};
 use crate::rl_output::color::{PAINT_END, Paint, has_colors, start_of};
 use crate::rl_output::form::Form;
 use crate::rl_output::github::{Level, push_annotation_path, word_of};
+use crate::rl_output::line_column::Extent;
 use crate::rl_output::member::{push_ascii, push_object_front};
-use crate::rl_output::spot::Extent;
-use crate::rl_lexer::LineColumn;
 use crate::rattle_std::alloc::{AllocError, Allocator};
 use crate::rattle_std::fmt;
 
-/// A place of a source, as it is printed: `LO..HI`, `LINE:COLUMN`, or in an object of JSON all of that, as members.
+/// A line and a column, as compilers print them. An LF is the last character of its line.
+#[derive(Clone, Copy, PartialEq, Eq, Debug)]
+pub struct LineColumn {
+    /// The number of the line, from 1.
+    pub line: usize,
+    /// The column in characters, from 1.
+    pub column: usize,
+}
+
+/// A position in a source, as it is displayed: `LO..HI`, `LINE:COLUMN`, or members of a JSON object that have both.
 #[derive(Clone, Copy)]
 pub enum Place {
-    /// From a byte up to the byte after the last.
+    /// The byte offsets of the start and the end of a range.
     Bytes(usize, usize),
-    /// The line and column where it begins.
+    /// The line and column of the start of a range.
     Line(LineColumn),
-    /// Bytes, and the lines and columns where they begin and end.
+    /// The byte offsets, lines and columns of the start and the end of a range.
     Whole(Extent),
 }
 
-/// Appends what stands before a line in a file: the path and the place, each with a colon, and a space.
+/// Appends the start of an output line for a file: the path and the position, each with a colon, and a space.
 fn push_in_file<A: Allocator>(
     out: &mut String<A>,
     path: &str,
@@ -32,7 +40,7 @@ fn push_in_file<A: Allocator>(
     Ok(())
 }
 
-/// Appends what stands before a line in a file, in colours.
+/// Appends the start of an output line for a file, in colours: the path and the position, each with a colon, and a space.
 fn push_colored_in_file<A: Allocator>(
     out: &mut String<A>,
     path: &str,
@@ -46,7 +54,7 @@ fn push_colored_in_file<A: Allocator>(
     )
 }
 
-/// Appends what stands before a line, in colours.
+/// Appends the start of an output line, in colours: the path if there is one, and the position.
 #[inline(never)]
 fn push_colored_front<A: Allocator>(
     out: &mut String<A>,
@@ -59,7 +67,7 @@ fn push_colored_front<A: Allocator>(
     }
 }
 
-/// Appends a place and a space. A place in bytes, as most are, is written in one piece.
+/// Appends a position and a space. Byte offsets, the most frequent form, are written at once.
 #[inline(never)]
 fn push_place<A: Allocator>(out: &mut String<A>, place: &Place) -> Result<(), AllocError> {
     match place {
@@ -68,7 +76,7 @@ fn push_place<A: Allocator>(out: &mut String<A>, place: &Place) -> Result<(), Al
     }
 }
 
-/// Appends what stands before a line of words: its place, after the path where there is one.
+/// Appends the start of an output line of text: the path if there is one, and the position.
 #[inline(always)]
 fn push_worded_front<A: Allocator>(
     out: &mut String<A>,
@@ -85,7 +93,7 @@ fn push_worded_front<A: Allocator>(
     }
 }
 
-/// Appends an object up to its place.
+/// Appends the start of a JSON object: the path if there is one, and the position.
 #[inline(never)]
 fn push_json_front<A: Allocator>(
     out: &mut String<A>,
@@ -97,7 +105,8 @@ fn push_json_front<A: Allocator>(
     Ok(())
 }
 
-/// Appends the place of an annotation: of a place in words its line and column alone.
+/// Appends the properties of a GitHub annotation for a position. Byte offsets have none, and a line and column only `line` and
+/// `col`.
 fn push_annotation_place<A: Allocator>(out: &mut String<A>, place: &Place) -> Result<(), AllocError> {
     match place {
         Place::Bytes(_, _) => Ok(()),
@@ -110,7 +119,7 @@ fn push_annotation_place<A: Allocator>(out: &mut String<A>, place: &Place) -> Re
     }
 }
 
-/// Appends an annotation up to its place.
+/// Appends the start of a GitHub annotation: its level, the path if there is one, and the position.
 #[inline(never)]
 fn push_annotation_front<A: Allocator>(
     out: &mut String<A>,
@@ -125,11 +134,11 @@ fn push_annotation_front<A: Allocator>(
     push_annotation_place(out, place)
 }
 
-/// Appends what stands before a line, up to its place; `level` is what its annotation is.
+/// Appends the start of an output line: the path if there is one, and the position. GitHub annotations also have the `level`.
 ///
 /// # Errors
 ///
-/// An allocation failure. A beginning may have been appended then.
+/// Returns an error if an allocation fails. A part of this start may have been appended then.
 #[inline(always)]
 pub fn push_front<A: Allocator>(
     out: &mut String<A>,
@@ -145,7 +154,7 @@ pub fn push_front<A: Allocator>(
     }
 }
 
-/// As members of an object.
+/// Writes the members of a JSON object for a range: byte offsets, lines and columns of its start and its end.
 impl fmt::Display for Extent {
     fn fmt(&self, f: &mut fmt::Formatter<'_>) -> fmt::Result {
         let Extent { lo, hi, start, end } = self;

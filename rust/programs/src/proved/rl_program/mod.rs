@@ -1,13 +1,21 @@
 // Rendered from crates/rl_program/src/lib.rt by tools/render, which erases contracts: change that file, and render anew.
-//! What the programs share: a whole input, whole lines written, why a run fails, and how a program
-//! ends.
+//! Functions that the programs of this repository share. They read a whole input, write whole lines, and end the program with a
+//! status. They also write the output line of a literal: its kind, its decoded value as a newly written literal, and its suffix.
 
-mod ending;
+mod digits;
+mod exit;
+mod found_line;
+mod line;
 mod program_error;
 mod rejection;
 mod streams;
 
-pub use crate::rl_program::ending::{Ending, RunError, arguments, finish};
+pub use crate::rl_program::digits::decoded;
+pub use crate::rl_program::exit::{Ending, RunError, arguments, finish};
+pub use crate::rl_program::found_line::{push_found, truth_word};
+pub use crate::rl_program::line::{
+    label_of, need_no_escapes, push_kind, push_unescaped, push_verbatim, unescaped_value,
+};
 pub use crate::rl_program::program_error::ProgramError;
 pub use crate::rl_program::rejection::Rejection;
 pub use crate::rl_program::streams::{WriteError, read_whole, text_of, write_bytes, write_whole};

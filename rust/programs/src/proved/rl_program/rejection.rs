@@ -1,11 +1,11 @@
 // Rendered from crates/rl_program/src/rejection.rt by tools/render, which erases contracts: change that file, and render anew.
-//! The line of an error.
+//! The line by which programs report an error of the library.
 
 use crate::rl_tokens::Error;
 use crate::rattle_std::alloc::{Allocator, Global};
 use crate::rattle_std::fmt;
 
-/// A borrowed error, displayed as the programs report it: its place in bytes, and its message.
+/// A borrowed error that is displayed as the programs report it, with its position in bytes and its message.
 pub struct Rejection<'a, A: Allocator = Global>(pub &'a Error<A>);
 
 impl<A: Allocator> fmt::Display for Rejection<'_, A> {

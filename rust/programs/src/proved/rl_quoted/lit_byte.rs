@@ -1,13 +1,13 @@
 // Rendered from crates/rl_quoted/src/lit_byte.rt by tools/render, which erases contracts: change that file, and render anew.
-//! Byte literals.
+//! The type of byte literals.
 
 use crate::rl_quoted::quoted::{Quoted, QuotedKind};
-use crate::rl_forms::Kind;
-use crate::rl_reading::byte_of_body;
+use crate::rl_lenient::byte_of_body;
+use crate::rl_syntax::Kind;
 use crate::rl_tokens::{Error, Literal, Span};
 use crate::rattle_std::alloc::{Allocator, Global};
 
-/// The kind of bytes, as a type: what distinguishes `LitByte` from its siblings.
+/// The type that represents the kind of bytes. It makes `LitByte` a type of its own among the quoted literals.
 pub struct ByteKind;
 
 impl QuotedKind for ByteKind {
@@ -18,11 +18,11 @@ impl QuotedKind for ByteKind {
 pub type LitByte<A = Global> = Quoted<ByteKind, A>;
 
 impl<A: Allocator> LitByte<A> {
-    /// The literal that the byte is written as, with no suffix, at this span.
+    /// Creates the byte literal that represents the byte `value`, without a suffix, at the span `span`.
     ///
     /// # Errors
     ///
-    /// `Memory` at the span.
+    /// Returns `Memory` at `span` if an allocation fails.
     pub fn new(alloc: A, value: u8, span: Span) -> Result<LitByte<A>, Error<A>> {
         match Literal::byte_character(alloc, value) {
             Ok(token) => Ok(Quoted::written(token, &[value], span)),
@@ -30,7 +30,7 @@ impl<A: Allocator> LitByte<A> {
         }
     }
 
-    /// The byte that the literal stands for. No memory is taken.
+    /// Returns the byte that the byte literal represents. Nothing is allocated.
     pub fn value(&self) -> u8 {
         byte_of_body(self.single_body())
     }

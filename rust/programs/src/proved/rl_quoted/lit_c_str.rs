@@ -1,13 +1,13 @@
 // Rendered from crates/rl_quoted/src/lit_c_str.rt by tools/render, which erases contracts: change that file, and render anew.
-//! C string literals.
+//! The type of C string literals.
 
 use crate::rl_quoted::quoted::{Quoted, QuotedKind};
-use crate::rl_forms::Kind;
 use crate::rl_fronts::bytes_of_body;
+use crate::rl_syntax::Kind;
 use crate::rl_tokens::{CString, Error, Literal, Span};
 use crate::rattle_std::alloc::{Allocator, Global};
 
-/// The kind of C strings, as a type: what distinguishes `LitCStr` from its siblings.
+/// The type that represents the kind of C strings. It makes `LitCStr` a type of its own among the quoted literals.
 pub struct CStrKind;
 
 impl QuotedKind for CStrKind {
@@ -18,11 +18,11 @@ impl QuotedKind for CStrKind {
 pub type LitCStr<A = Global> = Quoted<CStrKind, A>;
 
 impl<A: Allocator> LitCStr<A> {
-    /// The literal that the bytes are written as, with no suffix, at this span.
+    /// Creates the C string literal that represents the bytes of `value`, without a suffix, at the span `span`.
     ///
     /// # Errors
     ///
-    /// `Memory` at the span.
+    /// Returns `Memory` at `span` if an allocation fails.
     pub fn new<C: Allocator>(
         alloc: A,
         value: &CString<C>,
@@ -34,12 +34,12 @@ impl<A: Allocator> LitCStr<A> {
         }
     }
 
-    /// The bytes that the literal stands for, as a copy: characters in UTF-8, and no zero at the
-    /// end.
+    /// Returns a copy of the bytes that the C string literal represents. Characters are in UTF-8, and there is no zero
+    /// at the end.
     ///
     /// # Errors
     ///
-    /// `Memory` at the literal's span.
+    /// Returns `Memory` at the literal's span if an allocation fails.
     pub fn value<B: Allocator>(&self, alloc: B) -> Result<CString<B>, Error<B>> {
         let (body, plain) = self.body();
         match bytes_of_body(alloc, Kind::CStr, body, plain) {
@@ -48,8 +48,8 @@ impl<A: Allocator> LitCStr<A> {
         }
     }
 
-    /// The bytes that the literal stands for, borrowed: `None` where they aren't what stands between the quotes, that is
-    /// where an escape or a line end of two characters stands there, and the string isn't raw.
+    /// Returns the bytes that the C string literal represents, borrowed, or `None` if they differ from the text between
+    /// the quotes. They differ if the literal isn't raw and contains an escape or a line end of two characters.
     pub fn value_ref(&self) -> Option<&[u8]> {
         let (body, plain) = self.body();
         if plain { Some(body.as_bytes()) } else { None }

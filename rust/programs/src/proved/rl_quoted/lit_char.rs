@@ -1,13 +1,13 @@
 // Rendered from crates/rl_quoted/src/lit_char.rt by tools/render, which erases contracts: change that file, and render anew.
-//! Character literals.
+//! The type of character literals.
 
 use crate::rl_quoted::quoted::{Quoted, QuotedKind};
-use crate::rl_forms::Kind;
-use crate::rl_reading::char_of_body;
+use crate::rl_lenient::char_of_body;
+use crate::rl_syntax::Kind;
 use crate::rl_tokens::{Error, Literal, Span};
 use crate::rattle_std::alloc::{Allocator, Global};
 
-/// The kind of characters, as a type: what distinguishes `LitChar` from its siblings.
+/// The type that represents the kind of characters. It makes `LitChar` a type of its own among the quoted literals.
 pub struct CharKind;
 
 impl QuotedKind for CharKind {
@@ -18,11 +18,11 @@ impl QuotedKind for CharKind {
 pub type LitChar<A = Global> = Quoted<CharKind, A>;
 
 impl<A: Allocator> LitChar<A> {
-    /// The literal that the character is written as, with no suffix, at this span.
+    /// Creates the character literal that represents the character `value`, without a suffix, at the span `span`.
     ///
     /// # Errors
     ///
-    /// `Memory` at the span.
+    /// Returns `Memory` at `span` if an allocation fails.
     pub fn new(alloc: A, value: char, span: Span) -> Result<LitChar<A>, Error<A>> {
         match Literal::character(alloc, value) {
             Ok(token) => Ok(Quoted::written(
@@ -34,7 +34,7 @@ impl<A: Allocator> LitChar<A> {
         }
     }
 
-    /// The character that the literal stands for. No memory is taken.
+    /// Returns the character that the character literal represents. Nothing is allocated.
     pub fn value(&self) -> char {
         char_of_body(self.single_body())
     }

@@ -1,16 +1,18 @@
 // Rendered from crates/rl_quoted/src/written.rt by tools/render, which erases contracts: change that file, and render anew.
-//! Where the parts stand of a literal that the writer wrote.
+//! The byte offsets of the parts of a literal that was written from its value.
 
-use crate::rl_forms::Kind;
-use crate::rl_reading::Body;
+use crate::rl_lenient::Body;
+use crate::rl_syntax::Kind;
 
-/// Whether the body of a string is all of the value.
+/// Whether `kind` is a kind of strings, and the text between the quotes, `body`, equals the literal's decoded value,
+/// `value`.
 fn is_whole(kind: Kind, body: &[u8], value: &[u8]) -> bool {
     kind.is_string() && body == value
 }
 
-/// The places of the parts of a text that the value with these bytes is written as: no suffix stands after the closing
-/// quote, and the body is the value where nothing had to be escaped.
+/// Returns the byte offsets of the parts of `text`, a literal of the kind `kind` that was written from the value with
+/// the bytes `value`. The literal has no suffix. The result's `plain` is `true` if the literal is a string without
+/// escapes.
 pub(crate) fn written_body(kind: Kind, text: &str, value: &[u8]) -> Body {
     let bytes = text.as_bytes();
     let lo = kind.opener().len();

@@ -1,18 +1,40 @@
 // Rendered from crates/rl_scan/src/main.rt by tools/render, which erases contracts: change that file, and render anew.
-//! Prints each literal of Rust sources: its place, its kind, what it stands for, and its suffix; or what is wrong with
-//! them.
+//! The program `rl_scan`. It prints each literal of Rust sources with its position, kind, value and suffix, or the errors in the
+//! sources. It also rewrites the literals in a style, and prints the changes or a unified diff.
 
 use crate::rattle_std::prelude::{HostRuntime};
+mod change;
+mod changes;
+mod diff;
+mod exit;
+mod outcome;
+mod report;
+mod restyling;
+mod runs;
+mod stats;
+mod visit_report;
+
+pub use crate::rl_scan::change::push_change;
+pub use crate::rl_scan::changes::push_changes;
+pub use crate::rl_scan::diff::push_diff;
+pub use crate::rl_scan::exit::{CallError, call, out_of_memory};
+pub use crate::rl_scan::outcome::{Outcome, check_options, rewrite_outcome};
+pub use crate::rl_scan::report::Report;
+pub use crate::rl_scan::runs::{RunStop, Tally, run};
+pub use crate::rl_scan::visit_report::report_of;
 use crate::rl_files::Host;
+pub use crate::rl_options::{
+    Action, ArgumentError, Command, Console, HELP, LineError, Macros, Output, PlaceForm, Restyling,
+    VERSION,
+};
 use crate::rl_program::{arguments, finish};
-use crate::rl_reports::{Console, call, out_of_memory};
 use crate::rattle_std::alloc::Global;
 use crate::rattle_std::env;
 use crate::rattle_std::env::VarError;
 use crate::rattle_std::io::IsTerminal;
 use crate::rattle_std::process::ExitCode;
 
-/// Whether NO_COLOR has a value that isn't empty, as it says that no program colours its output.
+/// Whether the environment variable NO_COLOR isn't empty. It requests that programs print no colours.
 fn forbids_colors(rt: &HostRuntime) -> bool {
     match env::var(rt, "NO_COLOR") {
         Ok(value) => !value.is_empty(),
@@ -20,7 +42,7 @@ fn forbids_colors(rt: &HostRuntime) -> bool {
     }
 }
 
-/// Whether TERM names a terminal without colours.
+/// Whether the environment variable TERM is `dumb`, which is a terminal without colours.
 fn is_dumb(rt: &HostRuntime) -> bool {
     match env::var(rt, "TERM") {
         Ok(value) => value.as_str() == "dumb",
@@ -28,7 +50,7 @@ fn is_dumb(rt: &HostRuntime) -> bool {
     }
 }
 
-/// What a call knows of where it runs.
+/// Returns the properties of standard input and output that a call depends on.
 fn console(rt: &HostRuntime) -> Console {
     Console {
         input_is_terminal: rt.stdin().is_terminal(),

@@ -1,88 +1,48 @@
 // Rendered from crates/rl_sources/src/flaw_lines.rt by tools/render, which erases contracts: change that file, and render anew.
-//! The lines of all that is wrong with a literal.
+//! Writes one line for each error of a literal.
 
 use crate::rattle_std::prelude::{String};
 use crate::rl_sources::finding::{Finding, Reason, Wrong};
-use crate::rl_sources::in_file::{ReadPlace, front_of, place_at, read_text};
 use crate::rl_sources::literal::Literal;
 use crate::rl_sources::options::Options;
 use crate::rl_sources::prefix::with_prefix;
 use crate::rl_sources::reason::push_finding;
-use crate::rl_flaws::{BadPiece, Flaws, is_of_unit};
+use crate::rl_flaws::{Flaws, InvalidPiece, is_flaw_of_unit};
 use crate::rl_output::Places;
-use crate::rl_reasons::{Flaw, FlawKind};
+use crate::rl_strict::{Flaw, FlawKind, LineEnds};
 use crate::rl_types::TypeError;
 use crate::rattle_std::alloc::{AllocError, Allocator};
 
-/// A place in the file, in bytes of the text.
-fn in_text(text: &str, place: ReadPlace<'_>) -> usize {
-    text.len() - place.rest.len()
-}
-
-/// The finding of a bad escape or character, and where it ends.
-fn piece_finding<'t>(text: &'t str, from: ReadPlace<'t>, bad: BadPiece) -> (Finding, ReadPlace<'t>) {
-    let piece = place_at(text, from, bad.flaw.from);
-    let lo = place_at(text, piece, bad.flaw.lo);
-    let hi = place_at(text, lo, bad.flaw.hi);
-    let end = place_at(text, lo, bad.end);
-    let finding = Finding {
-        reason: Reason::Flaw(bad.flaw.kind),
-        lo: in_text(text, lo),
-        hi: in_text(text, hi),
-        from: in_text(text, piece),
-        to: in_text(text, end),
-    };
-    (finding, end)
-}
-
-/// The finding of a flaw of the whole literal, and where it stands.
-fn whole_finding<'t>(text: &'t str, from: ReadPlace<'t>, bad: BadPiece) -> (Finding, ReadPlace<'t>) {
-    let lo = place_at(text, from, bad.flaw.lo);
-    let hi = place_at(text, lo, bad.flaw.hi);
-    let finding = Finding {
-        reason: Reason::Flaw(bad.flaw.kind),
-        lo: in_text(text, lo),
-        hi: in_text(text, hi),
+/// Returns the finding of a flaw in the literal `text`. The displayed text is the invalid escape or character, or the whole literal
+/// if the flaw has another kind.
+fn finding_of(text: &str, bad: InvalidPiece) -> Finding {
+    let reason = Reason::Flaw(bad.flaw.kind);
+    let lo = bad.flaw.lo;
+    let hi = bad.flaw.hi;
+    if is_flaw_of_unit(bad.flaw.kind) {
+        return Finding {
+            reason,
+            lo,
+            hi,
+            from: bad.flaw.from,
+            to: bad.end,
+        };
+    }
+    Finding {
+        reason,
+        lo,
+        hi,
         from: 0,
         to: text.len(),
-    };
-    (finding, lo)
-}
-
-/// The finding of a flaw, by its places in the file, and a place to go on from.
-fn finding_of<'t>(text: &'t str, from: ReadPlace<'t>, bad: BadPiece) -> (Finding, ReadPlace<'t>) {
-    if is_of_unit(bad.flaw.kind) {
-        piece_finding(text, from, bad)
-    } else {
-        whole_finding(text, from, bad)
     }
 }
 
-/// Appends a line for each flaw that is left.
-fn push_flaws_left<'t, A: Allocator>(
-    out: &mut String<A>,
-    options: &Options<'_>,
-    literal: &Literal<'_, 't>,
-    places: &mut Places<'t>,
-    all: Flaws<'_>,
-) -> Result<(), AllocError> {
-    let text = literal.token.text;
-    let mut flaws = all;
-    let mut place = front_of(text);
-    while let Some(bad) = flaws.next() {
-        let (finding, next) = finding_of(text, place, bad);
-        push_finding(out, options, literal, places, finding)?;
-        place = next;
-    }
-    Ok(())
-}
-
-/// Whether a flaw is that of an integer past 128 bits.
+/// Whether a flaw is that of an integer above 128 bits.
 fn is_limit(flaw: Flaw) -> bool {
     matches!(flaw.kind, FlawKind::TooLarge)
 }
 
-/// The finding of an integer past 128 bits.
+/// Returns the finding of the integer `text`, which is above 128 bits. The displayed text is the whole literal.
 fn limit_finding(text: &str, flaw: Flaw) -> Finding {
     Finding {
         reason: Reason::Flaw(flaw.kind),
@@ -93,7 +53,7 @@ fn limit_finding(text: &str, flaw: Flaw) -> Finding {
     }
 }
 
-/// Appends the line of an integer past 128 bits.
+/// Appends the line for an integer above 128 bits, at its position in the source.
 fn push_limit<'t, A: Allocator>(
     out: &mut String<A>,
     options: &Options<'_>,
@@ -105,22 +65,24 @@ fn push_limit<'t, A: Allocator>(
     push_finding(out, options, literal, places, finding)
 }
 
-/// Appends the lines of the flaws of a literal that is no token.
+/// Appends a line for each flaw of an invalid literal, in order. Integers above 128 bits aren't among these literals.
 fn push_flaws<'t, A: Allocator>(
-    alloc: A,
     out: &mut String<A>,
     options: &Options<'_>,
     literal: &Literal<'_, 't>,
     places: &mut Places<'t>,
     flaw: Flaw,
 ) -> Result<(), AllocError> {
-    let read = read_text(alloc, literal.token.text)?;
-    let flaws = Flaws::of(read.as_str());
-    push_flaws_left(out, options, literal, places, flaws)
+    let mut flaws = Flaws::of(literal.token.text, LineEnds::File);
+    while let Some(bad) = flaws.next() {
+        let finding = finding_of(literal.token.text, bad);
+        push_finding(out, options, literal, places, finding)?;
+    }
+    Ok(())
 }
 
-/// The finding of what is wrong with a literal as a whole.
-fn whole_of(text: &str, reason: Reason) -> Finding {
+/// Returns a finding whose range and displayed text are the whole literal `text`.
+fn finding_of_whole(text: &str, reason: Reason) -> Finding {
     Finding {
         reason,
         lo: 0,
@@ -130,7 +92,7 @@ fn whole_of(text: &str, reason: Reason) -> Finding {
     }
 }
 
-/// Appends the line of a literal right after what is reserved with it.
+/// Appends the line for a literal with a reserved prefix. The range begins at the prefix.
 fn push_reserved<'t, A: Allocator>(
     out: &mut String<A>,
     options: &Options<'_>,
@@ -144,11 +106,11 @@ fn push_reserved<'t, A: Allocator>(
         found: literal.found,
         wrong: literal.wrong,
     };
-    let finding = whole_of(token.text, Reason::Reserved);
+    let finding = finding_of_whole(token.text, Reason::Reserved);
     push_finding(out, options, &whole, places, finding)
 }
 
-/// Appends the line of a literal that Rust has no type for.
+/// Appends the line for a literal that Rust has no type for, at its position in the source.
 fn push_typeless<'t, A: Allocator>(
     out: &mut String<A>,
     options: &Options<'_>,
@@ -156,14 +118,14 @@ fn push_typeless<'t, A: Allocator>(
     places: &mut Places<'t>,
     error: TypeError,
 ) -> Result<(), AllocError> {
-    let finding = whole_of(literal.token.text, Reason::Type(error));
+    let finding = finding_of_whole(literal.token.text, Reason::Type(error));
     push_finding(out, options, literal, places, finding)
 }
 
-/// Appends the lines that say why a literal is bad: one for each of its flaws, or one.
+/// Appends the lines that explain why a literal is invalid: one for each flaw, or one for an integer above 128 bits, a reserved
+/// prefix or a missing type.
 #[inline(never)]
-pub(crate) fn push_wrong<'t, A: Allocator>(
-    alloc: A,
+pub(crate) fn push_error_lines<'t, A: Allocator>(
     out: &mut String<A>,
     options: &Options<'_>,
     literal: &Literal<'_, 't>,
@@ -172,7 +134,7 @@ pub(crate) fn push_wrong<'t, A: Allocator>(
 ) -> Result<(), AllocError> {
     match wrong {
         Wrong::Flaw(flaw) if is_limit(flaw) => push_limit(out, options, literal, places, flaw),
-        Wrong::Flaw(flaw) => push_flaws(alloc, out, options, literal, places, flaw),
+        Wrong::Flaw(flaw) => push_flaws(out, options, literal, places, flaw),
         Wrong::Reserved => push_reserved(out, options, literal, places),
         Wrong::Type(error) => push_typeless(out, options, literal, places, error),
     }

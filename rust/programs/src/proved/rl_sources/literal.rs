@@ -2,24 +2,24 @@
 //! A literal of a source.
 
 use crate::rl_sources::finding::Wrong;
-use crate::rl_forms::Kind;
-use crate::rl_reading::Found;
+use crate::rl_lenient::Found;
+use crate::rl_syntax::Kind;
 use crate::rl_tokens::SourceToken;
 
 /// A literal of a source.
 #[derive(Clone, Copy)]
 pub(crate) struct Literal<'a, 't> {
-    /// Its token.
+    /// The token of the literal.
     pub(crate) token: &'a SourceToken<'t>,
-    /// The rest of the source that begins with it.
+    /// The end of the source that begins with the literal.
     pub(crate) rest: &'t str,
-    /// What reading its text found.
+    /// The parse result of the literal's text, or `None` if it can't be parsed.
     pub(crate) found: &'a Option<Found>,
-    /// What is wrong with it, where that is looked for.
+    /// The error of the literal, if the options request errors and it has one.
     pub(crate) wrong: Option<Wrong>,
 }
 
-/// The kind of what was found.
+/// Returns the kind of a parsed literal, or `None` if it couldn't be parsed.
 pub(crate) fn kind_of(found: &Option<Found>) -> Option<Kind> {
     match found {
         Some(found) => Some(found.kind),

@@ -1,14 +1,13 @@
 // Rendered from crates/rl_sources/src/lib.rt by tools/render, which erases contracts: change that file, and render anew.
-//! The literals of whole Rust sources as lines, each after its place: all of them, those that are bad, or whose contents
-//! hold a text; or what turns or hides text in them.
+//! Lists the literals of whole Rust sources, one a line, each with its position: all literals, only invalid literals, or only
+//! literals whose value contains a text. Lists the invisible and bidirectional characters of a source instead, on request.
 
+mod check;
+mod find_match;
 mod finding;
 mod flaw_lines;
-mod held;
 mod hidden;
-mod in_file;
 mod json;
-mod judge;
 mod literal;
 mod options;
 mod place;
@@ -20,7 +19,7 @@ mod search;
 mod step;
 
 pub use crate::rl_sources::options::Options;
-pub use crate::rl_sources::place::place_of;
+pub use crate::rl_sources::place::displayed_place;
 pub use crate::rl_sources::reason::push_source_error;
 pub use crate::rl_sources::scan_error::ScanError;
 pub use crate::rl_sources::scanner::scan;

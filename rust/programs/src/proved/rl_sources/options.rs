@@ -1,43 +1,46 @@
 // Rendered from crates/rl_sources/src/options.rt by tools/render, which erases contracts: change that file, and render anew.
-//! How a source is scanned.
+//! The options of a scan, which lists the literals of a source.
 
 use crate::rl_output::{Context, Form, Matching, Shown, Spelling};
 use crate::rl_types::Edition;
 
-/// How a source is scanned.
+/// The options of a scan, which lists the literals of a source.
 #[derive(Clone, Copy)]
 pub struct Options<'a> {
-    /// Which literals are shown.
+    /// The literals that are shown.
     pub shown: Shown<'a>,
-    /// Texts that are looked for: where there are some, only literals are shown whose contents hold one of them, at the first place
-    /// where one begins there.
+    /// The texts to search for. If there are any, only literals whose value contains one of these texts are shown, at the first
+    /// match.
     pub finds: &'a [&'a str],
-    /// How they are looked for.
+    /// Whether a search ignores case, and whether only whole words match.
     pub matching: Matching,
-    /// How they are printed.
+    /// Whether a literal is shown by its value or as written.
     pub spelling: Spelling,
-    /// How each line is written.
+    /// The format of each line.
     pub form: Form,
-    /// Where it is given, the line of the source where a place begins stands below each line, with carets under the place, and so many
-    /// lines before and after it; of a line of more than 1,024 bytes that it is so long; not in the forms `Json` and `Github`.
+    /// The lines of context below each line of the output, or `None` for none. Context is the line of the source where the range
+    /// begins, with carets below the range, and the requested number of lines before and after that line. A line of more than 1,024
+    /// bytes is replaced by a message. The formats `Json` and `Github` have no context.
     pub context: Option<Context>,
-    /// Whether places are printed as lines and columns, and not as bytes.
+    /// Whether positions are printed as lines and columns, and not as byte offsets.
     pub by_line: bool,
-    /// Whether a stray character is wrong, as it is in Rust: with `explains` a finding of its own, else an error that ends the
-    /// source.
+    /// Whether a stray character, which no Rust token contains, is an error. With `explains` each stray character is a finding.
+    /// Else the first one ends the source with an error.
     pub rejects_strays: bool,
-    /// Whether lines say what is wrong: those of a bad literal why it is bad, and a last one the error that ends the source.
+    /// Whether lines explain errors. The line of an invalid literal is replaced by its errors, and the error that ends the source
+    /// has the last line.
     pub explains: bool,
-    /// Whether a literal may have any suffix, as where a macro takes it, and any value.
+    /// Whether a literal may have any suffix and any value, as in a macro's argument.
     pub any_suffix: bool,
-    /// The edition, by which a word or hashes right before a quote are reserved.
+    /// The edition that determines which words or hashes right before a quote are a reserved prefix.
     pub edition: Edition,
-    /// What stands before each place: a file's path as it is printed, or for the form `Json` as it is.
+    /// The path that is printed before each position: as displayed, or for the format `Json` unchanged.
     pub path: Option<&'a str>,
 }
 
 impl Default for Options<'_> {
-    /// All literals, each by its value after its place in bytes, without reasons; texts are looked for as they are.
+    /// Returns the options for all literals, each by its value after its position in bytes, without errors. Searches respect case
+    /// and also match within words.
     fn default() -> Self {
         Options {
             shown: Shown::All,
@@ -59,12 +62,12 @@ impl Default for Options<'_> {
     }
 }
 
-/// Whether a stray character ends the source.
+/// Whether a stray character ends the source with an error.
 pub(crate) fn ends_at_strays(options: &Options<'_>) -> bool {
     options.rejects_strays && !options.explains
 }
 
-/// Whether a stray character is a finding.
+/// Whether a stray character is a finding of its own, after which the source continues.
 pub(crate) fn finds_strays(options: &Options<'_>) -> bool {
     options.rejects_strays && options.explains
 }

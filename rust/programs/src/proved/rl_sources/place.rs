@@ -1,15 +1,16 @@
 // Rendered from crates/rl_sources/src/place.rt by tools/render, which erases contracts: change that file, and render anew.
-//! Places of a source, as they are printed.
+//! Positions in a source, as the output displays them, and the lines of context below them.
 
 use crate::rattle_std::prelude::{String};
 use crate::rl_sources::options::Options;
-use crate::rl_output::{Context, Place, Places, Spot, has_extents, push_context};
-use crate::rl_tokens::{LineColumn, SourceToken};
+use crate::rl_output::{Context, LineColumn, Place, Places, Position, has_extents, push_context};
+use crate::rl_tokens::SourceToken;
 use crate::rattle_std::alloc::{AllocError, Allocator};
 
-/// The place of the bytes from `lo` to `hi`, where the rest of the text begins at the first.
+/// Returns the position of the bytes from `lo` to `hi` of a source, as `options` display it: as byte offsets, line and column, or
+/// both. `rest` is the end of the source from `lo`.
 #[inline(always)]
-pub fn place_of<'t>(
+pub fn displayed_place<'t>(
     options: &Options<'_>,
     places: &mut Places<'t>,
     rest: &'t str,
@@ -20,13 +21,14 @@ pub fn place_of<'t>(
         return Place::Whole(places.extent(rest, lo, hi));
     }
     if options.by_line {
-        let Spot { line, column, .. } = places.at(rest);
+        let Position { line, column, .. } = places.at(rest);
         return Place::Line(LineColumn { line, column });
     }
     Place::Bytes(lo, hi)
 }
 
-/// The place in the source of bytes of a token's text, where the rest of the source begins with the token.
+/// Returns the position, as `options` display it, of the bytes from `first` to `last` of a token. `rest` is the end of the source
+/// from the token.
 pub(crate) fn place_inside<'t>(
     options: &Options<'_>,
     places: &mut Places<'t>,
@@ -38,10 +40,10 @@ pub(crate) fn place_inside<'t>(
     let lo = token.lo + first;
     let hi = token.lo + last;
     let inside = &rest[first..];
-    place_of(options, places, inside, lo, hi)
+    displayed_place(options, places, inside, lo, hi)
 }
 
-/// How many lines of the source stand below each line, about that of its place, where some do.
+/// Returns the numbers of context lines before and after each line of the output, or `None` if no context is shown.
 #[inline(always)]
 fn context_for(options: &Options<'_>) -> Option<Context> {
     if has_extents(options.form) {
@@ -50,8 +52,8 @@ fn context_for(options: &Options<'_>) -> Option<Context> {
     options.context
 }
 
-/// Appends the line of the source where the bytes from `lo` to `hi` begin, with carets below them, and lines before and after it; the
-/// rest of the text begins at the first.
+/// Appends the source's line where the bytes from `lo` to `hi` begin, carets below these bytes, and the context lines before and
+/// after. `rest` is the end of the source from `lo`.
 #[inline(never)]
 fn push_context_at<'t, A: Allocator>(
     out: &mut String<A>,
@@ -66,7 +68,8 @@ fn push_context_at<'t, A: Allocator>(
     push_context(out, context, lines, before, rest, bytes)
 }
 
-/// Appends what stands below the line of these bytes, where that is wanted.
+/// Appends the lines of context for the bytes from `lo` to `hi` of a source, if `options` request context. `rest` is the end of the
+/// source from `lo`.
 #[inline(always)]
 pub(crate) fn push_context_of<'t, A: Allocator>(
     out: &mut String<A>,
@@ -82,7 +85,8 @@ pub(crate) fn push_context_of<'t, A: Allocator>(
     }
 }
 
-/// Appends what stands below the line of bytes of a token's text, where that is wanted; the rest of the source begins with the token.
+/// Appends the lines of context for the bytes from `first` to `last` of a token, if `options` request context. `rest` is the end of
+/// the source from the token.
 pub(crate) fn push_context_inside<'t, A: Allocator>(
     out: &mut String<A>,
     options: &Options<'_>,

@@ -1,11 +1,11 @@
 // Rendered from crates/rl_sources/src/prefix.rt by tools/render, which erases contracts: change that file, and render anew.
-//! What stands right before a literal and is reserved with it.
+//! The reserved prefix of a literal: a word or hashes right before it that the edition reserves.
 
 use crate::rl_output::Places;
 use crate::rl_tokens::SourceToken;
 use crate::rl_types::{Edition, reserved_from};
 
-/// The bytes without the hashes at their end.
+/// Returns the bytes without the `#` characters at their end.
 fn before_hashes(bytes: &[u8]) -> &[u8] {
     let mut left = bytes;
     while let [rest @ .., b'#'] = left {
@@ -14,7 +14,7 @@ fn before_hashes(bytes: &[u8]) -> &[u8] {
     left
 }
 
-/// The bytes without the letters and digits of ASCII, and `_`, at their end.
+/// Returns the bytes without the ASCII letters, ASCII digits and `_` at their end.
 fn before_word(bytes: &[u8]) -> &[u8] {
     let mut left = bytes;
     while let [rest @ .., byte] = left {
@@ -26,7 +26,8 @@ fn before_word(bytes: &[u8]) -> &[u8] {
     left
 }
 
-/// Where that begins which is reserved with a literal, in the text before it.
+/// Returns the byte offset in `before` where the reserved prefix of the literal `text` begins. `before` is the source before the
+/// literal.
 fn start_of(before: &str, text: &str) -> usize {
     let front = before_hashes(before.as_bytes());
     match reserved_from(before, text) {
@@ -35,7 +36,8 @@ fn start_of(before: &str, text: &str) -> usize {
     }
 }
 
-/// A literal with what is reserved right before it, as one, and the rest of the source that begins with that.
+/// Returns a literal and its reserved prefix as one token, and the end of the source from the prefix. `rest` is the end of the
+/// source from `token`, the literal.
 pub(crate) fn with_prefix<'t>(
     token: SourceToken<'t>,
     rest: &'t str,

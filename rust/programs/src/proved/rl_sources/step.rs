@@ -1,29 +1,30 @@
 // Rendered from crates/rl_sources/src/step.rt by tools/render, which erases contracts: change that file, and render anew.
-//! What is shown of the tokens of a source, one after another.
+//! Writes the lines for the tokens of a source, one token after another.
 
 use crate::rattle_std::prelude::{String};
-use crate::rl_sources::flaw_lines::push_wrong;
-use crate::rl_sources::held::first_held_at;
+use crate::rl_sources::check::{find_wrong, reason_of};
+use crate::rl_sources::find_match::first_match_range;
+use crate::rl_sources::flaw_lines::push_error_lines;
 use crate::rl_sources::json::push_json_literal;
-use crate::rl_sources::judge::{reason_of, wrong_in};
 use crate::rl_sources::literal::{Literal, kind_of};
 use crate::rl_sources::options::{Options, ends_at_strays, finds_strays};
-use crate::rl_sources::place::{place_inside, place_of, push_context_inside, push_context_of};
+use crate::rl_sources::place::{displayed_place, place_inside, push_context_inside, push_context_of};
 use crate::rl_sources::reason::push_error_line;
 use crate::rl_files::{make_visible, push_visible};
-use crate::rl_lines::{bare_value, label_of, push_bare, push_found};
+use crate::rl_lenient::{Found, find};
 use crate::rl_output::{
     Form, Level, Place, Places, Spelling, first_line, push_annotation_end, push_front,
 };
-use crate::rl_reading::{Found, find};
+use crate::rl_program::{label_of, push_found, push_unescaped, unescaped_value};
 use crate::rl_tokens::{LexError, LexKind, SourceForm, SourceToken, Sources};
 use crate::rattle_std::alloc::{AllocError, Allocator};
 
-/// How many bytes of lines are gathered before they are written.
+/// The number of bytes of lines to collect before they are written.
 const FULL: usize = 65_536;
 
-/// Appends the line of a text, of what reading it found, as it is printed: once it is made, it is gone over for what turns
-/// or hides text.
+/// Appends the line for the token `text`, with its value if it is a literal. `found` is its parse result.
+///
+/// Invisible and bidirectional characters of the appended line are then replaced by escapes.
 #[inline(never)]
 fn push_made_line<A: Allocator + Copy>(
     alloc: A,
@@ -36,8 +37,10 @@ fn push_made_line<A: Allocator + Copy>(
     make_visible(alloc, out, from)
 }
 
-/// Appends the line of a text, of what reading it found, as it is printed. A string's line that holds its value as it stands
-/// has nothing that turns or hides text.
+/// Appends the line for the token `text`, with its value if it is a literal. `found` is its parse result.
+///
+/// The line of a string whose value can be copied from the text has no invisible or bidirectional characters, and isn't searched
+/// for them.
 #[inline(always)]
 fn push_text_line<A: Allocator + Copy>(
     alloc: A,
@@ -45,13 +48,13 @@ fn push_text_line<A: Allocator + Copy>(
     text: &str,
     found: &Option<Found>,
 ) -> Result<(), AllocError> {
-    match bare_value(text) {
-        Some(value) => push_bare(out, value),
+    match unescaped_value(text) {
+        Some(value) => push_unescaped(out, value),
         None => push_made_line(alloc, out, text, *found),
     }
 }
 
-/// Appends a literal as it is written.
+/// Appends the line for a literal as written, with escapes for invisible and bidirectional characters.
 #[inline(never)]
 fn push_source<A: Allocator>(out: &mut String<A>, text: &str) -> Result<(), AllocError> {
     push_visible(out, text)?;
@@ -59,7 +62,7 @@ fn push_source<A: Allocator>(out: &mut String<A>, text: &str) -> Result<(), Allo
     Ok(())
 }
 
-/// Appends what is printed of a literal.
+/// Appends the line for a literal, by its value or as written.
 #[inline(always)]
 fn push_printed<A: Allocator + Copy>(
     alloc: A,
@@ -73,7 +76,7 @@ fn push_printed<A: Allocator + Copy>(
     }
 }
 
-/// Appends what stands after the place in the annotation of a literal: what is printed of it.
+/// Appends a GitHub annotation's text after its position, for a literal. The message is the first line for the literal.
 #[inline(never)]
 fn push_literal_annotation<A: Allocator + Copy>(
     alloc: A,
@@ -86,8 +89,7 @@ fn push_literal_annotation<A: Allocator + Copy>(
     push_annotation_end(out, "literal", first_line(printed.as_str()), "")
 }
 
-/// Appends what stands after the place in the line of a literal: what is printed of it, the members of its object,
-/// or the message of its annotation.
+/// Appends the output for a literal after its position: its value or text, JSON members, or an annotation's text.
 #[inline(always)]
 fn push_line_end<A: Allocator + Copy>(
     alloc: A,
@@ -102,7 +104,7 @@ fn push_line_end<A: Allocator + Copy>(
     }
 }
 
-/// Appends the line of a literal, after this place.
+/// Appends the output for a literal at the position `place`.
 #[inline(always)]
 fn push_line_at<A: Allocator + Copy>(
     alloc: A,
@@ -115,7 +117,7 @@ fn push_line_at<A: Allocator + Copy>(
     push_line_end(alloc, out, options, literal)
 }
 
-/// Appends the line of a literal, after its place, and what stands below it.
+/// Appends the line for a literal at its position, and the lines of context.
 #[inline(always)]
 fn push_placed<'t, A: Allocator + Copy>(
     alloc: A,
@@ -125,12 +127,12 @@ fn push_placed<'t, A: Allocator + Copy>(
     places: &mut Places<'t>,
 ) -> Result<(), AllocError> {
     let token = literal.token;
-    let place = place_of(options, places, literal.rest, token.lo, token.hi);
+    let place = displayed_place(options, places, literal.rest, token.lo, token.hi);
     push_line_at(alloc, out, options, literal, place)?;
     push_context_of(out, options, places, literal.rest, token.lo, token.hi)
 }
 
-/// Appends the line of a literal, after the place of these bytes of its text, and what stands below it.
+/// Appends the line for a literal at the position of `range`, a byte range of the literal's text, and the lines of context.
 #[inline(never)]
 fn push_inside<'t, A: Allocator + Copy>(
     alloc: A,
@@ -146,7 +148,7 @@ fn push_inside<'t, A: Allocator + Copy>(
     push_context_inside(out, options, places, token, literal.rest, range.0, range.1)
 }
 
-/// Appends the lines of a literal: its own, or where lines report what is wrong and something is, those that say so.
+/// Appends the lines for a literal: one for each error if errors are explained and it has any, else one with its value or text.
 #[inline(always)]
 fn push_line_in<'t, A: Allocator + Copy>(
     alloc: A,
@@ -156,14 +158,14 @@ fn push_line_in<'t, A: Allocator + Copy>(
     places: &mut Places<'t>,
 ) -> Result<(), AllocError> {
     match reason_of(options.explains, literal.wrong) {
-        Some(wrong) => push_wrong(alloc, out, options, literal, places, wrong),
+        Some(wrong) => push_error_lines(out, options, literal, places, wrong),
         None => push_placed(alloc, out, options, literal, places),
     }
 }
 
-/// Appends the line of a literal whose contents hold one of the texts that are looked for, at the place of the first.
+/// Appends the line for a literal if its value contains one of the texts `soughts`. The position is that of the first match.
 #[inline(never)]
-fn push_held_line<'t, A: Allocator + Copy>(
+fn push_match_line<'t, A: Allocator + Copy>(
     alloc: A,
     out: &mut String<A>,
     options: &Options<'_>,
@@ -171,7 +173,7 @@ fn push_held_line<'t, A: Allocator + Copy>(
     places: &mut Places<'t>,
     soughts: &[&str],
 ) -> Result<(), AllocError> {
-    let Some(range) = first_held_at(
+    let Some(range) = first_match_range(
         alloc,
         literal.token.text,
         *literal.found,
@@ -184,7 +186,8 @@ fn push_held_line<'t, A: Allocator + Copy>(
     push_inside(alloc, out, options, literal, places, range)
 }
 
-/// Appends what is shown of a literal that is picked: where texts are looked for, its line where its contents hold one.
+/// Appends the lines for a literal that the options select. If `options` have texts to search for, only a literal whose value
+/// contains one of these texts has a line.
 #[inline(always)]
 fn push_picked<'t, A: Allocator + Copy>(
     alloc: A,
@@ -196,10 +199,10 @@ fn push_picked<'t, A: Allocator + Copy>(
     if options.finds.is_empty() {
         return push_line_in(alloc, out, options, literal, places);
     }
-    push_held_line(alloc, out, options, literal, places, options.finds)
+    push_match_line(alloc, out, options, literal, places, options.finds)
 }
 
-/// Appends what is shown of a literal, where it is picked.
+/// Appends the lines for a literal if the options select it, else nothing. `rest` is the end of the source from the literal.
 #[inline(never)]
 fn push_literal_token<'t, A: Allocator + Copy>(
     alloc: A,
@@ -211,7 +214,7 @@ fn push_literal_token<'t, A: Allocator + Copy>(
 ) -> Result<(), AllocError> {
     let found = find(token.text);
     let before = places.before(token.lo);
-    let wrong = wrong_in(options, before, token.text, &found);
+    let wrong = find_wrong(options, before, token.text, &found);
     let label = label_of(kind_of(&found));
     if !options.shown.picks(label, wrong.is_some()) {
         return Ok(());
@@ -230,7 +233,7 @@ fn is_stray(token: &SourceToken<'_>) -> bool {
     matches!(token.form, SourceForm::Stray)
 }
 
-/// Appends what is shown of a literal, or of a stray character where these are findings.
+/// Appends the lines for a literal, or the line of a stray character. `rest` is the end of the source from the token.
 #[inline(always)]
 fn push_token<'t, A: Allocator + Copy>(
     alloc: A,
@@ -248,7 +251,9 @@ fn push_token<'t, A: Allocator + Copy>(
     push_literal_token(alloc, out, options, token, rest, places)
 }
 
-/// Cuts off the next token: `None` at the end of the source.
+/// Lexes the next token, or returns `None` at the end of the source.
+///
+/// With `ends_at_strays` a stray character is an error.
 #[inline(always)]
 fn next_token<'t>(
     ends_at_strays: bool,
@@ -267,13 +272,14 @@ fn next_token<'t>(
     }
 }
 
-/// Whether something may be shown of a token: of a literal, and of a stray character where these are findings.
+/// Whether a token may have a line in the output: literals may, and stray characters if they are findings.
 fn may_show(options: &Options<'_>, token: &SourceToken<'_>) -> bool {
     token.is_literal() || finds_strays(options) && is_stray(token)
 }
 
-/// Cuts off the tokens up to the next literal and that one, where a stray character is an error or a finding, and then up to
-/// that too: `None` where the source ends before one comes.
+/// Lexes tokens up to the next literal and returns that literal, or `None` at the end of the source.
+///
+/// A stray character is an error, or is returned like a literal if stray characters are findings.
 fn next_strictly<'t>(
     options: Options<'_>,
     tokens: &mut Sources<'t>,
@@ -292,7 +298,8 @@ fn next_strictly<'t>(
     }
 }
 
-/// Cuts off the tokens up to the next one of which something may be shown: `None` where the source ends before one comes.
+/// Lexes tokens up to the next one that may have a line in the output, and returns that token. The result is `None` at the end of
+/// the source.
 #[inline(always)]
 fn next_literal<'t>(
     options: Options<'_>,
@@ -310,19 +317,20 @@ fn next_literal<'t>(
     }
 }
 
-/// What comes after the lines that were gathered.
+/// The state of a scan after some lines have been collected.
 #[derive(Clone, Copy)]
 pub(crate) enum Step {
-    /// More tokens.
+    /// The source has more tokens.
     More,
-    /// The end of the source.
+    /// The source has ended.
     End,
-    /// An error, at a place.
+    /// The source has an error. The fields are its position and its kind.
     Error(Place, LexKind),
 }
 
-/// What comes after an error of the source, whose rest begins with it: the end, once its line was appended, where lines say what
-/// is wrong; else the error.
+/// Returns the state of a scan at an error of the source. `rest` is the end of the source from the error.
+///
+/// If errors are explained, the line for the error is appended, and the source has ended. Else the result is the error.
 fn stop_at<'t, A: Allocator>(
     out: &mut String<A>,
     options: &Options<'_>,
@@ -335,11 +343,11 @@ fn stop_at<'t, A: Allocator>(
         push_error_line(out, options, places, rest, range, error.kind, "")?;
         return Ok(Step::End);
     }
-    let place = place_of(options, places, rest, error.at, error.at);
+    let place = displayed_place(options, places, rest, error.at, error.at);
     Ok(Step::Error(place, error.kind))
 }
 
-/// Gathers the lines of literals, as many as are to be written at once.
+/// Collects the lines for the next tokens, up to about 64 KB, and returns the state of the scan.
 pub(crate) fn gather<'t, A: Allocator + Copy>(
     alloc: A,
     options: Options<'_>,

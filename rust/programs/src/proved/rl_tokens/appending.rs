@@ -1,5 +1,5 @@
 // Rendered from crates/rl_tokens/src/appending.rt by tools/render, which erases contracts: change that file, and render anew.
-//! Tokens that are appended to a stream as copies.
+//! Functions that append a token to a token stream.
 
 use crate::rl_tokens::error::Error;
 use crate::rl_tokens::ident::Ident;
@@ -8,11 +8,11 @@ use crate::rl_tokens::literal::Literal;
 use crate::rl_tokens::token::{TokenStream, TokenTree};
 use crate::rattle_std::alloc::Allocator;
 
-/// Puts a copy of the literal token last.
+/// Appends a copy of the literal token `token` to the stream `tokens`.
 ///
 /// # Errors
 ///
-/// `Memory` at the token's span. The stream stays.
+/// Returns `Memory` at the token's span if an allocation fails. The stream is unchanged then.
 pub fn append_literal<A: Allocator, B: Allocator>(
     alloc: B,
     token: &Literal<A>,
@@ -23,11 +23,12 @@ pub fn append_literal<A: Allocator, B: Allocator>(
     Ok(())
 }
 
-/// Puts the identifier last.
+/// Appends the identifier token `ident` to the stream `tokens`.
 ///
 /// # Errors
 ///
-/// `Memory` at the identifier's span. The stream stays, and the identifier is handed back.
+/// Returns `Memory` at the identifier's span if an allocation fails. The stream is unchanged then, and the error
+/// contains the identifier.
 pub fn append_ident<A: Allocator>(
     ident: Ident<A>,
     tokens: &mut TokenStream<A>,

@@ -1,34 +1,38 @@
 // Rendered from crates/rl_tokens/src/buffer.rt by tools/render, which erases contracts: change that file, and render anew.
-//! A buffer of trees that parsers go over.
+//! The buffer of token trees that parsers consume.
 
 use crate::rl_tokens::error::{Error, ErrorKind};
 use crate::rl_tokens::ident::Ident;
 use crate::rl_tokens::literal::Literal;
 use crate::rl_tokens::punct::{Punct, word_of};
 use crate::rl_tokens::token::{Group, TokenTree};
-use crate::rl_text::Span;
+use crate::rl_syntax::Span;
 use crate::rattle_std::alloc::{Allocator, Global};
 
-/// Trees that are borrowed, and a scope: the span at which their end is reported. Parsers take trees from
-/// the front; the trees themselves stay with their owner, who may hand them out as often as is wanted.
+/// A sequence of borrowed token trees from which parsers consume, and a scope: the span of an error at the end of the
+/// token trees.
+///
+/// Parsers consume token trees from the start of the buffer. The owner of the token trees keeps them, and may make any
+/// number of buffers of them.
 pub struct ParseBuffer<'a, A: Allocator = Global> {
     trees: &'a [TokenTree<A>],
     scope: Span,
 }
 
 impl<'a, A: Allocator> ParseBuffer<'a, A> {
-    /// The buffer of these trees. The scope is best where they end: the text's end, or a group's
-    /// closer.
+    /// Creates a buffer of the token trees `trees`, with the scope `scope`. The best scope is the end of the token
+    /// trees: the text's end, or a group's closing delimiter.
     pub fn new(trees: &'a [TokenTree<A>], scope: Span) -> ParseBuffer<'a, A> {
         ParseBuffer { trees, scope }
     }
 
-    /// Whether no tree is left.
+    /// Returns `true` if all token trees of the buffer have been consumed.
     pub fn is_empty(&self) -> bool {
         self.trees.is_empty()
     }
 
-    /// Where the next tree stands, a group whole; at the end, the scope.
+    /// Returns the span of the next token tree, or the buffer's scope if all token trees have been consumed. The span
+    /// of a group includes its delimiters.
     pub fn span(&self) -> Span {
         match self.trees.first() {
             Some(tree) => tree.span(),
@@ -36,8 +40,8 @@ impl<'a, A: Allocator> ParseBuffer<'a, A> {
         }
     }
 
-    /// A buffer of the same trees and scope, to look ahead by: what is taken from it stays in this
-    /// one. No tree is copied.
+    /// Returns a second buffer with the same remaining token trees and the same scope, to look ahead with. Consuming
+    /// from the second buffer doesn't change the first. No token tree is copied.
     pub fn fork(&self) -> ParseBuffer<'a, A> {
         ParseBuffer {
             trees: self.trees,
@@ -45,13 +49,13 @@ impl<'a, A: Allocator> ParseBuffer<'a, A> {
         }
     }
 
-    /// The trees that are left, in their order, borrowed.
+    /// Returns the token trees that haven't been consumed yet, in their order, borrowed.
     pub fn rest(&self) -> &'a [TokenTree<A>] {
         &self.trees[..]
     }
 
-    /// Takes the next tree where it is a literal token, and borrows it; else the buffer stays. `true`
-    /// and `-1` are no literal tokens: the parser of `Lit` takes them.
+    /// Consumes the next token tree if it is a literal token, and returns the token, borrowed. Otherwise the result is
+    /// `None` and the buffer is unchanged. `true` and `-1` aren't literal tokens: the parser of `Lit` accepts them.
     pub fn literal(&mut self) -> Option<&'a Literal<A>> {
         let (first, rest) = self.trees.split_first()?;
         match first {
@@ -63,7 +67,8 @@ impl<'a, A: Allocator> ParseBuffer<'a, A> {
         }
     }
 
-    /// Takes the next tree where it is an identifier, and borrows it; else the buffer stays.
+    /// Consumes the next token tree if it is an identifier, and returns the token, borrowed. Otherwise the result is
+    /// `None` and the buffer is unchanged.
     pub fn ident(&mut self) -> Option<&'a Ident<A>> {
         let (first, rest) = self.trees.split_first()?;
         match first {
@@ -75,8 +80,8 @@ impl<'a, A: Allocator> ParseBuffer<'a, A> {
         }
     }
 
-    /// Takes the next tree where it is a character of punctuation, whichever, and borrows it; else
-    /// the buffer stays.
+    /// Consumes the next token tree if it is a punctuation character, and returns the token, borrowed. Otherwise the
+    /// result is `None` and the buffer is unchanged.
     pub fn punct(&mut self) -> Option<&'a Punct> {
         let (first, rest) = self.trees.split_first()?;
         match first {
@@ -88,7 +93,7 @@ impl<'a, A: Allocator> ParseBuffer<'a, A> {
         }
     }
 
-    /// Whether this character of punctuation stands next. The buffer stays.
+    /// Returns `true` if the next token tree is the punctuation character `ch`. Nothing is consumed.
     pub fn peek_punct(&self, ch: char) -> bool {
         match self.fork().punct() {
             Some(punct) => punct.as_char() == ch,
@@ -96,14 +101,14 @@ impl<'a, A: Allocator> ParseBuffer<'a, A> {
         }
     }
 
-    /// Takes this character of punctuation ([`Punct::is_char`] says which are), and borrows its
-    /// token.
+    /// Consumes the next token tree, which must be the punctuation character `ch`, and returns the token, borrowed.
+    /// [`Punct::is_char`] must be `true` for `ch`.
     ///
     /// # Errors
     ///
-    /// Where it doesn't stand next, `Expected` at the next tree, at the end `EndOfInput` at the
-    /// scope, with the word of the character between backticks, as in ``expected `=` ``. The buffer
-    /// stays.
+    /// Returns `Expected` at the next token tree's span if that isn't the character `ch`, and `EndOfInput` at the
+    /// buffer's scope if all token trees have been consumed. The message contains the character between backticks, as
+    /// in ``expected `=` ``. The buffer is unchanged on an error.
     pub fn take_punct(&mut self, ch: char) -> Result<&'a Punct, Error<A>> {
         match self.mark(ch) {
             Some(punct) => Ok(punct),
@@ -111,7 +116,8 @@ impl<'a, A: Allocator> ParseBuffer<'a, A> {
         }
     }
 
-    /// Takes this character of punctuation where it stands next; else the buffer stays.
+    /// Consumes the next token tree if it is the punctuation character `ch`, and returns the token, borrowed. Otherwise
+    /// the result is `None` and the buffer is unchanged.
     fn mark(&mut self, ch: char) -> Option<&'a Punct> {
         if !self.peek_punct(ch) {
             return None;
@@ -119,8 +125,8 @@ impl<'a, A: Allocator> ParseBuffer<'a, A> {
         self.punct()
     }
 
-    /// Takes the next tree where it is a group, and borrows it; else the buffer stays.
-    /// [`Group::inside`] is a buffer of its trees.
+    /// Consumes the next token tree if it is a group, and returns the group, borrowed. Otherwise the result is `None`
+    /// and the buffer is unchanged. [`Group::inside`] returns a buffer of the group's token trees.
     pub fn group(&mut self) -> Option<&'a Group<A>> {
         let (first, rest) = self.trees.split_first()?;
         match first {
@@ -132,8 +138,9 @@ impl<'a, A: Allocator> ParseBuffer<'a, A> {
         }
     }
 
-    /// The error of what stands next, where this word was expected: `Expected` at the next tree's
-    /// span, at the end `EndOfInput` at the scope. It takes no memory.
+    /// Returns the error for a parser that expected something else than the next token tree: `Expected(word)` at the
+    /// next token tree's span, or `EndOfInput(word)` at the buffer's scope if all token trees have been consumed.
+    /// Nothing is allocated.
     pub fn error(&self, word: &'static str) -> Error<A> {
         let span = self.span();
         let kind = if self.trees.is_empty() {

@@ -1,28 +1,29 @@
 // Rendered from crates/rl_tokens/src/c_string.rt by tools/render, which erases contracts: change that file, and render anew.
-//! C strings: bytes without zero.
+//! C strings: sequences of bytes without a zero byte.
 
 use crate::rattle_std::prelude::{Vec};
 use crate::rattle_std::alloc::{Allocator, Global};
 use crate::rattle_std::fmt;
 
-/// The bytes of a C string: any but zero, and none added at the end. Equal where the bytes are.
+/// An owned C string: a sequence of bytes that contains no zero byte, also not at the end. Two C strings are equal if
+/// their bytes are equal.
 pub struct CString<A: Allocator = Global> {
     bytes: Vec<u8, A>,
 }
 
-/// Bytes that are no C string, since a zero stands among them.
+/// The error of [`CString::new`] for bytes that contain a zero, with the bytes and the offset of the first zero.
 pub struct NulError<A: Allocator = Global> {
     bytes: Vec<u8, A>,
     place: usize,
 }
 
 impl<A: Allocator> CString<A> {
-    /// The C string of these bytes.
+    /// Creates a C string from `bytes`, which must contain no zero.
     ///
     /// # Errors
     ///
-    /// Where a zero stands among them: the [`NulError`] has the place of the first, and the
-    /// bytes back.
+    /// Returns a [`NulError`] if `bytes` contains a zero. The error contains the bytes and the offset of the first
+    /// zero.
     pub fn new(bytes: Vec<u8, A>) -> Result<CString<A>, NulError<A>> {
         match first_zero(bytes.as_slice()) {
             Some(place) => Err(NulError { bytes, place }),
@@ -30,24 +31,24 @@ impl<A: Allocator> CString<A> {
         }
     }
 
-    /// The bytes, none of which is zero, borrowed.
+    /// Returns the C string's bytes, borrowed. There is no zero at the end.
     pub fn as_bytes(&self) -> &[u8] {
         self.bytes.as_slice()
     }
 }
 
-/// The place of the first zero.
+/// Returns the offset of the first zero in `bytes`, or `None` if there is none.
 fn first_zero(bytes: &[u8]) -> Option<usize> {
     bytes.iter().position(|b| *b == 0)
 }
 
 impl<A: Allocator> NulError<A> {
-    /// The place of the first zero, counted in bytes from 0.
+    /// Returns the byte offset of the first zero in the rejected bytes.
     pub fn nul_position(&self) -> usize {
         self.place
     }
 
-    /// The bytes as they were given, handed back.
+    /// Returns the rejected bytes, which were passed to [`CString::new`].
     pub fn into_vec(self) -> Vec<u8, A> {
         let NulError { bytes, place: _ } = self;
         bytes

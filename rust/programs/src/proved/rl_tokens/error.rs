@@ -1,56 +1,57 @@
 // Rendered from crates/rl_tokens/src/error.rt by tools/render, which erases contracts: change that file, and render anew.
-//! Errors: what was rejected, and where.
+//! Errors of lexing and parsing: the kind of an error, and the span of the rejected text.
 
 use crate::rattle_std::prelude::{Drop, String};
 use crate::rl_lexer::LexKind;
-use crate::rl_text::Span;
+use crate::rl_syntax::Span;
 use crate::rattle_std::alloc::{AllocError, AllocFailed, Allocator, Global};
 use crate::rattle_std::fmt;
 
-/// What was rejected, and where. `Display` prints the message of the kind; the span is for who shows
-/// the text.
+/// An error: its kind, and the span of the rejected text. `Display` prints the message of the kind only. A caller can
+/// use the span to show the rejected text.
 #[derive(PartialEq, Eq, Debug)]
 pub struct Error<A: Allocator = Global> {
-    /// Where the error is reported.
+    /// The span of the rejected text or token tree.
     pub span: Span,
-    /// What the error is.
+    /// The kind of the error.
     pub kind: ErrorKind<A>,
 }
 
-/// What can be rejected. Match the kind to act on it: the words are for people.
+/// The kind of an error. A program should match the kind, since the messages of errors are written for people.
 #[derive(PartialEq, Eq, Debug)]
 pub enum ErrorKind<A: Allocator = Global> {
-    /// Another token stands where this was expected.
+    /// The next token isn't the expected one. The field is the expected token's name in the message, as in
+    /// ``expected `=` ``.
     Expected(&'static str),
-    /// The trees end where this was expected.
+    /// The token trees end where another token was expected. The field is the expected token's name in the message.
     EndOfInput(&'static str),
-    /// A token is left over.
+    /// A token follows the end of the parsed value.
     Unexpected,
-    /// A text couldn't be cut into tokens.
+    /// The text can't be lexed. The field is the lexer's reason.
     Lex(LexKind),
-    /// A string has this suffix where it may have none.
+    /// A string literal has a suffix where no suffix is allowed. The field is the suffix.
     Suffix(String<A>),
-    /// The text has no integer reading.
+    /// The text isn't an integer.
     NotInteger,
-    /// The text is an integer whose magnitude passes 128 bits.
+    /// The text is an integer with a magnitude above 128 bits.
     TooLarge,
-    /// The text has no float reading.
+    /// The text isn't a float.
     NotFloat,
-    /// The name stood before.
+    /// A name occurs for the second time where each name may occur only once.
     Repeated,
-    /// A number type rejected the digits, in these words of its own.
+    /// The number type to which a literal's digits were converted rejected the digits. The field is the type's message.
     Number(String<A>),
     /// An allocation failed.
     Memory,
 }
 
 impl<A: Allocator> Error<A> {
-    /// The error of this kind, reported at this span.
+    /// Creates an error with the kind `kind` and the span `span`.
     pub fn new(span: Span, kind: ErrorKind<A>) -> Error<A> {
         Error { span, kind }
     }
 
-    /// An allocation failure, reported at this span.
+    /// Creates the error for an allocation failure, with the span `span`.
     pub fn memory(span: Span) -> Error<A> {
         Error {
             span,
@@ -58,8 +59,8 @@ impl<A: Allocator> Error<A> {
         }
     }
 
-    /// The lexer's error, reported at a span: as `Lex`, but its allocation failure as
-    /// `Memory`.
+    /// Creates an error with the span `span` from the lexer's error `kind`. The lexer's `Memory` becomes
+    /// [`ErrorKind::Memory`], and any other kind becomes [`ErrorKind::Lex`].
     pub fn of_lexer(kind: LexKind, span: Span) -> Error<A> {
         match kind {
             LexKind::Memory => Error::memory(span),
@@ -71,15 +72,15 @@ impl<A: Allocator> Error<A> {
     }
 }
 
-/// std's error for an allocation failure, which has no place: `Memory` at [`Span::call_site`].
+/// Converts std's error for an allocation failure, which has no position, to `Memory` at [`Span::call_site`].
 impl<A: Allocator> From<AllocError> for Error<A> {
     fn from(_failure: AllocError) -> Error<A> {
         Error::memory(Span::call_site())
     }
 }
 
-/// std's error for a value that couldn't be stored, as of `Vec::push`: `Memory` at [`Span::call_site`]. The value is let
-/// go.
+/// Converts std's error of a method as `Vec::push`, which returns the value that it couldn't store, to `Memory` at
+/// [`Span::call_site`]. The value is dropped.
 impl<T: Drop, A: Allocator> From<AllocFailed<T>> for Error<A> {
     fn from(_failed: AllocFailed<T>) -> Error<A> {
         Error::memory(Span::call_site())
@@ -92,7 +93,7 @@ impl<A: Allocator> fmt::Display for ErrorKind<A> {
             ErrorKind::Expected(word) => write!(f, "expected {word}"),
             ErrorKind::EndOfInput(word) => write!(f, "unexpected end of input, expected {word}"),
             ErrorKind::Unexpected => f.write_str("unexpected token"),
-            ErrorKind::Lex(error) => f.write_str(error.words()),
+            ErrorKind::Lex(error) => f.write_str(error.message()),
             ErrorKind::Suffix(suffix) => write!(
                 f,
                 "unexpected suffix `{suffix}` on string literal"

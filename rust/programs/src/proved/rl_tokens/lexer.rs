@@ -1,29 +1,29 @@
 // Rendered from crates/rl_tokens/src/lexer.rt by tools/render, which erases contracts: change that file, and render anew.
-//! The lexer.
+//! The lexer, which turns a text into token trees.
 
 use crate::rl_tokens::nest::TreeBuilder;
 use crate::rl_tokens::token::TokenStream;
 use crate::rl_lexer::{LexError, Tokens};
 use crate::rattle_std::alloc::Allocator;
 
-/// Cuts a text into token trees. Each span is the file and the bytes of its text; a group's runs
-/// from its opener to its closer.
+/// Lexes a text into token trees.
 ///
-/// White space and plain comments are dropped. Escapes aren't judged: what a literal token reads as
-/// is asked of it later.
+/// The span of a token is `file` and the token's byte range in the text. A group's span is from its opening delimiter
+/// to its closing one.
+///
+/// White space and plain comments are dropped. Escapes aren't checked: a literal token may be invalid.
 ///
 /// # Errors
 ///
-/// The text is read from its front, and the first error is reported, at the byte that [`LexKind`]
-/// names; no more than 128 groups may be open at once. `Memory` comes at the first byte of the
-/// token whose allocation failed.
+/// Lexing ends at the first error. [`LexKind`] describes each error's byte offset. At most 128 groups may be open at
+/// once. An allocation failure is `Memory`, at the first byte of the token for which memory was needed.
 ///
 /// [`LexKind`]: crate::rl_tokens::LexKind
 pub fn lex<A: Allocator + Copy>(alloc: A, text: &str, file: u32) -> Result<TokenStream<A>, LexError> {
     trees_of(alloc, text, file)
 }
 
-/// The trees that the text is cut into, or its first error.
+/// Returns the token trees of a text, or the first error of the text if it can't be lexed.
 #[inline(always)]
 fn trees_of<A: Allocator + Copy>(
     alloc: A,

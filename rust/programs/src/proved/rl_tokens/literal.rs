@@ -3,23 +3,23 @@
 
 use crate::rattle_std::prelude::{String};
 use crate::rl_tokens::error::Error;
-use crate::rl_text::Span;
+use crate::rl_syntax::Span;
 use crate::rattle_std::alloc::{AllocError, Allocator, Global};
 use crate::rattle_std::fmt;
 
-/// A literal token: any text, and where it stands. Whether the text reads as a literal is said by
-/// `rl_grammar`, and what it reads as by `Lit::new` of `rust_literals`.
+/// A literal token: a text, with its span. The text may be an invalid literal. The crate `rl_grammar` checks whether a
+/// text is a literal, and `Lit::new` of the crate `rust_literals` parses the token.
 pub struct Literal<A: Allocator = Global> {
     text: String<A>,
     span: Span,
 }
 
 impl<A: Allocator> Literal<A> {
-    /// The token with this text and span. Nothing is asked of the text.
+    /// Creates a literal token with the text `text` and the span `span`. The text isn't checked.
     ///
     /// # Errors
     ///
-    /// `Memory` at the span.
+    /// Returns `Memory` at `span` if an allocation fails.
     pub fn from_text(alloc: A, text: &str, span: Span) -> Result<Literal<A>, Error<A>> {
         match String::from_str(alloc, text) {
             Ok(text) => Ok(Literal { text, span }),
@@ -27,11 +27,11 @@ impl<A: Allocator> Literal<A> {
         }
     }
 
-    /// The token of a minus and this text, with this span.
+    /// Creates a literal token whose text is a minus and `text`, with the span `span`. The text isn't checked.
     ///
     /// # Errors
     ///
-    /// `Memory` at the span.
+    /// Returns `Memory` at `span` if an allocation fails.
     pub fn negative(alloc: A, text: &str, span: Span) -> Result<Literal<A>, Error<A>> {
         let Ok(text) = text_after_minus(alloc, text) else {
             return Err(Error::memory(span));
@@ -39,46 +39,47 @@ impl<A: Allocator> Literal<A> {
         Ok(Literal { text, span })
     }
 
-    /// The token of this text and span.
+    /// Creates a literal token from the string `text` and the span `span`. Nothing is allocated, and the text isn't
+    /// checked.
     pub(crate) fn of_string(text: String<A>, span: Span) -> Literal<A> {
         Literal { text, span }
     }
 
-    /// The text as it was given, quotes and suffix included.
+    /// Returns the literal token's text as written, with its quotes and its suffix.
     pub fn text(&self) -> &str {
         self.text.as_str()
     }
 
-    /// Where the token stands: its file, and its bytes in it.
+    /// Returns the literal token's span: a file, and a range of bytes in that file.
     pub fn span(&self) -> Span {
         self.span
     }
 
-    /// The token once more, with its memory from this allocator.
+    /// Returns a copy of the literal token, in memory from `alloc`.
     ///
     /// # Errors
     ///
-    /// `Memory` at the token's span.
+    /// Returns `Memory` at the token's span if an allocation fails.
     pub fn clone<B: Allocator>(&self, alloc: B) -> Result<Literal<B>, Error<B>> {
         Literal::from_text(alloc, self.text(), self.span)
     }
 
-    /// The token with a minus before its text, at this span.
+    /// Returns a new literal token whose text is a minus and this token's text, with the span `span`.
     ///
     /// # Errors
     ///
-    /// `Memory` at the span.
+    /// Returns `Memory` at `span` if an allocation fails.
     pub fn after_minus<B: Allocator>(&self, alloc: B, span: Span) -> Result<Literal<B>, Error<B>> {
         Literal::negative(alloc, self.text(), span)
     }
 
-    /// Puts the token elsewhere: its span becomes this one, and its text stays.
+    /// Sets the literal token's span to `span`, and leaves its text unchanged.
     pub fn set_span(&mut self, span: Span) {
         self.span = span;
     }
 }
 
-/// A minus, and the text.
+/// Returns a new string of a minus and `text`.
 fn text_after_minus<A: Allocator>(alloc: A, text: &str) -> Result<String<A>, AllocError> {
     let mut joined = String::with_capacity(alloc, text.len() + 1)?;
     joined.push('-')?;
@@ -86,7 +87,7 @@ fn text_after_minus<A: Allocator>(alloc: A, text: &str) -> Result<String<A>, All
     Ok(joined)
 }
 
-/// The text.
+/// Writes the literal token's text as written.
 impl<A: Allocator> fmt::Display for Literal<A> {
     fn fmt(&self, f: &mut fmt::Formatter<'_>) -> fmt::Result {
         f.pad(self.text.as_str())

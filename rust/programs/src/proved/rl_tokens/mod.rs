@@ -1,6 +1,7 @@
 // Rendered from crates/rl_tokens/src/lib.rt by tools/render, which erases contracts: change that file, and render anew.
-//! The tokens of Rust's literals: literal tokens, token trees, parsers, how values are written, and errors. What takes no memory
-//! of them stands in the crates below, and is passed on from here.
+//! Tokens of Rust's literals, token trees, the lexer, parse buffers, the traits of parsers, functions that write values
+//! as literals, and errors. The crate is modelled on `src/whitespace.rs` and the parsers of the crate `syn` 3.0.9. The
+//! items that don't allocate are defined in the crates `rl_lexer` and `rl_syntax`, and are re-exported here.
 
 mod appending;
 mod buffer;
@@ -30,11 +31,12 @@ pub use crate::rl_tokens::parse::{ByParse, Parse, Parser, ToTokens, Token};
 pub use crate::rl_tokens::punct::Punct;
 pub use crate::rl_tokens::rewind::{Rewind, attempt};
 pub use crate::rl_tokens::token::{Delimiter, Group, TokenStream, TokenTree};
-pub use crate::rl_tokens::whole::{parse_all, trees_of_text};
+pub use crate::rl_tokens::whole::{lex_for_parsing, parse_all};
 pub use crate::rl_tokens::writer::push_str_literal;
-pub use crate::rl_forms::{Kind, write_bytes_into, write_char_into, write_str_into};
 pub use crate::rl_lexer::{
-    Form, LexError, LexKind, Lexeme, LineColumn, Lines, SourceForm, SourceToken, Sources, Tokens,
-    whitespace,
+    Form, LexError, LexKind, Lexeme, SourceForm, SourceToken, Sources, Tokens, whitespace,
 };
-pub use crate::rl_text::{Span, characters, classes, room, scan, text};
+pub use crate::rl_syntax::{
+    Kind, Span, characters, classes, scan, slice_writer, text, write_bytes_into, write_char_into,
+    write_str_into,
+};

@@ -1,40 +1,40 @@
 // Rendered from crates/rl_tokens/src/nest.rt by tools/render, which erases contracts: change that file, and render anew.
-//! The trees of a text as they grow.
+//! The builder that collects tokens into token trees while a text is lexed.
 
 use crate::rattle_std::prelude::{String, Vec};
 use crate::rl_tokens::ident::Ident;
 use crate::rl_tokens::literal::Literal;
 use crate::rl_tokens::punct::Punct;
 use crate::rl_tokens::token::{Delimiter, Group, TokenStream, TokenTree};
-use crate::rl_lexer::{Form, LexError, LexKind};
-use crate::rl_text::Span;
+use crate::rl_lexer::{Form, LexError, LexKind, is_opener};
+use crate::rl_syntax::Span;
 use crate::rattle_std::alloc::Allocator;
 use crate::rattle_std::mem;
 
-/// How many groups may be open at once.
+/// The greatest number of groups that may be open at once while a text is lexed.
 const MAX_OPEN: usize = 128;
 
-/// A group whose closer wasn't read yet.
+/// An open group: the lexer has found its opening delimiter, and not yet its closing one.
 pub(crate) struct GroupBuilder<A: Allocator> {
     delimiter: Delimiter,
-    // the byte of its opener
+    // The byte offset of the group's opening delimiter in the text.
     at: usize,
-    // the trees before the group
+    // The token trees that precede the group inside the group or text around it.
     before: TokenStream<A>,
 }
 
-/// The trees that were read so far of one text, and the groups that are open.
+/// A builder of the token trees of one text: the token trees so far, and the groups that are open.
 pub(crate) struct TreeBuilder<A: Allocator> {
     alloc: A,
     file: u32,
-    // the outermost first
+    // The open groups, from the outermost to the innermost.
     opened: Vec<GroupBuilder<A>, A>,
-    // the trees of the innermost open group
+    // The token trees of the innermost open group so far, or of the text if no group is open.
     trees: TokenStream<A>,
 }
 
 impl<A: Allocator + Copy> TreeBuilder<A> {
-    /// Nothing was read yet.
+    /// Creates an empty builder. The spans of its token trees get the file number `file`.
     pub(crate) fn new(alloc: A, file: u32) -> TreeBuilder<A> {
         TreeBuilder {
             alloc,
@@ -44,8 +44,8 @@ impl<A: Allocator + Copy> TreeBuilder<A> {
         }
     }
 
-    /// Reads one token more, of this form and text, which stands from the byte `lo` to the byte
-    /// `hi`. An error is reported at `lo`.
+    /// Adds a token with the form `form`, the text `text` and the byte range from `lo` to `hi`. The error of a
+    /// delimiter that doesn't fit, or of an allocation failure, is at the byte offset `lo`.
     pub(crate) fn add(
         &mut self,
         form: Form,
@@ -74,7 +74,8 @@ impl<A: Allocator + Copy> TreeBuilder<A> {
         }
     }
 
-    /// All trees. A group that is open is reported at its opener, the innermost of several.
+    /// Returns the token trees of the whole text. If a group is still open, the result is the error `UnclosedGroup` at
+    /// the opening delimiter of the innermost open group.
     pub(crate) fn finish(self) -> Result<TokenStream<A>, LexError> {
         let TreeBuilder {
             mut opened,
@@ -87,7 +88,8 @@ impl<A: Allocator + Copy> TreeBuilder<A> {
         }
     }
 
-    /// Puts a tree after the others of its level. An allocation failure is reported at the byte.
+    /// Appends the token tree `tree` to the innermost open group, or to the text if no group is open. An allocation
+    /// failure is reported at the byte offset `at`.
     #[inline(always)]
     fn append(&mut self, tree: TokenTree<A>, at: usize) -> Result<(), LexError> {
         if let Err(_failure) = self.trees.push(tree) {
@@ -96,7 +98,8 @@ impl<A: Allocator + Copy> TreeBuilder<A> {
         Ok(())
     }
 
-    /// The trees that follow stand in a new group, whose opener is at the byte.
+    /// Opens a group with the delimiters `delimiter`. Its opening delimiter is at the byte offset `at`, where errors
+    /// are reported.
     #[inline(never)]
     fn open_group(&mut self, delimiter: Delimiter, at: usize) -> Result<(), LexError> {
         if self.opened.len() >= MAX_OPEN {
@@ -114,7 +117,8 @@ impl<A: Allocator + Copy> TreeBuilder<A> {
         Ok(())
     }
 
-    /// The innermost group ends with this closer: it is the next tree of the level around it.
+    /// Closes the innermost open group, which must have the delimiters `delimiter`, and appends it to the group or text
+    /// around it. The closing delimiter's byte range is from `lo` to `hi`, and errors are reported at `lo`.
     #[inline(never)]
     fn close_group(&mut self, delimiter: Delimiter, lo: usize, hi: usize) -> Result<(), LexError> {
         let Some(open) = self.opened.pop() else {
@@ -129,12 +133,7 @@ impl<A: Allocator + Copy> TreeBuilder<A> {
     }
 }
 
-/// Whether a delimiter opens a group.
-fn is_opener(c: char) -> bool {
-    matches!(c, '(' | '[' | '{')
-}
-
-/// Which delimiter the opener or closer belongs to.
+/// Returns the pair of delimiters that the opening or closing delimiter `c` belongs to.
 fn delimiter_for(c: char) -> Delimiter {
     match c {
         '(' | ')' => Delimiter::Parenthesis,

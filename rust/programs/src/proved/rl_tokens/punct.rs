@@ -1,22 +1,22 @@
 // Rendered from crates/rl_tokens/src/punct.rt by tools/render, which erases contracts: change that file, and render anew.
 //! Punctuation tokens.
 
-use crate::rl_text::Span;
+use crate::rl_syntax::Span;
 
-/// One character of punctuation, and where it stands. `==` is two of them.
+/// A token of one punctuation character, with its span. `==` is two tokens.
 pub struct Punct {
     ch: char,
     span: Span,
 }
 
 impl Punct {
-    /// The token of this character, which is punctuation ([`Punct::is_char`] says whether it is), with this
-    /// span.
+    /// Creates the token of the punctuation character `ch`, with the span `span`. [`Punct::is_char`] must be `true` for
+    /// `ch`.
     pub fn new(ch: char, span: Span) -> Punct {
         Punct { ch, span }
     }
 
-    /// Whether the character is one of ``~ ! @ # $ % ^ & * - = + | ; : , < . > / ?``.
+    /// Returns `true` if `ch` is a punctuation character: one of ``~ ! @ # $ % ^ & * - = + | ; : , < . > / ?``.
     pub fn is_char(ch: char) -> bool {
         matches!(
             ch,
@@ -43,23 +43,23 @@ impl Punct {
         )
     }
 
-    /// The character, of which [`Punct::is_char`] is true.
+    /// Returns the token's punctuation character. [`Punct::is_char`] is `true` for it.
     pub fn as_char(&self) -> char {
         self.ch
     }
 
-    /// Where the token stands: its file, and its byte in it.
+    /// Returns the punctuation token's span: a file, and the range of one byte in that file.
     pub fn span(&self) -> Span {
         self.span
     }
 
-    /// Puts the token elsewhere: its span becomes this one, and its character stays.
+    /// Sets the punctuation token's span to `span`, and leaves its character unchanged.
     pub fn set_span(&mut self, span: Span) {
         self.span = span;
     }
 }
 
-/// What a character of punctuation is called in errors: itself between two backticks.
+/// Returns the name of the punctuation character `ch` in error messages: the character between two backticks.
 pub(crate) fn word_of(ch: char) -> &'static str {
     match ch {
         '~' => "`~`",

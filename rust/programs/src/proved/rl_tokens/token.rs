@@ -1,5 +1,5 @@
 // Rendered from crates/rl_tokens/src/token.rt by tools/render, which erases contracts: change that file, and render anew.
-//! Token trees: what a text is cut into.
+//! Token trees, the result of lexing a text.
 
 use crate::rattle_std::prelude::{Vec};
 use crate::rl_tokens::buffer::ParseBuffer;
@@ -8,10 +8,10 @@ use crate::rl_tokens::ident::Ident;
 use crate::rl_tokens::kept::Kept;
 use crate::rl_tokens::literal::Literal;
 use crate::rl_tokens::punct::Punct;
-use crate::rl_text::Span;
+use crate::rl_syntax::Span;
 use crate::rattle_std::alloc::{AllocFailed, Allocator, Global};
 
-/// How a group is delimited.
+/// The pair of delimiters around a group of token trees.
 #[derive(Clone, Copy, PartialEq, Eq, Debug)]
 pub enum Delimiter {
     /// `( .. )`
@@ -22,32 +22,34 @@ pub enum Delimiter {
     Bracket,
 }
 
-/// One token, or a group with all that is inside: what [`lex`](crate::rl_tokens::lex) cuts a text into.
+/// A token other than a delimiter, or a group with everything inside it. [`lex`](crate::rl_tokens::lex) returns a sequence of
+/// token trees.
 pub enum TokenTree<A: Allocator = Global> {
-    /// Trees between an opener and its closer.
+    /// A group: token trees between an opening and a closing delimiter.
     Group(Group<A>),
-    /// An identifier.
+    /// An identifier token.
     Ident(Ident<A>),
-    /// One character of punctuation.
+    /// A token of one punctuation character.
     Punct(Punct),
-    /// A literal.
+    /// A literal token.
     Literal(Literal<A>),
 }
 
-/// Trees between an opener and its closer.
+/// A group: token trees between an opening and a closing delimiter, with its span.
 pub struct Group<A: Allocator = Global> {
     delimiter: Delimiter,
     stream: TokenStream<A>,
     span: Span,
 }
 
-/// A sequence of trees. It keeps the allocator that it was made with.
+/// A sequence of token trees, to which token trees can be appended. Its memory comes from the allocator that it was
+/// created with.
 pub struct TokenStream<A: Allocator = Global> {
     trees: Vec<TokenTree<A>, A>,
 }
 
 impl<A: Allocator> TokenTree<A> {
-    /// Where the tree stands: a group from its opener to its closer.
+    /// Returns the token tree's span. A group's span is from its opening delimiter to its closing one.
     pub fn span(&self) -> Span {
         match self {
             TokenTree::Group(group) => group.span(),
@@ -57,7 +59,7 @@ impl<A: Allocator> TokenTree<A> {
         }
     }
 
-    /// Puts the tree elsewhere; what is inside a group stays.
+    /// Sets the token tree's own span to `span`. The spans of token trees inside a group are unchanged.
     pub fn set_span(&mut self, span: Span) {
         match self {
             TokenTree::Group(group) => group.set_span(span),
@@ -67,7 +69,7 @@ impl<A: Allocator> TokenTree<A> {
         }
     }
 
-    /// Gives the tree this span, and with a group all that is inside.
+    /// Sets the token tree's span, and the span of every token tree inside a group, to `span`.
     fn respan(&mut self, span: Span) {
         match self {
             TokenTree::Group(group) => group.respan(span),
@@ -75,7 +77,8 @@ impl<A: Allocator> TokenTree<A> {
         }
     }
 
-    /// Moves the tree to where the table says, and with a group all that is inside.
+    /// Replaces the token tree's span, and the span of every token tree inside a group, by the span that `table` gives
+    /// for it, as [`TokenStream::relocate`] does.
     fn relocate(&mut self, table: &[Span]) {
         match self {
             TokenTree::Group(group) => group.relocate(table),
@@ -88,7 +91,7 @@ impl<A: Allocator> TokenTree<A> {
 }
 
 impl<A: Allocator> Group<A> {
-    /// The group of these trees.
+    /// Creates a group with the delimiters `delimiter`, the token trees of `stream` inside, and the span `span`.
     pub fn new(delimiter: Delimiter, stream: TokenStream<A>, span: Span) -> Group<A> {
         Group {
             delimiter,
@@ -97,40 +100,42 @@ impl<A: Allocator> Group<A> {
         }
     }
 
-    /// How the group is delimited.
+    /// Returns the group's pair of delimiters.
     pub fn delimiter(&self) -> Delimiter {
         self.delimiter
     }
 
-    /// The trees inside.
+    /// Returns the token trees inside the group, borrowed.
     pub fn stream(&self) -> &TokenStream<A> {
         &self.stream
     }
 
-    /// A buffer of the trees inside, whose end is reported at the group's closer: at its last byte.
+    /// Returns a parse buffer of the token trees inside the group. The buffer's scope is the last byte of the group's
+    /// span, which is the closing delimiter.
     pub fn inside(&self) -> ParseBuffer<'_, A> {
         let hi = self.span.hi();
         let closer = Span::new(self.span.file(), hi.saturating_sub(1), hi);
         ParseBuffer::new(self.stream.trees(), closer)
     }
 
-    /// Where the group stands, from its opener to its closer.
+    /// Returns the group's span, from its opening delimiter to its closing one.
     pub fn span(&self) -> Span {
         self.span
     }
 
-    /// Puts the group elsewhere; the trees inside stay.
+    /// Sets the group's own span to `span`. The spans of the token trees inside the group are unchanged.
     pub fn set_span(&mut self, span: Span) {
         self.span = span;
     }
 
-    /// Gives the group this span, and all that is inside.
+    /// Sets the group's span, and the span of every token tree inside the group, to `span`.
     fn respan(&mut self, span: Span) {
         self.set_span(span);
         self.stream.respan(span);
     }
 
-    /// Moves the group to where the table says, and all that is inside.
+    /// Replaces the group's span, and the span of every token tree inside the group, by the span that `table` gives for
+    /// it, as [`TokenStream::relocate`] does.
     fn relocate(&mut self, table: &[Span]) {
         let span = self.span();
         self.set_span(span.looked_up(table));
@@ -139,18 +144,19 @@ impl<A: Allocator> Group<A> {
 }
 
 impl<A: Allocator> TokenStream<A> {
-    /// No trees. The stream takes its memory from the allocator.
+    /// Creates an empty stream, whose memory comes from `alloc`.
     pub fn new(alloc: A) -> TokenStream<A> {
         TokenStream {
             trees: Vec::new(alloc),
         }
     }
 
-    /// Puts the tree last.
+    /// Appends the token tree `tree` to the stream.
     ///
     /// # Errors
     ///
-    /// `Memory` at the tree's span. The stream stays, and the tree is handed back.
+    /// Returns `Memory` at the token tree's span if an allocation fails. The stream is unchanged then, and the error
+    /// contains the token tree.
     pub fn append(&mut self, tree: TokenTree<A>) -> Result<(), Kept<TokenTree<A>, A>> {
         match self.push(tree) {
             Ok(()) => Ok(()),
@@ -162,26 +168,29 @@ impl<A: Allocator> TokenStream<A> {
         }
     }
 
-    /// Puts the tree last. Where an allocation fails, the stream stays, and the tree is handed back.
+    /// Appends the token tree `tree` to the stream. If an allocation fails, the stream is unchanged, and the error
+    /// contains the token tree.
     pub(crate) fn push(&mut self, tree: TokenTree<A>) -> Result<(), AllocFailed<TokenTree<A>>> {
         self.trees.push(tree)
     }
 
-    /// The trees, in their order.
+    /// Returns the stream's token trees, in their order, borrowed.
     pub fn trees(&self) -> &[TokenTree<A>] {
         self.trees.as_slice()
     }
 
-    /// Gives every tree this span, also inside groups.
+    /// Sets the span of every token tree of the stream, also inside groups, to `span`.
     pub fn respan(&mut self, span: Span) {
         for at in 0..self.trees.len() {
             self.trees[at].respan(span);
         }
     }
 
-    /// Moves every tree into a file, also inside groups: the table says of each byte of the text that the trees were cut
-    /// from where in the file it comes from, and past its end its last entry serves. A tree then stands from where its
-    /// first byte begins to where its last ends.
+    /// Maps the span of every token tree of the stream, also inside groups, from the lexed text into a file.
+    ///
+    /// `table` contains a span for each byte of the lexed text: the position in the file that the byte comes from. For
+    /// a byte after the end of `table`, the last span of `table` counts. A token tree's new span begins where the span
+    /// of its first byte begins, and ends where the span of its last byte ends.
     pub fn relocate(&mut self, table: &[Span]) {
         for at in 0..self.trees.len() {
             self.trees[at].relocate(table);

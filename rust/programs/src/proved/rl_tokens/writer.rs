@@ -1,16 +1,16 @@
 // Rendered from crates/rl_tokens/src/writer.rt by tools/render, which erases contracts: change that file, and render anew.
-//! How values are written as literals.
+//! Functions that write a value as a literal: a string, bytes, or a character.
 
 use crate::rattle_std::prelude::{String};
 use crate::rl_tokens::c_string::CString;
 use crate::rl_tokens::error::Error;
 use crate::rl_tokens::literal::Literal;
-use crate::rl_forms::Kind;
-use crate::rl_forms::written_unit::{closer, escape};
-use crate::rl_text::Span;
+use crate::rl_syntax::written_unit::escape;
+use crate::rl_syntax::{Kind, Span};
 use crate::rattle_std::alloc::{AllocError, Allocator};
 
-/// Appends a character or a byte as it stands in a literal of the kind, or nothing where an allocation fails.
+/// Appends the character or byte `c` to `out` as a literal of the kind `kind` represents it: as an escape, or
+/// unchanged. If an allocation fails, nothing is appended.
 fn push_written<A: Allocator>(out: &mut String<A>, kind: Kind, c: char) -> Result<(), AllocError> {
     match escape(kind, c, &mut [0; 4]) {
         Some(text) => out.push_str(text),
@@ -18,8 +18,8 @@ fn push_written<A: Allocator>(out: &mut String<A>, kind: Kind, c: char) -> Resul
     }
 }
 
-/// Appends the literal of the kind, which holds characters, that stands for the text. Where an allocation fails, a front of it
-/// may stand there.
+/// Appends to `out` a literal of the kind `kind` that represents the text `value`. `kind` must be a kind with
+/// characters as value. If an allocation fails, a beginning of the literal may have been appended.
 fn push_characters<A: Allocator>(
     out: &mut String<A>,
     kind: Kind,
@@ -29,16 +29,16 @@ fn push_characters<A: Allocator>(
     for c in value.chars() {
         push_written(out, kind, c)?;
     }
-    out.push(closer(kind))?;
+    out.push(kind.quote())?;
     Ok(())
 }
 
-/// Appends the string literal that stands for the text, as docs/GRAMMAR.md writes it: what [`Literal::string`] makes, with
-/// no text between.
+/// Appends to `out` the string literal that represents the text `value`, in the form that docs/GRAMMAR.md describes.
+/// [`Literal::string`] creates a token with the same text.
 ///
 /// # Errors
 ///
-/// An allocation failure. Nothing is appended then.
+/// Returns an error if an allocation fails. `out` is unchanged then.
 pub fn push_str_literal<A: Allocator>(out: &mut String<A>, value: &str) -> Result<(), AllocError> {
     let len = out.as_str().len();
     match push_characters(out, Kind::Str, value) {
@@ -50,7 +50,7 @@ pub fn push_str_literal<A: Allocator>(out: &mut String<A>, value: &str) -> Resul
     }
 }
 
-/// The text of a literal that holds characters.
+/// Returns the text of a literal of the kind `kind` that represents the characters `value`.
 fn text_of_characters<A: Allocator>(
     alloc: A,
     kind: Kind,
@@ -61,17 +61,18 @@ fn text_of_characters<A: Allocator>(
     Ok(text)
 }
 
-/// The text of a literal that holds bytes.
+/// Returns the text of a literal of the kind `kind` that represents the bytes `value`.
 fn text_of_bytes<A: Allocator>(alloc: A, kind: Kind, value: &[u8]) -> Result<String<A>, AllocError> {
     let mut text = String::from_str(alloc, kind.opener())?;
     for byte in value {
         push_written(&mut text, kind, char::from(*byte))?;
     }
-    text.push(closer(kind))?;
+    text.push(kind.quote())?;
     Ok(text)
 }
 
-/// The token of a written text, at no place.
+/// Creates a literal token of a written literal's text, at [`Span::call_site`]. An allocation failure of the writer
+/// becomes `Memory` at [`Span::call_site`].
 fn token<A: Allocator>(text: Result<String<A>, AllocError>) -> Result<Literal<A>, Error<A>> {
     match text {
         Ok(text) => Ok(Literal::of_string(text, Span::call_site())),
@@ -79,55 +80,55 @@ fn token<A: Allocator>(text: Result<String<A>, AllocError>) -> Result<Literal<A>
     }
 }
 
-/// The literals that values are written as, at no place (`Span::call_site`), where an allocation
-/// failure is reported too.
+/// Functions that create the literal token that represents a value. The token's span is [`Span::call_site`], and so is
+/// the span of an allocation failure.
 impl<A: Allocator> Literal<A> {
-    /// The string literal that stands for the text, as docs/GRAMMAR.md writes it, at
-    /// [`Span::call_site`].
+    /// Creates the token of the string literal that represents the text `value`, at [`Span::call_site`].
+    /// docs/GRAMMAR.md describes the form in which the literal is written.
     ///
     /// # Errors
     ///
-    /// `Memory`, at [`Span::call_site`].
+    /// Returns `Memory` at [`Span::call_site`] if an allocation fails.
     pub fn string(alloc: A, value: &str) -> Result<Literal<A>, Error<A>> {
         token(text_of_characters(alloc, Kind::Str, value))
     }
 
-    /// The byte string literal that stands for the bytes, as docs/GRAMMAR.md writes it, at
-    /// [`Span::call_site`].
+    /// Creates the token of the byte string literal that represents the bytes `value`, at [`Span::call_site`].
+    /// docs/GRAMMAR.md describes the form in which the literal is written.
     ///
     /// # Errors
     ///
-    /// `Memory`, at [`Span::call_site`].
+    /// Returns `Memory` at [`Span::call_site`] if an allocation fails.
     pub fn byte_string(alloc: A, value: &[u8]) -> Result<Literal<A>, Error<A>> {
         token(text_of_bytes(alloc, Kind::ByteStr, value))
     }
 
-    /// The C string literal that stands for the bytes, as docs/GRAMMAR.md writes it, at
-    /// [`Span::call_site`].
+    /// Creates the token of the C string literal that represents the bytes of `value`, at [`Span::call_site`].
+    /// docs/GRAMMAR.md describes the form in which the literal is written.
     ///
     /// # Errors
     ///
-    /// `Memory`, at [`Span::call_site`].
+    /// Returns `Memory` at [`Span::call_site`] if an allocation fails.
     pub fn c_string<B: Allocator>(alloc: A, value: &CString<B>) -> Result<Literal<A>, Error<A>> {
         token(text_of_bytes(alloc, Kind::CStr, value.as_bytes()))
     }
 
-    /// The byte literal that stands for the byte, as docs/GRAMMAR.md writes it, at
-    /// [`Span::call_site`].
+    /// Creates the token of the byte literal that represents the byte `value`, at [`Span::call_site`]. docs/GRAMMAR.md
+    /// describes the form in which the literal is written.
     ///
     /// # Errors
     ///
-    /// `Memory`, at [`Span::call_site`].
+    /// Returns `Memory` at [`Span::call_site`] if an allocation fails.
     pub fn byte_character(alloc: A, value: u8) -> Result<Literal<A>, Error<A>> {
         token(text_of_bytes(alloc, Kind::Byte, &[value]))
     }
 
-    /// The character literal that stands for the character, as docs/GRAMMAR.md writes it, at
-    /// [`Span::call_site`].
+    /// Creates the token of the character literal that represents the character `value`, at [`Span::call_site`].
+    /// docs/GRAMMAR.md describes the form in which the literal is written.
     ///
     /// # Errors
     ///
-    /// `Memory`, at [`Span::call_site`].
+    /// Returns `Memory` at [`Span::call_site`] if an allocation fails.
     pub fn character(alloc: A, value: char) -> Result<Literal<A>, Error<A>> {
         let mut room = [0; 4];
         token(text_of_characters(alloc, Kind::Char, value.encode_utf8(&mut room)))

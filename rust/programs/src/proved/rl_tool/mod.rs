@@ -1,5 +1,5 @@
 // Rendered from crates/rl_tool/src/main.rt by tools/render, which erases contracts: change that file, and render anew.
-//! Reads literals, or attributes, and prints of each literal its kind, what it stands for, and its suffix.
+//! The program `rl_tool`. It reads literals or attributes, and prints the kind, the value and the suffix of each literal.
 
 use crate::rattle_std::prelude::{HostRuntime, Vec};
 use crate::rl_commands::call;

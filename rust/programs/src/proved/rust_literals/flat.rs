@@ -1,14 +1,15 @@
 // Rendered from crates/rust_literals/src/flat.rt by tools/render, which erases contracts: change that file, and render anew.
-//! The literals of a text without groups, read as its tokens are cut.
+//! Functions that read the literals of a text token by token, without building token trees. The text has no groups.
 
 use crate::rattle_std::prelude::{Vec};
 use crate::rust_literals::lit::Lit;
 use crate::rust_literals::lit_bool::LitBool;
-use crate::rl_reading::{find_negative, truth_of};
+use crate::rl_lenient::{bool_of, find_negative};
 use crate::rl_tokens::{Form, Literal, Span, Tokens};
 use crate::rattle_std::alloc::{AllocError, Allocator, Global};
 
-/// The literal of a token with this text.
+/// Parses `text` as a literal with the span `span`. The result is `Lit::Verbatim` if the text isn't a valid literal or
+/// is an integer above 128 bits.
 fn literal_of<A: Allocator + Copy>(alloc: A, text: &str, span: Span) -> Result<Lit<A>, AllocError> {
     let Ok(token) = Literal::from_text(alloc, text, span) else {
         return Err(AllocError);
@@ -19,7 +20,8 @@ fn literal_of<A: Allocator + Copy>(alloc: A, text: &str, span: Span) -> Result<L
     }
 }
 
-/// The literal that a minus and a text make. `None` where they don't read together.
+/// Parses a minus and `text` as one literal with the span `span`. The result is `None` if they aren't a valid literal
+/// together.
 fn negative_of<A: Allocator + Copy>(
     alloc: A,
     text: &str,
@@ -37,8 +39,8 @@ fn negative_of<A: Allocator + Copy>(
     }
 }
 
-/// The literal that the next tokens are, which are cut off. `None` where they are none; tokens may be cut off then too,
-/// and where an allocation fails.
+/// Consumes the literal at the start of `tokens` and returns it, or `None` if the next token doesn't begin a literal.
+/// If the result is `None` or an allocation fails, tokens may be consumed nevertheless.
 #[inline(always)]
 pub(crate) fn take_next<A: Allocator + Copy>(
     alloc: A,
@@ -51,7 +53,7 @@ pub(crate) fn take_next<A: Allocator + Copy>(
     let span = Span::new(file, token.lo, token.hi);
     match token.form {
         Form::Literal => Ok(Some(literal_of(alloc, token.text, span)?)),
-        Form::Identifier => match truth_of(token.text) {
+        Form::Identifier => match bool_of(token.text) {
             Some(value) => Ok(Some(Lit::Bool(LitBool::new(value, span)))),
             None => Ok(None),
         },
@@ -73,12 +75,14 @@ pub(crate) fn take_next<A: Allocator + Copy>(
         _ => Ok(None),
     }
 }
-/// Puts the literal that the next tokens are at the list's end, and says whether one stood there. So a long list needn't
-/// be held: where each literal is let go before the next is taken, the memory is that of one.
+/// Consumes the literal at the start of `tokens` and appends it to `list`. Returns `true` if `tokens` begins with a
+/// literal, and otherwise `false`, with `tokens` and `list` unchanged. A caller that drops each literal before it reads
+/// the next one needs memory for one literal only.
 ///
 /// # Errors
 ///
-/// An allocation failed, for the literal or for the list; both stay. [`Literals`] reports it at its place.
+/// Returns an error if an allocation fails for the literal or for `list`. `tokens` and `list` are unchanged then.
+/// [`Literals`] reports such a failure with its position.
 ///
 /// [`Literals`]: crate::rust_literals::Literals
 pub fn read_next<A: Allocator + Copy>(
@@ -92,7 +96,8 @@ pub fn read_next<A: Allocator + Copy>(
         return Ok(false);
     };
     if let Err(failed) = list.push(literal) {
-        // By a call: letting go of a literal here is as many steps again to prove.
+        // The literal is dropped by a function call, because dropping it in place would double the number of steps to
+        // prove.
         drop(failed);
         return Err(AllocError);
     }
@@ -100,8 +105,8 @@ pub fn read_next<A: Allocator + Copy>(
     Ok(true)
 }
 
-/// The literals of a text, which is nothing but literals, white space and plain comments. Where it is anything else, and
-/// where an allocation fails, those that were read before.
+/// Returns the literals of `text`, which may contain only literals, white space and plain comments. If the text
+/// contains anything else, or if an allocation fails, the result is an error with the literals that were read before.
 pub(crate) fn read_flat<A: Allocator + Copy>(
     alloc: A,
     text: &str,

@@ -1,59 +1,59 @@
 // Rendered from crates/rust_literals/src/lit_bool.rt by tools/render, which erases contracts: change that file, and render anew.
-//! Truth values.
+//! The type of the literals `true` and `false`.
 
 mod copies;
 
-use crate::rl_forms::Kind;
-use crate::rl_fronts::{Front, next_is};
+use crate::rl_fronts::{Front, begins_with_kind};
+use crate::rl_syntax::Kind;
 use crate::rl_tokens::{Error, Ident, Parse, ParseBuffer, Span, Token};
 use crate::rattle_std::alloc::Allocator;
 
-/// A truth value: `true` or `false`. It takes no memory.
+/// A `bool` literal: `true` or `false`. The type needs no allocation.
 pub struct LitBool {
-    /// The truth value.
+    /// The literal's value.
     pub value: bool,
-    /// Where it stands.
+    /// The literal's span.
     pub span: Span,
 }
 
-/// The word of a truth value.
+/// Returns the text `true` or `false` for the value `value`.
 pub(crate) fn word(value: bool) -> &'static str {
     if value { "true" } else { "false" }
 }
 
 impl LitBool {
-    /// The literal of this truth value, at this span. It takes no memory.
+    /// Creates the `bool` literal of the value `value`, with the span `span`. Nothing is allocated.
     pub fn new(value: bool, span: Span) -> LitBool {
         LitBool { value, span }
     }
 
-    /// The truth value, as the field has it.
+    /// Returns the value of the `bool` literal, as the field `value` does.
     pub fn value(&self) -> bool {
         self.value
     }
 
-    /// Where it stands: its file, and its bytes in it.
+    /// Returns the literal's span: a file, and a range of bytes in that file.
     pub fn span(&self) -> Span {
         self.span
     }
 
-    /// Puts it elsewhere: its span becomes this one.
+    /// Sets the literal's span to `span`.
     pub fn set_span(&mut self, span: Span) {
         *self = LitBool::new(self.value, span);
     }
 
-    /// The word `true` or `false`, at the span.
+    /// Returns the literal as a new identifier token `true` or `false`, with the literal's span.
     ///
     /// # Errors
     ///
-    /// `Memory` at the literal's span.
+    /// Returns `Memory` at the literal's span if an allocation fails.
     pub fn token<A: Allocator>(&self, alloc: A) -> Result<Ident<A>, Error<A>> {
         Ident::new(alloc, word(self.value), self.span)
     }
 }
 
-/// Takes the truth value that stands next, a word or a token. It is rejected as `crate::rl_grammar::take_kind` says, and takes
-/// no memory.
+/// Parses the `bool` literal at the start of a buffer, which is an identifier or a literal token with the text `true`
+/// or `false`. The errors are those of `crate::rl_grammar::take_literal_of_kind`. Nothing is allocated.
 impl<A: Allocator> Parse<A> for LitBool {
     fn parse(_alloc: A, input: &mut ParseBuffer<'_, A>) -> Result<LitBool, Error<A>> {
         let mut ahead = input.fork();
@@ -70,10 +70,10 @@ impl<A: Allocator> Parse<A> for LitBool {
     }
 }
 
-/// True exactly where the parser succeeds.
+/// `peek` returns `true` exactly if the parser would succeed.
 impl Token for LitBool {
     fn peek<B: Allocator>(input: &ParseBuffer<'_, B>) -> bool {
-        next_is(input, Kind::Bool)
+        begins_with_kind(input, Kind::Bool)
     }
 
     fn display() -> &'static str {

@@ -1,19 +1,19 @@
 // Rendered from crates/rust_literals/src/lit_float.rt by tools/render, which erases contracts: change that file, and render anew.
-//! Float literals.
+//! The type of float literals.
 
 use crate::rust_literals::number::{Number, NumberKind};
-use crate::rl_forms::Kind;
-use crate::rl_reading::{Found, find_float};
+use crate::rl_lenient::{Found, find_float};
+use crate::rl_syntax::Kind;
 use crate::rl_tokens::ErrorKind;
 use crate::rattle_std::alloc::{Allocator, Global};
 
-/// The kind of floats, as a type: what distinguishes `LitFloat` from `LitInt`.
+/// The type that represents the kind of floats. It makes `LitFloat` and `LitInt` different types.
 pub struct FloatKind;
 
-/// A float literal: `1.5`, `1e5`, `2.0f32`. Its size isn't judged.
+/// A float literal: `1.5`, `1e5`, `2.0f32`. The number's size isn't checked.
 ///
-/// `LitFloat::new` reads by the float rule alone, so it takes `1f64` too, which `Lit::new` reads as
-/// an integer with the suffix `f64`.
+/// `LitFloat::new` parses a text by the rule for floats only. So it accepts `1f64` too, which `Lit::new` parses as an
+/// integer with the suffix `f64`.
 pub type LitFloat<A = Global> = Number<FloatKind, A>;
 
 impl NumberKind for FloatKind {

@@ -1,16 +1,16 @@
 // Rendered from crates/rust_literals/src/lit_int.rt by tools/render, which erases contracts: change that file, and render anew.
-//! Integer literals.
+//! The type of integer literals.
 
 use crate::rust_literals::number::{Number, NumberKind};
-use crate::rl_forms::Kind;
-use crate::rl_reading::{Found, find_int};
+use crate::rl_lenient::{Found, find_int};
+use crate::rl_syntax::Kind;
 use crate::rl_tokens::ErrorKind;
 use crate::rattle_std::alloc::{Allocator, Global};
 
-/// The kind of integers, as a type: what distinguishes `LitInt` from `LitFloat`.
+/// The type that represents the kind of integers. It makes `LitInt` and `LitFloat` different types.
 pub struct IntKind;
 
-/// An integer literal: `1`, `-0x1F`, `1_000u16`. Its magnitude is at most 2 to the 128th, less 1.
+/// An integer literal: `1`, `-0x1F`, `1_000u16`. The greatest magnitude is 2 to the 128th power, less 1.
 pub type LitInt<A = Global> = Number<IntKind, A>;
 
 impl NumberKind for IntKind {

@@ -1,5 +1,5 @@
 // Rendered from crates/rust_literals/src/literals.rt by tools/render, which erases contracts: change that file, and render anew.
-//! The literals of a text, one after another.
+//! An iterator over the literals of a text.
 
 use crate::rust_literals::flat::take_next;
 use crate::rust_literals::lit::Lit;
@@ -8,24 +8,26 @@ use crate::rl_tokens::{Error, Tokens};
 use crate::rattle_std::alloc::{Allocator, Global};
 use crate::rattle_std::vec::IntoIter;
 
-/// The literals of a text, which is nothing but literals, white space and plain comments, one after another: what
-/// [`read_all`](crate::rust_literals::read_all) returns, without a list that holds them.
+/// An iterator over the literals of a text, which may contain only literals, white space and plain comments. The
+/// iterator returns the literals that [`read_all`](crate::rust_literals::read_all) returns, without a list of them in memory.
 ///
-/// A loop `while let Some(literal) = literals.next()?` ends, since each literal lowers `left_of` (`Iterating.antt`): that is its
-/// measure.
+/// It is proved that a loop `while let Some(literal) = literals.next()?` ends: each literal lowers the number `left_of`
+/// (`Iterating.antt`).
 pub struct Literals<'t, A: Allocator = Global> {
     alloc: A,
     text: &'t str,
     file: u32,
     tokens: Tokens<'t>,
-    // how many the tokens gave
+    // The number of literals that were read token by token so far.
     count: usize,
-    // where the tokens gave none, and an allocation failed before: those that the trees of the text gave
+    // The literals that the iterator still has to return, if it had to lex the whole text into token trees. It does so
+    // after an allocation failed, or if the next tokens aren't a literal.
     waiting: Option<IntoIter<Lit<A>, A>>,
 }
 
 impl<'t, A: Allocator + Copy> Literals<'t, A> {
-    /// The literals of a text, from its front. Their spans have this file and the bytes of the text.
+    /// Creates an iterator over the literals of `text`, from its start. The spans of the literals are `file` and byte
+    /// ranges of the text.
     pub fn new(alloc: A, text: &'t str, file: u32) -> Literals<'t, A> {
         Literals {
             alloc,
@@ -37,16 +39,18 @@ impl<'t, A: Allocator + Copy> Literals<'t, A> {
         }
     }
 
-    /// The literals that the trees of the text are after those that the tokens gave: the first of them, and the others wait.
-    fn read_waiting(&mut self) -> Result<Option<Lit<A>>, Error<A>> {
+    /// Lexes the whole text into token trees, and returns the first literal after those that the iterator has returned.
+    /// The iterator keeps the literals after that one.
+    fn take_waiting(&mut self) -> Result<Option<Lit<A>>, Error<A>> {
         let mut waiting = read_after(self.alloc, self.text, self.file, self.count)?.into_iter();
         let first = waiting.next();
         self.waiting = Some(waiting);
         Ok(first)
     }
 
-    /// The literal that the next tokens are.
-    fn cut_next(&mut self) -> Result<Option<Lit<A>>, Error<A>> {
+    /// Reads the next literal token by token and returns it. If the next tokens aren't a literal, or if an allocation
+    /// fails, the whole text is lexed into token trees instead.
+    fn lex_next(&mut self) -> Result<Option<Lit<A>>, Error<A>> {
         if self.tokens.rest().is_empty() {
             return Ok(None);
         }
@@ -57,20 +61,20 @@ impl<'t, A: Allocator + Copy> Literals<'t, A> {
                 self.count += 1;
                 Ok(Some(literal))
             }
-            _ => self.read_waiting(),
+            _ => self.take_waiting(),
         }
     }
 
-    /// The next literal; `None` after the last one.
+    /// Returns the next literal of the text, or `None` after the last one.
     ///
     /// # Errors
     ///
-    /// The error that [`read_all`](crate::rust_literals::read_all) of the text returns, after the literals that stand before it. The next
-    /// call returns it again.
+    /// Returns the error of [`read_all`](crate::rust_literals::read_all) for the text, after all literals before the error. The next
+    /// call returns the error again.
     pub fn next(&mut self) -> Result<Option<Lit<A>>, Error<A>> {
         match &mut self.waiting {
             Some(waiting) => Ok(waiting.next()),
-            None => self.cut_next(),
+            None => self.lex_next(),
         }
     }
 }

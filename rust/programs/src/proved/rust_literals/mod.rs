@@ -1,5 +1,6 @@
 // Rendered from crates/rust_literals/src/lib.rt by tools/render, which erases contracts: change that file, and render anew.
-//! Rust's literals: the type `Lit`, its nine variants, and the literal types.
+//! The types of Rust's literals: `Lit` with its nine variants, and the types of numbers and of `bool`. Functions that
+//! read all literals of a text. The crate is modelled on `src/lit.rs` of the crate `syn` 3.0.9.
 
 mod flat;
 mod lit;

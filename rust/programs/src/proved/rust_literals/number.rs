@@ -1,32 +1,36 @@
 // Rendered from crates/rust_literals/src/number.rt by tools/render, which erases contracts: change that file, and render anew.
-//! What integers and floats have in common: a token, its digits, and the place of its suffix.
+//! The type `Number`, of which `LitInt` and `LitFloat` are instances: a token, its digits in base ten, and the byte
+//! offset of its suffix.
 
 use crate::rattle_std::prelude::{String};
 mod base10;
 mod copies;
 
-use crate::rl_forms::Kind;
-use crate::rl_fronts::{digits_of_found, next_is, take_kind};
-use crate::rl_reading::Found;
+use crate::rl_fronts::{begins_with_kind, digits_of_found, take_literal_of_kind};
+use crate::rl_lenient::Found;
+use crate::rl_syntax::Kind;
 use crate::rl_tokens::{Error, ErrorKind, Kept, Literal, Parse, ParseBuffer, Span, Token};
 use crate::rattle_std::alloc::{Allocator, Global};
 use crate::rattle_std::fmt;
 use crate::rattle_std::marker::PhantomData;
 
-/// A kind of numbers, as a type. It has two implementations; callers need none of their own.
+/// A type that represents a kind of numbers. The two implementations are `IntKind` and `FloatKind`. Callers need no
+/// others.
 pub trait NumberKind {
-    /// The kind that its texts are of.
+    /// The kind of literals that the type represents.
     const KIND: Kind;
 
-    /// What reading the text as a number of the kind finds.
+    /// Parses `text` as a number of the kind: an integer or a float.
     ///
     /// # Errors
     ///
-    /// Why it is none: `NotInteger` or `TooLarge`, of floats `NotFloat`.
+    /// For integers, returns `NotInteger` if the text isn't an integer, and `TooLarge` if the integer is above 128
+    /// bits. For floats, returns `NotFloat` if the text isn't a float.
     fn find<A: Allocator>(text: &str) -> Result<Found, ErrorKind<A>>;
 }
 
-/// The digits of a number that was found in the text, where they aren't its body.
+/// Returns the digits in base ten of the number `text`, whose parse result is `found`, as a new string. The result is
+/// `None` if the digits equal the text before the suffix.
 #[inline(always)]
 fn own_digits<A: Allocator>(
     alloc: A,
@@ -39,25 +43,27 @@ fn own_digits<A: Allocator>(
     Ok(Some(digits_of_found(alloc, text, found)?))
 }
 
-/// A number of a kind. Programs name it as [`LitInt`](crate::rust_literals::LitInt) or [`LitFloat`](crate::rust_literals::LitFloat).
+/// A number literal of the kind `K`. Programs use it under the name [`LitInt`](crate::rust_literals::LitInt) or
+/// [`LitFloat`](crate::rust_literals::LitFloat).
 pub struct Number<K: NumberKind, A: Allocator = Global> {
     token: Literal<A>,
-    /// A text of their own where the body isn't the digits. `None` costs a number no more than a word of room, and says
-    /// plainly that the digits are borrowed; an empty text could say so too, but then each reader of this field has to know
-    /// that no number is without digits.
+    /// The number's digits in base ten, or `None` if they equal the text before the suffix, from which they are
+    /// borrowed then. An empty string could represent that case too, but then each function that uses this field would
+    /// have to know that every number has digits. `None` takes only one machine word in each number.
     digits: Option<String<A>>,
     suffix_at: usize,
     of: PhantomData<K>,
 }
 
 impl<K: NumberKind, A: Allocator + Copy> Number<K, A> {
-    /// The literal with this text and span.
+    /// Parses `repr` as a number of the kind `K`, with the span `span`.
     ///
     /// # Errors
     ///
-    /// All at the span. Of [`LitInt`](crate::rust_literals::LitInt) `NotInteger` where the text has no integer reading, `TooLarge` where
-    /// it has one past 128 bits; of [`LitFloat`](crate::rust_literals::LitFloat) `NotFloat` where the text has no float reading, whether
-    /// or not it has an integer one. `Memory` where memory is wanted.
+    /// Returns an error at `span`. For [`LitInt`](crate::rust_literals::LitInt) it is `NotInteger` if the text isn't an integer, and
+    /// `TooLarge` if the text is an integer above 128 bits. For [`LitFloat`](crate::rust_literals::LitFloat) it is `NotFloat` if the
+    /// text isn't a float. An integer with a suffix as `f64` counts as a float too. The error is `Memory` if an
+    /// allocation fails.
     pub fn new(alloc: A, repr: &str, span: Span) -> Result<Number<K, A>, Error<A>> {
         let found = match K::find(repr) {
             Ok(found) => found,
@@ -75,11 +81,13 @@ impl<K: NumberKind, A: Allocator + Copy> Number<K, A> {
 }
 
 impl<K: NumberKind, A: Allocator> Number<K, A> {
-    /// The literal of this token. A rejected one is returned as it was.
+    /// Parses the text of the literal token `token` as a number of the kind `K`. On an error the unchanged token is
+    /// returned with the error.
     ///
     /// # Errors
     ///
-    /// Those of [`new`](Number::new), at the token's span; `Memory` only where the body isn't the digits.
+    /// Returns the errors of [`new`](Number::new), at the token's span. `Memory` occurs only if the number's digits in
+    /// base ten differ from the text before its suffix.
     pub fn from_token(alloc: A, token: Literal<A>) -> Result<Number<K, A>, Kept<Literal<A>, A>> {
         match K::find(token.text()) {
             Ok(found) => Number::of_found(alloc, token, found),
@@ -96,9 +104,9 @@ impl<K: NumberKind, A: Allocator> Number<K, A> {
         }
     }
 
-    /// The literal of this token, in whose text this number of the kind was found. An allocation
-    /// failure for digits that aren't the body is reported at the token's span; the token is handed
-    /// back.
+    /// Creates the number of the literal token `token` from the parse result `found` of the token's text. Memory is
+    /// needed only if the number's digits in base ten differ from the text before its suffix. If an allocation fails,
+    /// the error is at the token's span, and the token is returned with the error.
     #[inline(always)]
     pub(crate) fn of_found(
         alloc: A,
@@ -122,11 +130,11 @@ impl<K: NumberKind, A: Allocator> Number<K, A> {
         }
     }
 
-    /// The digits in base ten. Of an integer its magnitude without leading zeros, after a minus
-    /// where the text begins with one; of a float what stands before the suffix, without
-    /// underscores and pluses, and with `E` as `e`.
+    /// Returns the number's digits in base ten. An integer's digits are its magnitude without leading zeros, after a
+    /// minus if the text begins with one. A float's digits are the text before the suffix, without underscores and
+    /// pluses, and with `E` as `e`.
     ///
-    /// They are borrowed from the text where they are all that stands before the suffix.
+    /// The digits are borrowed from the number's text if they equal the text before the suffix.
     pub fn base10_digits(&self) -> &str {
         match &self.digits {
             Some(digits) => digits.as_str(),
@@ -134,48 +142,48 @@ impl<K: NumberKind, A: Allocator> Number<K, A> {
         }
     }
 
-    /// What stands after the digits, borrowed: empty, or a word.
+    /// Returns the number's suffix, borrowed: an identifier, or an empty string.
     pub fn suffix(&self) -> &str {
         &self.token.text()[self.suffix_at..]
     }
 
-    /// The token's text, sign, prefix, underscores and suffix included.
+    /// Returns the number's text as written, with its sign, prefix, underscores and suffix.
     pub fn text(&self) -> &str {
         self.token.text()
     }
 
-    /// Where the literal stands: its file, and its bytes in it.
+    /// Returns the number's span: a file, and a range of bytes in that file.
     pub fn span(&self) -> Span {
         self.token.span()
     }
 
-    /// Puts the literal elsewhere: its span becomes this one, and its text stays.
+    /// Sets the number's span to `span`. The number's text is unchanged.
     pub fn set_span(&mut self, span: Span) {
         self.token.set_span(span);
     }
 
-    /// The token, with text and span as held.
+    /// Returns a new literal token with the number's text and span.
     ///
     /// # Errors
     ///
-    /// `Memory` at the literal's span.
+    /// Returns `Memory` at the number's span if an allocation fails.
     pub fn token<B: Allocator>(&self, alloc: B) -> Result<Literal<B>, Error<B>> {
         self.token.clone(alloc)
     }
 }
 
-/// The token's text; a width pads it, as it pads a `str`.
+/// Writes the number's text as written. A width in the format pads the text, as it pads a `str`.
 impl<K: NumberKind, A: Allocator> fmt::Display for Number<K, A> {
     fn fmt(&self, f: &mut fmt::Formatter<'_>) -> fmt::Result {
         f.pad(self.token.text())
     }
 }
 
-/// Takes the number of the kind that stands next. It is rejected as [`take_kind`] says.
+/// Parses the number at the start of a buffer, which must be of the type's kind. The errors are those of [`take_literal_of_kind`].
 impl<K: NumberKind, A: Allocator + Copy> Parse<A> for Number<K, A> {
     fn parse(alloc: A, input: &mut ParseBuffer<'_, A>) -> Result<Number<K, A>, Error<A>> {
         let before = input.fork();
-        let (token, found) = match take_kind(alloc, input, K::KIND, K::KIND.word()) {
+        let (token, found) = match take_literal_of_kind(alloc, input, K::KIND, K::KIND.word()) {
             Ok(taken) => taken,
             Err(error) => return Err(error),
         };
@@ -189,10 +197,10 @@ impl<K: NumberKind, A: Allocator + Copy> Parse<A> for Number<K, A> {
     }
 }
 
-/// True exactly where the parser succeeds, if memory is found.
+/// `peek` returns `true` exactly if the type's parser would succeed, provided that no allocation fails.
 impl<K: NumberKind, A: Allocator> Token for Number<K, A> {
     fn peek<B: Allocator>(input: &ParseBuffer<'_, B>) -> bool {
-        next_is(input, K::KIND)
+        begins_with_kind(input, K::KIND)
     }
 
     fn display() -> &'static str {

@@ -1,21 +1,21 @@
 // Rendered from crates/rust_literals/src/read.rt by tools/render, which erases contracts: change that file, and render anew.
-//! The literals of a text.
+//! The function that returns all literals of a text.
 
 use crate::rattle_std::prelude::{Vec};
 use crate::rust_literals::flat::read_flat;
 use crate::rust_literals::lit::Lit;
 use crate::rl_fronts::Front;
-use crate::rl_tokens::{Error, ParseBuffer, Span, trees_of_text};
+use crate::rl_tokens::{Error, ParseBuffer, Span, lex_for_parsing};
 use crate::rattle_std::alloc::{Allocator, Global};
 
-/// Passes the trees of so many literals.
+/// Consumes the first `count` literals of `input`.
 fn pass<A: Allocator>(input: &mut ParseBuffer<'_, A>, count: usize) {
     for _ in 0..count {
         let _ = Front::take(input);
     }
 }
 
-/// The literals of the list, and after them those that the trees are, one after another, up to their end.
+/// Parses all remaining token trees of `input` as literals, and returns `list` with these appended.
 fn read_on<A: Allocator + Copy>(
     alloc: A,
     input: &mut ParseBuffer<'_, A>,
@@ -24,7 +24,8 @@ fn read_on<A: Allocator + Copy>(
     while !input.is_empty() {
         let literal = input.parse::<Lit<A>>(alloc)?;
         if let Err(failed) = list.push(literal) {
-            // By a call, as in `read_next`.
+            // The literal is dropped by a function call, because dropping it in place would double the number of steps
+            // to prove.
             drop(failed);
             return Err(Error::memory(Span::call_site()));
         }
@@ -32,7 +33,8 @@ fn read_on<A: Allocator + Copy>(
     Ok(list)
 }
 
-/// The literals of the list, and after them those of the text after so many: those that were let go, and the list's.
+/// Returns `list`, and appends the literals of `text` after its first `count` ones. The literals of `list` are the last
+/// of these `count`. Those before may have been dropped.
 fn read_from<A: Allocator + Copy>(
     alloc: A,
     text: &str,
@@ -40,14 +42,14 @@ fn read_from<A: Allocator + Copy>(
     count: usize,
     list: Vec<Lit<A>, A>,
 ) -> Result<Vec<Lit<A>, A>, Error<A>> {
-    let stream = trees_of_text(alloc, text, file)?;
+    let stream = lex_for_parsing(alloc, text, file)?;
     let end = Span::new(file, text.len(), text.len());
     let mut input = ParseBuffer::new(stream.trees(), end);
     pass(&mut input, count);
     read_on(alloc, &mut input, list)
 }
 
-/// The literals of a text after its first `count`.
+/// Returns the literals of `text` after its first `count` literals.
 pub(crate) fn read_after<A: Allocator + Copy>(
     alloc: A,
     text: &str,
@@ -57,19 +59,20 @@ pub(crate) fn read_after<A: Allocator + Copy>(
     read_from(alloc, text, file, count, Vec::new(alloc))
 }
 
-/// The literals of a text, which is nothing but literals, white space and plain comments. Each is
-/// what [`Lit::parse`] takes from the trees of the text, `Verbatim` too; its span is the file and
-/// the bytes of its text, of a number after a minus from the minus to its last byte.
+/// Returns the literals of `text`, which may contain only literals, white space and plain comments.
 ///
-/// One error, and there are no literals: who wants those before it, or each error of a list, goes over
-/// [`Tokens`](crate::rl_tokens::Tokens) by [`read_next`](crate::rust_literals::read_next).
+/// The text is lexed into token trees, and each literal is parsed from these as [`Lit::parse`] does. The result may
+/// contain `Verbatim` literals. A literal's span is `file` and the byte range of its text. The span of a number after a
+/// minus is from the minus to the number's last byte.
+///
+/// On an error the literals before the error aren't returned. A caller that needs them, or each error of a list, can
+/// call [`read_next`](crate::rust_literals::read_next) with [`Tokens`](crate::rl_tokens::Tokens).
 ///
 /// # Errors
 ///
-/// The first error is returned: the lexer's error as `Lex`, with the span of no bytes at its
-/// place; or `Expected` at the first tree that no literal begins. `Memory` is reported where it was
-/// met, in the text or at a literal; and where the list itself can't grow, which is at no place of
-/// the text, at `Span::call_site`.
+/// Returns the lexer's first error as `Lex`, with an empty span at its byte offset. Otherwise returns `Expected` at the
+/// first token tree that isn't a literal. Returns `Memory` if an allocation fails, at the literal or the position in
+/// the text for which memory was needed. If the list can't grow, `Memory` is at `Span::call_site`.
 pub fn read_all<A: Allocator + Copy>(
     alloc: A,
     text: &str,

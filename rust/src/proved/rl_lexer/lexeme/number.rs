@@ -1,18 +1,19 @@
 // Rendered from crates/rl_lexer/src/lexeme/number.rt by tools/render, which erases contracts: change that file, and render anew.
-//! Numbers.
+//! Functions that lex numbers.
 
 use super::suffix::after_suffix;
-use crate::rl_text::characters::is_start;
-use crate::rl_text::classes::{CharClass, skip_class};
-use crate::rl_text::text::{split_ascii, split_char, without_first};
+use crate::rl_syntax::characters::is_start;
+use crate::rl_syntax::classes::{CharClass, skip_class};
+use crate::rl_syntax::text::{split_ascii, split_char, without_first};
 
-/// What follows the decimal after some of whose digits the text stands.
+/// Returns the text after a decimal number, where `text` begins after some of the digits before its dot.
 #[inline(never)]
 pub(crate) fn after_decimal(text: &str) -> &str {
     after_suffix(after_exponent(after_fraction(skip_class(CharClass::Numeral, text))))
 }
 
-/// What follows the longest run of digits, perhaps an empty one.
+/// Returns the text after the decimal digits at its start. If it begins with another character, the result is the text
+/// itself.
 #[inline(always)]
 pub(crate) fn after_digits(text: &str) -> &str {
     let mut rest = text;
@@ -22,7 +23,7 @@ pub(crate) fn after_digits(text: &str) -> &str {
     rest
 }
 
-/// The text after its first character, where that is a digit.
+/// Returns the text after its first character, or `None` if that isn't a decimal digit.
 #[inline(always)]
 fn without_digit(text: &str) -> Option<&str> {
     match split_ascii(text) {
@@ -31,7 +32,7 @@ fn without_digit(text: &str) -> Option<&str> {
     }
 }
 
-/// Whether the text begins with a character of ASCII that goes on with no number.
+/// Whether the text begins with an ASCII character that doesn't continue a number.
 #[inline(always)]
 pub(crate) fn ends_number(text: &str) -> bool {
     match split_ascii(text) {
@@ -40,7 +41,8 @@ pub(crate) fn ends_number(text: &str) -> bool {
     }
 }
 
-/// What follows the dot part, where there is one.
+/// Returns the text after a number's dot and the digits after the dot. If the text doesn't begin with a dot of a
+/// number, the result is the text itself.
 fn after_fraction(text: &str) -> &str {
     if begins_dot(text) {
         skip_class(CharClass::Numeral, without_first(text))
@@ -49,7 +51,7 @@ fn after_fraction(text: &str) -> &str {
     }
 }
 
-/// Whether the text begins with a dot that neither a dot nor an identifier follows.
+/// Whether the text begins with a dot of a number: neither another dot nor an identifier follows the dot.
 fn begins_dot(text: &str) -> bool {
     match split_char(text) {
         Some(('.', following)) => match split_char(following) {
@@ -60,7 +62,8 @@ fn begins_dot(text: &str) -> bool {
     }
 }
 
-/// What follows the exponent, where there is one.
+/// Returns the text after a number's exponent, as `e+5`. If the text doesn't begin with an exponent, the result is the
+/// text itself.
 fn after_exponent(text: &str) -> &str {
     if let Some(('e' | 'E', following)) = split_char(text) {
         let digits = after_sign(following);
@@ -73,7 +76,7 @@ fn after_exponent(text: &str) -> &str {
     text
 }
 
-/// What follows the sign, where there is one.
+/// Returns the text after a leading `+` or `-`, or else the text itself.
 fn after_sign(text: &str) -> &str {
     match split_char(text) {
         Some(('+' | '-', following)) => following,

@@ -1,36 +1,40 @@
 // Rendered from crates/rl_lexer/src/lexeme/quotes.rt by tools/render, which erases contracts: change that file, and render anew.
-//! Quoted, raw and single-character literals.
+//! Functions that find the end of a string, character, byte or raw literal.
 
 use super::suffix::after_suffix;
-use crate::rl_text::classes::skip_hashes;
-use crate::rl_text::scan::{Marks, next_mark};
-use crate::rl_text::text::{after_prefix, before, begins_with, split_char, without_first};
+use crate::rl_syntax::classes::skip_hashes;
+use crate::rl_syntax::scan::{Marks, next_mark};
+use crate::rl_syntax::text::{after_prefix, before, begins_with, split_char, without_first};
 
-/// What follows the literal after whose opening `"` the text stands.
+/// Returns the text after a string literal and its suffix, where `text` follows the opening `"`. Returns `None` if the
+/// literal isn't closed.
 pub(crate) fn after_quoted(text: &str) -> Option<&str> {
     let rest = after_quote(text)?;
     Some(after_suffix(rest))
 }
 
-/// What follows the character literal after whose opening `'` the text stands.
+/// Returns the text after a character or byte literal and its suffix, where `text` follows the opening `'`. Returns
+/// `None` if no `'` follows the one character or the escape.
 pub(crate) fn after_character(text: &str) -> Option<&str> {
     let rest = after_single(text)?;
     Some(after_suffix(rest))
 }
 
-/// What follows the raw literal after whose `r` the text stands.
+/// Returns the text after a raw literal and its suffix, where `text` follows the literal's `r`. Returns `None` if the
+/// literal isn't closed.
 pub(crate) fn after_raw_literal(text: &str) -> Option<&str> {
     let opener = skip_hashes(text);
     let rest = after_raw(before(text, opener), without_first(opener))?;
     Some(after_suffix(rest))
 }
 
-/// Whether hashes, perhaps none, and a `"` begin the text.
+/// Whether the text begins with any number of hashes and a `"`.
 pub(crate) fn begins_hashed_quote(text: &str) -> bool {
     begins_with(skip_hashes(text), '"')
 }
 
-/// What follows the `"` that ends a body.
+/// Returns the text after the `"` that closes a string literal, where `text` follows its opening `"`. A character after
+/// a backslash doesn't close it. Returns `None` if the literal isn't closed.
 #[inline(never)]
 fn after_quote(text: &str) -> Option<&str> {
     let mut rest = text;
@@ -44,7 +48,8 @@ fn after_quote(text: &str) -> Option<&str> {
     None
 }
 
-/// What follows the `"` and as many hashes as these, which end a raw body.
+/// Returns the text after the `"` and the hashes that close a raw literal, where `text` follows the opening `"`.
+/// `hashes` are the hashes before that quote. Returns `None` if the literal isn't closed.
 #[inline(never)]
 fn after_raw<'t>(hashes: &str, text: &'t str) -> Option<&'t str> {
     let mut rest = text;
@@ -57,7 +62,8 @@ fn after_raw<'t>(hashes: &str, text: &'t str) -> Option<&'t str> {
     None
 }
 
-/// What follows the `'` that ends a character, by what stands after the opening one.
+/// Returns the text after the `'` that closes a character literal, where `text` follows the opening `'`. Returns `None`
+/// if no `'` follows the one character or the escape.
 fn after_single(text: &str) -> Option<&str> {
     let (c, following) = split_char(text)?;
     let (second, more) = split_char(following)?;
@@ -70,7 +76,8 @@ fn after_single(text: &str) -> Option<&str> {
     }
 }
 
-/// What follows the `'` that ends an escaped character, by what stands after the escaped one.
+/// Returns the text after the `'` that closes a character literal with an escape, where `text` follows the backslash
+/// and one more character. Returns `None` if an LF or the end of the text comes first.
 fn after_apostrophe(text: &str) -> Option<&str> {
     let mut rest = text;
     while let Some((c, following)) = split_char(rest) {

@@ -1,11 +1,11 @@
 // Rendered from crates/rl_lexer/src/lexeme/suffix.rt by tools/render, which erases contracts: change that file, and render anew.
-//! Suffixes of literals.
+//! Functions that lex the suffix of a literal.
 
-use crate::rl_text::characters::is_start;
-use crate::rl_text::classes::{CharClass, skip_class};
-use crate::rl_text::text::{split_ascii, split_char};
+use crate::rl_syntax::characters::is_start;
+use crate::rl_syntax::classes::{CharClass, skip_class};
+use crate::rl_syntax::text::{split_ascii, split_char};
 
-/// What follows the suffix of a literal, perhaps an empty one.
+/// Returns the text after the suffix of a literal. If no suffix begins the text, the result is the text itself.
 #[inline(always)]
 pub(crate) fn after_suffix(text: &str) -> &str {
     match split_ascii(text) {
@@ -14,7 +14,8 @@ pub(crate) fn after_suffix(text: &str) -> &str {
     }
 }
 
-/// What follows the suffix of a literal, where one may stand.
+/// Returns the text after the suffix of a literal, or the text itself if no suffix begins it. [`after_suffix`] calls it
+/// for the texts whose first byte doesn't exclude a suffix.
 #[inline(never)]
 fn after_some_suffix(text: &str) -> &str {
     match split_char(text) {

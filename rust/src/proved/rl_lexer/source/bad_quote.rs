@@ -1,13 +1,15 @@
 // Rendered from crates/rl_lexer/src/source/bad_quote.rt by tools/render, which erases contracts: change that file, and render anew.
-//! Quotes that begin neither a lexeme nor a lifetime, and end all the same.
+//! Functions that find the end of invalid quoted literals, as `''` and `'ab'`. Each begins neither as a valid character
+//! literal nor as a lifetime, but ends before the text does.
 
 use super::after_any_name;
 use crate::rl_lexer::lexeme::after_suffix;
-use crate::rl_text::characters::is_start;
-use crate::rl_text::classes::skip_word;
-use crate::rl_text::text::{begins_with, split_ascii, split_char, without_first};
+use crate::rl_syntax::characters::is_start;
+use crate::rl_syntax::classes::skip_word;
+use crate::rl_syntax::text::{begins_with, split_ascii, split_char, without_first};
 
-/// What follows the bad quote that the text begins with. `None` where none ends there.
+/// Returns the text after the invalid quoted literal at its start, as `'ab'` or `b'hello'`, or `None` if that has no
+/// end.
 #[inline(never)]
 pub(crate) fn after_bad_quote(text: &str) -> Option<&str> {
     match split_char(text) {
@@ -19,8 +21,10 @@ pub(crate) fn after_bad_quote(text: &str) -> Option<&str> {
     }
 }
 
-/// What follows a bad quote without prefix, after its apostrophe: a word in quotes, a digit and what goes on with it,
-/// perhaps closed, or all up to the next quote.
+/// Returns the text after an invalid quoted literal without prefix, where `text` follows its apostrophe.
+///
+/// The literal is an identifier between apostrophes; or a digit and the identifier characters after it, with or without
+/// a closing apostrophe; or everything up to the next apostrophe.
 fn after_bare(text: &str) -> Option<&str> {
     let (c, following) = split_char(text)?;
     if c.is_ascii_digit() {
@@ -32,7 +36,8 @@ fn after_bare(text: &str) -> Option<&str> {
     after_other(text)
 }
 
-/// What follows a quote up to the next one, and a suffix, after the first. An escape begins none.
+/// Returns the text after the next apostrophe and a suffix, which end an invalid quoted literal. `text` follows its
+/// opening apostrophe. Returns `None` if a backslash follows that apostrophe, or if the literal has no end.
 fn after_other(text: &str) -> Option<&str> {
     if begins_with(text, '\\') {
         return None;
@@ -41,7 +46,8 @@ fn after_other(text: &str) -> Option<&str> {
     Some(after_suffix(rest))
 }
 
-/// What follows the next `'`. A slash, and an LF without one right after it, end the search.
+/// Returns the text after the next `'`, or `None` if a slash, the end of the text, or an LF without a `'` right after
+/// it comes first. A character after a backslash is skipped.
 fn after_next_quote(text: &str) -> Option<&str> {
     let mut rest = text;
     while let Some((c, following)) = split_char(rest) {
@@ -53,7 +59,9 @@ fn after_next_quote(text: &str) -> Option<&str> {
     None
 }
 
-/// What follows the part of a quote that begins with the character, by what stands after that: a backslash takes two.
+/// Returns the text after one part of an invalid quoted literal, where the part begins with `c`, and `following` is the
+/// text after `c`. A backslash and the next character are one part. Returns `None` if the literal has no end: at a
+/// slash, and at an LF without a `'` right after it.
 fn after_part(c: char, following: &str) -> Option<&str> {
     if c == '\\' {
         let (_, more) = split_char(following)?;
@@ -65,7 +73,7 @@ fn after_part(c: char, following: &str) -> Option<&str> {
     Some(following)
 }
 
-/// What follows the `'` that the text begins with.
+/// Returns the text after the `'` at its start, or `None` if it doesn't begin with `'`.
 fn after_closing(text: &str) -> Option<&str> {
     match split_char(text) {
         Some(('\'', following)) => Some(following),
@@ -73,7 +81,7 @@ fn after_closing(text: &str) -> Option<&str> {
     }
 }
 
-/// The text without the `'` that it may begin with.
+/// Returns the text after the `'` at its start, or the text itself if it doesn't begin with `'`.
 fn past_closing(text: &str) -> &str {
     match split_char(text) {
         Some(('\'', following)) => following,

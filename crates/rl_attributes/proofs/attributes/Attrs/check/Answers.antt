@@ -1,10 +1,10 @@
-use Rattle.rl_text.proofs.Common.{[], ap, arith, common_steps, drop, length, subst, sym, take, take_all, ◌++◌, ◌+◌, ◌∷◌, ◌≡◌}
+use Rattle.rl_syntax.proofs.Common.{[], ap, arith, common_steps, drop, length, subst, sym, take, take_all, ◌++◌, ◌+◌, ◌∷◌, ◌≡◌}
 use Rattle.std.proofs.Common.{All}
 use Rattle.std.proofs.lemmas.List.Elements.{All-push}
 use Rattle.std.proofs.lemmas.Result.{err_from_is_err_and}
 use Rattle.rl_attributes.specs.Settings.{IsAccepted}
 use Rattle.rl_attributes.proofs.EntryLemmas.{parted_at}
-use Rattle.rl_attributes.proofs.TextLemmas.{are_named, are_bare, check_accepts}
+use Rattle.rl_attributes.proofs.TextLemmas.{are_named, need_no_escapes, check_accepts}
 use Rattle.rl_attributes.proofs.attributes.Attrs.check.Goals as goal
 
 pub returns-in_err-check_entry-clause-first : goal.returns-in_err-check_entry-clause-first
@@ -78,4 +78,4 @@ returns-clause-bare_texts g c =
     let all = subst (λ l. All (IsAccepted c.args.settings.now) l)
     (take_all c.loop-entry.entry-index entries (omega (arith, ap length c.entries-entry-items.ensures.entries)))
     c.loop-entry.invariant in
-    are_bare entries c.args.self.now.read (λ k d h. (all k d h).bare)
+    need_no_escapes entries c.args.self.now.read (λ k d h. (all k d h).bare)

@@ -1,4 +1,4 @@
-use Rattle.rl_text.proofs.Common.{true, cond, ap, sym, ◌∙◌}
+use Rattle.rl_syntax.proofs.Common.{true, cond, ap, sym, ◌∙◌}
 use Rattle.rl_attributes.specs.Names.{name_key, has_name}
 use Rattle.rl_attributes.proofs.NameKeys.{keys_tie}
 use Rattle.rl_attributes.proofs.attributes.whole.add_name.Goals as goal

@@ -1,4 +1,4 @@
-use Rattle.rl_text.proofs.Common.{Ok, chars, length}
+use Rattle.rl_syntax.proofs.Common.{Ok, chars, length}
 use Rattle.rl_attributes.proofs.EntryLemmas.{exactly}
 use Rattle.rl_attributes.proofs.attributes.whole.read.Goals as goal
 

@@ -1,5 +1,5 @@
--- Each turn reads a setting more; at the text's end all are read.
-use Rattle.rl_text.proofs.Common.{rules, ◌≡◌, ◌≢◌, ◌∷◌, [], ◌++◌, ◌∙◌, sym}
+-- Each iteration of the loop reads one more setting. At the end of the text all settings have been read.
+use Rattle.rl_syntax.proofs.Common.{rules, ◌≡◌, ◌≢◌, ◌∷◌, [], ◌++◌, ◌∙◌, sym}
 use Rattle.rl_settings.proofs.SettingLemmas.{some_rest}
 use Rattle.rust_literals.proofs.FlatLemmas.{empty_text}
 use Rattle.rl_attributes.proofs.FlatSettings.{takes_attribute}

@@ -1,4 +1,4 @@
-use Rattle.rl_text.proofs.Common.{◌≡◌, length}
+use Rattle.rl_syntax.proofs.Common.{◌≡◌, length}
 use Rattle.rl_attributes.proofs.FlatEntries.{IsFlatAt}
 use Rattle.rl_attributes.proofs.attributes.whole.read_flat.Given as goal
 

@@ -1,4 +1,4 @@
-use Rattle.rl_text.proofs.Common.{IfErr-weaker, ap, chars, inl, ◌∙◌}
+use Rattle.rl_syntax.proofs.Common.{IfErr-weaker, ap, chars, inl, ◌∙◌}
 use Rattle.std.proofs.lemmas.Result.{IfOk-weaker}
 use Rattle.rl_lexer.proofs.ErrorKinds.{error_rejects}
 use Rattle.rl_tokens.specs.Errors.{lex_rejection}

@@ -1,5 +1,5 @@
-use Rattle.rl_text.proofs.Common.{refl}
-use Rattle.rl_reading.proofs.SegmentLemmas.{takes_segment}
+use Rattle.rl_syntax.proofs.Common.{refl}
+use Rattle.rl_lenient.proofs.SegmentLemmas.{takes_segment}
 use Rattle.rl_flaws.proofs.PieceLemmas.{pieces_left}
 use Rattle.rl_flaws.proofs.pieces.Pieces.next.Goals as goal
 
@@ -12,5 +12,5 @@ returns-then-not-is_empty c = rw (← c.self.view_is) (
 )
 
 pub invariant_of-self-2 : goal.invariant_of-self-2
-invariant_of-self-2 c = pieces_left _ _ _ _ _ c.self.inside.left _ c.self.invariant.same c.judge-judged.ensures.same
-    c.judge-judged.ensures.good c.judge-judged.ensures.left
+invariant_of-self-2 c = pieces_left _ _ _ _ _ c.self.inside.left _ c.self.invariant.same c.next_flaw-judged.ensures.same
+    (c.next_flaw-judged.ensures.good refl) c.next_flaw-judged.ensures.left

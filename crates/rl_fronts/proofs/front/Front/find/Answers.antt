@@ -1,7 +1,7 @@
-use Rattle.rl_text.proofs.Common.{subst, ◌∷◌}
-use Rattle.rl_reading.proofs.Names.{SpannedText}
+use Rattle.rl_syntax.proofs.Common.{subst, ◌∷◌}
+use Rattle.rl_lenient.proofs.Names.{SpannedText}
 use Rattle.rl_tokens.specs.Puncts.{Mark}
-use Rattle.rl_reading.specs.Founds.{IsFound}
+use Rattle.rl_lenient.specs.Founds.{IsFound}
 use Rattle.rl_fronts.proofs.front.Front.find.Goals as goal
 
 pub returns-in-Literal-clause-found : goal.returns-in-Literal-clause-found

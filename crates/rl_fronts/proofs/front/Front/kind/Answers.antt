@@ -1,4 +1,4 @@
-use Rattle.rl_reading.proofs.FoundLemmas.{found_reads}
+use Rattle.rl_lenient.proofs.FoundLemmas.{found_reads}
 use Rattle.rl_fronts.proofs.front.Front.kind.Goals as goal
 
 pub returns-clause-some : goal.returns-clause-some

@@ -1,4 +1,4 @@
-use Rattle.rl_text.proofs.Common.{rules}
+use Rattle.rl_syntax.proofs.Common.{rules}
 use Rattle.rl_fronts.proofs.front.Front.span.Goals as goal
 
 pub returns-in-Negative : goal.returns-in-Negative

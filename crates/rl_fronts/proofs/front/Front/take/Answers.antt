@@ -1,4 +1,4 @@
-use Rattle.rl_text.proofs.Common.{common_steps, subst, sym, ◌∙◌, arith}
+use Rattle.rl_syntax.proofs.Common.{common_steps, subst, sym, ◌∙◌, arith}
 use Rattle.rl_tokens.specs.Buffers.{trees_in, IsRest}
 use Rattle.rl_fronts.proofs.FrontLemmas.{front_rest}
 use Rattle.rl_tokens.proofs.TreeRests.{rest_one}

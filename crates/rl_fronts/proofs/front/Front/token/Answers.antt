@@ -1,4 +1,4 @@
-use Rattle.rl_text.proofs.Common.{rules}
+use Rattle.rl_syntax.proofs.Common.{rules}
 use Rattle.rl_fronts.proofs.front.Front.token.Goals as goal
 
 pub returns-in-Negative-clause-ok : goal.returns-in-Negative-clause-ok

@@ -1,6 +1,6 @@
-use Rattle.rl_text.proofs.Common.{rules}
+use Rattle.rl_syntax.proofs.Common.{rules}
 use Rattle.std.specs.Str.{chars}
-use Rattle.rl_reading.proofs.MinusLemmas.{minus_chars}
+use Rattle.rl_lenient.proofs.MinusLemmas.{minus_chars}
 use Rattle.rl_fronts.proofs.FrontLemmas.{no_negative_truth}
 use Rattle.rl_fronts.proofs.front.Front.truth.Goals as goal
 

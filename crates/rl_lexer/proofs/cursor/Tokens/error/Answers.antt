@@ -1,5 +1,5 @@
--- No lexeme begins what is left, so the error is reported.
-use Rattle.rl_text.proofs.Common.{arith, common_steps, chars}
+-- No lexeme begins the rest, so an error is returned.
+use Rattle.rl_syntax.proofs.Common.{arith, common_steps, chars}
 use Rattle.rl_lexer.specs.Cuts.{BeginsNoLexeme}
 use Rattle.rl_lexer.proofs.ErrorKinds.{stops_here, none_some}
 use Rattle.rl_lexer.proofs.cursor.Tokens.error.Goals as goal

@@ -1,5 +1,5 @@
-use Rattle.rl_text.proofs.Common.{refl, arith, common_steps}
-use Rattle.rl_text.proofs.TailLemmas.{cut_boundary, if_none}
+use Rattle.rl_syntax.proofs.Common.{refl, arith, common_steps}
+use Rattle.rl_syntax.proofs.TailLemmas.{cut_boundary, if_none}
 use Rattle.rl_lexer.proofs.CursorLemmas.{still_cutting, takes_next}
 use Rattle.rl_lexer.proofs.cursor.Tokens.next.Goals as goal
 

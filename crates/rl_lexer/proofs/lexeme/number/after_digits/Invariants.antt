@@ -1,6 +1,6 @@
-use Rattle.rl_text.proofs.Common.{◌≡◌, length, chars, is_ascii_digit}
-use Rattle.rl_text.specs.Texts.{IsTail}
-use Rattle.rl_text.specs.Classes.{after_run}
+use Rattle.rl_syntax.proofs.Common.{◌≡◌, length, chars, is_ascii_digit}
+use Rattle.rl_syntax.specs.Texts.{IsTail}
+use Rattle.rl_syntax.specs.Classes.{after_run}
 use Rattle.rl_lexer.proofs.lexeme.number.after_digits.Given as goal
 
 abbrev pub invariant-loop-following : goal.invariant-loop-following

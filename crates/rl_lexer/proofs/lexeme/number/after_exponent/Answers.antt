@@ -1,5 +1,5 @@
--- The rest is after the text, step by step.
-use Rattle.rl_text.proofs.TailLemmas.{tail_self, tail_step}
+-- Each step shows that the rest is an end of the text.
+use Rattle.rl_syntax.proofs.TailLemmas.{tail_self, tail_step}
 use Rattle.rl_lexer.proofs.lexeme.number.after_exponent.Goals as goal
 
 pub returns-then-is_ascii_digit-clause-following : goal.returns-then-is_ascii_digit-clause-following

@@ -1,5 +1,5 @@
-use Rattle.rl_text.proofs.Common.{◌∙◌, chars}
-use Rattle.rl_text.proofs.TailLemmas.{tail_step}
+use Rattle.rl_syntax.proofs.Common.{◌∙◌, chars}
+use Rattle.rl_syntax.proofs.TailLemmas.{tail_step}
 use Rattle.rl_lexer.proofs.LexemeSteps.{apostrophe_step}
 use Rattle.rl_lexer.proofs.lexeme.quotes.after_apostrophe.Goals as goal
 

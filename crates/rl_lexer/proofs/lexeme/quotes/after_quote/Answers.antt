@@ -1,5 +1,5 @@
-use Rattle.rl_text.proofs.Common.{◌≡◌, ◌∙◌, sym, ap, inl, inr, None, rules, option_map, chars}
-use Rattle.rl_text.proofs.TailLemmas.{tail_step}
+use Rattle.rl_syntax.proofs.Common.{◌≡◌, ◌∙◌, sym, ap, inl, inr, None, rules, option_map, chars}
+use Rattle.rl_syntax.proofs.TailLemmas.{tail_step}
 use Rattle.rl_lexer.proofs.LexemeSteps.{quote_none, quote_found, quote_taken, quote_open, which}
 use Rattle.rl_lexer.proofs.lexeme.quotes.after_quote.Goals as goal
 

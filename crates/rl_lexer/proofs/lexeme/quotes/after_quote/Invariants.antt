@@ -1,6 +1,6 @@
-use Rattle.rl_text.proofs.Common.{◌≡◌, length, chars}
+use Rattle.rl_syntax.proofs.Common.{◌≡◌, length, chars}
 use Rattle.rl_lexer.specs.Mirrors.LexemeAt.{after_quote}
-use Rattle.rl_text.specs.Texts.{IsTail}
+use Rattle.rl_syntax.specs.Texts.{IsTail}
 use Rattle.rl_lexer.proofs.lexeme.quotes.after_quote.Given as goal
 
 abbrev pub invariant-loop-mark : goal.invariant-loop-mark

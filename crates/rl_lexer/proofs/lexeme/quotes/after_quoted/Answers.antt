@@ -1,4 +1,4 @@
-use Rattle.rl_text.proofs.TailLemmas.{tail_step}
+use Rattle.rl_syntax.proofs.TailLemmas.{tail_step}
 use Rattle.rl_lexer.proofs.lexeme.quotes.after_quoted.Goals as goal
 
 pub returns-clause-following : goal.returns-clause-following

@@ -1,5 +1,5 @@
-use Rattle.rl_text.proofs.Common.{◌∙◌, sym, ap, Some}
-use Rattle.rl_text.proofs.TailLemmas.{tail_step}
+use Rattle.rl_syntax.proofs.Common.{◌∙◌, sym, ap, Some}
+use Rattle.rl_syntax.proofs.TailLemmas.{tail_step}
 use Rattle.rl_lexer.proofs.HashLemmas.{hashes_met, hashes_missed}
 use Rattle.rl_lexer.proofs.LexemeSteps.{raw_none, raw_found, raw_passes, only}
 use Rattle.rl_lexer.proofs.lexeme.quotes.after_raw.Goals as goal

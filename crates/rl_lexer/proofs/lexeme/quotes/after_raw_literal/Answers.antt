@@ -1,5 +1,5 @@
--- The rest is after the text, step by step.
-use Rattle.rl_text.proofs.TailLemmas.{tail_step}
+-- Each step shows that the rest is an end of the text.
+use Rattle.rl_syntax.proofs.TailLemmas.{tail_step}
 use Rattle.rl_lexer.proofs.lexeme.quotes.after_raw_literal.Goals as goal
 
 pub returns-clause-following : goal.returns-clause-following

@@ -1,4 +1,4 @@
-use Rattle.rl_text.proofs.TailLemmas.{tail_step, some_tail}
+use Rattle.rl_syntax.proofs.TailLemmas.{tail_step, some_tail}
 use Rattle.rl_lexer.proofs.lexeme.quotes.after_single.Goals as goal
 
 pub returns-then-c-eq92-clause-following : goal.returns-then-c-eq92-clause-following

@@ -1,5 +1,5 @@
-use Rattle.rl_text.proofs.Common.{rules}
-use Rattle.rl_text.proofs.TailLemmas.{tail_self, tail_step}
+use Rattle.rl_syntax.proofs.Common.{rules}
+use Rattle.rl_syntax.proofs.TailLemmas.{tail_self, tail_step}
 use Rattle.rl_lexer.proofs.lexeme.suffix.after_some_suffix.Goals as goal
 
 pub returns-in-Some-clause-following : goal.returns-in-Some-clause-following

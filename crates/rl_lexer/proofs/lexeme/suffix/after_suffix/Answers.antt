@@ -1,4 +1,4 @@
-use Rattle.rl_text.proofs.TailLemmas.{tail_self}
+use Rattle.rl_syntax.proofs.TailLemmas.{tail_self}
 use Rattle.rl_lexer.proofs.lexeme.suffix.after_suffix.Goals as goal
 
 pub returns-in-Some-clause-following : goal.returns-in-Some-clause-following

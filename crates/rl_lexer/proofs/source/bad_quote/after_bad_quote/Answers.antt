@@ -1,4 +1,4 @@
-use Rattle.rl_text.proofs.TailLemmas.{tail_step, some_tail}
+use Rattle.rl_syntax.proofs.TailLemmas.{tail_step, some_tail}
 use Rattle.rl_lexer.proofs.source.bad_quote.after_bad_quote.Goals as goal
 
 pub returns-in-Some-b-default-clause-following : goal.returns-in-Some-b-default-clause-following

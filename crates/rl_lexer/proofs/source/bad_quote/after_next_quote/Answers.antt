@@ -1,5 +1,5 @@
-use Rattle.rl_text.proofs.Common.{◌∙◌, sym, chars}
-use Rattle.rl_text.proofs.TailLemmas.{tail_step}
+use Rattle.rl_syntax.proofs.Common.{◌∙◌, sym, chars}
+use Rattle.rl_syntax.proofs.TailLemmas.{tail_step}
 use Rattle.rl_lexer.proofs.BadQuotes.{next_passes}
 use Rattle.rl_lexer.proofs.source.bad_quote.after_next_quote.Goals as goal
 

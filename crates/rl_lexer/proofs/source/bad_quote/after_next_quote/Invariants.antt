@@ -1,6 +1,6 @@
-use Rattle.rl_text.proofs.Common.{◌≡◌, length, chars}
+use Rattle.rl_syntax.proofs.Common.{◌≡◌, length, chars}
 use Rattle.rl_lexer.specs.Mirrors.SourceAt.{after_next_quote}
-use Rattle.rl_text.specs.Texts.{IsTail}
+use Rattle.rl_syntax.specs.Texts.{IsTail}
 use Rattle.rl_lexer.proofs.source.bad_quote.after_next_quote.Given as goal
 
 abbrev pub invariant-loop-c : goal.invariant-loop-c

@@ -1,4 +1,4 @@
-use Rattle.rl_text.proofs.Common.{common_steps, arith, chars}
+use Rattle.rl_syntax.proofs.Common.{common_steps, arith, chars}
 use Rattle.rl_lexer.specs.Sources.{BeginsNoSource}
 use Rattle.rl_lexer.proofs.ErrorKinds.{none_some}
 use Rattle.rl_lexer.proofs.SourceCuts.{stops_source}
@@ -7,8 +7,8 @@ use Rattle.rl_lexer.proofs.sources.Sources.error.Goals as goal
 pub returns-clause-error : goal.returns-clause-error
 returns-clause-error c =
     let R = c.self.inside.rest.now in
-    let none : BeginsNoSource (chars R) = none_some c.first_source.result _ c.is_some.result c.is_some.ensures
-    c.if-is_some.false c.first_source.ensures.none in
+    let none : BeginsNoSource (chars R) = none_some c.first_source_token.result _ c.is_some.result c.is_some.ensures
+    c.if-is_some.false c.first_source_token.ensures.none in
     rw (← c.self.view_is)
     (stops_source c.self.inside.text.now R c.new.result c.source_error_kind-kind.result c.self.invariant
     c.is_empty.result c.is_empty.ensures c.if-is_empty.false none c.source_error_kind-kind.ensures
@@ -17,8 +17,8 @@ returns-clause-error c =
 pub returns-clause-first : goal.returns-clause-first
 returns-clause-first c =
     let R = c.self.inside.rest.now in
-    let none : BeginsNoSource (chars R) = none_some c.first_source.result _ c.is_some.result c.is_some.ensures
-    c.if-is_some.false c.first_source.ensures.none in
+    let none : BeginsNoSource (chars R) = none_some c.first_source_token.result _ c.is_some.result c.is_some.ensures
+    c.if-is_some.false c.first_source_token.ensures.none in
     rw (← c.self.view_is)
     (stops_source c.self.inside.text.now R c.new.result c.source_error_kind-kind.result c.self.invariant
     c.is_empty.result c.is_empty.ensures c.if-is_empty.false none c.source_error_kind-kind.ensures

@@ -1,4 +1,4 @@
-use Rattle.rl_text.proofs.TailLemmas.{tail_step}
+use Rattle.rl_syntax.proofs.TailLemmas.{tail_step}
 use Rattle.rl_lexer.proofs.SourceCuts.{begun}
 use Rattle.rl_lexer.proofs.sources.Sources.new.Goals as goal
 

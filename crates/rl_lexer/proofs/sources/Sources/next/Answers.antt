@@ -1,5 +1,5 @@
-use Rattle.rl_text.proofs.Common.{common_steps, refl, arith}
-use Rattle.rl_text.proofs.TailLemmas.{cut_boundary, if_none}
+use Rattle.rl_syntax.proofs.Common.{common_steps, refl, arith}
+use Rattle.rl_syntax.proofs.TailLemmas.{cut_boundary, if_none}
 use Rattle.rl_lexer.proofs.CursorLemmas.{still_cutting}
 use Rattle.rl_lexer.proofs.SourceCuts.{takes_source}
 use Rattle.rl_lexer.proofs.sources.Sources.next.Goals as goal

@@ -1,7 +1,7 @@
-use Rattle.rl_text.proofs.Common.{inl, inr, refl, sym, subst, both_ways, chars}
+use Rattle.rl_syntax.proofs.Common.{inl, inr, refl, sym, subst, both_ways, chars}
 use Rattle.rl_lexer.specs.Cursors.{CursorState}
 use Rattle.rl_lexer.specs.Sources.{BeginsNoSource, PassesTo}
-use Rattle.rl_text.proofs.TailLemmas.{tail_step, if_none}
+use Rattle.rl_syntax.proofs.TailLemmas.{tail_step, if_none}
 use Rattle.rl_lexer.proofs.LiteralSteps.{passed_join, passes_held, passes_one}
 use Rattle.rl_lexer.proofs.sources.Sources.next_literal.Goals as goal
 

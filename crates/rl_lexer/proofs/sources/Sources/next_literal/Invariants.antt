@@ -1,5 +1,5 @@
--- What was cut off so far is no literal.
-use Rattle.rl_text.proofs.Common.{length}
+-- The tokens that were consumed aren't literals.
+use Rattle.rl_syntax.proofs.Common.{length}
 use Rattle.rl_lexer.proofs.LiteralSteps.{Passed}
 use Rattle.rl_lexer.proofs.sources.Sources.next_literal.Given as goal
 

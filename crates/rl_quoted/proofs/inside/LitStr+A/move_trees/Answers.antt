@@ -1,6 +1,6 @@
 use Rattle.std.proofs.Common.{ap, arith, subst, sym}
-use Rattle.rl_text.specs.declared.span.Span.{Span}
-use Rattle.rl_reading.specs.Segments.{IsSpanTable}
+use Rattle.rl_syntax.specs.declared.span.Span.{Span}
+use Rattle.rl_lenient.specs.Segments.{IsSpanTable}
 use Rattle.rl_quoted.proofs.PlacedLemmas.{moved_by_table, moved_elsewhere}
 use Rattle.rl_quoted.proofs.inside.LitStr+A.move_trees.Goals as goal
 
@@ -8,8 +8,8 @@ pub returns-then-not-spans_text-clause-moved : goal.returns-then-not-spans_text-
 returns-then-not-spans_text-clause-moved g c =
     moved_elsewhere c.args.self.now _ _ _ c.span-span.ensures c.if-not-spans_text.ensures.long c.respan.ensures
 
-pub spans_of-requires : goal.spans_of-requires
-spans_of-requires g c =
+pub byte_spans_of-requires : goal.byte_spans_of-requires
+byte_spans_of-requires g c =
     omega (
       arith,
       c.segments.ensures.within,

@@ -1,4 +1,4 @@
-use Rattle.rl_text.proofs.Common.{Err, Ok, [], ap, false, map, refl, true, ◌∙◌, ◌≡◌}
+use Rattle.rl_syntax.proofs.Common.{Err, Ok, [], ap, false, map, refl, true, ◌∙◌, ◌≡◌}
 use Rattle.std.proofs.lemmas.Result.{err_from_is_err_and}
 use Rattle.rl_tokens.specs.Trees.{stream_view, tree_view}
 use Rattle.rl_tokens.specs.Buffers.{trees_in, scope_of}
@@ -26,13 +26,13 @@ returns-in_err-parsed-clause-rejected g c =
 pub returns-then-not-is_empty-clause-rejected : goal.returns-then-not-is_empty-clause-rejected
 returns-then-not-is_empty-clause-rejected g c =
     refuses_left c.args.placing (g.P.Parser.runs c.args.parser) c.args.self.now c.in_ok-parsed.parsed
-    (trees_in c.parse.new.input) c.leftover_at.result
+    (trees_in c.parse.new.input) c.leftover_span.result
     (ran_inside c.args.placing (g.P.Parser.runs c.args.parser) c.args.self.now (trees_in c.new-inside.result)
     (stream_view c.in_ok-stream.stream) (trees_in c.parse.new.input) (trees_in c.parse.new.input)
     (scope_of c.new-inside.result) (Ok c.in_ok-parsed.parsed)
     c.in_ok-stream.ensures.ok (c.new-inside.ensures.trees ∙ ap (map tree_view) c.trees.ensures)
     (c.new-inside.ensures.scope ∙ c.span.ensures) refl c.in_ok-parsed.ensures.runs)
-    (λ e. let no : false ≡ true = c.if-not-is_empty.ensures.1 e in cc) c.leftover_at.ensures
+    (λ e. let no : false ≡ true = c.if-not-is_empty.ensures.1 e in cc) c.leftover_span.ensures
 
 pub returns-clause-ran : goal.returns-clause-ran
 returns-clause-ran g c =

@@ -1,4 +1,4 @@
-use Rattle.rl_text.proofs.Common.{chars, sym, ◌∙◌}
+use Rattle.rl_syntax.proofs.Common.{chars, sym, ◌∙◌}
 use Rattle.rl_quoted.proofs.InsideLemmas.{empty_suffix}
 use Rattle.rl_quoted.proofs.inside.LitStr+A.reject_suffix.Goals as goal
 

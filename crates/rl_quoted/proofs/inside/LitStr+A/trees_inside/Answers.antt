@@ -1,5 +1,5 @@
-use Rattle.rl_text.proofs.Common.{ap, chars, inl, ◌∙◌}
-use Rattle.rl_text.specs.declared.span.Span.{Span}
+use Rattle.rl_syntax.proofs.Common.{ap, chars, inl, ◌∙◌}
+use Rattle.rl_syntax.specs.declared.span.Span.{Span}
 use Rattle.rl_quoted.proofs.InsideLemmas.{are_inside, refuses_lexing}
 use Rattle.rl_quoted.proofs.inside.LitStr+A.trees_inside.Goals as goal
 

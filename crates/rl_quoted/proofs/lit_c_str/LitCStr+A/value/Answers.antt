@@ -1,4 +1,4 @@
-use Rattle.rl_text.proofs.Common.{chars, ◌≡◌}
+use Rattle.rl_syntax.proofs.Common.{chars, ◌≡◌}
 use Rattle.std.proofs.lemmas.Result.{IfOk-at_ok}
 use Rattle.rl_fronts.proofs.ByteContents.{no_zero_of, is_made}
 use Rattle.rl_quoted.proofs.lit_c_str.LitCStr+A.value.Goals as goal

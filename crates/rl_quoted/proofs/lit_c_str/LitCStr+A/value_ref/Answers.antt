@@ -1,4 +1,4 @@
-use Rattle.rl_text.proofs.Common.{IsUtf8, inr, refl, rules}
+use Rattle.rl_syntax.proofs.Common.{IsUtf8, inr, refl, rules}
 use Rattle.rl_fronts.proofs.ByteContents.{plain_contents_bytes}
 use Rattle.rl_quoted.proofs.lit_c_str.LitCStr+A.value_ref.Goals as goal
 

@@ -1,4 +1,4 @@
-use Rattle.rl_text.proofs.Common.{arith, common_steps, rules}
+use Rattle.rl_syntax.proofs.Common.{arith, common_steps, rules}
 use Rattle.rl_quoted.proofs.lit_char.LitChar+A.new.Goals as goal
 
 pub written-requires-clause-written : goal.written-requires-clause-written

@@ -1,4 +1,4 @@
-use Rattle.rl_text.proofs.Common.{chars, encodes-chars, sym, ◌∙◌}
+use Rattle.rl_syntax.proofs.Common.{chars, encodes-chars, sym, ◌∙◌}
 use Rattle.rl_quoted.proofs.lit_str.LitStr+A.new.Goals as goal
 
 pub written-requires-clause-written : goal.written-requires-clause-written

@@ -1,4 +1,4 @@
-use Rattle.rl_text.proofs.Common.{arith, common_steps}
+use Rattle.rl_syntax.proofs.Common.{arith, common_steps}
 use Rattle.rl_quoted.proofs.lit_str.LitStr+A.value.Goals as goal
 
 pub str_of_body-requires : goal.str_of_body-requires

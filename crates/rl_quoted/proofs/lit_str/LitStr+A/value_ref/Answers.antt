@@ -1,5 +1,5 @@
-use Rattle.rl_text.proofs.Common.{IsUtf8, rules}
-use Rattle.rl_reading.proofs.BodyContents.{plain_contents}
+use Rattle.rl_syntax.proofs.Common.{IsUtf8, rules}
+use Rattle.rl_lenient.proofs.BodyContents.{plain_contents}
 use Rattle.rl_quoted.proofs.lit_str.LitStr+A.value_ref.Goals as goal
 
 pub returns-then-plain-clause-some : goal.returns-then-plain-clause-some

@@ -1,6 +1,6 @@
-use Rattle.rl_text.proofs.Common.{ap, chars, rules, subst, sym, ◌∙◌, ◌≡◌}
-use Rattle.rl_reading.specs.Bodies.{HasSingleBody}
-use Rattle.rl_reading.specs.Founds.{body_in}
+use Rattle.rl_syntax.proofs.Common.{ap, chars, rules, subst, sym, ◌∙◌, ◌≡◌}
+use Rattle.rl_lenient.specs.Bodies.{HasSingleBody}
+use Rattle.rl_lenient.specs.Founds.{body_in}
 use Rattle.rl_quoted.proofs.PlaceLemmas.{single_body}
 use Rattle.rl_quoted.proofs.quoted.Quoted.between.Goals as goal
 

@@ -1,6 +1,6 @@
-use Rattle.rl_text.proofs.Common.{ap, chars, rules, subst, sym, ◌∙◌, ◌≡◌}
-use Rattle.rl_reading.specs.Bodies.{HasBody}
-use Rattle.rl_reading.specs.Founds.{body_in}
+use Rattle.rl_syntax.proofs.Common.{ap, chars, rules, subst, sym, ◌∙◌, ◌≡◌}
+use Rattle.rl_lenient.specs.Bodies.{HasBody}
+use Rattle.rl_lenient.specs.Founds.{body_in}
 use Rattle.rl_quoted.proofs.PlaceLemmas.{has_body}
 use Rattle.rl_quoted.proofs.quoted.Quoted.body.Goals as goal
 

@@ -1,7 +1,7 @@
-use Rattle.rl_text.proofs.Common.{◌≡◌, ◌<◌, ◌∙◌, IsUtf8, ap, false, rules, subst, sym}
-use Rattle.rl_reading.proofs.Names.{IsScalar, Kind}
-use Rattle.rl_reading.specs.declared.found.Found.{Found}
-use Rattle.rl_quoted.specs.Places.{StandsAt}
+use Rattle.rl_syntax.proofs.Common.{◌≡◌, ◌<◌, ◌∙◌, IsUtf8, ap, false, rules, subst, sym}
+use Rattle.rl_lenient.proofs.Names.{IsScalar, Kind}
+use Rattle.rl_lenient.specs.declared.found.Found.{Found}
+use Rattle.rl_quoted.specs.Places.{HasPartsAt}
 use Rattle.rl_quoted.proofs.PlaceLemmas.{HeldUnit, held_byte, held_character, held_found, held_none, single_byte, single_character}
 use Rattle.rl_quoted.proofs.quoted.Quoted.found.Goals as goal
 use Rattle.rl_quoted.proofs.quoted.Quoted.found.Goals.{in-Byte, in-Char, in_default}
@@ -25,5 +25,5 @@ returns-clause-found g c =
           (held_none kind t (λ e. w.in_default.not-Byte (named ∙ e)) (λ e. w.in_default.not-Char (named ∙ e)))
     ] in
     held_found kind t c.self.inside.body c.match-KIND.unit _ c.between-between.ensures.text c.requires
-    (subst (λ z. StandsAt kind z c.self.inside.body) text c.self.invariant) held
+    (subst (λ z. HasPartsAt kind z c.self.inside.body) text c.self.invariant) held
     (ap {B = Found} (λ (k : Kind). record { kind = k; body = c.self.inside.body; magnitude = 0; truth = false; unit = c.match-KIND.unit }) c.KIND-2.ensures)

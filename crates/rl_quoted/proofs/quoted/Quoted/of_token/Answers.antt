@@ -1,5 +1,5 @@
 use Rattle.std.proofs.lemmas.Option.{MatchOption-at_some}
-use Rattle.rl_reading.specs.Founds.{IsFound}
+use Rattle.rl_lenient.specs.Founds.{IsFound}
 use Rattle.rl_quoted.proofs.PlaceLemmas.{found_kind}
 use Rattle.rl_quoted.proofs.quoted.Quoted.of_token.Goals as goal
 

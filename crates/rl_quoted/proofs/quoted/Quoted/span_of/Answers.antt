@@ -1,5 +1,5 @@
 use Rattle.std.proofs.Common.{◌<◌, ap, arith, rules}
-use Rattle.rl_text.specs.declared.span.Span.{Span}
+use Rattle.rl_syntax.specs.declared.span.Span.{Span}
 use Rattle.rl_quoted.proofs.PlacedLemmas.{range_fits}
 use Rattle.rl_quoted.proofs.quoted.Quoted.span_of.Goals as goal
 
@@ -12,7 +12,7 @@ overflow_add-result g c =
       ap (λ (s : Span). s.lo) c.span-span.ensures,
       ap (λ (s : Span). s.hi) c.span-span.ensures,
       c.if-not-spans_text.ensures.long,
-      (range_fits _ _ _ _ _ _ c.spans_text.ensures.text c.range_of-first.ensures).0,
+      (range_fits _ _ _ _ _ _ c.spans_text.ensures.text c.text_range-first.ensures).0,
     )
 
 pub overflow_add-result-2 : goal.overflow_add-result-2
@@ -24,5 +24,5 @@ overflow_add-result-2 g c =
       ap (λ (s : Span). s.lo) c.span-span.ensures,
       ap (λ (s : Span). s.hi) c.span-span.ensures,
       c.if-not-spans_text.ensures.long,
-      (range_fits _ _ _ _ _ _ c.spans_text.ensures.text c.range_of-first.ensures).1,
+      (range_fits _ _ _ _ _ _ c.spans_text.ensures.text c.text_range-first.ensures).1,
     )

@@ -1,5 +1,5 @@
-use Rattle.rl_text.proofs.Common.{chars, subst, sym}
-use Rattle.rl_text.specs.Texts.{IsTail}
+use Rattle.rl_syntax.proofs.Common.{chars, subst, sym}
+use Rattle.rl_syntax.specs.Texts.{IsTail}
 use Rattle.rl_lexer.specs.Cursors.{IsCursorState}
 use Rattle.rl_recovery.specs.Recoveries.{RecoveryState, begins_character}
 use Rattle.rl_recovery.proofs.RecoverySteps.{lines_of, nothing_left, taken_up, unclosed_rest}

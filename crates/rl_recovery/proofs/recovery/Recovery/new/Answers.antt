@@ -1,4 +1,4 @@
-use Rattle.rl_text.proofs.Common.{sym, subst}
+use Rattle.rl_syntax.proofs.Common.{sym, subst}
 use Rattle.rl_lexer.specs.Cursors.{IsCursorState}
 use Rattle.rl_recovery.proofs.RecoverySteps.{begins_state}
 use Rattle.rl_recovery.proofs.recovery.Recovery.new.Goals as goal

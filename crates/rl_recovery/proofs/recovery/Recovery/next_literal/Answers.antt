@@ -1,5 +1,5 @@
-use Rattle.rl_text.proofs.Common.{chars, subst, sym}
-use Rattle.rl_text.specs.Texts.{IsTail}
+use Rattle.rl_syntax.proofs.Common.{chars, subst, sym}
+use Rattle.rl_syntax.specs.Texts.{IsTail}
 use Rattle.rl_lexer.specs.Cursors.{CursorState}
 use Rattle.rl_lexer.specs.Sources.{BeginsNoSource}
 use Rattle.rl_recovery.proofs.RecoverySteps.{further, literal_tail}

@@ -1,5 +1,5 @@
-use Rattle.rl_text.proofs.Common.{◌+◌, ◌-◌, ◌≡◌, arith, ap, length, sym, subst}
-use Rattle.rl_text.specs.Texts.{IsTail}
+use Rattle.rl_syntax.proofs.Common.{◌+◌, ◌-◌, ◌≡◌, arith, ap, length, sym, subst}
+use Rattle.rl_syntax.specs.Texts.{IsTail}
 use Rattle.rl_recovery.specs.Recoveries.{RecoveryState}
 use Rattle.rl_recovery.proofs.RecoverySteps.{error_of, further, in_whole_len, stops_at}
 use Rattle.rl_recovery.proofs.recovery.Recovery.stop.Goals as goal
@@ -19,7 +19,7 @@ returns-clause-error c =
       in_whole_len whole c.self.inside.part.now c.self.inside.rest.now rest c.self.inside.unclosed c.self.invariant tail,
       ap (λ (z : RecoveryState). length z.whole) c.self.view_is,
     ) in
-    stops_at rest c.args.self.now c.go_on.new.self c.new.result c.error_kind.result (length whole - length rest)
+    stops_at rest c.args.self.now c.go_on.new.self c.new.result c.source_error_kind.result (length whole - length rest)
     c.new.ensures
-    (error_of rest c.error_kind.result c.utf8.rest c.is_empty.result c.is_empty.ensures c.if-is_empty.false
-    c.requires.none c.error_kind.ensures) place c.go_on.ensures.goes_on c.go_on.ensures.same
+    (error_of rest c.source_error_kind.result c.utf8.rest c.is_empty.result c.is_empty.ensures c.if-is_empty.false
+    c.requires.none c.source_error_kind.ensures) place c.go_on.ensures.goes_on c.go_on.ensures.same

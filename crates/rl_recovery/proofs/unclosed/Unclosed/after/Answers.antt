@@ -1,4 +1,4 @@
-use Rattle.rl_text.proofs.Common.{chars}
+use Rattle.rl_syntax.proofs.Common.{chars}
 use Rattle.rl_recovery.proofs.ClosingLemmas.{known_lines, lines_unclosed}
 use Rattle.rl_recovery.proofs.unclosed.Unclosed.after.Goals as goal
 

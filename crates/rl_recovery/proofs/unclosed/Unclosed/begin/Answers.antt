@@ -1,4 +1,4 @@
-use Rattle.rl_text.proofs.Common.{chars}
+use Rattle.rl_syntax.proofs.Common.{chars}
 use Rattle.rl_recovery.proofs.ClosingLemmas.{known_stuck}
 use Rattle.rl_recovery.proofs.unclosed.Unclosed.begin.Goals as goal
 

@@ -1,4 +1,4 @@
-use Rattle.rl_text.proofs.Common.{arith, drop, map, ◌+◌}
+use Rattle.rl_syntax.proofs.Common.{arith, drop, map, ◌+◌}
 use Rattle.rl_settings.specs.Groups.{open_view}
 use Rattle.rl_settings.proofs.GroupLemmas.{one_from}
 use Rattle.rl_settings.proofs.groups.Groups.innermost.Goals as goal

@@ -1,4 +1,4 @@
-use Rattle.rl_text.proofs.Common.{◌∙◌, ap, arith, map, common_steps}
+use Rattle.rl_syntax.proofs.Common.{◌∙◌, ap, arith, map, common_steps}
 use Rattle.rl_tokens.specs.Trees.{tree_view}
 use Rattle.rl_tokens.proofs.TreeRests.{rest_one, rest_self, stays_tail}
 use Rattle.rl_tokens.proofs.TreeLemmas.{first_taken, tree_view-literal}

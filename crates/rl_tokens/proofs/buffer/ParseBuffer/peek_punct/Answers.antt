@@ -1,4 +1,4 @@
-use Rattle.rl_text.proofs.Common.{rules}
+use Rattle.rl_syntax.proofs.Common.{rules}
 use Rattle.rl_tokens.proofs.buffer.ParseBuffer.peek_punct.Goals as goal
 
 pub returns-in-Some : goal.returns-in-Some

@@ -1,4 +1,4 @@
-use Rattle.rl_text.proofs.Common.{common_steps, arith}
+use Rattle.rl_syntax.proofs.Common.{common_steps, arith}
 use Rattle.rl_tokens.proofs.buffer.ParseBuffer.span.Goals as goal
 
 pub returns-in-None : goal.returns-in-None

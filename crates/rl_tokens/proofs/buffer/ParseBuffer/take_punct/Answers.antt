@@ -1,4 +1,4 @@
-use Rattle.rl_text.proofs.Common.{arith, common_steps}
+use Rattle.rl_syntax.proofs.Common.{arith, common_steps}
 use Rattle.rl_tokens.proofs.buffer.ParseBuffer.take_punct.Goals as goal
 
 pub returns-in-Some-clause-borrowed : goal.returns-in-Some-clause-borrowed

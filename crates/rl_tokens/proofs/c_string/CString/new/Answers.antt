@@ -1,4 +1,4 @@
-use Rattle.rl_text.proofs.Common.{rules}
+use Rattle.rl_syntax.proofs.Common.{rules}
 use Rattle.rl_tokens.proofs.CStringLemmas.{none_is_zero}
 use Rattle.rl_tokens.proofs.c_string.CString.new.Goals as goal
 

@@ -1,4 +1,4 @@
-use Rattle.rl_text.proofs.Common.{rules}
+use Rattle.rl_syntax.proofs.Common.{rules}
 use Rattle.rl_tokens.proofs.error.Error.of_lexer.Goals as goal
 
 pub returns-in-Memory : goal.returns-in-Memory

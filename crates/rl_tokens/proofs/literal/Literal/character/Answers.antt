@@ -1,7 +1,7 @@
-use Rattle.rl_text.proofs.Common.{List, ℕ, [], ◌∷◌, ap, subst, length, rules, string_bytes, chars, IfOk}
-use Rattle.rl_forms.specs.declared.kind.Kind.TheVariants.{Char}
-use Rattle.rl_forms.specs.Written.{IsWrittenForm}
-use Rattle.rl_forms.proofs.WritingLemmas.{one_character}
+use Rattle.rl_syntax.proofs.Common.{List, ℕ, [], ◌∷◌, ap, subst, length, rules, string_bytes, chars, IfOk}
+use Rattle.rl_syntax.specs.declared.kind.Kind.TheVariants.{Char}
+use Rattle.rl_syntax.specs.Written.{IsWrittenForm}
+use Rattle.rl_syntax.proofs.WritingLemmas.{one_character}
 use Rattle.rl_tokens.proofs.literal.Literal.character.Goals as goal
 
 pub text_of_characters-requires-clause-value : goal.text_of_characters-requires-clause-value

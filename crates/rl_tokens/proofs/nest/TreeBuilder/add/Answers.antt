@@ -1,4 +1,4 @@
-use Rattle.rl_text.proofs.Common.{common_steps, ◌∙◌, ap, arith, rules, on_ok_weaker}
+use Rattle.rl_syntax.proofs.Common.{common_steps, ◌∙◌, ap, arith, rules, on_ok_weaker}
 use Rattle.rl_lexer.specs.Cursors.{form_view}
 use Rattle.rl_tokens.specs.Puncts.{Mark}
 use Rattle.rl_tokens.proofs.NestLemmas.{takes_mark, takes_literal, takes_ident, spanned}

@@ -1,4 +1,4 @@
-use Rattle.rl_text.proofs.Common.{refl}
+use Rattle.rl_syntax.proofs.Common.{refl}
 use Rattle.rl_tokens.proofs.NestLemmas.{takes_tree}
 use Rattle.rl_tokens.proofs.nest.TreeBuilder.append.Goals as goal
 

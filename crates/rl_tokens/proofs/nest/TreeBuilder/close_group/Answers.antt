@@ -1,4 +1,4 @@
-use Rattle.rl_text.proofs.Common.{◌≡◌, ◌∙◌, arith, refl, rules, sym, common_steps, on_ok_weaker}
+use Rattle.rl_syntax.proofs.Common.{◌≡◌, ◌∙◌, arith, refl, rules, sym, common_steps, on_ok_weaker}
 use denote.Enum.Bare.{differs_true, differs_false}
 use Rattle.rl_tokens.specs.contracts.token.Delimiter.{the_type}
 use Rattle.rl_tokens.proofs.NestLemmas.{closes_group, wrong_closer}

@@ -1,4 +1,4 @@
-use Rattle.rl_text.proofs.Common.{common_steps, refl, ◌∙◌, ap, arith}
+use Rattle.rl_syntax.proofs.Common.{common_steps, refl, ◌∙◌, ap, arith}
 use Rattle.rl_tokens.specs.Trees.{trees_of}
 use Rattle.rl_tokens.proofs.NestLemmas.{opens_group}
 use Rattle.rl_tokens.proofs.nest.TreeBuilder.open_group.Goals as goal

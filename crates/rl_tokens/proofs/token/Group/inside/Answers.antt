@@ -1,4 +1,4 @@
-use Rattle.rl_text.proofs.Common.{arith, common_steps}
+use Rattle.rl_syntax.proofs.Common.{arith, common_steps}
 use Rattle.rl_tokens.proofs.token.Group.inside.Goals as goal
 
 pub returns-clause-trees : goal.returns-clause-trees

@@ -1,4 +1,4 @@
-use Rattle.rl_text.proofs.Common.{common_steps, arith}
+use Rattle.rl_syntax.proofs.Common.{common_steps, arith}
 use Rattle.rl_tokens.proofs.token.TokenStream.append.Goals as goal
 
 pub returns-in-Err-clause-unchanged : goal.returns-in-Err-clause-unchanged

@@ -1,6 +1,6 @@
--- What is left of the lines gets shorter.
+-- Each iteration of the loop shortens the remaining lines.
 use Rattle.std.proofs.Common.{arith}
-use Rattle.rl_text.proofs.Rests.{tail_length}
+use Rattle.rl_syntax.proofs.Rests.{tail_length}
 use Rattle.rl_uses.proofs.examples.tokens.all_places.Goals as goal
 
 pub loop-literal-preserved : goal.loop-literal-preserved

@@ -1,4 +1,5 @@
--- The lines are the text's end, and the tokens those of the lines.
+-- The invariants of the two loops: the remaining lines are the end of the text, and the tokens are those of the
+-- remaining lines.
 use Rattle.std.proofs.Common.{◌≡◌, ◌≤◌, length}
 use denote.Text.{Utf8}
 use denote.Shadow.{shadow}

@@ -1,6 +1,6 @@
 use Rattle.std.specs.Str.{chars}
-use Rattle.rl_forms.proofs.Agreeing.{strict_reads, strict_minus}
-use Rattle.rl_reading.proofs.StrictBytesLemmas.{bytes_are_strict}
+use Rattle.rl_syntax.proofs.Agreeing.{strict_reads, strict_minus}
+use Rattle.rl_lenient.proofs.StrictBytesLemmas.{bytes_are_strict}
 use Rattle.rust_literals.proofs.StrictLits.{found_agrees}
 use Rattle.rust_literals.proofs.lit.Lit.new.Goals as goal
 

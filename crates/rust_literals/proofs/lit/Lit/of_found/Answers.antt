@@ -1,4 +1,4 @@
-use Rattle.rl_reading.proofs.Names.{Byte, ByteStr, CStr, Char, Float, Int, Str, truth_text}
+use Rattle.rl_lenient.proofs.Names.{Byte, ByteStr, CStr, Char, Float, Int, Str, truth_text}
 use Rattle.std.proofs.Common.{ap, inl, inr, sym, ◌∙◌}
 use Rattle.rust_literals.proofs.LitLemmas.{found_as, found_lent, on_err, read_truth, some_found}
 use Rattle.rust_literals.proofs.lit.Lit.of_found.Goals as goal

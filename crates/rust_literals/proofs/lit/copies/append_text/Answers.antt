@@ -1,4 +1,4 @@
-use Rattle.rl_text.proofs.Common.{ap, map, ◌∙◌}
+use Rattle.rl_syntax.proofs.Common.{ap, map, ◌∙◌}
 use Rattle.std.proofs.lemmas.Result.{err_from_is_err_and}
 use Rattle.rl_tokens.specs.declared.token.TokenTree.TheVariants as tree
 use Rattle.rl_tokens.specs.Trees.{LiteralTree, tree_view}

@@ -1,4 +1,4 @@
-use Rattle.rl_forms.proofs.TruthLemmas.{truth_is_identifier}
+use Rattle.rl_syntax.proofs.TruthLemmas.{truth_is_identifier}
 use Rattle.rust_literals.proofs.lit_bool.LitBool.token.Goals as goal
 
 pub new-requires : goal.new-requires

@@ -1,5 +1,5 @@
-use Rattle.rl_text.proofs.Common.{codes, subst}
-use Rattle.rl_forms.specs.declared.kind.Kind.TheVariants.{Bool as BoolKind}
+use Rattle.rl_syntax.proofs.Common.{codes, subst}
+use Rattle.rl_syntax.specs.declared.kind.Kind.TheVariants.{Bool as BoolKind}
 use Rattle.rl_tokens.specs.Buffers.{trees_in, scope_of, IsRest}
 use Rattle.rl_fronts.specs.FrontTokens.{front_token}
 use Rattle.rust_literals.proofs.FrontLits.{none_passed, other_passed, truth_front}

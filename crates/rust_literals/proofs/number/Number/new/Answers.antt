@@ -1,4 +1,4 @@
-use Rattle.rl_text.proofs.Common.{ap, chars, refl, ◌∙◌}
+use Rattle.rl_syntax.proofs.Common.{ap, chars, refl, ◌∙◌}
 use Rattle.rl_tokens.specs.Errors.{memory_at}
 use Rattle.rust_literals.proofs.HeldLemmas.{found_number, wants_memory, no_number_rejected}
 use Rattle.rust_literals.proofs.number.Number.new.Goals as goal

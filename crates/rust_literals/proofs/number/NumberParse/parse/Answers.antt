@@ -1,6 +1,6 @@
 use Rattle.std.proofs.Common.{◌≡◌, ap, ◌∙◌}
 use Rattle.rl_tokens.proofs.TreeRests.{rest_none}
-use Rattle.rl_forms.specs.Words.{kind_word}
+use Rattle.rl_syntax.specs.Words.{kind_word}
 use Rattle.rust_literals.proofs.HeldLemmas.{is_found_number}
 use Rattle.rust_literals.proofs.number.NumberParse.parse.Goals as goal
 

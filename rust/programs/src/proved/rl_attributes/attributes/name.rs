@@ -1,17 +1,17 @@
 // Rendered from crates/rl_attributes/src/attributes/name.rt by tools/render, which erases contracts: change that file, and render anew.
-//! Names that were taken, in an order of their own.
+//! Names of attributes, as elements of an ordered set.
 
 use crate::rattle_std::cmp::Ordering;
 
-/// A name as it stands in the trees, and the number that its last eight bytes are. Most names are told apart by their numbers
-/// alone, so these are compared first.
+/// An attribute's name as written, and the last eight bytes of the name as a number. Most names differ in their
+/// numbers, so the numbers are compared first.
 #[derive(Clone, Copy, PartialEq, Eq)]
 pub(crate) struct Name<'a> {
     key: u64,
     text: &'a str,
 }
 
-/// The last eight bytes of a name, as a number; 0 where there are fewer.
+/// Returns the last eight bytes of `name` as a big-endian number, or 0 if the name is shorter.
 fn key_of(name: &str) -> u64 {
     match name.as_bytes().last_chunk::<8>() {
         Some(last) => u64::from_be_bytes(*last),
@@ -20,7 +20,7 @@ fn key_of(name: &str) -> u64 {
 }
 
 impl<'a> Name<'a> {
-    /// The name with this text.
+    /// Creates the ordered name with the text `text`.
     pub(crate) fn new(text: &'a str) -> Name<'a> {
         Name {
             key: key_of(text),
@@ -35,7 +35,7 @@ impl PartialOrd for Name<'_> {
     }
 }
 
-/// By the numbers, and where these are the same by the bytes.
+/// Compares two names by the numbers of their last eight bytes, and names with equal numbers by all their bytes.
 impl Ord for Name<'_> {
     #[inline(always)]
     fn cmp(&self, other: &Self) -> Ordering {

@@ -1,5 +1,5 @@
 // Rendered from crates/rl_attributes/src/attributes/take.rt by tools/render, which erases contracts: change that file, and render anew.
-//! The parser of attributes over trees, part by part.
+//! The parser of a list of attributes from token trees.
 
 use crate::rattle_std::prelude::{String, Vec};
 use super::name::Name;
@@ -10,16 +10,18 @@ use crate::rust_literals::Lit;
 use crate::rattle_std::alloc::Allocator;
 use crate::rattle_std::collections::BTreeSet;
 
-/// Names that were taken. They are in order, so no choice of names makes one dearer than others.
+/// The set of the attribute names that have been parsed. It is a balanced tree, so no choice of names makes the search
+/// slow.
 type Names<'a, A> = BTreeSet<Name<'a>, A>;
 
-/// Takes an identifier that is none of the names, and adds it to them.
+/// Consumes the identifier at the start of `input` as an attribute's name, which must not be in `names` yet, and adds
+/// it to `names`.
 fn take_name<'a, A: Allocator + Copy>(
     input: &mut ParseBuffer<'a, A>,
     names: &mut Names<'a, A>,
 ) -> Result<&'a Ident<A>, Error<A>> {
     let Some(name) = input.ident() else {
-        return Err(input.error(Part::Name.words()));
+        return Err(input.error(Part::Name.noun()));
     };
     match names.insert(Name::new(name.text())) {
         Ok(true) => Ok(name),
@@ -28,7 +30,8 @@ fn take_name<'a, A: Allocator + Copy>(
     }
 }
 
-/// Takes an attribute whose name is none of the names, and adds it to them.
+/// Consumes the attribute `name = literal` at the start of `input`, whose name must not be in `names` yet, and adds the
+/// name to `names`.
 fn take_entry<'a, A: Allocator + Copy>(
     alloc: A,
     input: &mut ParseBuffer<'a, A>,
@@ -45,7 +48,8 @@ fn take_entry<'a, A: Allocator + Copy>(
     })
 }
 
-/// Takes an attribute whose name is none of the names, and the comma after it where anything stands there.
+/// Consumes the attribute `name = literal` at the start of `input`, and the comma after it. The comma may be missing at
+/// the end of the token trees. The name must not be in `names` yet, and is added to `names`.
 fn take_next<'a, A: Allocator + Copy>(
     alloc: A,
     input: &mut ParseBuffer<'a, A>,
@@ -54,7 +58,8 @@ fn take_next<'a, A: Allocator + Copy>(
     let entry = take_entry(alloc, input, names)?;
     if !input.is_empty() {
         if let Err(error) = input.take_punct(',') {
-            // By a call: letting go of an entry here is as many steps again to prove.
+            // The attribute is dropped by a function call, because dropping it in place would double the number of
+            // steps to prove.
             drop(entry);
             return Err(error);
         }
@@ -62,8 +67,8 @@ fn take_next<'a, A: Allocator + Copy>(
     Ok(entry)
 }
 
-/// Takes attributes up to the end. An error may leave the buffer after what was taken, and
-/// reports an allocation failure wherever it was met.
+/// Consumes all token trees of `input` as a list of attributes. On an error, attributes may have been consumed. An
+/// allocation failure is reported at the token tree for which memory was needed.
 fn take_all<A: Allocator + Copy>(
     alloc: A,
     input: &mut ParseBuffer<'_, A>,
@@ -73,7 +78,8 @@ fn take_all<A: Allocator + Copy>(
     while !input.is_empty() {
         let entry = take_next(alloc, input, &mut names)?;
         if let Err(failed) = entries.push(entry) {
-            // By a call, as above.
+            // The attribute is dropped by a function call, because dropping it in place would double the number of
+            // steps to prove.
             drop(failed);
             return Err(Error::memory(input.span()));
         }
@@ -84,28 +90,29 @@ fn take_all<A: Allocator + Copy>(
     })
 }
 
-/// The error, but an allocation failure at this place.
-fn told_at<A: Allocator>(error: Error<A>, place: Span) -> Error<A> {
+/// Returns `error`, with the span `place` if it is an allocation failure, and otherwise unchanged.
+fn with_memory_at<A: Allocator>(error: Error<A>, place: Span) -> Error<A> {
     match error.kind {
         ErrorKind::Memory => Error::memory(place),
         kind => Error::new(error.span, kind),
     }
 }
 
-/// Takes all trees as attributes: no trees; or an attribute; or an attribute, a comma, and the attributes after it. An
-/// attribute is an identifier, `=` and a literal.
+/// Parses all token trees of a buffer as a list of attributes with commas between them. The list may be empty, and a
+/// comma may follow the last attribute. An attribute is an identifier, `=` and a literal.
 ///
 /// # Errors
 ///
-/// Reading goes from left to right, and what is missed first is rejected by its word: `identifier`, `` `=` ``,
-/// `literal`, or `` `,` ``; before its `=`, a name that stood before as `Repeated`, at the name. An allocation failure
-/// is reported at the first tree. The buffer stays.
+/// The token trees are parsed from left to right. The error names the first part that is missing: `identifier`,
+/// `` `=` ``, `literal`, or `` `,` ``. The error for a name that another attribute before has is `Repeated`, at the
+/// name, even if `=` doesn't follow the name. An allocation failure is reported at the first token tree of the buffer.
+/// On an error the buffer is unchanged.
 impl<A: Allocator + Copy> Parse<A> for Attrs<A> {
     fn parse(alloc: A, input: &mut ParseBuffer<'_, A>) -> Result<Attrs<A>, Error<A>> {
         let place = input.span();
         match attempt(input, |input| take_all(alloc, input)) {
             Ok(attrs) => Ok(attrs),
-            Err(error) => Err(told_at(error, place)),
+            Err(error) => Err(with_memory_at(error, place)),
         }
     }
 }

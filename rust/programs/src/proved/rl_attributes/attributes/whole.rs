@@ -1,17 +1,18 @@
 // Rendered from crates/rl_attributes/src/attributes/whole.rt by tools/render, which erases contracts: change that file, and render anew.
-//! The attributes of a text, read setting after setting as its tokens are cut.
+//! The function that reads the list of attributes of a text. It lexes the text token by token, and doesn't build token
+//! trees unless there is an error.
 
 use crate::rattle_std::prelude::{String, Vec};
 use super::name::Name;
 use super::{Attrs, Entry};
-use crate::rl_reading::NextLiteral;
+use crate::rl_lenient::NextLiteral;
 use crate::rl_settings::{NextSetting, SettingStep, first_error, settings_step};
 use crate::rl_tokens::{Error, Literal, Span, Tokens, parse_all};
 use crate::rust_literals::Lit;
 use crate::rattle_std::alloc::{AllocError, Allocator};
 use crate::rattle_std::collections::BTreeSet;
 
-/// The literal that was cut off a text.
+/// Returns the literal `next`, which was lexed from a text, as a parsed literal with a span in the file `file`.
 fn literal_of<A: Allocator + Copy>(
     alloc: A,
     next: NextLiteral<'_>,
@@ -31,7 +32,7 @@ fn literal_of<A: Allocator + Copy>(
     }
 }
 
-/// The attribute that was cut off a text as a setting.
+/// Returns the setting `next`, which was lexed from a text, as an attribute with spans in the file `file`.
 fn entry_of<A: Allocator + Copy>(
     alloc: A,
     next: NextSetting<'_>,
@@ -46,7 +47,8 @@ fn entry_of<A: Allocator + Copy>(
     })
 }
 
-/// Adds a name to those that were taken, and says whether it did: not where it is one of them, or an allocation failed.
+/// Adds `name` to the set `names`, and returns `true`. The result is `false` if the set contains the name already, or
+/// if an allocation fails.
 fn add_name<'a, A: Allocator + Copy>(names: &mut BTreeSet<Name<'a>, A>, name: &'a str) -> bool {
     match names.insert(Name::new(name)) {
         Ok(true) => true,
@@ -54,7 +56,7 @@ fn add_name<'a, A: Allocator + Copy>(names: &mut BTreeSet<Name<'a>, A>, name: &'
     }
 }
 
-/// The attributes of a text; `None` where it is none, and where an allocation fails.
+/// Returns the attributes of `text`, or `None` if the text isn't a list of attributes or an allocation fails.
 fn read_flat<A: Allocator + Copy>(alloc: A, text: &str, file: u32) -> Option<Attrs<A>> {
     let mut tokens = Tokens::new(text);
     let mut names = BTreeSet::new(alloc);
@@ -70,7 +72,8 @@ fn read_flat<A: Allocator + Copy>(alloc: A, text: &str, file: u32) -> Option<Att
             return None;
         };
         if let Err(failed) = entries.push(entry) {
-            // By a call: dropping an entry here is as many steps again to prove.
+            // The attribute is dropped by a function call, because dropping it in place would double the number of
+            // steps to prove.
             drop(failed);
             return None;
         }
@@ -81,7 +84,8 @@ fn read_flat<A: Allocator + Copy>(alloc: A, text: &str, file: u32) -> Option<Att
     })
 }
 
-/// The attributes of a text by its trees, or why it is none. The lexer's error is reported before a tree is made.
+/// Parses the attributes of `text` from its token trees, and returns them or the error. An error of the lexer is
+/// reported before token trees are built.
 fn read_trees<A: Allocator + Copy>(alloc: A, text: &str, file: u32) -> Result<Attrs<A>, Error<A>> {
     match first_error(text) {
         Some(error) => {
@@ -92,13 +96,14 @@ fn read_trees<A: Allocator + Copy>(alloc: A, text: &str, file: u32) -> Result<At
     }
 }
 
-/// The attributes that a text is. Spans have the file and the bytes of the text.
+/// Parses `text` as a list of attributes `name = literal` with commas between them. Spans are `file` and byte ranges of
+/// the text.
 ///
 /// # Errors
 ///
-/// The lexer's error as `Lex`, with the span of no bytes at its place, and its allocation
-/// failure as `Memory` there; else what the parser of [`Attrs`] rejects, which reports the text's end
-/// by the span of no bytes there.
+/// Returns the lexer's error as `Lex`, with an empty span at the error's byte offset. Returns `Memory` with an empty
+/// span if an allocation fails while the text is lexed. Otherwise returns the error of the parser of [`Attrs`], which
+/// runs with the empty span at the text's end as scope.
 pub fn read<A: Allocator + Copy>(alloc: A, text: &str, file: u32) -> Result<Attrs<A>, Error<A>> {
     match read_flat(alloc, text, file) {
         Some(attrs) => Ok(attrs),

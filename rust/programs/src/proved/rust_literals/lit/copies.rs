@@ -1,19 +1,19 @@
 // Rendered from crates/rust_literals/src/lit/copies.rt by tools/render, which erases contracts: change that file, and render anew.
-//! Copies of literals, their equality and hash, and how they are printed.
+//! Methods of `Lit` that copy, compare, hash and print a literal, and append it to a token stream.
 
 use crate::rust_literals::lit::Lit;
-use crate::rl_forms::Kind;
+use crate::rl_syntax::Kind;
 use crate::rl_tokens::{Error, Kept, Literal, Span, ToTokens, TokenStream, TokenTree};
 use crate::rattle_std::alloc::Allocator;
 use crate::rattle_std::fmt;
 use crate::rattle_std::hash::{Hash, Hasher};
 
 impl<A: Allocator> Lit<A> {
-    /// The literal once more, with its memory from this allocator.
+    /// Returns a copy of the literal, in memory from `alloc`.
     ///
     /// # Errors
     ///
-    /// `Memory` at the literal's span.
+    /// Returns `Memory` at the literal's span if an allocation fails.
     pub fn clone<B: Allocator + Copy>(&self, alloc: B) -> Result<Lit<B>, Error<B>> {
         Ok(match self {
             Lit::Str(literal) => Lit::Str(literal.clone(alloc)?),
@@ -28,7 +28,7 @@ impl<A: Allocator> Lit<A> {
         })
     }
 
-    /// Which variant it is, by its place among them.
+    /// Returns the index of the literal's variant in `Lit`, counted from 0.
     fn variant(&self) -> u8 {
         match self.kind() {
             Some(kind) => kind as u8,
@@ -37,8 +37,8 @@ impl<A: Allocator> Lit<A> {
     }
 }
 
-/// Equal where the kinds and the texts are: `0xF` isn't `15`, and `1f64` as an integer isn't `1f64` as a float. Spans
-/// are ignored.
+/// Two literals are equal if their kinds and their texts as written are equal: `0xF` isn't equal to `15`, and `1f64` as
+/// an integer isn't equal to `1f64` as a float. Spans are ignored.
 impl<A: Allocator> PartialEq for Lit<A> {
     fn eq(&self, other: &Self) -> bool {
         self.variant() == other.variant() && self.text() == other.text()
@@ -48,7 +48,7 @@ impl<A: Allocator> PartialEq for Lit<A> {
 impl<A: Allocator> Eq for Lit<A> {
 }
 
-/// By the kind and the text.
+/// The hash of a literal depends on its kind and its text.
 impl<A: Allocator> Hash for Lit<A> {
     fn hash<H: Hasher>(&self, state: &mut H) {
         state.write_u8(self.variant());
@@ -56,14 +56,15 @@ impl<A: Allocator> Hash for Lit<A> {
     }
 }
 
-/// The literal's text; a width pads it, as it pads a `str`.
+/// Writes the literal's text as written. A width in the format pads the text, as it pads a `str`.
 impl<A: Allocator> fmt::Display for Lit<A> {
     fn fmt(&self, f: &mut fmt::Formatter<'_>) -> fmt::Result {
         f.pad(self.text())
     }
 }
 
-/// What the literal's own type prints; of `Verbatim` the token's text between the name and braces.
+/// Writes the debug output of the variant's own type, for example of `LitStr`. For `Verbatim` it is the name
+/// `Verbatim`, and the token's text in braces.
 impl<A: Allocator> fmt::Debug for Lit<A> {
     fn fmt(&self, f: &mut fmt::Formatter<'_>) -> fmt::Result {
         let text = self.text();
@@ -78,8 +79,8 @@ impl<A: Allocator> fmt::Debug for Lit<A> {
     }
 }
 
-/// Puts a literal token with this text and span last. Where an allocation fails, the stream stays, and that is
-/// reported at the span.
+/// Appends a literal token with the text `text` and the span `span` to the stream `tokens`. If an allocation fails, the
+/// stream is unchanged, and the error is at the span.
 fn append_text<A: Allocator>(
     alloc: A,
     text: &str,
@@ -93,7 +94,7 @@ fn append_text<A: Allocator>(
     }
 }
 
-/// The token as it stands; of a truth value its word.
+/// Appends the literal's token to a token stream. For a `bool` literal it is the identifier `true` or `false`.
 impl<A: Allocator> ToTokens for Lit<A> {
     fn to_tokens<B: Allocator>(&self, alloc: B, tokens: &mut TokenStream<B>) -> Result<(), Error<B>> {
         match self {

@@ -1,5 +1,5 @@
 // Rendered from crates/rust_literals/src/lit_bool/copies.rt by tools/render, which erases contracts: change that file, and render anew.
-//! Copies of truth values, their equality and hash, and how they are printed.
+//! Methods of `LitBool` that copy, compare, hash and print a literal, and append it to a token stream.
 
 use crate::rust_literals::lit_bool::{LitBool, word};
 use crate::rl_tokens::{Error, ToTokens, TokenStream, append_ident};
@@ -8,11 +8,11 @@ use crate::rattle_std::fmt;
 use crate::rattle_std::hash::{Hash, Hasher};
 
 impl LitBool {
-    /// The truth value once more. It takes no memory, so it never fails.
+    /// Returns a copy of the literal. Nothing is allocated, so the function never fails.
     ///
     /// # Errors
     ///
-    /// None: the result is always `Ok`.
+    /// Returns no error: the result is always `Ok`.
     pub fn clone<B: Allocator>(&self, _alloc: B) -> Result<LitBool, Error<B>> {
         Ok(LitBool {
             value: self.value,
@@ -21,7 +21,7 @@ impl LitBool {
     }
 }
 
-/// Equal where the truth values are; spans are ignored.
+/// Two `bool` literals are equal if their values are equal. Spans are ignored.
 impl PartialEq for LitBool {
     fn eq(&self, other: &Self) -> bool {
         self.value == other.value
@@ -31,21 +31,21 @@ impl PartialEq for LitBool {
 impl Eq for LitBool {
 }
 
-/// By the truth value alone.
+/// The hash of a `bool` literal depends on its value only.
 impl Hash for LitBool {
     fn hash<H: Hasher>(&self, state: &mut H) {
         self.value.hash(state);
     }
 }
 
-/// The word; a width pads it, as it pads a `str`.
+/// Writes `true` or `false`. A width in the format pads the text, as it pads a `str`.
 impl fmt::Display for LitBool {
     fn fmt(&self, f: &mut fmt::Formatter<'_>) -> fmt::Result {
         f.pad(word(self.value))
     }
 }
 
-/// The truth value between the name and braces.
+/// Writes the type's name, and the value in braces: `LitBool { value: true }`.
 impl fmt::Debug for LitBool {
     fn fmt(&self, f: &mut fmt::Formatter<'_>) -> fmt::Result {
         let word = word(self.value);
@@ -53,7 +53,7 @@ impl fmt::Debug for LitBool {
     }
 }
 
-/// The word, as an identifier.
+/// Appends the identifier `true` or `false` to a token stream.
 impl ToTokens for LitBool {
     fn to_tokens<B: Allocator>(&self, alloc: B, tokens: &mut TokenStream<B>) -> Result<(), Error<B>> {
         append_ident(self.token(alloc)?, tokens)?;

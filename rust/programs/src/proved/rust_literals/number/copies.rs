@@ -1,5 +1,5 @@
 // Rendered from crates/rust_literals/src/number/copies.rt by tools/render, which erases contracts: change that file, and render anew.
-//! Copies of numbers, their equality and hash, and how they are printed.
+//! Methods of `Number` that copy, compare, hash and print a number, and append it to a token stream.
 
 use crate::rattle_std::prelude::{String};
 use crate::rust_literals::number::{Number, NumberKind};
@@ -9,7 +9,7 @@ use crate::rattle_std::fmt;
 use crate::rattle_std::hash::{Hash, Hasher};
 use crate::rattle_std::marker::PhantomData;
 
-/// The text once more, where there is one.
+/// Returns a copy of the string in `text`, or `None` if there is none.
 fn copy_of<A: Allocator, B: Allocator>(
     alloc: B,
     text: &Option<String<A>>,
@@ -21,12 +21,12 @@ fn copy_of<A: Allocator, B: Allocator>(
 }
 
 impl<K: NumberKind, A: Allocator> Number<K, A> {
-    /// The literal once more, with its memory from this allocator: for the token, and for the
-    /// digits where they aren't borrowed from it.
+    /// Returns a copy of the number, in memory from `alloc`. Memory is needed for the token, and for the digits in base
+    /// ten unless they are borrowed from the token's text.
     ///
     /// # Errors
     ///
-    /// `Memory` at the literal's span.
+    /// Returns `Memory` at the literal's span if an allocation fails.
     pub fn clone<B: Allocator + Copy>(&self, alloc: B) -> Result<Number<K, B>, Error<B>> {
         let token = match self.token.clone(alloc) {
             Ok(token) => token,
@@ -44,7 +44,8 @@ impl<K: NumberKind, A: Allocator> Number<K, A> {
     }
 }
 
-/// Equal where the texts are: `0xF` isn't `15`, and `1.0` isn't `1.00`. Spans are ignored.
+/// Two number literals are equal if their texts as written are equal: `0xF` isn't equal to `15`, and `1.0` isn't equal
+/// to `1.00`. Spans are ignored.
 impl<K: NumberKind, A: Allocator> PartialEq for Number<K, A> {
     fn eq(&self, other: &Self) -> bool {
         self.token.text() == other.token.text()
@@ -54,14 +55,14 @@ impl<K: NumberKind, A: Allocator> PartialEq for Number<K, A> {
 impl<K: NumberKind, A: Allocator> Eq for Number<K, A> {
 }
 
-/// By the text alone.
+/// The hash of a number depends on its text only.
 impl<K: NumberKind, A: Allocator> Hash for Number<K, A> {
     fn hash<H: Hasher>(&self, state: &mut H) {
         self.token.text().hash(state);
     }
 }
 
-/// The token's text between the name and braces.
+/// Writes the type's name, and the number's text in braces, as in `LitInt { token: 1 }`.
 impl<K: NumberKind, A: Allocator> fmt::Debug for Number<K, A> {
     fn fmt(&self, f: &mut fmt::Formatter<'_>) -> fmt::Result {
         let name = K::KIND.struct_name();
@@ -70,7 +71,7 @@ impl<K: NumberKind, A: Allocator> fmt::Debug for Number<K, A> {
     }
 }
 
-/// The token as it stands.
+/// Appends the number's token to a token stream.
 impl<K: NumberKind, A: Allocator> ToTokens for Number<K, A> {
     fn to_tokens<B: Allocator>(&self, alloc: B, tokens: &mut TokenStream<B>) -> Result<(), Error<B>> {
         append_literal(alloc, &self.token, tokens)

@@ -10,6 +10,6 @@ returns-in-Err-clause-runs g c =
     let was : LacksMemoryInStep (trees_in c.args.input.now) c.in-Err.error
     ⊎ RejectsAttributes (trees_in c.args.input.now) (scope_of c.args.input.now) c.in-Err.error = search rules in (
       told_refusal (trees_in c.args.input.now) (scope_of c.args.input.now) c.span-place.result c.in-Err.error
-          c.told_at.result was c.span-place.ensures c.told_at.ensures,
+          c.with_memory_at.result was c.span-place.ensures c.with_memory_at.ensures,
       search rules,
     )

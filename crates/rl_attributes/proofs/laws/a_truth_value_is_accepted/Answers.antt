@@ -1,5 +1,0 @@
-use Rattle.rl_attributes.proofs.Theorems.{a_truth_value_is_accepted as law}
-use Rattle.rl_attributes.proofs.laws.a_truth_value_is_accepted.Goals as goal
-
-pub returns : goal.returns
-returns g c = law

@@ -1,5 +1,0 @@
-use Rattle.rl_file_reasons.proofs.Theorems.{a_text_in_a_file_has_one_signed_value_flaw}
-use Rattle.rl_file_reasons.proofs.laws.a_text_in_a_file_has_one_signed_value_flaw.Goals as goal
-
-pub returns : goal.returns
-returns c = a_text_in_a_file_has_one_signed_value_flaw

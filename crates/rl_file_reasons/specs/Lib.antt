@@ -1,3 +1,0 @@
-pub mod FileTexts
-pub mod FileWalks
-pub mod Laws

@@ -1,4 +1,0 @@
-pub mod DiffLemmas
-pub mod ChangeLemmas
-pub mod PatchLemmas
-pub mod Theorems

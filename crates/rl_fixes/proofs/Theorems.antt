@@ -1,9 +1,0 @@
--- The laws (src/laws.rt), as lemmas that callers may cite.
-use Rattle.rl_fixes.specs.Patches.{LinesAreText, DiffsMake}
-use Rattle.rl_fixes.proofs.PatchLemmas.{lines_are, diffs_make as diffs_make_law}
-
-pub lines_are_text : LinesAreText
-lines_are_text = lines_are
-
-pub diffs_make : DiffsMake
-diffs_make = diffs_make_law

@@ -1,4 +1,0 @@
-pub mod Changes
-pub mod Diffs
-pub mod Outcomes
-pub mod Patches

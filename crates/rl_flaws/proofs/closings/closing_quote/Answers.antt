@@ -1,0 +1,11 @@
+use Rattle.rl_syntax.proofs.Common.{◌∙◌, refl, sym}
+use Rattle.rl_strict.proofs.WalkForms.{quote_read}
+use Rattle.rl_flaws.proofs.ClosingLemmas.{second_closes}
+use Rattle.rl_flaws.proofs.closings.closing_quote.Goals as goal
+
+pub returns-then-begins_with-clause-some : goal.returns-then-begins_with-clause-some
+returns-then-begins_with-clause-some c = second_closes c.args.ends _ _ c.in-Some.ensures.rest
+    (sym c.begins_with.ensures ∙ c.if-begins_with.true)
+
+pub returns-then-begins_with-clause-rest : goal.returns-then-begins_with-clause-rest
+returns-then-begins_with-clause-rest c = (quote_read c.args.ends _ _ 39 c.in-Some.ensures.rest refl).1

@@ -1,0 +1,39 @@
+use Rattle.rl_syntax.proofs.Common.{◌≡◌, ◌∷◌, ◌∙◌, ap, arith, rules, sym, IsUtf8}
+use Rattle.std.specs.Str.{chars}
+use Rattle.rl_flaws.proofs.ClosedLemmas.{begins_quote, closed_none, closed_piece, closed_stop, closed_takes}
+use Rattle.rl_flaws.proofs.WalkLemmas.{rest_room}
+use Rattle.rl_flaws.proofs.flaws.judge_closed.Goals as goal
+
+pub placed-requires-clause-piece : goal.placed-requires-clause-piece
+placed-requires-clause-piece c =
+    let quote : chars c.args.closing.now ≡ 39 ∷ chars c.without_first-suffix.result.now =
+    begins_quote _ c.requires.1 ∙ ap (λ z. 39 ∷ z) (sym c.without_first-suffix.ensures.rest) in
+    let piece : IsUtf8 c.in-Some.found.piece.now = search rules in
+    let room = rest_room c.args.ends _ _ c.requires.3 piece
+    (closed_piece c.args.ends _ _ _ c.in-Some.found.kind quote c.in-Some.ensures.piece) in
+    omega (arith, room, c.requires.2)
+
+pub placed-requires-clause-rest : goal.placed-requires-clause-rest
+placed-requires-clause-rest c =
+    let quote : chars c.args.closing.now ≡ 39 ∷ chars c.without_first-suffix.result.now =
+    begins_quote _ c.requires.1 ∙ ap (λ z. 39 ∷ z) (sym c.without_first-suffix.ensures.rest) in
+    let rest : IsUtf8 c.in-Some.found.rest.now = search rules in
+    let room = rest_room c.args.ends _ _ c.requires.3 rest
+    (closed_stop c.args.ends _ _ c.in-Some.found quote c.in-Some.ensures.flaw) in
+    omega (arith, room, c.requires.2)
+
+pub returns-in-None-clause-gives : goal.returns-in-None-clause-gives
+returns-in-None-clause-gives c =
+    let quote : chars c.args.closing.now ≡ 39 ∷ chars c.without_first-suffix.result.now =
+    begins_quote _ c.requires.1 ∙ ap (λ z. 39 ∷ z) (sym c.without_first-suffix.ensures.rest) in
+    closed_none c.args.ends c.args.kind c.args.closing _ _ c.requires.0 quote c.in-None.ensures.flaw
+
+pub returns-in-Some-clause-gives : goal.returns-in-Some-clause-gives
+returns-in-Some-clause-gives c =
+    let quote : chars c.args.closing.now ≡ 39 ∷ chars c.without_first-suffix.result.now =
+    begins_quote _ c.requires.1 ∙ ap (λ z. 39 ∷ z) (sym c.without_first-suffix.ensures.rest) in
+    let piece : IsUtf8 c.in-Some.found.piece.now = search rules in
+    let rest : IsUtf8 c.in-Some.found.rest.now = search rules in
+    closed_takes c.args.ends c.args.kind c.args.closing _ _ _ c.in-Some.found _ c.requires.0 quote piece rest
+    c.in-Some.ensures.flaw c.in-Some.ensures.piece c.placed.ensures.kind c.placed.ensures.from c.placed.ensures.lo
+    c.placed.ensures.hi c.placed.ensures.end

@@ -1,5 +1,0 @@
-use Rattle.rl_flaws.proofs.LookLaws.{token_told}
-use Rattle.rl_flaws.proofs.looks.looks_like.Goals as goal
-
-pub returns-clause-token : goal.returns-clause-token
-returns-clause-token c = token_told _ _ c.front_kind.ensures.some c.front_kind.ensures.none

@@ -1,0 +1,29 @@
+-- The closing quote of an invalid character or byte literal, as rustc finds it.
+use Rattle.std.specs.Prelude.{◌≡◌, ◌&&◌, ◌==◌, Bool, true, false, ℕ, List, [], ◌∷◌, ◌++◌, codes, IsTrue}
+use Prim.Native.Char.{code}
+use Rattle.rl_syntax.specs.Texts.{begins_char, first_passes}
+use Rattle.rl_lexer.specs.BadQuotes.{IsQuoteBody}
+use Rattle.rl_lexer.specs.Lexemes.{BodyPart, body_text}
+use Rattle.rl_lexer.specs.Sources.{is_apostrophe}
+
+-- The text before the closing quote is what a source may contain in single quotes: a backslash skips the character after it, no
+-- slash occurs, and an LF occurs only directly before the quote.
+pub record ReachesQuote (inside closing : List ℕ) : Type 0 where
+  pub parts : List BodyPart
+  pub is_body : IsQuoteBody parts
+  pub inside_is : inside ≡ body_text parts ++ closing
+  pub is_quote : IsTrue (first_passes is_apostrophe closing)
+
+-- The text begins with two quotes.
+abbrev pub begins_two_quotes : List ℕ → Bool
+begins_two_quotes [] = false
+begins_two_quotes (c ∷ cs) = c == code "'" && begins_char (code "'") cs
+
+abbrev pub ClosesBy : Bool → List ℕ → List ℕ → Type 0
+ClosesBy true inside closing = inside ≡ codes "'" ++ closing
+ClosesBy false inside closing = ReachesQuote inside closing
+
+-- The quote at the beginning of `closing` closes the literal. `inside` is the text after the opening quote. If `inside` begins
+-- with two quotes, the second one closes the literal.
+abbrev pub IsClosedBy : List ℕ → List ℕ → Type 0
+IsClosedBy inside closing = ClosesBy (begins_two_quotes inside) inside closing

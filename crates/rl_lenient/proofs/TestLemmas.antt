@@ -1,0 +1,26 @@
+-- Tests of the first character of a text, and of all characters.
+use Rattle.rl_syntax.proofs.Common.{◌≡◌, ◌∙◌, ℕ, Bool, true, false, List, [], ◌∷◌, ◌++◌, refl, sym, ap, list_all}
+use Rattle.rl_lenient.proofs.Names.{first_passes}
+use Rattle.std.proofs.lemmas.Bool.{and_left, and_right}
+
+-- If the first character of a text passes a test, it does so whatever text follows.
+pub passes_more : (test : ℕ → Bool) (a b : List ℕ) → first_passes test a ≡ true → first_passes test (a ++ b) ≡ true
+passes_more test [] b h = absurd (cc)
+passes_more test (c ∷ cs) b h = h
+
+-- A text with an equal start and an equal next character begins like the text.
+pub goes_on : (test : ℕ → Bool) (front rest t : List ℕ) (c : ℕ) (cs e : List ℕ) → t ≡ front ++ rest → rest ≡ c ∷ cs
+    → first_passes test t ≡ false → first_passes test (front ++ (c ∷ e)) ≡ false
+goes_on test [] rest t c cs e a b k = sym (ap (first_passes test) (a ∙ b)) ∙ k
+goes_on test (x ∷ xs) rest t c cs e a b k = sym (ap (first_passes test) a) ∙ k
+
+-- The start of a text begins like the text, or is empty.
+pub front_passes : (test : ℕ → Bool) (front rest t : List ℕ) → t ≡ front ++ rest → first_passes test t ≡ false
+    → first_passes test front ≡ false
+front_passes test [] rest t e h = refl
+front_passes test (x ∷ xs) rest t e h = sym (ap (first_passes test) e) ∙ h
+
+-- If a list contains an element that fails the test, not all elements pass.
+pub all_breaks : (f : ℕ → Bool) (xs : List ℕ) (c : ℕ) (e : List ℕ) → f c ≡ false → list_all f (xs ++ (c ∷ e)) ≡ false
+all_breaks f [] c e h = and_left (f c) (list_all f e) h
+all_breaks f (x ∷ xs) c e h = and_right (f x) (list_all f (xs ++ (c ∷ e))) (all_breaks f xs c e h)

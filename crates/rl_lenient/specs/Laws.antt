@@ -1,0 +1,66 @@
+-- The statements of the laws of src/laws.rt, each as a definition.
+use Rattle.std.specs.Prelude.{◌≡◌, ◌∷◌, List, ℕ}
+use Prim.Native.Char.{code}
+use Rattle.std.specs.Str.{chars}
+use Rattle.rl_lexer.specs.Cursors.{CursorState}
+use Rattle.rl_lenient.specs.declared.next_literals.NextLiteral.{NextLiteral}
+use Rattle.rl_lenient.specs.NextLiterals.{TakesNextLiteral}
+use Rattle.rl_lenient.specs.Values.{IsReadLiteral}
+use Rattle.rl_syntax.specs.Reading.{Contents, HasContents, Reads}
+use Rattle.rl_lenient.specs.declared.found.Found.{Found}
+use Rattle.rl_lenient.specs.StrictBytes.{KeepsBytesStrict}
+use Rattle.rl_lenient.specs.SegmentLaws.{AllMakeTheLiteral, AreOneSegment, PlacesKeepTheOrder, OffsetsAreIn}
+use Rattle.rl_syntax.specs.declared.kind.Kind.{Kind}
+use Rattle.rl_syntax.specs.Quoted.{QuotedUnit}
+use Rattle.std.specs.Str.{IsUtf8}
+use Rattle.rl_lenient.specs.declared.found.Body.{Body}
+use Rattle.rl_lenient.specs.Founds.{IsFound, IsQuotedAt, suffix_in}
+
+-- By `syn`'s grammar, a text without CR is a byte literal, or a byte string literal that isn't raw, with an empty
+-- suffix or an identifier as its suffix, exactly if it is that by Rust's grammar. Its value is then equal by both.
+abbrev pub BytesWithoutReturnsAreStrict : Type 0
+BytesWithoutReturnsAreStrict =
+    (text : List ℕ) → KeepsBytesStrict text
+
+-- The segments that `Segments` returns for a literal fill the text between its quotes. Each segment begins where the
+-- one before it ends. The values of all segments, joined, are the literal's value.
+abbrev pub SegmentsMakeTheLiteral : Type 0
+SegmentsMakeTheLiteral =
+    (kind : Kind) (text : List ℕ) → AllMakeTheLiteral kind text
+
+-- A segment of a literal has one value. Plain characters are text. An escape, and a line end CR LF, is a character, a
+-- byte or nothing, by the literal's kind.
+abbrev pub UnitsAreOneSegment : Type 0
+UnitsAreOneSegment =
+    (kind : Kind) (units : List QuotedUnit) → AreOneSegment kind units
+
+-- Two bytes of a literal's value come from ranges of the literal's text in the same order: the later byte's range
+-- neither begins nor ends before that of the earlier byte. So each byte has one range, which begins no later than it
+-- ends.
+abbrev pub ThePlacesOfBytesAreInOrder : Type 0
+ThePlacesOfBytesAreInOrder =
+    (kind : Kind) (text : List ℕ) → PlacesKeepTheOrder kind text
+
+-- If the parts of a quoted literal are at the given byte offsets, the text that its value comes from is in its body.
+-- The value's end, and every offset after it, is mapped to the closing quote. If the body is the value, a byte's offset
+-- in the body is its offset in the value.
+abbrev pub TheOffsetsOfBytesAreInTheBody : Type 0
+TheOffsetsOfBytesAreInTheBody =
+    (kind : Kind) (text : List ℕ) (body : Body) → IsUtf8 text
+    → IsQuotedAt kind text body → OffsetsAreIn kind text body
+
+-- If a minus precedes bytes of UTF-8, their decoded characters are the minus and the characters of the bytes.
+abbrev pub AMinusBeforeBytesIsOneCharacter : Type 0
+AMinusBeforeBytesIsOneCharacter = (bytes : List ℕ) → chars (code "-" ∷ bytes) ≡ code "-" ∷ chars bytes
+
+-- The parse result of a literal that was consumed from tokens is that of the literal's text.
+abbrev pub ATakenLiteralIsRead : Type 0
+ATakenLiteralIsRead =
+    (old new : CursorState) (l : NextLiteral) → TakesNextLiteral old l new → IsReadLiteral l
+
+-- If `find` returns a literal for a text, the text is parsed with that literal's value and suffix.
+abbrev pub AFoundLiteralReads : Type 0
+AFoundLiteralReads =
+    (text : List ℕ) (found : Found) (contents : Contents) → IsFound text found
+    → HasContents found.kind (chars text) contents
+    → Reads (chars text) found.kind contents (chars (suffix_in text found.body))

@@ -1,0 +1,376 @@
+//! The parse result of a text: the literal's kind, the byte offsets of its parts, and the value of an integer, `bool`,
+//! character or byte. A literal is split at these offsets, and isn't parsed again.
+
+ghost use Rattle.std.specs.Prelude.{◌≡◌, ◌∷◌, ◌⊎◌, ℕ, List, IfNone, IfSome, ◌≢◌, Bool, ◌↔◌, IsTrue, IsFalse};
+ghost use Rattle.std.specs.Str.{chars};
+ghost use Rattle.rl_syntax.specs.declared.kind.Kind.{Kind as AnyKind};
+ghost use Rattle.rl_syntax.specs.declared.kind.Kind.TheVariants.{Float, Int, Bool as BoolKind};
+ghost use Rattle.rl_syntax.specs.Numbers.{FloatReads, NoSign};
+ghost use Rattle.rl_syntax.specs.Quoted.{is_string};
+ghost use Rattle.rl_syntax.specs.Reading.{HasNoFloat, HasNoInteger, HasNoReading, HasNoTruth, HasReading, HasSuffix, IsPast, ReadsAs, Contents, Reads, truth_text};
+ghost use Rattle.rl_syntax.specs.Texts.{IsTail, first_passes, code};
+ghost use Rattle.rl_lenient.specs.Bodies.{HasBody};
+ghost use Rattle.rl_lenient.specs.Founds.{IsFound, IsFoundFloat};
+ghost use Rattle.rl_lenient.specs.Mirrors.NumberAt.{sign_at};
+ghost use Rattle.rl_lenient.specs.NumberShapes.{ReadsNoNumber, HasOneFloat, HasOneInteger, HasMagnitude};
+ghost use Rattle.rl_lenient.specs.StrictBytes.{KeepsBytesStrict};
+ghost use Rattle.rl_lenient.specs.WholeShapes.{IsSplit, is_number_front, IsPlain};
+
+use crate::digit_runs::is_negative;
+use crate::digits::{is_plain_float, is_plain_integer};
+use crate::number_forms::{Number, float_suffix, read_integer, read_number};
+use crate::quoted_forms::{
+    QuotedForm, begins_character, find_bare_character, find_character, find_cooked, find_raw,
+    find_single, split_opener,
+};
+use rl_syntax::Kind;
+use rl_syntax::text::before;
+
+/// The byte offsets of a literal's body and suffix in its text, and whether the body is the literal's value, byte for
+/// byte.
+#[derive(Clone, Copy)]
+pub struct Body {
+    /// The byte offset where the body begins.
+    pub lo: usize,
+    /// The byte offset after the body.
+    pub hi: usize,
+    /// The byte offset where the suffix begins. Without a suffix it is the end of the text.
+    pub suffix_at: usize,
+    /// `true` if the body is the literal's value, byte for byte.
+    pub plain: bool,
+}
+
+impl Body {
+    /// Creates the offsets of a literal whose body is the text before its suffix. The suffix begins at `end`.
+    #[inline(always)]
+    pub(crate) fn up_to(end: usize, plain: bool) -> Body
+        ensures { result ≡ record { lo = 0; hi = end; suffix_at = end; plain = plain } }
+    {
+        Body {
+            lo: 0,
+            hi: end,
+            suffix_at: end,
+            plain,
+        }
+    }
+}
+
+/// A parse result of a text: the kind of the literal, and the offsets of its parts.
+///
+/// The body of a quoted literal is the text between its quotes. The body of a number is the text before its suffix,
+/// with sign and prefix. The body of a `bool` is the whole text. The text isn't borrowed: functions that return a part
+/// take the text again.
+#[derive(Clone, Copy)]
+pub struct Found {
+    /// The number that the digits of an integer literal represent, without its sign. For other kinds it is 0.
+    pub magnitude: u128,
+    /// The byte offsets of body and suffix, and whether the body is the literal's value, as
+    /// [`is_plain`](crate::is_plain) returns.
+    pub body: Body,
+    /// The kind of the literal.
+    pub kind: Kind,
+    /// The value of a boolean literal. For other kinds it is `false`.
+    pub truth: bool,
+    /// The value of a character or byte literal, as a number. For other kinds it is 0.
+    pub unit: u32,
+}
+
+/// A literal's kind, its body and its suffix. Body and suffix are slices of the literal's text.
+///
+/// The body of a quoted literal is the text between its quotes. The body of a number is the text before its suffix,
+/// with sign and prefix. The body of a `bool` is the whole text.
+///
+/// # Example
+///
+/// ```
+/// use rl_grammar::shape;
+///
+/// pub fn suffix_of(text: &str) -> Option<&str> {
+///     Some(shape(text)?.suffix)
+/// }
+/// // suffix_of("0xFF_u8") == Some("u8")
+/// ```
+#[derive(Clone, Copy, PartialEq, Eq, Debug)]
+pub struct Parts<'t> {
+    /// The kind of the literal.
+    pub kind: Kind,
+    /// The literal's body: the text between a quoted literal's quotes, or the text before another literal's suffix.
+    pub body: &'t str,
+    /// The literal's suffix, or an empty string.
+    pub suffix: &'t str,
+}
+
+impl Found {
+    ghost use Rattle.rl_lenient.specs.Founds.{IsBodyWithin, body_in, suffix_in};
+
+    /// Returns the literal's body, as a slice of `text`. The text must be the one that was parsed.
+    #[inline(always)]
+    pub fn body_in<'t>(&self, text: &'t str) -> &'t str
+        requires { IsBodyWithin text.now self.now.body }
+        ensures body { result.now ≡ body_in text.now self.now.body }
+        ensures string { IsFound text.now self.now → IsTrue (is_string self.now.kind)
+            → HasBody self.now.kind (chars text.now) result.now self.now.body.plain }
+    {
+        &text[self.body.lo..self.body.hi]
+    }
+
+    /// Returns the literal's suffix, as a slice of `text`, or an empty string. The text must be the one that was
+    /// parsed.
+    #[inline(always)]
+    #[tactic(auto, using(rl_syntax::proofs::Rests::tail_drop))]
+    pub fn suffix_in<'t>(&self, text: &'t str) -> &'t str
+        requires { IsBodyWithin text.now self.now.body }
+        ensures suffix { result.now ≡ suffix_in text.now self.now.body }
+        ensures reads { IsFound text.now self.now
+            → HasSuffix self.now.kind (chars text.now) (chars result.now) }
+        ensures following { IsTail text.now result.now }
+    {
+        &text[self.body.suffix_at..]
+    }
+
+    /// Returns the literal's kind, body and suffix. Body and suffix are slices of `text`, which must be the text that
+    /// was parsed.
+    #[inline(always)]
+    pub(crate) fn parts<'t>(&self, text: &'t str) -> Parts<'t>
+        requires { IsBodyWithin text.now self.now.body }
+        ensures kind { result.kind ≡ self.now.kind }
+        ensures body { result.body.now ≡ body_in text.now self.now.body }
+        ensures suffix { result.suffix.now ≡ suffix_in text.now self.now.body }
+        ensures following { IsTail text.now result.suffix.now }
+    {
+        Parts {
+            kind: self.kind,
+            body: self.body_in(text),
+            suffix: self.suffix_in(text),
+        }
+    }
+}
+
+/// Creates the parse result of the integer literal `text`, from its magnitude and its suffix.
+#[inline(always)]
+fn integer_found<'t>(text: &'t str, suffix: &'t str, magnitude: u128) -> Found
+    requires within { HasMagnitude (chars text.now) magnitude (chars suffix.now) }
+    requires following { IsTail text.now suffix.now }
+    ensures found { IsFound text.now result }
+    ensures kind { result.kind ≡ Int }
+{
+    let body = before(text, suffix);
+    Found {
+        kind: Kind::Int,
+        body: Body::up_to(body.len(), is_plain_integer(body)),
+        magnitude,
+        truth: false,
+        unit: 0,
+    }
+}
+
+/// Creates the parse result of the float literal `text`, from its suffix.
+#[inline(always)]
+fn float_found<'t>(text: &'t str, suffix: &'t str) -> Found
+    requires reads { (numeral : List ℕ) × FloatReads (chars text.now) numeral (chars suffix.now) }
+    requires following { IsTail text.now suffix.now }
+    ensures { IsFoundFloat text.now result }
+{
+    let body = before(text, suffix);
+    Found {
+        kind: Kind::Float,
+        body: Body::up_to(body.len(), is_plain_float(body)),
+        magnitude: 0,
+        truth: false,
+        unit: 0,
+    }
+}
+
+/// Parses the text as an integer literal. Returns `None` if it isn't one, and `Some(None)` if it is one above 128 bits.
+pub fn find_int(text: &str) -> Option<Option<Found>>
+    ensures none { IfNone result (HasNoInteger (chars text.now)) }
+    ensures past { IfSome result (λ o. IfNone o (IsPast (chars text.now))) }
+    ensures found { IfSome result (λ o. IfSome o (IsFound text.now)) }
+    ensures kind { IfSome result (λ o. IfSome o (λ f. f.kind ≡ Int)) }
+    ensures once { HasOneInteger (chars text.now) }
+{
+    let integer = read_integer(text)?;
+    match integer.magnitude {
+        Some(magnitude) => Some(Some(integer_found(text, integer.suffix, magnitude))),
+        None => Some(None),
+    }
+}
+
+/// Parses the text as a float literal, even if it is an integer literal too. Returns `None` if it isn't a float
+/// literal.
+pub fn find_float(text: &str) -> Option<Found>
+    ensures none { IfNone result (HasNoFloat (chars text.now)) }
+    ensures found { IfSome result (IsFoundFloat text.now) }
+    ensures once { HasOneFloat (chars text.now) }
+{
+    let suffix = float_suffix(text)?;
+    Some(float_found(text, suffix))
+}
+
+/// Parses the text as a number: as an integer literal if it is one, and otherwise as a float literal. Returns `None` if
+/// it is neither, or an integer above 128 bits.
+#[inline(never)]
+fn find_number(text: &str) -> Option<Found>
+    ensures none { IfNone result (ReadsNoNumber (chars text.now)) }
+    ensures found { IfSome result (IsFound text.now) }
+    ensures number { IfSome result (λ f. (f.kind ≡ Int) ⊎ (f.kind ≡ Float)) }
+{
+    // Each arm returns by itself. A value that both arms make would be copied once more, padding included.
+    match read_number(text)? {
+        Number::Integer(magnitude, suffix) => {
+            return Some(integer_found(text, suffix, magnitude));
+        }
+        Number::Float(suffix) => return Some(float_found(text, suffix)),
+    }
+}
+
+/// Parses the text as a number that follows a minus. Returns `None` if the text isn't a number, or begins with a minus
+/// itself.
+#[inline(always)]
+pub(crate) fn find_unsigned(text: &str) -> Option<Found>
+    ensures none { IfNone result (HasNoReading (code "-" ∷ chars text.now)) }
+    ensures found { IfSome result (IsFound text.now) }
+    ensures number { IfSome result (λ f. (f.kind ≡ Int) ⊎ (f.kind ≡ Float)) }
+    ensures unsigned { IfSome result (λ f. sign_at (chars text.now) ≡ NoSign) }
+{
+    if is_negative(text) {
+        return None;
+    }
+    find_number(text)
+}
+
+/// Parses the literal that consists of a minus and `text`. Byte offsets in the result count from the minus.
+///
+/// Returns `Some` exactly if a minus and the text are a literal. That literal is an integer or a float.
+pub fn find_negative(text: &str) -> Option<Found>
+    ensures none { IfNone result (HasNoReading (code "-" ∷ chars text.now)) }
+    ensures found { IfSome result (IsFound (code "-" ∷ text.now)) }
+    ensures number { IfSome result (λ f. (f.kind ≡ Int) ⊎ (f.kind ≡ Float)) }
+{
+    let found = find_unsigned(text)?;
+    Some(Found {
+        kind: found.kind,
+        body: Body::up_to(found.body.suffix_at + 1, found.body.plain),
+        magnitude: found.magnitude,
+        truth: false,
+        unit: 0,
+    })
+}
+
+/// Parses the text as a boolean literal. Returns `None` if it is neither `true` nor `false`.
+pub(crate) fn find_truth(text: &str) -> Option<Found>
+    ensures none { IfNone result (HasNoTruth (chars text.now)) }
+    ensures found { IfSome result (IsFound text.now) }
+    ensures kind { IfSome result (λ f. f.kind ≡ BoolKind) }
+{
+    let truth = bool_of(text)?;
+    Some(Found {
+        kind: Kind::Bool,
+        body: Body::up_to(text.len(), false),
+        magnitude: 0,
+        truth,
+        unit: 0,
+    })
+}
+
+/// Returns the parse result of the literal `text`. The text must be a literal.
+pub fn found_in(text: &str) -> Found
+    requires { HasReading (chars text.now) }
+    ensures found { IsFound text.now result }
+    ensures kind { (kind : AnyKind) → ReadsAs kind (chars text.now) → result.kind ≡ kind }
+{
+    match find(text) {
+        Some(found) => found,
+        None => unreachable!(),
+    }
+}
+
+/// Parses the text as a literal. Returns `None` if it isn't one, or is an integer above 128 bits. Nothing is allocated.
+///
+/// The result contains that of [`shape`](crate::shape), and further offsets and values that parsing computes.
+#[inline(always)]
+pub fn find(text: &str) -> Option<Found>
+    ensures none { IfNone result (HasNoReading (chars text.now)) }
+    ensures found { IfSome result (IsFound text.now) }
+{
+    if begins_character(text) {
+        // A character without an escape is parsed inline, since a call would cost as much as parsing it.
+        if let Some(found) = find_bare_character(text) {
+            return Some(found);
+        }
+        return find_character(text);
+    }
+    if begins_number(text) {
+        return find_number(text);
+    }
+    find_word_or_quoted(text)
+}
+
+/// Parses the text as a quoted or boolean literal. The text must begin with neither a minus nor a decimal digit.
+#[inline(never)]
+fn find_word_or_quoted(text: &str) -> Option<Found>
+    requires { IsFalse (first_passes is_number_front (chars text.now)) }
+    ensures none { IfNone result (HasNoReading (chars text.now)) }
+    ensures found { IfSome result (IsFound text.now) }
+{
+    let Some((form, kind, inside)) = split_opener(text) else {
+        return find_truth(text);
+    };
+    // Each arm returns by itself. A value that all arms make would be copied once more.
+    match form {
+        QuotedForm::Cooked => return find_cooked(kind, text, inside),
+        QuotedForm::Single => return find_single(kind, text, inside),
+        QuotedForm::Raw => return find_raw(kind, text, inside),
+    }
+}
+
+/// Returns the value of the boolean literal `text`, or `None` if the text is neither `true` nor `false`.
+pub fn bool_of(text: &str) -> Option<bool>
+    ensures some { IfSome result (λ b. chars text.now ≡ truth_text b) }
+    ensures bytes { IfSome result (λ b. text.now ≡ truth_text b) }
+    ensures none { IfNone result ((b : Bool) → chars text.now ≢ truth_text b) }
+{
+    match text {
+        "true" => Some(true),
+        "false" => Some(false),
+        _ => None,
+    }
+}
+
+/// Whether the first of the bytes is a minus or a decimal digit.
+fn is_number_front(bytes: &[u8]) -> bool
+    ensures { result ≡ first_passes is_number_front bytes.now }
+{
+    !bytes.is_empty() && (bytes[0] == b'-' || bytes[0].is_ascii_digit())
+}
+
+/// Returns `true` if the text begins with a minus or a decimal digit. Numbers begin so, and other literals don't.
+#[inline(always)]
+pub fn begins_number(text: &str) -> bool
+    ensures { result ≡ first_passes is_number_front (chars text.now) }
+{
+    is_number_front(text.as_bytes())
+}
+
+/// Returns a literal's kind, body and suffix, or `None` if the text isn't a literal, or is an integer above 128 bits.
+/// Nothing is allocated.
+///
+/// The body of a quoted literal is the text between its quotes. The body of a number is the text before its suffix,
+/// with sign and prefix. The body of a `bool` is the whole text. Body and suffix are slices of the text.
+///
+/// The postcondition `strict_bytes` compares `syn`'s grammar with Rust's: take a text without CR. By `syn`'s grammar it
+/// is a byte literal, or a byte string literal that isn't raw, whose suffix is empty or an identifier, exactly if it is
+/// one by Rust's.
+///
+/// See the example of [`Parts`].
+pub fn shape(text: &str) -> Option<Parts<'_>>
+    ensures none { IfNone result (HasNoReading (chars text.now)) }
+    ensures reads { IfSome result
+        (λ p. (v : Contents) × Reads (chars text.now) p.kind v (chars p.suffix.now)) }
+    ensures cut { IfSome result (λ p. IsSplit p.kind text.now p.body.now p.suffix.now) }
+    ensures following { IfSome result (λ p. IsTail text.now p.suffix.now) }
+    ensures strict_bytes { KeepsBytesStrict (chars text.now) }
+{
+    let found = find(text)?;
+    Some(found.parts(text))
+}

@@ -1,0 +1,58 @@
+//! Parsers of literals by the lenient grammar, which is that of `syn`: of a single literal, and of the literals of
+//! lists and of Rust sources. Other functions return the segments of a literal's body, and the range of a literal's
+//! text that a range of its decoded value comes from.
+//!
+//! The parsers follow the module `value` in `src/lit.rs` of the crate `syn` 3.0.9. Nothing is allocated.
+//!
+//! # Example
+//!
+//! ```
+//! ghost use Rattle.std.specs.Prelude.{[], IfSome};
+//! ghost use Rattle.std.specs.Str.{chars};
+//! ghost use Rattle.rl_lenient.specs.Values.{HasIntegerValue};
+//!
+//! use rl_lenient::find;
+//!
+//! pub fn integer_in(text: &str) -> Option<i128>
+//!     ensures value { IfSome result (HasIntegerValue (chars text.now) []) }
+//! {
+//!     let found = find(text)?;
+//!     if found.has_suffix(text) {
+//!         return None;
+//!     }
+//!     found.signed(text)
+//! }
+//! // integer_in("-0x1F") == Some(-31)
+//! ```
+#![tactic(auto)]
+
+pub mod contents;
+pub mod digit_runs;
+mod digits;
+pub mod found;
+pub mod laws;
+mod next_literals;
+pub mod number_forms;
+mod numbers;
+pub mod quoted_forms;
+mod ranges;
+mod segments;
+mod source_literals;
+pub mod units;
+mod values;
+
+pub use crate::contents::{
+    byte_of, byte_of_body, bytes_into, char_of, char_of_body, is_plain, str_into,
+};
+pub use crate::digits::{float_digits_into, is_plain_integer};
+pub use crate::found::{
+    Body, Found, Parts, bool_of, find, find_float, find_int, find_negative, shape,
+};
+pub use crate::next_literals::{
+    ListStep, NextLiteral, Rejection, RejectionKind, list_step, next_literal,
+};
+pub use crate::number_forms::{float_shape, int_shape, shape_negative};
+pub use crate::numbers::{FloatParts, IntegerParts, float_parts, integer_parts};
+pub use crate::ranges::text_range;
+pub use crate::segments::{Segment, SegmentValue, Segments, split_segment, text_offset};
+pub use crate::source_literals::{SourceStep, source_step};

@@ -1,0 +1,28 @@
+//! A function that maps a range of a quoted literal's decoded value to a range of the literal's text.
+
+ghost use Rattle.std.specs.Str.{chars};
+ghost use Rattle.rl_lenient.specs.Founds.{IsQuotedAt};
+ghost use Rattle.rl_lenient.specs.Ranges.{IsRangeOf};
+
+use crate::Body;
+use rl_syntax::Kind;
+
+/// Returns the byte range of a quoted literal's text that the bytes from `lo` up to `hi` of its decoded value come
+/// from.
+///
+/// The range begins where the character or escape of the first byte begins, and ends where that of the last byte ends.
+/// For an empty range the result is empty, and begins where the character or escape of the byte `lo` begins. An escaped
+/// line end after the last byte isn't included.
+///
+/// `body` contains the byte offsets of the literal's parts, as [`find`](crate::find) returns them.
+pub fn text_range(kind: Kind, text: &str, body: &Body, lo: usize, hi: usize) -> (usize, usize)
+    requires { IsQuotedAt kind text.now body.now }
+    ensures { IsRangeOf kind (chars text.now) lo hi result.0 result.1 }
+{
+    let first = body.segments_in(kind, text).text_offset(lo);
+    if lo < hi {
+        (first, body.segments_in(kind, text).end_of(hi - 1))
+    } else {
+        (first, first)
+    }
+}

@@ -1,0 +1,441 @@
+//! Functions that parse the characters and escapes between the quotes of a literal.
+
+ghost use Rattle.std.specs.Prelude.{◌≡◌, ◌<◌, ◌≤◌, ◌∷◌, [], ℕ, length, option_map, IfSome, IsTrue, IsFalse, ◌+◌, ◌++◌, drop, map, ◌≢◌, List, not, IfNone};
+ghost use Rattle.std.specs.Str.{chars, IsCharBoundary};
+ghost use Rattle.rl_syntax.specs.Texts.{begins_char, first_passes, IsTail, code};
+ghost use Rattle.rl_syntax.specs.Quoted.{holds_characters, is_plain, is_single, allows_code, may_be_hex, has_unicode, is_string};
+ghost use Rattle.rl_syntax.specs.Strict.{is_bare_character};
+ghost use Rattle.rl_lenient.specs.Bodies.{IsUnitValue};
+ghost use Rattle.rl_lenient.specs.Mirrors.UnitAt.{piece_value, is_character, is_character_at, IsHeldBy, named_in, digit_at, hex_at, code_digits, code_digits_at, first_code_digits_at, closed_at, unicode_at, after_blanks, escape_at, unit_at};
+ghost use Rattle.std.specs.Char.{is_ascii};
+ghost use Rattle.std.specs.List.{list_all, prefix_len};
+ghost use Rattle.rl_syntax.specs.Scanning.{is_ascii_other};
+ghost use Rattle.rl_lenient.specs.Mirrors.Classes.{is_in_run};
+
+use rl_syntax::Kind;
+use rl_syntax::classes::{CharClass, skip_class};
+use rl_syntax::scan::{Marks, ascii_len_before, len_before};
+use rl_syntax::text::{ascii_at, split_char};
+
+/// The delimiters of a search that stops at non-ASCII bytes alone. Each is the byte 255, which is non-ASCII itself.
+const NO_MARK: Marks = Marks {
+    first: 255,
+    second: 255,
+    third: 255,
+    fourth: 255,
+};
+
+/// The value of one character or escape between a literal's quotes. In a literal of bytes, a character represents its
+/// UTF-8 bytes.
+#[derive(Clone, Copy)]
+pub enum Piece {
+    Character(char),
+    Byte(u8),
+    Nothing,
+}
+
+/// Returns the number of the character or byte `piece`, the only one of a character or byte literal.
+#[inline(always)]
+pub fn piece_unit(kind: Kind, piece: Piece) -> u32
+    requires single { IsTrue (is_single kind) }
+    requires one { (n : ℕ) × (piece_value kind piece ≡ n ∷ []) }
+    ensures { IsUnitValue kind (piece_value kind piece) result }
+{
+    match piece {
+        Piece::Character(c) => c as u32,
+        Piece::Byte(b) => b as u32,
+        Piece::Nothing => unreachable!(),
+    }
+}
+
+/// Returns `true` if a literal between single quotes may contain the character unescaped: each character except `'`,
+/// the backslash, LF, CR and TAB. Byte literals have this rule in `syn`'s and in Rust's grammar, and character literals
+/// in Rust's grammar alone.
+pub fn is_bare_character(c: char) -> bool
+    ensures { result ≡ is_bare_character c }
+{
+    !matches!(c, '\'' | '\\' | '\n' | '\r' | '\t')
+}
+
+/// Returns `true` if a literal of the kind may contain the character unescaped, as its own value.
+pub fn is_plain(kind: Kind, c: char) -> bool
+    ensures { result ≡ is_plain kind c }
+{
+    match kind {
+        Kind::Str => !matches!(c, '"' | '\\' | '\r'),
+        Kind::ByteStr => c.is_ascii() && !matches!(c, '"' | '\\' | '\r'),
+        Kind::CStr => !matches!(c, '"' | '\\' | '\r' | '\0'),
+        Kind::Char => c != '\\',
+        Kind::Byte => c.is_ascii() && is_bare_character(c),
+        Kind::Int | Kind::Float | Kind::Bool => false,
+    }
+}
+
+/// Returns `true` if the value of a literal of the kind may contain the character or byte with the number `code`. Only
+/// a C string excludes one, which is 0.
+pub fn allows_code(kind: Kind, code: u32) -> bool
+    ensures { result ≡ allows_code kind code }
+{
+    !matches!(kind, Kind::CStr) || code != 0
+}
+
+/// Whether a literal of the kind may contain the escape `\xHH` of the number `code`. In a literal of characters the
+/// number is below 128, and in a C string it isn't 0.
+fn may_be_hex(kind: Kind, code: u32) -> bool
+    ensures { result ≡ may_be_hex kind code }
+{
+    allows_code(kind, code) && (!kind.holds_characters() || code < 128)
+}
+
+/// Returns `true` if literals of the kind may contain escapes `\u{..}`: all kinds except byte strings and bytes.
+pub fn has_unicode(kind: Kind) -> bool
+    ensures { result ≡ has_unicode kind }
+{
+    !matches!(kind, Kind::ByteStr | Kind::Byte)
+}
+
+/// The entry of the table `NAMED` for a character that is no escape after a backslash.
+const NO_LETTER: u8 = 255;
+
+/// The values of the escapes of a backslash and one ASCII character, by that character. Escapes by number and escaped
+/// line ends aren't included.
+///
+/// The values are in a table, since escapes occur in any order: the branches of a `match` would often be mispredicted.
+const NAMED: [u8; 128] = [
+    255, 255, 255, 255, 255, 255, 255, 255, 255, 255, 255, 255, 255, 255, 255, 255, 255, 255, 255,
+    255, 255, 255, 255, 255, 255, 255, 255, 255, 255, 255, 255, 255, 255, 255, b'"', 255, 255, 255,
+    255, b'\'', 255, 255, 255, 255, 255, 255, 255, 255, 0, 255, 255, 255, 255, 255, 255, 255, 255,
+    255, 255, 255, 255, 255, 255, 255, 255, 255, 255, 255, 255, 255, 255, 255, 255, 255, 255, 255,
+    255, 255, 255, 255, 255, 255, 255, 255, 255, 255, 255, 255, 255, 255, 255, 255, b'\\', 255,
+    255, 255, 255, 255, 255, 255, 255, 255, 255, 255, 255, 255, 255, 255, 255, 255, b'\n', 255,
+    255, 255, b'\r', 255, b'\t', 255, 255, 255, 255, 255, 255, 255, 255, 255, 255, 255,
+];
+
+/// Returns the value of the escape of a backslash and the character `letter` in a literal of the kind, as LF for `\n`.
+/// Returns `None` if it isn't an escape of that kind.
+#[inline(always)]
+fn named_value(kind: Kind, letter: u8) -> Option<u8>
+    requires { letter < 128 }
+    ensures value { result ≡ named_in kind letter }
+    ensures ascii { IfSome result (λ n. n < 128) }
+{
+    let value = NAMED[letter as usize];
+    if value == NO_LETTER || !allows_code(kind, value as u32) {
+        return None;
+    }
+    Some(value)
+}
+
+/// Returns the value of the hexadecimal digit at the byte offset `at` of the text, and the offset after it. Returns
+/// `None` if no digit is there.
+#[tactic(auto, using(crate::proofs::AsciiLemmas::no_digit))]
+#[inline(always)]
+fn digit(text: &str, at: usize) -> Option<(u32, usize)>
+    requires { IsCharBoundary text.now at }
+    ensures value { option_map (λ p. (p.0, chars (drop p.1 text.now))) result ≡ digit_at (chars (drop at text.now)) }
+    ensures small { IfSome result (λ p. p.0 < 16) }
+    ensures place { IfSome result (λ p. IsCharBoundary text.now p.1) }
+    ensures after { IfSome result (λ p. (at < p.1) × (p.1 ≤ length text.now)) }
+{
+    let (byte, after) = ascii_at(text, at)?;
+    Some(((byte as char).to_digit(16)?, after))
+}
+
+/// Returns the number of the two hexadecimal digits of an escape `\x`, and the byte offset after them. `at` is the
+/// offset after the `\x`. Returns `None` if a literal of the kind doesn't allow the escape.
+#[tactic(auto, unfolding(crate::specs::Mirrors::UnitAt::hex_at))]
+#[inline(always)]
+fn hex_escape(kind: Kind, text: &str, at: usize) -> Option<(u8, usize)>
+    requires { IsCharBoundary text.now at }
+    ensures value { option_map (λ p. (p.0, chars (drop p.1 text.now))) result ≡ hex_at kind (chars (drop at text.now)) }
+    ensures ascii { IfSome result (λ p. IsTrue (holds_characters kind) → p.0 < 128) }
+    ensures place { IfSome result (λ p. IsCharBoundary text.now p.1) }
+    ensures after { IfSome result (λ p. (at < p.1) × (p.1 ≤ length text.now)) }
+{
+    let (high, after) = digit(text, at)?;
+    let (low, after) = digit(text, after)?;
+    let code = high * 16 + low;
+    if may_be_hex(kind, code) {
+        Some((code as u8, after))
+    } else {
+        None
+    }
+}
+
+/// The parsed hexadecimal digits of an escape `\u{..}`, with underscores between and after them.
+#[derive(Clone, Copy)]
+pub struct CodeDigits {
+    /// The number that the digits represent.
+    pub value: u32,
+    /// The number of digits of the escape, at most six.
+    pub count: u32,
+    /// The byte offset of the last digit.
+    pub last: usize,
+    /// The byte offset after the digits and underscores.
+    pub end: usize,
+}
+
+/// Parses the further hexadecimal digits and underscores of an escape `\u{..}`, up to its sixth digit. `first` is the
+/// value of the first digit, at the byte offset `from`. The further ones begin at `after`.
+#[tactic(auto, unfolding(crate::specs::Mirrors::UnitAt::code_digits_at))]
+#[inline(always)]
+fn more_digits(first: u32, text: &str, from: usize, after: usize) -> CodeDigits
+    requires first { first < 16 }
+    requires from { IsCharBoundary text.now from }
+    requires after { IsCharBoundary text.now after }
+    ensures value { code_digits result.value result.count (chars (drop result.last text.now)) (chars (drop result.end text.now))
+        ≡ code_digits_at first 1 (chars (drop from text.now)) (chars (drop after text.now)) }
+    ensures last { IsCharBoundary text.now result.last }
+    ensures end { IsCharBoundary text.now result.end }
+    ensures after { after ≤ result.end }
+{
+    let mut value = first;
+    let mut count = 1_u32;
+    let mut last = from;
+    let mut at = after;
+    while let Some((next, following)) = ascii_at(text, at) {
+        if let Some(digit) = (next as char).to_digit(16) {
+            if count == 6 {
+                break;
+            }
+            value = value * 16 + digit;
+            count += 1;
+            last = at;
+        } else if next != b'_' {
+            break;
+        }
+        at = following;
+    }
+    CodeDigits {
+        value,
+        count,
+        last,
+        end: at,
+    }
+}
+
+/// Parses the hexadecimal digits and underscores of an escape `\u{..}`. `from` is the byte offset after its brace.
+/// Returns `None` if no digit is at `from`.
+#[inline(always)]
+pub fn code_digits(text: &str, from: usize) -> Option<CodeDigits>
+    requires { IsCharBoundary text.now from }
+    ensures value { option_map (λ d. code_digits d.value d.count (chars (drop d.last text.now)) (chars (drop d.end text.now)))
+        result ≡ first_code_digits_at (chars (drop from text.now)) }
+    ensures last { IfSome result (λ d. IsCharBoundary text.now d.last) }
+    ensures end { IfSome result (λ d. IsCharBoundary text.now d.end) }
+    ensures after { IfSome result (λ d. from < d.end) }
+{
+    let (first, after) = digit(text, from)?;
+    Some(more_digits(first, text, from, after))
+}
+
+/// Returns the character whose number the digits of an escape `\u{..}` represent, and the byte offset after its closing
+/// brace. Returns `None` if no brace follows the digits, or if no character has the number.
+#[tactic(auto, using(crate::proofs::AsciiLemmas::no_close))]
+#[inline(always)]
+fn closed_code(text: &str, digits: CodeDigits) -> Option<(char, usize)>
+    requires { IsCharBoundary text.now digits.end }
+    ensures value { option_map (λ p. (p.0, chars (drop p.1 text.now))) result
+        ≡ closed_at (code_digits digits.value digits.count (chars (drop digits.last text.now)) (chars (drop digits.end text.now))) }
+    ensures place { IfSome result (λ p. IsCharBoundary text.now p.1) }
+    ensures after { IfSome result (λ p. (digits.end < p.1) × (p.1 ≤ length text.now)) }
+{
+    let Some((b'}', after)) = ascii_at(text, digits.end) else {
+        return None;
+    };
+    Some((char::from_u32(digits.value)?, after))
+}
+
+/// Returns the character of an escape `\u{..}`, and the byte offset after the escape. `at` is the offset of its opening
+/// brace. Returns `None` if a literal of the kind doesn't allow the escape.
+#[tactic(auto, unfolding(crate::specs::Mirrors::UnitAt::unicode_at), using(crate::proofs::AsciiLemmas::no_brace))]
+#[inline(always)]
+fn unicode_escape(kind: Kind, text: &str, at: usize) -> Option<(char, usize)>
+    requires { IsCharBoundary text.now at }
+    ensures value { option_map (λ p. (p.0, chars (drop p.1 text.now))) result
+        ≡ unicode_at kind (chars (drop at text.now)) }
+    ensures place { IfSome result (λ p. IsCharBoundary text.now p.1) }
+    ensures after { IfSome result (λ p. (at < p.1) × (p.1 ≤ length text.now)) }
+{
+    let Some((b'{', inside)) = ascii_at(text, at) else {
+        return None;
+    };
+    let (c, after) = closed_code(text, code_digits(text, inside)?)?;
+    if has_unicode(kind) && allows_code(kind, c as u32) {
+        Some((c, after))
+    } else {
+        None
+    }
+}
+
+/// Returns the text after the spaces, TABs, LFs and CRs at its start.
+fn skip_blanks(text: &str) -> &str
+    ensures value { chars result.now ≡ after_blanks (chars text.now) }
+    ensures shorter { length result.now ≤ length text.now }
+{
+    skip_class(CharClass::Blank, text)
+}
+
+/// Returns the value of an escape, and the text after it. `at` is the byte offset after its backslash. Returns `None`
+/// if a literal of the kind doesn't allow the escape.
+#[tactic(auto, unfolding(crate::specs::Mirrors::UnitAt::escape_at), using(crate::proofs::AsciiLemmas::no_escape))]
+#[inline(always)]
+pub fn escape(kind: Kind, text: &str, at: usize) -> Option<(Piece, &str)>
+    requires { IsCharBoundary text.now at }
+    ensures value { option_map (λ p. (piece_value kind p.0, chars p.1.now)) result
+        ≡ escape_at kind (chars (drop at text.now)) }
+    ensures piece { IfSome result (λ p. IsHeldBy kind p.0) }
+    ensures character { IfSome result (λ p. is_character p.0 ≡ begins_char (code "u") (chars (drop at text.now))) }
+    ensures shorter { IfSome result (λ p. length p.1.now + at < length text.now) }
+{
+    let (letter, after) = ascii_at(text, at)?;
+    match letter {
+        b'x' => {
+            let (code, end) = hex_escape(kind, text, after)?;
+            Some((Piece::Byte(code), &text[end..]))
+        }
+        b'u' => {
+            let (c, end) = unicode_escape(kind, text, after)?;
+            Some((Piece::Character(c), &text[end..]))
+        }
+        b'\n' | b'\r' => {
+            if kind.is_string() {
+                Some((Piece::Nothing, skip_blanks(&text[after..])))
+            } else {
+                None
+            }
+        }
+        _ => {
+            let code = named_value(kind, letter)?;
+            Some((Piece::Byte(code), &text[after..]))
+        }
+    }
+}
+
+/// Returns the value of the unescaped character at the start of the text, and the text after it. In a string, a line
+/// end CR LF is one character with the value LF. Returns `None` if a literal of the kind doesn't allow the character.
+/// The text must not begin with a backslash.
+#[tactic(auto, unfolding(crate::specs::Mirrors::UnitAt::unit_at))]
+#[inline(always)]
+fn character(kind: Kind, text: &str) -> Option<(Piece, &str)>
+    requires { IsFalse (begins_char (code "\\") (chars text.now)) }
+    ensures value { option_map (λ p. (piece_value kind p.0, chars p.1.now)) result
+        ≡ unit_at kind (chars text.now) }
+    ensures piece { IfSome result (λ p. IsHeldBy kind p.0) }
+    ensures character { IfSome result (λ p. is_character p.0 ≡ is_character_at kind (chars text.now)) }
+    ensures shorter { IfSome result (λ p. length p.1.now < length text.now) }
+{
+    match split_char(text) {
+        Some((c, rest)) if is_plain(kind, c) => Some((Piece::Character(c), rest)),
+        Some(('\r', rest)) if kind.is_string() => match split_char(rest) {
+            Some(('\n', rest)) => Some((Piece::Byte(b'\n'), rest)),
+            _ => None,
+        },
+        _ => None,
+    }
+}
+
+/// Returns the value of the character or escape at the start of the text, and the text after it. Returns `None` if a
+/// literal of the kind doesn't allow it.
+#[tactic(auto, unfolding(crate::specs::Mirrors::UnitAt::unit_at), using(crate::proofs::AsciiLemmas::no_backslash))]
+#[inline(always)]
+pub fn unit(kind: Kind, text: &str) -> Option<(Piece, &str)>
+    ensures value { option_map (λ p. (piece_value kind p.0, chars p.1.now)) result
+        ≡ unit_at kind (chars text.now) }
+    ensures piece { IfSome result (λ p. IsHeldBy kind p.0) }
+    ensures character { IfSome result (λ p. is_character p.0 ≡ is_character_at kind (chars text.now)) }
+    ensures shorter { IfSome result (λ p. length p.1.now < length text.now) }
+{
+    match ascii_at(text, 0) {
+        Some((b'\\', at)) => escape(kind, text, at),
+        _ => character(kind, text),
+    }
+}
+
+/// Splits the text before its first delimiter or non-ASCII character. If it contains neither, the first part is the
+/// whole text.
+#[inline(always)]
+pub fn split_ascii_run(marks: Marks, text: &str) -> (&str, &str)
+    ensures cut { chars text.now ≡ chars result.0.now ++ chars result.1.now }
+    ensures run { IsTrue (list_all (is_ascii_other marks) (chars result.0.now)) }
+    ensures stops { IsFalse (first_passes (is_ascii_other marks) (chars result.1.now)) }
+    ensures shorter { length result.1.now ≤ length text.now }
+{
+    text.split_at(ascii_len_before(marks, text.as_bytes()))
+}
+
+/// Whether all characters of the text are ASCII.
+pub(crate) fn is_ascii(text: &str) -> bool
+    ensures { result ≡ list_all is_ascii (chars text.now) }
+{
+    ascii_len_before(NO_MARK, text.as_bytes()) == text.len()
+}
+
+/// Returns the ASCII characters that a string literal of the kind doesn't allow unescaped, as the delimiters of a
+/// search.
+#[inline(always)]
+fn ends_of_runs(kind: Kind) -> Marks
+    requires { IsTrue (is_string kind) }
+    ensures { (c : ℕ) → is_in_run kind result c ≡ is_plain kind c }
+{
+    let fourth = match kind {
+        Kind::CStr => 0,
+        _ => b'"',
+    };
+    Marks {
+        first: b'"',
+        second: b'\\',
+        third: b'\r',
+        fourth,
+    }
+}
+
+/// Returns the number of leading bytes that a string or C string literal of the kind may contain unescaped. For each of
+/// the two kinds the loop is compiled separately, with constant delimiters.
+#[inline(never)]
+fn run_len(kind: Kind, bytes: &[u8]) -> usize
+    requires string { IsTrue (is_string kind) }
+    requires other { kind ≢ Kind.ByteStr }
+    ensures { result ≡ prefix_len (is_plain kind) bytes.now }
+{
+    match kind {
+        Kind::CStr => len_before(ends_of_runs(Kind::CStr), bytes),
+        _ => len_before(ends_of_runs(Kind::Str), bytes),
+    }
+}
+
+/// Returns the number of leading bytes that a byte string literal may contain unescaped. All of them are ASCII.
+#[inline(never)]
+fn byte_run_len(bytes: &[u8]) -> usize
+    ensures { result ≡ prefix_len (is_plain Kind.ByteStr) bytes.now }
+{
+    ascii_len_before(ends_of_runs(Kind::ByteStr), bytes)
+}
+
+/// Returns the number of leading bytes that a string literal of the kind may contain unescaped. At a backslash, 0 is
+/// returned without a search, since escapes often follow one another.
+#[inline(always)]
+fn plain_len(kind: Kind, bytes: &[u8]) -> usize
+    requires { IsTrue (is_string kind) }
+    ensures { result ≡ prefix_len (is_plain kind) bytes.now }
+{
+    if !bytes.is_empty() && bytes[0] == b'\\' {
+        return 0;
+    }
+    match kind {
+        Kind::ByteStr => byte_run_len(bytes),
+        _ => run_len(kind, bytes),
+    }
+}
+
+/// Splits the text after the leading characters that a string literal of the kind may contain unescaped.
+#[inline(always)]
+pub fn split_plain(kind: Kind, text: &str) -> (&str, &str)
+    requires { IsTrue (is_string kind) }
+    ensures cut { chars text.now ≡ chars result.0.now ++ chars result.1.now }
+    ensures plain { IsTrue (list_all (is_plain kind) (chars result.0.now)) }
+    ensures stops { IsFalse (first_passes (is_plain kind) (chars result.1.now)) }
+    ensures shorter { length result.1.now ≤ length text.now }
+{
+    text.split_at(plain_len(kind, text.as_bytes()))
+}

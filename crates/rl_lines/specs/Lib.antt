@@ -1,4 +1,0 @@
-pub mod Lines
-pub mod Digits
-pub mod FoundLines
-pub mod Bare

@@ -1,5 +1,0 @@
-use Rattle.rl_parts.proofs.Theorems.{a_float_has_one_of_each_part}
-use Rattle.rl_parts.proofs.laws.a_float_has_one_of_each_part.Goals as goal
-
-pub returns : goal.returns
-returns c = a_float_has_one_of_each_part

@@ -1,4 +1,0 @@
-pub mod Mirrors
-pub mod NumberParts
-pub mod Ranges
-pub mod Laws

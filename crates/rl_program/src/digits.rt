@@ -1,0 +1,61 @@
+//! Decodes pairs of hexadecimal digits to bytes.
+
+ghost use Rattle.std.specs.Prelude.{◌≡◌, ◌&&◌, ◌∷◌, ◌<◌, length, IfOk, IfSome, IfNone, IsTrue, IsFalse};
+ghost use Rattle.std.specs.Char.{digit_value};
+ghost use Rattle.rl_syntax.specs.Quoted.{is_hex_digit, hex_value};
+ghost use Rattle.rl_program.specs.Digits.{bytes_of, bytes_if_any};
+
+use std::alloc::{AllocError, Allocator};
+
+/// Returns the value of a hexadecimal digit, or `None` for another byte.
+fn digit(byte: u8) -> Option<u32>
+    ensures some { IfSome result (λ d. (d ≡ digit_value byte) × IsTrue (is_hex_digit byte)) }
+    ensures none { IfNone result (IsFalse (is_hex_digit byte)) }
+{
+    char::from(byte).to_digit(16)
+}
+
+/// Returns the byte that two hexadecimal digits encode, or `None` if one isn't a digit.
+fn byte_of(high: u8, low: u8) -> Option<u8>
+    ensures some { IfSome result
+        (λ b. (b ≡ hex_value high low) × IsTrue (is_hex_digit high && is_hex_digit low)) }
+    ensures none { IfNone result (IsFalse (is_hex_digit high && is_hex_digit low)) }
+{
+    let high = digit(high)?;
+    let low = digit(low)?;
+    u8::try_from(16 * high + low).ok()
+}
+
+/// Returns the first two bytes and the bytes after them, or `None` if there are fewer than two.
+fn split_pair(bytes: &[u8]) -> Option<(u8, u8, &[u8])>
+    ensures some { IfSome result (λ p. bytes.now ≡ p.0 ∷ p.1 ∷ p.2.now) }
+    ensures none { IfNone result (length bytes.now < 2) }
+{
+    let (first, rest) = bytes.split_first()?;
+    let (second, rest) = rest.split_first()?;
+    Some((*first, *second, rest))
+}
+
+/// Decodes pairs of hexadecimal digits, or returns `None` if the text contains anything else.
+///
+/// # Errors
+///
+/// Returns an error if an allocation fails. The error is the standard library's and has no position.
+pub fn decoded<A: Allocator>(alloc: A, digits: &[u8]) -> Result<Option<Vec<u8, A>>, AllocError>
+    ensures { IfOk result (λ bytes. bytes_if_any bytes ≡ bytes_of digits.now) }
+{
+    let mut bytes = Vec::new(alloc);
+    let mut rest = digits;
+    while let Some((high, low, following)) = split_pair(rest) {
+        let Some(byte) = byte_of(high, low) else {
+            return Ok(None);
+        };
+        bytes.push(byte)?;
+        rest = following;
+    }
+    if rest.is_empty() {
+        Ok(Some(bytes))
+    } else {
+        Ok(None)
+    }
+}

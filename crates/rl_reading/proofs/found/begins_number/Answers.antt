@@ -1,9 +1,0 @@
-use Rattle.rl_text.proofs.Common.{ap, ◌∙◌}
-use Rattle.rl_reading.proofs.Names.{first_passes}
-use Rattle.rl_reading.specs.WholeShapes.{is_number_front}
-use Rattle.rl_reading.proofs.ReadingLemmas.{front_same}
-use Rattle.rl_reading.proofs.found.begins_number.Goals as goal
-
-pub returns : goal.returns
-returns c = c.is_number_front.ensures ∙ ap (first_passes is_number_front) c.as_bytes.ensures.value
-    ∙ front_same c.args.text.now c.utf8.text

@@ -1,4 +1,0 @@
-use Rattle.rl_reading.proofs.number_forms.float_shape.Goals as goal
-
-pub parts-requires : goal.parts-requires
-parts-requires c = c.in_ok-found.ensures.found.stands

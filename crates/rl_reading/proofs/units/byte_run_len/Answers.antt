@@ -1,7 +1,0 @@
-use Rattle.rl_text.proofs.Common.{◌∙◌}
-use Rattle.rl_reading.proofs.Names.{ByteStr, is_plain}
-use Rattle.rl_reading.proofs.PlainLemmas.{same_prefix}
-use Rattle.rl_reading.proofs.units.byte_run_len.Goals as goal
-
-pub returns : goal.returns
-returns c = c.ascii_len_before.ensures ∙ same_prefix _ (is_plain ByteStr) c.args.bytes.now c.ends_of_runs.ensures

@@ -1,0 +1,495 @@
+-- A source that is being rewritten, literal by literal.
+use Rattle.rl_syntax.proofs.Common.{◌≡◌, ℕ, ◌+◌, inl, inr, Ok, Err, Result, IfOk, map, string_bytes, List, [], ◌∷◌, ◌++◌, length, Option, Some, None, refl, sym, ◌∙◌, ap, subst, arith, append_assoc, append-nil, both_ways, chars, chars-nil, IsUtf8, IsTrue}
+use Rattle.std.specs.Prelude.{◌⊎◌, OnOk}
+use Rattle.rl_syntax.specs.Texts.{IsTail, byte_len}
+use Rattle.rl_syntax.proofs.TailLemmas.{tail_step}
+use Rattle.rl_lexer.specs.Cursors.{CursorState, IsCursorState}
+use Rattle.rl_lexer.specs.Skipping.{Skipped}
+use Rattle.rl_lexer.specs.Sources.{BeginsNoSource, CutSource, IsBorrowedSource, IsCutUpTo, IsLiteralText, SourceBefore, SourceErrorAt, SourceKind, TakesSource, source_end, source_kind, source_text, source_view}
+use Rattle.rl_lexer.specs.declared.lex_error.LexError.{LexError}
+use Rattle.rl_lexer.specs.declared.sources.SourceToken.{SourceToken}
+use Rattle.rl_lexer.proofs.CutLemmas.{byte_len-append}
+use Rattle.rl_lexer.proofs.ErrorKinds.{char_len}
+use Rattle.rl_style.specs.Calls.{CallState, Outside, calls_after, is_in_call}
+use Rattle.rl_style.specs.Recut.{begins_with_code}
+use Rattle.rl_style.specs.Restylable.{GivesLiteral, GivesNone, Here, Behind, Passes, Stops, IsLiteralOfSource, RestylableState, is_field, last_after, passed}
+use Rattle.rl_style.specs.Restyled.{IsEdited}
+use Rattle.rl_style.specs.declared.restylable.Last.{Last}
+use Rattle.rl_style.specs.declared.restylable.Last.TheVariants.{Other}
+use Rattle.rl_style.specs.declared.restylable.Restylable.{Restylable}
+use Rattle.rl_style.specs.declared.style.Style.{Style}
+use Rattle.rl_style.proofs.Places.{same_place}
+use Rattle.rl_restyle.specs.Places.{IsTextBetween}
+use Rattle.rl_restyle.specs.Edits.{IsEditOf, IsRestyleError, IsRewritten, IsTextOf, Restyles, Seen, Surrounds, cut_bytes, edit_in, is_chosen, nothing_seen, placed_edits, seen_after}
+use Rattle.rl_restyle.specs.Mirrors.{IsDraft, IsNextIn, seen_all, seen_of}
+use Rattle.rl_restyle.specs.declared.edit.Macros.{Macros}
+use Rattle.rl_restyle.specs.declared.edit.Restyled.{Restyled}
+use Rattle.rl_restyle.specs.declared.edit.RestyleError.TheVariants.{Source}
+use Rattle.rl_restyle.proofs.Pieces.{edited_longer, edited_more, edits_more, last_at, none_cut, placed_more, seen_more}
+
+abbrev Told : Type 0
+Told = List (ℕ × ℕ × List ℕ)
+
+-- ---- the start of the source
+
+pub draft_start : (style : Style) (macros : Macros) (text : List ℕ) (s : RestylableState) (at : ℕ) (out : List ℕ)
+    (edits : List (ℕ × ℕ × List ℕ)) → s.tokens.text ≡ text → IsCursorState text s.tokens.rest
+    → IsCutUpTo (chars text) [] (chars s.tokens.rest) → s.last ≡ Other → s.end ≡ 0 → s.calls ≡ Outside → at ≡ 0
+    → out ≡ [] → edits ≡ [] → IsDraft style macros (chars text) s at out edits
+draft_start style macros text s at out edits same cursor cut last end calls begin none nothing =
+    let found = none_cut (chars text) (chars s.tokens.rest) cut in
+    let seen : Last → ℕ → CallState → Seen = λ d e k. record { last = d; end = e; calls = k } in
+    record {
+      whole = ap chars same;
+      cursor = subst (λ z. IsCursorState z s.tokens.rest) (sym same) cursor;
+      cuts = [];
+      texts = [];
+      are_cuts = cut;
+      are_edits = tt;
+      seen_is = ap (λ d. seen d 0 Outside) (sym last) ∙ ap (λ e. seen s.last e Outside) (sym end)
+          ∙ ap (λ k. seen s.last s.end k) (sym calls);
+      front = [];
+      tail = [];
+      gap = found.0;
+      text_is = found.1;
+      at_is = begin;
+      is_edited = append-nil out ∙ none;
+      edits_are = nothing;
+    }
+
+-- ---- the next token
+
+record Next (style : Style) (macros : Macros) (t : List ℕ) (s : RestylableState) (at : ℕ) (out : List ℕ) (edits : Told)
+    (d : IsDraft style macros t s at out edits) (w : CutSource) (tokens : CursorState) : Type 0 where
+  later : List ℕ
+  text_is : t ≡ ((d.front ++ d.tail) ++ d.gap) ++ (source_text w.token ++ (later ++ chars tokens.rest))
+  place_is : w.at ≡ byte_len ((d.front ++ d.tail) ++ d.gap)
+  skips : Skipped (later ++ chars tokens.rest) (chars tokens.rest)
+  cut : IsCutUpTo t (d.cuts ++ w ∷ []) (chars tokens.rest)
+  cursor : IsCursorState tokens.text tokens.rest
+  whole : chars tokens.text ≡ t
+
+next_token : (style : Style) (macros : Macros) (t : List ℕ) (s : RestylableState) (at : ℕ) (out : List ℕ) (edits : Told)
+    (d : IsDraft style macros t s at out edits) (token : SourceToken) (tokens : CursorState)
+    → (takes : TakesSource s.tokens token tokens) → Next style macros t s at out edits d takes.cut tokens
+next_token style macros t s at out edits d token tokens takes =
+    let w : CutSource = takes.cut in
+    let r : List ℕ = chars s.tokens.rest in
+    let before : List ℕ = (d.front ++ d.tail) ++ d.gap in
+    let cut : IsCutUpTo t (d.cuts ++ w ∷ []) (chars tokens.rest) =
+    subst (λ z. IsCutUpTo z (d.cuts ++ w ∷ []) (chars tokens.rest)) d.whole
+    (takes.goes_on d.cuts (subst (λ z. IsCutUpTo z d.cuts r) (sym d.whole) d.are_cuts)) in
+    let last = last_at t d.cuts w (chars tokens.rest) cut in
+    let begun : t ≡ before ++ r = d.text_is ∙ sym (append_assoc (d.front ++ d.tail) d.gap r) in
+    let text : t ≡ before ++ (source_text w.token ++ takes.after) = begun ∙ ap (λ z. before ++ z) takes.begins in
+    let place : w.at ≡ byte_len before = omega (
+      arith,
+      takes.is_cut.lo_is,
+      takes.place,
+      char_len s.tokens.text d.cursor.is_text,
+      ap byte_len d.whole,
+      char_len s.tokens.rest d.cursor.following.is_text,
+      ap byte_len begun,
+      byte_len-append before r,
+    ) in
+    let same = same_place last.front before (source_text w.token ++ (last.gap ++ chars tokens.rest))
+    (source_text w.token ++ takes.after) (sym last.text_is ∙ text) (omega (arith, last.place_is, place)) in
+    record {
+      later = last.gap;
+      text_is = last.text_is ∙ ap (λ z. z ++ (source_text w.token ++ (last.gap ++ chars tokens.rest))) same.0;
+      place_is = place;
+      skips = last.skips;
+      cut = cut;
+      cursor = record {
+        is_text = subst IsUtf8 (sym takes.same) d.cursor.is_text;
+        following = subst (λ z. IsTail z tokens.rest) (sym takes.same)
+            (tail_step s.tokens.text s.tokens.rest tokens.rest d.cursor.following takes.following);
+      };
+      whole = ap chars takes.same ∙ d.whole;
+    }
+
+-- The text before a token and the text after it.
+surrounds : (style : Style) (macros : Macros) (t : List ℕ) (s : RestylableState) (at : ℕ) (out : List ℕ) (edits : Told)
+    (d : IsDraft style macros t s at out edits) (token : SourceToken) (tokens : CursorState)
+    → (takes : TakesSource s.tokens token tokens)
+    → Surrounds t takes.cut ((d.front ++ d.tail) ++ d.gap) (chars tokens.rest)
+surrounds style macros t s at out edits d token tokens takes =
+    let n = next_token style macros t s at out edits d token tokens takes in
+    record { after = n.later ++ chars tokens.rest; text_is = n.text_is; at_is = n.place_is; skips = n.skips }
+
+-- The context of the next token, after one more token.
+seen_passed : (s : RestylableState) (token : SourceToken) (tokens : CursorState) (w : CutSource)
+    → IsBorrowedSource token w → seen_after (seen_of s) w ≡ seen_of (passed s token tokens)
+seen_passed s token tokens w is =
+    let seen : SourceKind → ℕ → ℕ → List ℕ → Seen = λ k lo hi b. record {
+      last = last_after s.last s.end k lo;
+      end = hi;
+      calls = calls_after s.calls k b;
+    } in
+    let view : SourceKind = source_view token.form in
+    ap (λ k. seen k w.at (source_end w) (cut_bytes w)) is.kind_is
+    ∙ ap (λ n. seen view n (source_end w) (cut_bytes w)) is.lo_is
+    ∙ ap (λ n. seen view token.lo n (cut_bytes w)) is.hi_is
+    ∙ ap (λ b. seen view token.lo token.hi b) is.bytes_are
+
+seen_next : (style : Style) (macros : Macros) (t : List ℕ) (s : RestylableState) (at : ℕ) (out : List ℕ) (edits : Told)
+    (d : IsDraft style macros t s at out edits) (token : SourceToken) (tokens : CursorState)
+    → (takes : TakesSource s.tokens token tokens) → seen_all nothing_seen (d.cuts ++ takes.cut ∷ [])
+    ≡ seen_of (passed s token tokens)
+seen_next style macros t s at out edits d token tokens takes = seen_more nothing_seen d.cuts takes.cut
+    ∙ ap (λ z. seen_after z takes.cut) d.seen_is ∙ seen_passed s token tokens takes.cut takes.is_cut
+
+-- The partly rewritten source after a token that stays unchanged.
+draft_past : (style : Style) (macros : Macros) (t : List ℕ) (s : RestylableState) (at : ℕ) (out : List ℕ) (edits : Told)
+    → IsDraft style macros t s at out edits → (token : SourceToken) (tokens : CursorState)
+    → (takes : TakesSource s.tokens token tokens) → IsEditOf style macros t (seen_of s) takes.cut None
+    → IsDraft style macros t (passed s token tokens) at out edits
+draft_past style macros t s at out edits d token tokens takes is =
+    let w : CutSource = takes.cut in
+    let x : List ℕ = source_text w.token in
+    let n = next_token style macros t s at out edits d token tokens takes in
+    let more : IsEdited 0 ((d.front ++ d.tail) ++ (d.gap ++ x)) (d.cuts ++ w ∷ []) (d.texts ++ None ∷ [])
+    ((out ++ d.tail) ++ (d.gap ++ x)) = edited_more 0 (d.front ++ d.tail) d.cuts d.texts (out ++ d.tail) d.gap w None
+    d.is_edited (omega (arith, n.place_is)) in
+    let here : ((d.front ++ d.tail) ++ d.gap) ++ x ≡ d.front ++ (d.tail ++ (d.gap ++ x)) =
+    append_assoc (d.front ++ d.tail) d.gap x ∙ append_assoc d.front d.tail (d.gap ++ x) in
+    record {
+      whole = n.whole;
+      cursor = n.cursor;
+      cuts = d.cuts ++ w ∷ [];
+      texts = d.texts ++ None ∷ [];
+      are_cuts = n.cut;
+      are_edits = edits_more style macros t nothing_seen d.cuts d.texts w None d.are_edits
+          (subst (λ z. IsEditOf style macros t z w None) (sym d.seen_is) is);
+      seen_is = seen_next style macros t s at out edits d token tokens takes;
+      front = d.front;
+      tail = d.tail ++ (d.gap ++ x);
+      gap = n.later;
+      text_is = n.text_is
+          ∙ sym (append_assoc ((d.front ++ d.tail) ++ d.gap) x (n.later ++ chars tokens.rest))
+          ∙ ap (λ z. z ++ (n.later ++ chars tokens.rest)) here;
+      at_is = d.at_is;
+      is_edited = subst (λ z. IsEdited 0 z (d.cuts ++ w ∷ []) (d.texts ++ None ∷ []) (out ++ (d.tail ++ (d.gap ++ x))))
+          (append_assoc d.front d.tail (d.gap ++ x))
+          (subst (λ z. IsEdited 0 ((d.front ++ d.tail) ++ (d.gap ++ x)) (d.cuts ++ w ∷ []) (d.texts ++ None ∷ []) z)
+          (append_assoc out d.tail (d.gap ++ x)) more);
+      edits_are = d.edits_are ∙ sym (placed_more style macros t nothing_seen d.cuts d.texts w None d.are_edits
+          ∙ append-nil (placed_edits d.cuts d.texts));
+    }
+
+-- The partly rewritten source after a token that a new text replaces.
+draft_put : (style : Style) (macros : Macros) (t : List ℕ) (s : RestylableState) (at : ℕ) (out : List ℕ) (edits : Told)
+    → (d : IsDraft style macros t s at out edits) → (token : SourceToken) (tokens : CursorState)
+    → (takes : TakesSource s.tokens token tokens) (new : List ℕ)
+    → IsEditOf style macros t (seen_of s) takes.cut (Some new) → (later_at : ℕ) (longer : List ℕ) (told : Told)
+    → later_at ≡ token.hi → longer ≡ out ++ ((d.tail ++ d.gap) ++ new)
+    → told ≡ edits ++ (token.lo, token.hi, new) ∷ []
+    → IsDraft style macros t (passed s token tokens) later_at longer told
+draft_put style macros t s at out edits d token tokens takes new is later_at longer told at_is out_is told_is =
+    let w : CutSource = takes.cut in
+    let x : List ℕ = source_text w.token in
+    let e : Option (List ℕ) = Some new in
+    let n = next_token style macros t s at out edits d token tokens takes in
+    let more : IsEdited 0 ((d.front ++ d.tail) ++ (d.gap ++ x)) (d.cuts ++ w ∷ []) (d.texts ++ e ∷ [])
+    ((out ++ d.tail) ++ (d.gap ++ new)) = edited_more 0 (d.front ++ d.tail) d.cuts d.texts (out ++ d.tail) d.gap w e
+    d.is_edited (omega (arith, n.place_is)) in
+    let front : List ℕ = ((d.front ++ d.tail) ++ d.gap) ++ x in
+    let old : (d.front ++ d.tail) ++ (d.gap ++ x) ≡ front ++ [] = sym (append_assoc (d.front ++ d.tail) d.gap x)
+    ∙ sym (append-nil front) in
+    let made : (out ++ d.tail) ++ (d.gap ++ new) ≡ longer ++ [] = append_assoc out d.tail (d.gap ++ new)
+    ∙ ap (λ z. out ++ z) (sym (append_assoc d.tail d.gap new)) ∙ sym out_is ∙ sym (append-nil longer) in
+    let one : (lo hi : ℕ) → w.at ≡ lo → source_end w ≡ hi → (lo, hi, new) ∷ [] ≡ placed_edits (w ∷ []) (e ∷ []) =
+    λ lo hi f g. ap (λ z. (z, hi, new) ∷ []) (sym f) ∙ ap (λ z. (w.at, z, new) ∷ []) (sym g) in
+    record {
+      whole = n.whole;
+      cursor = n.cursor;
+      cuts = d.cuts ++ w ∷ [];
+      texts = d.texts ++ e ∷ [];
+      are_cuts = n.cut;
+      are_edits = edits_more style macros t nothing_seen d.cuts d.texts w e d.are_edits
+          (subst (λ z. IsEditOf style macros t z w e) (sym d.seen_is) is);
+      seen_is = seen_next style macros t s at out edits d token tokens takes;
+      front = front;
+      tail = [];
+      gap = n.later;
+      text_is = n.text_is
+          ∙ sym (append_assoc ((d.front ++ d.tail) ++ d.gap) x (n.later ++ chars tokens.rest))
+          ∙ ap (λ z. z ++ (n.later ++ chars tokens.rest)) (sym (append-nil front));
+      at_is = omega (
+        arith,
+        at_is,
+        takes.is_cut.hi_is,
+        n.place_is,
+        byte_len-append ((d.front ++ d.tail) ++ d.gap) x,
+      );
+      is_edited = subst (λ z. IsEdited 0 z (d.cuts ++ w ∷ []) (d.texts ++ e ∷ []) (longer ++ [])) old
+          (subst (λ z. IsEdited 0 ((d.front ++ d.tail) ++ (d.gap ++ x)) (d.cuts ++ w ∷ []) (d.texts ++ e ∷ []) z) made
+          more);
+      edits_are = told_is ∙ ap (λ z. z ++ (token.lo, token.hi, new) ∷ []) d.edits_are
+          ∙ ap (λ z. placed_edits d.cuts d.texts ++ z) (one token.lo token.hi takes.is_cut.lo_is takes.is_cut.hi_is)
+          ∙ sym (placed_more style macros t nothing_seen d.cuts d.texts w e d.are_edits);
+    }
+
+-- ---- the next literal
+
+-- The tokens before the next literal are processed.
+record AtLiteral (style : Style) (macros : Macros) (t : List ℕ) (at : ℕ) (out : List ℕ) (edits : Told) (l : Restylable)
+    (new : RestylableState) : Type 0 where
+  s : RestylableState
+  tokens : CursorState
+  draft : IsDraft style macros t s at out edits
+  takes : TakesSource s.tokens l.token tokens
+  is_literal : IsLiteralOfSource l.token
+  field_is : l.is_field ≡ is_field s.last l.token.text.now (chars tokens.rest)
+  inside_is : l.in_macro ≡ is_in_call s.calls
+  new_is : new ≡ passed s l.token tokens
+
+-- A token of the cursor is a literal if the lexed token is one.
+told_literal : (token : SourceToken) (w : CutSource) → IsBorrowedSource token w
+    → IsLiteralText (source_kind w.token) (source_text w.token) → IsLiteralOfSource token
+told_literal token w is h = subst (λ (k : SourceKind). IsLiteralText k (chars token.text.now)) is.kind_is
+    (subst (λ z. IsLiteralText (source_kind w.token) z) is.chars_are h)
+
+cut_literal : (token : SourceToken) (w : CutSource) → IsBorrowedSource token w → IsLiteralOfSource token
+    → IsLiteralText (source_kind w.token) (source_text w.token)
+cut_literal token w is h = subst (λ (k : SourceKind). IsLiteralText k (source_text w.token)) (sym is.kind_is)
+    (subst (λ z. IsLiteralText (source_view token.form) z) (sym is.chars_are) h)
+
+-- A token that isn't a literal has no edit.
+other_edit : (style : Style) (macros : Macros) (t : List ℕ) (s : RestylableState) (at : ℕ) (out : List ℕ) (edits : Told)
+    → IsDraft style macros t s at out edits → (token : SourceToken) (tokens : CursorState)
+    → (takes : TakesSource s.tokens token tokens) → (IsLiteralOfSource token → ⊥)
+    → IsEditOf style macros t (seen_of s) takes.cut None
+other_edit style macros t s at out edits d token tokens takes none = (
+  (d.front ++ d.tail) ++ d.gap,
+  chars tokens.rest,
+  surrounds style macros t s at out edits d token tokens takes,
+  inr (λ taken. none (told_literal token takes.cut takes.is_cut taken.0), refl),
+)
+
+to_literal : (style : Style) (macros : Macros) (t : List ℕ) (at : ℕ) (out : List ℕ) (edits : Told)
+    {old new : RestylableState} {l : Restylable} → IsDraft style macros t old at out edits → GivesLiteral old l new
+    → AtLiteral style macros t at out edits l new
+to_literal style macros t at out edits d (Here {s = s} {l = l} {tokens = tokens} takes is field inside) = record {
+  s = s;
+  tokens = tokens;
+  draft = d;
+  takes = takes;
+  is_literal = is;
+  field_is = field;
+  inside_is = inside;
+  new_is = refl;
+}
+to_literal style macros t at out edits d (Behind {s = s} {token = token} {tokens = tokens} takes none g) =
+    to_literal style macros t at out edits
+    (draft_past style macros t s at out edits d token tokens takes
+    (other_edit style macros t s at out edits d token tokens takes none)) g
+
+pub to_none : (style : Style) (macros : Macros) (t : List ℕ) (at : ℕ) (out : List ℕ) (edits : List (ℕ × ℕ × List ℕ))
+    {old new : RestylableState} → IsDraft style macros t old at out edits → GivesNone old new
+    → IsDraft style macros t new at out edits × BeginsNoSource (chars new.tokens.rest)
+to_none style macros t at out edits d (Stops none) = (d, none)
+to_none style macros t at out edits d (Passes {s = s} {token = token} {tokens = tokens} takes none g) =
+    to_none style macros t at out edits
+    (draft_past style macros t s at out edits d token tokens takes
+    (other_edit style macros t s at out edits d token tokens takes none)) g
+
+-- The old text before the next literal is the text up to the literal's byte offset.
+literal_front : (style : Style) (macros : Macros) (t : List ℕ) (at : ℕ) (out : List ℕ) (edits : Told) (l : Restylable)
+    (new : RestylableState) → (a : AtLiteral style macros t at out edits l new)
+    → IsTextBetween t 0 l.token.lo ((a.draft.front ++ a.draft.tail) ++ a.draft.gap)
+literal_front style macros t at out edits l new a =
+    let n = next_token style macros t a.s at out edits a.draft l.token a.tokens a.takes in
+    record {
+      front = [];
+      rest = source_text a.takes.cut.token ++ (n.later ++ chars a.tokens.rest);
+      text_is = n.text_is;
+      lo_is = refl;
+      hi_is = sym a.takes.is_cut.lo_is ∙ n.place_is;
+    }
+
+-- The text between the last edit and the next literal.
+literal_middle : (style : Style) (macros : Macros) (t : List ℕ) (at : ℕ) (out : List ℕ) (edits : Told) (l : Restylable)
+    (new : RestylableState) → (a : AtLiteral style macros t at out edits l new)
+    → IsTextBetween t at l.token.lo (a.draft.tail ++ a.draft.gap)
+literal_middle style macros t at out edits l new a =
+    let n = next_token style macros t a.s at out edits a.draft l.token a.tokens a.takes in
+    let rest : List ℕ = source_text a.takes.cut.token ++ (n.later ++ chars a.tokens.rest) in
+    let same = append_assoc a.draft.front a.draft.tail a.draft.gap in
+    record {
+      front = a.draft.front;
+      rest = rest;
+      text_is = n.text_is ∙ ap (λ z. z ++ rest) same
+          ∙ append_assoc a.draft.front (a.draft.tail ++ a.draft.gap) rest;
+      lo_is = a.draft.at_is;
+      hi_is = sym a.takes.is_cut.lo_is ∙ n.place_is ∙ ap byte_len same;
+    }
+
+pub next_front : (style : Style) (macros : Macros) (t : List ℕ) (at : ℕ) (out : List ℕ)
+    (edits : List (ℕ × ℕ × List ℕ)) (l : Restylable) → IsNextIn style macros t l at out edits
+    → (front : List ℕ) × IsTextBetween t 0 l.token.lo front
+next_front style macros t at out edits l (old, new, d, g) =
+    let a = to_literal style macros t at out edits d g in
+    ((a.draft.front ++ a.draft.tail) ++ a.draft.gap, literal_front style macros t at out edits l new a)
+
+pub next_middle : (style : Style) (macros : Macros) (t : List ℕ) (at : ℕ) (out : List ℕ)
+    (edits : List (ℕ × ℕ × List ℕ)) (l : Restylable) → IsNextIn style macros t l at out edits
+    → (middle : List ℕ) × IsTextBetween t at l.token.lo middle
+next_middle style macros t at out edits l (old, new, d, g) =
+    let a = to_literal style macros t at out edits d g in
+    (a.draft.tail ++ a.draft.gap, literal_middle style macros t at out edits l new a)
+
+-- The edit of a token: the new text of the literal, or none.
+edit_of : (style : Style) (macros : Macros) (t : List ℕ) (at : ℕ) (out : List ℕ) (edits : Told) (l : Restylable)
+    (new : RestylableState) (e : Option (List ℕ)) → (a : AtLiteral style macros t at out edits l new)
+    → IsTextOf style macros t l e → IsEditOf style macros t (seen_of a.s) a.takes.cut e
+edit_of style macros t at out edits l new e a is = go is
+  where
+    before : List ℕ
+    before = (a.draft.front ++ a.draft.tail) ++ a.draft.gap
+
+    rest : List ℕ
+    rest = chars a.tokens.rest
+
+    same : is_chosen macros l.is_field l.in_macro
+        ≡ is_chosen macros (is_field a.s.last (cut_bytes a.takes.cut) rest) (is_in_call a.s.calls)
+    same = ap (λ z. is_chosen macros z l.in_macro)
+        (a.field_is ∙ ap (λ z. is_field a.s.last z rest) (sym a.takes.is_cut.bytes_are))
+        ∙ ap (λ z. is_chosen macros (is_field a.s.last (cut_bytes a.takes.cut) rest) z) a.inside_is
+
+    around : Surrounds t a.takes.cut before rest
+    around = surrounds style macros t a.s at out edits a.draft l.token a.tokens a.takes
+
+    go : IsTextOf style macros t l e → IsEditOf style macros t (seen_of a.s) a.takes.cut e
+    go (inl (taken, writes)) = (
+      before,
+      rest,
+      around,
+      inl (
+        (cut_literal l.token a.takes.cut a.takes.is_cut a.is_literal, sym same ∙ taken),
+        subst (λ z. IsRewritten style before z e) (sym a.takes.is_cut.chars_are)
+            (writes before (literal_front style macros t at out edits l new a)),
+      ),
+    )
+    go (inr (off, none)) = (before, rest, around, inr (λ taken. both_ways _ (sym same ∙ off) taken.1, none))
+
+pub put_none : (style : Style) (macros : Macros) (t : List ℕ) (at : ℕ) (out : List ℕ) (edits : List (ℕ × ℕ × List ℕ))
+    (l : Restylable) → IsTextOf style macros t l None → (old new : RestylableState)
+    → IsDraft style macros t old at out edits → GivesLiteral old l new → IsDraft style macros t new at out edits
+put_none style macros t at out edits l is old new d g =
+    let a = to_literal style macros t at out edits d g in
+    subst (λ (z : RestylableState). IsDraft style macros t z at out edits) (sym a.new_is)
+    (draft_past style macros t a.s at out edits a.draft l.token a.tokens a.takes
+    (edit_of style macros t at out edits l new None a is))
+
+pub put_some : (style : Style) (macros : Macros) (t : List ℕ) (at : ℕ) (out : List ℕ) (edits : List (ℕ × ℕ × List ℕ))
+    (l : Restylable) (x : List ℕ) (later_at : ℕ) (longer : List ℕ) (told : List (ℕ × ℕ × List ℕ))
+    → IsTextOf style macros t l (Some x)
+    → ((middle : List ℕ) → IsTextBetween t at l.token.lo middle → longer ≡ out ++ (middle ++ x))
+    → later_at ≡ l.token.hi → told ≡ edits ++ (l.token.lo, l.token.hi, x) ∷ [] → (old new : RestylableState)
+    → IsDraft style macros t old at out edits → GivesLiteral old l new
+    → IsDraft style macros t new later_at longer told
+put_some style macros t at out edits l x later_at longer told is text at_is told_is old new d g =
+    let a = to_literal style macros t at out edits d g in
+    subst (λ (z : RestylableState). IsDraft style macros t z later_at longer told) (sym a.new_is)
+    (draft_put style macros t a.s at out edits a.draft l.token a.tokens a.takes x
+    (edit_of style macros t at out edits l new (Some x) a is) later_at longer told at_is
+    (text (a.draft.tail ++ a.draft.gap) (literal_middle style macros t at out edits l new a)) told_is)
+
+-- ---- the end of the source
+
+-- The rest of the source, if it begins with no token and has no error.
+pub none_left : (s : RestylableState) → BeginsNoSource (chars s.tokens.rest)
+    → ((s.tokens.rest ≡ []) ⊎ ((kind : SourceKind) × (after : List ℕ) × SourceBefore (chars s.tokens.rest) kind after))
+    → s.tokens.rest ≡ []
+none_left s none (inl e) = e
+none_left s none (inr (kind, after, is)) = absurd (none kind after is)
+
+rest_end : (style : Style) (macros : Macros) (text : List ℕ) (s : RestylableState) (at : ℕ) (out : List ℕ)
+    (edits : Told) → (d : IsDraft style macros (chars text) s at out edits) → s.tokens.rest ≡ []
+    → chars text ≡ (d.front ++ d.tail) ++ d.gap
+rest_end style macros text s at out edits d none = d.text_is
+    ∙ ap (λ z. (d.front ++ d.tail) ++ (d.gap ++ z)) (ap chars none ∙ chars-nil)
+    ∙ ap (λ z. (d.front ++ d.tail) ++ z) (append-nil d.gap)
+
+pub last_piece : (style : Style) (macros : Macros) (text : List ℕ) (s : RestylableState) (at : ℕ) (out : List ℕ)
+    (edits : List (ℕ × ℕ × List ℕ)) → IsUtf8 text → (d : IsDraft style macros (chars text) s at out edits)
+    → s.tokens.rest ≡ [] → IsTextBetween (chars text) at (length text) (d.tail ++ d.gap)
+last_piece style macros text s at out edits u d none =
+    let whole : chars text ≡ d.front ++ (d.tail ++ d.gap) = rest_end style macros text s at out edits d none
+    ∙ append_assoc d.front d.tail d.gap in
+    record {
+      front = d.front;
+      rest = [];
+      text_is = whole ∙ ap (λ z. d.front ++ z) (sym (append-nil (d.tail ++ d.gap)));
+      lo_is = d.at_is;
+      hi_is = sym (char_len text u) ∙ ap byte_len whole;
+    }
+
+pub all_restyled : (style : Style) (macros : Macros) (text : List ℕ) (s : RestylableState) (at : ℕ) (out new : List ℕ)
+    (edits told : List (ℕ × ℕ × List ℕ)) → IsUtf8 text → IsTrue (begins_with_code (chars text))
+    → IsDraft style macros (chars text) s at out edits → s.tokens.rest ≡ []
+    → ((rest : List ℕ) → IsTextBetween (chars text) at (length text) rest → new ≡ out ++ rest) → told ≡ edits
+    → Restyles style macros (chars text) new told
+all_restyled style macros text s at out new edits told u code d none text_is told_is =
+    let whole : chars text ≡ (d.front ++ d.tail) ++ d.gap = rest_end style macros text s at out edits d none in
+    let made : new ≡ (out ++ d.tail) ++ d.gap = text_is (d.tail ++ d.gap)
+    (last_piece style macros text s at out edits u d none) ∙ sym (append_assoc out d.tail d.gap) in
+    let more : IsEdited 0 ((d.front ++ d.tail) ++ d.gap) d.cuts d.texts ((out ++ d.tail) ++ d.gap) =
+    edited_longer 0 (d.front ++ d.tail) d.cuts d.texts (out ++ d.tail) d.gap d.is_edited in
+    record {
+      is_code = code;
+      cuts = d.cuts;
+      texts = d.texts;
+      are_cuts = subst (λ z. IsCutUpTo (chars text) d.cuts z) (ap chars none ∙ chars-nil) d.are_cuts;
+      are_edits = d.are_edits;
+      is_edited = subst (λ z. IsEdited 0 z d.cuts d.texts new) (sym whole)
+          (subst (λ z. IsEdited 0 ((d.front ++ d.tail) ++ d.gap) d.cuts d.texts z) (sym made) more);
+      edits_are = told_is ∙ d.edits_are;
+    }
+
+pub source_error : (style : Style) (macros : Macros) (text : List ℕ) (s : RestylableState) (at : ℕ) (out : List ℕ)
+    (edits : List (ℕ × ℕ × List ℕ)) (e : LexError) → IsTrue (begins_with_code (chars text))
+    → IsDraft style macros (chars text) s at out edits → SourceErrorAt e.kind (chars s.tokens.rest)
+    → e.at + length s.tokens.rest ≡ length s.tokens.text → IsRestyleError (chars text) (Source e)
+source_error style macros text s at out edits e code d is place = (
+  code,
+  record {
+    cuts = d.cuts;
+    rest = chars s.tokens.rest;
+    are_cuts = d.are_cuts;
+    error = is;
+    rest_place = omega (
+      arith,
+      place,
+      char_len s.tokens.rest d.cursor.following.is_text,
+      char_len s.tokens.text d.cursor.is_text,
+      ap byte_len d.whole,
+    );
+  },
+)
+
+-- ---- the results of function calls
+
+pub put_done : {X E : Type 0} (style : Style) (macros : Macros) (t : List ℕ) (at : ℕ) (out : List ℕ)
+    (edits : List (ℕ × ℕ × List ℕ)) (l : Restylable) (x : List ℕ) (later_at : ℕ) (longer : List ℕ)
+    (told : List (ℕ × ℕ × List ℕ)) (r : Result X E) → IsTextOf style macros t l (Some x)
+    → OnOk r ((middle : List ℕ) → IsTextBetween t at l.token.lo middle → longer ≡ out ++ (middle ++ x))
+    → OnOk r (later_at ≡ l.token.hi) → OnOk r (told ≡ edits ++ (l.token.lo, l.token.hi, x) ∷ [])
+    → OnOk r ((old new : RestylableState) → IsDraft style macros t old at out edits → GivesLiteral old l new
+    → IsDraft style macros t new later_at longer told)
+put_done style macros t at out edits l x later_at longer told (Ok done) is text at_is told_is =
+    put_some style macros t at out edits l x later_at longer told is text at_is told_is
+put_done style macros t at out edits l x later_at longer told (Err e) is text at_is told_is = tt
+
+pub finished_whole : {A E : Type 0} (style : Style) (macros : Macros) (text : List ℕ) (s : RestylableState) (at : ℕ)
+    (out : List ℕ) (edits : List (ℕ × ℕ × List ℕ)) (r : Result (Restyled A) E) → IsUtf8 text
+    → IsTrue (begins_with_code (chars text)) → IsDraft style macros (chars text) s at out edits → s.tokens.rest ≡ []
+    → IfOk r (λ x. (rest : List ℕ) → IsTextBetween (chars text) at (length text) rest
+    → chars (string_bytes x.text) ≡ out ++ rest)
+    → IfOk r (λ x. map edit_in x.edits.items ≡ edits)
+    → IfOk r (λ x. Restyles style macros (chars text) (chars (string_bytes x.text)) (map edit_in x.edits.items))
+finished_whole style macros text s at out edits (Ok x) u code d none text_is told_is =
+    all_restyled style macros text s at out (chars (string_bytes x.text)) edits (map edit_in x.edits.items) u code d
+    none text_is told_is
+finished_whole style macros text s at out edits (Err e) u code d none text_is told_is = tt

@@ -1,0 +1,12 @@
+use Rattle.rl_syntax.proofs.Common.{chars, length, map, string_bytes}
+use Rattle.rl_restyle.specs.Edits.{edit_in}
+use Rattle.rl_restyle.specs.Mirrors.{IsDraft}
+use Rattle.rl_restyle.proofs.whole.rewrite_source.Given as goal
+
+-- The loop's invariant: the literals so far are processed.
+abbrev pub invariant-loop-literal : goal.invariant-loop-literal
+invariant-loop-literal g l = IsDraft l.style l.macros (chars l.text) l.literals l.draft.at
+    (chars (string_bytes l.draft.text)) (map edit_in l.draft.edits.items)
+
+abbrev pub decreases-loop-literal : goal.decreases-loop-literal
+decreases-loop-literal g l = length l.literals.tokens.rest

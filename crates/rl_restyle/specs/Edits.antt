@@ -1,0 +1,137 @@
+-- A source in a style: the literals that are rewritten, and the new text. Texts are lists of characters.
+use Rattle.std.specs.Prelude.{◌≡◌, ◌≢◌, ◌⊎◌, ℕ, Bool, not, ◌&&◌, List, [], ◌∷◌, ◌++◌, Option, Some, None, option_map, encode_utf8_all, String, string_bytes, IsFalse, IsTrue, ⊤}
+use Rattle.std.specs.List.{AllByRecursion}
+use Rattle.std.specs.Str.{chars}
+use Rattle.rl_syntax.specs.Texts.{byte_len}
+use Rattle.rl_lexer.specs.Skipping.{Skipped}
+use Rattle.rl_lexer.specs.Sources.{CutSource, IsCutUpTo, IsLiteralText, SourceError, source_end, source_kind, source_text}
+use Rattle.rl_style.specs.Calls.{CallState, Outside, calls_after, is_in_call}
+use Rattle.rl_style.specs.Recut.{IsSound, begins_with_code}
+use Rattle.rl_style.specs.Restylable.{is_field, last_after}
+use Rattle.rl_style.specs.Restyled.{IsEdited, IsEditedSource}
+use Rattle.rl_style.specs.Rewriting.{Rewrites}
+use Rattle.rl_style.specs.declared.restylable.Last.{Last}
+use Rattle.rl_style.specs.declared.restylable.Last.TheVariants.{Other}
+use Rattle.rl_style.specs.declared.restylable.Restylable.{Restylable}
+use Rattle.rl_style.specs.declared.style.Style.{Style}
+use Rattle.rl_restyle.specs.Places.{IsTextBetween}
+use Rattle.rl_restyle.specs.declared.edit.Edit.{Edit}
+use Rattle.rl_restyle.specs.declared.edit.Macros.{Macros}
+use Rattle.rl_restyle.specs.declared.edit.Macros.TheVariants.{Skip, All}
+use Rattle.rl_restyle.specs.declared.edit.RestyleError.{RestyleError}
+use Rattle.rl_restyle.specs.declared.edit.RestyleError.TheVariants.{Script, Source, Memory}
+
+-- ---- which literals are rewritten
+
+-- The context of the next token: the token before it, the byte offset after that token, and the position relative to macro
+-- calls.
+pub record Seen : Type 0 where
+  pub last : Last
+  pub end : ℕ
+  pub calls : CallState
+
+abbrev pub nothing_seen : Seen
+nothing_seen = record { last = Other; end = 0; calls = Outside }
+
+abbrev pub cut_bytes : CutSource → List ℕ
+cut_bytes w = encode_utf8_all (source_text w.token)
+
+abbrev pub seen_after : Seen → CutSource → Seen
+seen_after seen w = record {
+  last = last_after seen.last seen.end (source_kind w.token) w.at;
+  end = source_end w;
+  calls = calls_after seen.calls (source_kind w.token) (cut_bytes w);
+}
+
+-- Whether a literal is rewritten. The flags are true if it may be a field of a tuple, and if it is inside a macro call.
+abbrev pub is_chosen : Macros → Bool → Bool → Bool
+is_chosen Skip field inside = not field && not inside
+is_chosen All field inside = not field
+
+-- The token is a literal that is rewritten. `rest` is the text after it, without white space and comments at its beginning.
+abbrev pub IsChosen : Macros → Seen → CutSource → List ℕ → Type 0
+IsChosen macros seen w rest =
+    IsLiteralText (source_kind w.token) (source_text w.token)
+    × IsTrue (is_chosen macros (is_field seen.last (cut_bytes w) rest) (is_in_call seen.calls))
+
+-- The text consists of `front`, the token, white space and comments, and `rest`.
+pub record Surrounds (t : List ℕ) (w : CutSource) (front rest : List ℕ) : Type 0 where
+  pub after : List ℕ
+  pub text_is : t ≡ front ++ (source_text w.token ++ after)
+  pub at_is : w.at ≡ byte_len front
+  pub skips : Skipped after rest
+
+-- ---- the new texts of literals
+
+-- The new text of a literal in the style if it differs, and `None` otherwise. `front` is the text before the literal.
+abbrev pub IsRewritten : Style → List ℕ → List ℕ → Option (List ℕ) → Type 0
+IsRewritten style front old (Some new) = Rewrites style front old new × (new ≢ old)
+IsRewritten style front old None = (new : List ℕ) → Rewrites style front old new → new ≡ old
+
+-- The new text of a token of the text, or `None` if the token isn't a literal that the style changes.
+abbrev pub IsEditOf : Style → Macros → List ℕ → Seen → CutSource → Option (List ℕ) → Type 0
+IsEditOf style macros t seen w e =
+    (front rest : List ℕ) × Surrounds t w front rest
+    × ((IsChosen macros seen w rest × IsRewritten style front (source_text w.token) e)
+    ⊎ ((IsChosen macros seen w rest → ⊥) × (e ≡ None)))
+
+abbrev pub AreEdits : Style → Macros → List ℕ → Seen → List CutSource → List (Option (List ℕ)) → Type 0
+AreEdits style macros t seen [] [] = ⊤
+AreEdits style macros t seen (w ∷ ws) (e ∷ es) =
+    IsEditOf style macros t seen w e × AreEdits style macros t (seen_after seen w) ws es
+AreEdits style macros t seen _ _ = ⊥
+
+-- The new texts, each with the byte offsets in the old text where the token begins and ends.
+abbrev pub placed_edits : List CutSource → List (Option (List ℕ)) → List (ℕ × ℕ × List ℕ)
+placed_edits (w ∷ ws) (Some new ∷ es) = (w.at, source_end w, new) ∷ placed_edits ws es
+placed_edits (w ∷ ws) (None ∷ es) = placed_edits ws es
+placed_edits _ _ = []
+
+-- ---- a rewritten source
+
+-- The new text is the source in the style, and the edits are its changed literals. The source is lexed to its end, and the new
+-- text consists of the old tokens, each with its text in the style.
+pub record Restyles (style : Style) (macros : Macros) (t new : List ℕ) (edits : List (ℕ × ℕ × List ℕ)) : Type 0 where
+  pub is_code : IsTrue (begins_with_code t)
+  pub cuts : List CutSource
+  pub texts : List (Option (List ℕ))
+  pub are_cuts : IsCutUpTo t cuts []
+  pub are_edits : AreEdits style macros t nothing_seen cuts texts
+  pub is_edited : IsEdited 0 t cuts texts new
+  pub edits_are : edits ≡ placed_edits cuts texts
+
+-- The reason why a source isn't rewritten.
+abbrev pub IsRestyleError : List ℕ → RestyleError → Type 0
+IsRestyleError t Script = IsFalse (begins_with_code t)
+IsRestyleError t (Source e) = IsTrue (begins_with_code t) × SourceError t e.kind e.at
+IsRestyleError t Memory = ⊤
+
+-- ---- the edits as values of the code
+
+abbrev pub edit_in : {A : Type 0} → Edit A → ℕ × ℕ × List ℕ
+edit_in edit = (edit.lo, edit.hi, chars (string_bytes edit.text))
+
+abbrev pub text_in : {A : Type 0} → Option (String A) → Option (List ℕ)
+text_in new = option_map (λ s. chars (string_bytes s)) new
+
+-- The new text of a literal of the source.
+abbrev pub IsTextOf : Style → Macros → List ℕ → Restylable → Option (List ℕ) → Type 0
+IsTextOf style macros source l e =
+    (IsTrue (is_chosen macros l.is_field l.in_macro)
+    × ((front : List ℕ) → IsTextBetween source 0 l.token.lo front
+    → IsRewritten style front (chars l.token.text.now) e))
+    ⊎ (IsFalse (is_chosen macros l.is_field l.in_macro) × (e ≡ None))
+
+-- ---- theorems
+
+-- A rewritten source is lexed as before, except for the edits. The source contains neither invalid quotes nor stray characters.
+abbrev pub KeepsTheWholeSource : Type 0
+KeepsTheWholeSource =
+    (style : Style) (macros : Macros) (t new : List ℕ) (edits : List (ℕ × ℕ × List ℕ))
+    → (r : Restyles style macros t new edits) → AllByRecursion IsSound r.cuts → IsEditedSource new r.cuts r.texts []
+
+-- A source has exactly one new text and one list of edits in a style.
+abbrev pub HasOneText : Type 0
+HasOneText =
+    (style : Style) (macros : Macros) (t new other : List ℕ) (edits others : List (ℕ × ℕ × List ℕ))
+    → Restyles style macros t new edits → Restyles style macros t other others → (new ≡ other) × (edits ≡ others)

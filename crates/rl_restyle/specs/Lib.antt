@@ -1,0 +1,7 @@
+pub mod Rules
+pub mod Values
+pub mod Styles
+pub mod Held
+pub mod Places
+pub mod Edits
+pub mod Mirrors

@@ -1,0 +1,43 @@
+-- A partly rewritten source, for the proofs of private functions only.
+use Rattle.std.specs.Prelude.{◌≡◌, ℕ, List, [], ◌∷◌, ◌++◌, Option}
+use Rattle.std.specs.Str.{chars}
+use Rattle.rl_syntax.specs.Texts.{byte_len}
+use Rattle.rl_lexer.specs.Cursors.{IsCursorState}
+use Rattle.rl_lexer.specs.Sources.{CutSource, IsCutUpTo}
+use Rattle.rl_style.specs.Restylable.{GivesLiteral, RestylableState}
+use Rattle.rl_style.specs.Restyled.{IsEdited}
+use Rattle.rl_style.specs.declared.restylable.Restylable.{Restylable}
+use Rattle.rl_style.specs.declared.style.Style.{Style}
+use Rattle.rl_restyle.specs.Edits.{AreEdits, Seen, nothing_seen, placed_edits, seen_after}
+use Rattle.rl_restyle.specs.declared.edit.Macros.{Macros}
+
+abbrev pub seen_all : Seen → List CutSource → Seen
+seen_all seen [] = seen
+seen_all seen (w ∷ ws) = seen_all (seen_after seen w) ws
+
+abbrev pub seen_of : RestylableState → Seen
+seen_of s = record { last = s.last; end = s.end; calls = s.calls }
+
+-- A source is rewritten up to the byte offset `at`, and its literals are processed up to the last token. The new text is `out`
+-- up to `at`, followed by the unchanged old text after `at`.
+pub record IsDraft (style : Style) (macros : Macros) (t : List ℕ) (s : RestylableState) (at : ℕ) (out : List ℕ)
+    (edits : List (ℕ × ℕ × List ℕ)) : Type 0 where
+  pub whole : chars s.tokens.text ≡ t
+  pub cursor : IsCursorState s.tokens.text s.tokens.rest
+  pub cuts : List CutSource
+  pub texts : List (Option (List ℕ))
+  pub are_cuts : IsCutUpTo t cuts (chars s.tokens.rest)
+  pub are_edits : AreEdits style macros t nothing_seen cuts texts
+  pub seen_is : seen_all nothing_seen cuts ≡ seen_of s
+  pub front : List ℕ
+  pub tail : List ℕ
+  pub gap : List ℕ
+  pub text_is : t ≡ (front ++ tail) ++ (gap ++ chars s.tokens.rest)
+  pub at_is : at ≡ byte_len front
+  pub is_edited : IsEdited 0 (front ++ tail) cuts texts (out ++ tail)
+  pub edits_are : edits ≡ placed_edits cuts texts
+
+-- The literal is the next one after a partly rewritten source.
+abbrev pub IsNextIn : Style → Macros → List ℕ → Restylable → ℕ → List ℕ → List (ℕ × ℕ × List ℕ) → Type 0
+IsNextIn style macros t l at out edits =
+    (old new : RestylableState) × IsDraft style macros t old at out edits × GivesLiteral old l new

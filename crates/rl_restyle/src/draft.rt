@@ -1,0 +1,77 @@
+//! The new text of a source while it is being written.
+
+ghost use Rattle.std.specs.Prelude.{◌≡◌, ◌++◌, ◌∷◌, ℕ, List, [], map, string_bytes, OnOk};
+ghost use Rattle.std.specs.Str.{chars};
+ghost use Rattle.rl_style.specs.Restylable.{GivesLiteral, RestylableState};
+ghost use Rattle.rl_restyle.specs.Places.{IsTextBetween};
+ghost use Rattle.rl_restyle.specs.Edits.{edit_in};
+ghost use Rattle.rl_restyle.specs.Mirrors.{IsDraft, IsNextIn};
+
+use crate::edit::{Edit, Macros};
+use crate::slices::between;
+use crate::texts::text_of;
+use rl_style::{Restylable, Style};
+use std::alloc::{AllocError, Allocator};
+
+/// A partly rewritten source: the new text up to a literal, the edits made before, and the byte offset `at` after that literal
+/// in the old text.
+#[derive(Drop)]
+pub(crate) struct Draft<A: Allocator> {
+    pub(crate) text: String<A>,
+    pub(crate) edits: Vec<Edit<A>, A>,
+    pub(crate) at: usize,
+}
+
+/// Appends the old text before the literal, and then the literal's new text `new`.
+fn put<A: Allocator>(
+    draft: &mut Draft<A>,
+    source: &str,
+    literal: Restylable<'_>,
+    new: String<A>,
+) -> Result<(), AllocError>
+    requires { (middle : List ℕ) × IsTextBetween (chars source.now) draft.old.at literal.token.lo middle }
+    ensures text { OnOk result ((middle : List ℕ)
+        → IsTextBetween (chars source.now) draft.old.at literal.entry.token.lo middle
+        → chars (string_bytes draft.new.text)
+        ≡ chars (string_bytes draft.old.text) ++ (middle ++ chars (string_bytes new))) }
+    ensures at { OnOk result (draft.new.at ≡ literal.entry.token.hi) }
+    ensures edits { OnOk result (map edit_in draft.new.edits.items ≡ map edit_in draft.old.edits.items
+        ++ ((literal.entry.token.lo, literal.entry.token.hi, chars (string_bytes new)) ∷ [])) }
+{
+    draft
+        .text
+        .push_str(between(source, draft.at, literal.token.lo))?;
+    draft.text.push_str(new.as_str())?;
+    draft.at = literal.token.hi;
+    draft.edits.push(Edit {
+        lo: literal.token.lo,
+        hi: literal.token.hi,
+        text: new,
+    })?;
+    Ok(())
+}
+
+/// Processes the next literal of the source, and rewrites it if the style changes it.
+pub(crate) fn put_literal<A: Allocator + Copy>(
+    alloc: A,
+    style: Style,
+    macros: Macros,
+    source: &str,
+    literal: Restylable<'_>,
+    draft: &mut Draft<A>,
+) -> Result<(), AllocError>
+    requires { IsNextIn style macros (chars source.now) literal draft.old.at
+        (chars (string_bytes draft.old.text)) (map edit_in draft.old.edits.items) }
+    ensures { OnOk result ((old new : RestylableState)
+        → IsDraft style macros (chars source.now) old draft.old.at
+        (chars (string_bytes draft.old.text)) (map edit_in draft.old.edits.items)
+        → GivesLiteral old literal.entry new
+        → IsDraft style macros (chars source.now) new draft.new.at
+        (chars (string_bytes draft.new.text)) (map edit_in draft.new.edits.items)) }
+{
+    let new = text_of(alloc, style, macros, source, literal)?;
+    match new {
+        Some(new) => put(draft, source, literal, new),
+        None => Ok(()),
+    }
+}

@@ -1,0 +1,14 @@
+//! Theorems about the definitions. Each function here does nothing: its contract states the theorem.
+
+ghost use Rattle.rl_restyle.specs.Edits.{HasOneText, KeepsTheWholeSource};
+
+/// A rewritten source is lexed into the old number of tokens, of the old kinds. Each token is the old one, or its new text.
+/// Excepted are invalid quotes and stray characters, which no valid Rust source contains.
+pub fn the_tokens_are_kept()
+    ensures { KeepsTheWholeSource }
+{}
+
+/// A source has exactly one new text and one list of edits in a style. [`rewrite_source`](crate::rewrite_source) returns them.
+pub fn a_source_has_one_text_in_a_style()
+    ensures { HasOneText }
+{}

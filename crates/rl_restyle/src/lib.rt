@@ -1,0 +1,20 @@
+//! Rewrites all literals of a source by a style, and returns the edits and the new text. Parses styles from configurations too.
+#![tactic(auto)]
+
+mod draft;
+mod edit;
+pub mod laws;
+mod rule;
+mod slices;
+mod style_error;
+mod styles;
+mod texts;
+mod value;
+mod values;
+mod whole;
+
+pub use crate::edit::{Edit, Macros, RestyleError, Restyled};
+pub use crate::slices::between;
+pub use crate::style_error::{Expected, StyleError, StyleErrorKind};
+pub use crate::styles::{default_style, style_of};
+pub use crate::whole::rewrite_source;

@@ -1,0 +1,156 @@
+//! Parses the configuration of a style.
+
+ghost use Rattle.std.specs.Prelude.{◌≡◌, ◌∷◌, List, IfOk, IfErr, OnOk, MatchBool};
+ghost use Rattle.rl_restyle.specs.Held.{AreOf, NamesSet, value_at};
+ghost use Rattle.rl_restyle.specs.Styles.{Setting, SetsRule, RejectsEntry, RejectsRest, SaysStyle, RejectsStyle, default_settings, literal_lo, name_text, IsAtName};
+ghost use Rattle.rl_restyle.specs.Values.{IsOfText};
+
+use crate::rule::{expected_of, rule_of};
+use crate::style_error::{StyleError, StyleErrorKind};
+use crate::value::value_of;
+use crate::values::Values;
+use rl_lenient::NextLiteral;
+use rl_lexer::Tokens;
+use rl_settings::{DottedName, EntryRejection, EntryStep, NextEntry, entry_step};
+use rl_style::{Case, Style};
+
+/// Creates an error of the kind `kind` whose range is the entry's name.
+fn at_name(kind: StyleErrorKind, name: DottedName<'_>) -> StyleError<'_>
+    ensures { IsAtName kind name.entry result }
+{
+    StyleError {
+        kind,
+        name: Some(name.text),
+        lo: name.lo,
+        hi: name.hi,
+    }
+}
+
+/// Returns the byte offset where a literal begins, including its minus.
+fn literal_start(literal: &NextLiteral<'_>) -> usize
+    ensures { result ≡ literal_lo literal.now }
+{
+    match literal.minus_at {
+        Some(at) => at,
+        None => literal.token.lo,
+    }
+}
+
+/// Sets the rule of a configuration entry. Returns the error if the name is unknown or repeated, or if the rule can't have the
+/// value.
+fn set_entry<'t>(values: &mut Values, entry: &NextEntry<'t>) -> Result<(), StyleError<'t>>
+    requires { IsOfText entry.now.value }
+    ensures sets { OnOk result ((before : List Setting) → AreOf before values.old
+        → (s : Setting) × SetsRule before entry.now s × AreOf (s ∷ before) values.new) }
+    ensures rejected { IfErr result (λ e. (before : List Setting) → AreOf before values.old
+        → RejectsEntry before entry.now e) }
+{
+    let Some(rule) = rule_of(entry.name.text) else {
+        return Err(at_name(StyleErrorKind::Unknown, entry.name));
+    };
+    if values.get(rule).is_some() {
+        return Err(at_name(StyleErrorKind::Repeated, entry.name));
+    }
+    let expected = expected_of(rule);
+    let Some(value) = value_of(expected, &entry.value) else {
+        return Err(StyleError {
+            kind: StyleErrorKind::Expected(expected),
+            name: Some(entry.name.text),
+            lo: literal_start(&entry.value),
+            hi: entry.value.token.hi,
+        });
+    };
+    values.set(rule, value);
+    Ok(())
+}
+
+/// Whether an earlier entry has set the rule with this name.
+fn is_set(values: &Values, name: &str) -> bool
+    ensures { MatchBool result
+        (NamesSet (value_at values.now) name.now) (NamesSet (value_at values.now) name.now → ⊥) }
+{
+    match rule_of(name) {
+        Some(rule) => values.get(rule).is_some(),
+        None => false,
+    }
+}
+
+/// Returns the text of an entry's name, or `None` without a name.
+fn text_of(name: Option<DottedName<'_>>) -> Option<&str>
+    ensures { result ≡ name_text name.entry }
+{
+    match name {
+        Some(name) => Some(name.text),
+        None => None,
+    }
+}
+
+/// Converts the error at the position of an entry. If the entry has a name that an earlier entry has, the repeated name is the
+/// error.
+fn rejection_error<'t>(values: &Values, rejection: EntryRejection<'t>) -> StyleError<'t>
+    ensures { (before : List Setting) → AreOf before values.now → RejectsRest before rejection.entry result }
+{
+    if let Some(name) = rejection.name {
+        if is_set(values, name.text) {
+            return at_name(StyleErrorKind::Repeated, name);
+        }
+    }
+    StyleError {
+        kind: StyleErrorKind::Syntax(rejection.error.kind),
+        name: text_of(rejection.name),
+        lo: rejection.error.lo,
+        hi: rejection.error.hi,
+    }
+}
+
+/// Parses the configuration of a style.
+///
+/// A configuration is a list of entries `name = literal`, each on its own line or with a comma after it, as
+/// [`rl_settings::entry_step`] parses them. Each name is that of a rule, and occurs at most once. A rule without an entry
+/// changes nothing.
+///
+/// These are the names and values. A string's body must be exactly the given text, without escapes.
+///
+/// - `hex_digits`, `exponent_letter` and `escape_digits` are `"lower"` or `"upper"`.
+/// - `suffix_separator` is `""` or `"_"`.
+/// - `binary_groups`, `octal_groups`, `decimal_groups`, `hexadecimal_groups` and `min_digits` are integers.
+/// - `drop_underscores`, `drop_leading_zeros`, `float_zero`, `drop_exponent_plus`, `fewest_escape_digits`,
+///   `drop_ascii_escapes`, `named_escapes`, `drop_quote_escapes`, `fewest_hashes`, `drop_raw` and `escape_invisible` are `true`
+///   or `false`.
+///
+/// A caller removes a byte order mark at the text's start with [`rl_lexer::without_byte_order_mark`].
+///
+/// # Errors
+///
+/// Returns the first error, from left to right: text that isn't an entry, a name that isn't a rule's, a repeated name, or a
+/// value that the rule can't have.
+pub fn style_of(text: &str) -> Result<Style, StyleError<'_>>
+    ensures says { IfOk result (SaysStyle text.now) }
+    ensures rejects { IfErr result (RejectsStyle text.now) }
+{
+    let mut tokens = Tokens::new(text);
+    let mut values = Values::new();
+    loop {
+        match entry_step(&mut tokens, text) {
+            EntryStep::End => return Ok(values.style()),
+            EntryStep::Entry(entry) => match set_entry(&mut values, &entry) {
+                Ok(()) => {}
+                Err(error) => return Err(error),
+            },
+            EntryStep::Rejected(rejection) => return Err(rejection_error(&values, rejection)),
+        }
+    }
+}
+
+/// Returns the style that applies without a configuration. It drops needless backslashes before quotes and needless hashes of
+/// raw strings, and writes exponents with `e`.
+pub fn default_style() -> Style
+    ensures { result ≡ default_settings }
+{
+    Style {
+        exponent_letter: Some(Case::Lower),
+        quote_escapes: true,
+        raw_hashes: true,
+        ..Style::KEEP
+    }
+}

@@ -1,0 +1,91 @@
+//! Creates the new text of a literal in a style.
+
+ghost use Rattle.std.specs.Prelude.{◌≡◌, ◌≢◌, ◌+◌, ◌*◌, ℕ, List, length, string_bytes, IfNone, IfOk, IfSome};
+ghost use Rattle.std.specs.Str.{chars};
+ghost use Rattle.rl_restyle.specs.Places.{IsTextBetween};
+ghost use Rattle.rl_restyle.specs.Edits.{IsRewritten, IsTextOf, is_chosen, text_in};
+
+use crate::edit::Macros;
+use crate::slices::between;
+use rl_style::{Restylable, Style, rewrite_into};
+use std::alloc::{AllocError, Allocator};
+
+/// Returns the size of the buffer that [`rewrite_into`] needs for a literal with this text, in bytes.
+fn buffer_len(text: &str) -> Result<usize, AllocError>
+    ensures { IfOk result (λ n. n ≡ 4 * length text.now + 1) }
+{
+    let Some(most) = text.len().checked_mul(4) else {
+        return Err(AllocError);
+    };
+    match most.checked_add(1) {
+        Some(room) => Ok(room),
+        None => Err(AllocError),
+    }
+}
+
+/// Returns a copy of `new` if it differs from `old`, and `None` otherwise.
+fn other_text<A: Allocator>(alloc: A, old: &str, new: &str) -> Result<Option<String<A>>, AllocError>
+    ensures same { IfOk result (λ made. IfNone made (chars new.now ≡ chars old.now)) }
+    ensures other { IfOk result (λ made. IfSome made (λ s. chars (string_bytes s) ≡ chars new.now)) }
+    ensures differs { IfOk result (λ made. IfSome made (λ s. chars new.now ≢ chars old.now)) }
+{
+    if new == old {
+        return Ok(None);
+    }
+    let mut made = String::new(alloc);
+    made.push_str(new)?;
+    Ok(Some(made))
+}
+
+/// Returns the rewritten text of the literal `text` if it differs, and `None` otherwise. `front` is the text before the
+/// literal.
+fn new_text<A: Allocator + Copy>(
+    alloc: A,
+    style: Style,
+    front: &str,
+    text: &str,
+) -> Result<Option<String<A>>, AllocError>
+    ensures { IfOk result (λ new. IsRewritten style (chars front.now) (chars text.now) (text_in new)) }
+{
+    let room = buffer_len(text)?;
+    let mut bytes = vec![in alloc; 0; room]?;
+    let Ok(len) = rewrite_into(front, text, style, bytes.as_mut_slice()) else {
+        return Ok(None);
+    };
+    match std::str::from_utf8(&bytes.as_slice()[..len]) {
+        Ok(new) => other_text(alloc, text, new),
+        Err(_) => unreachable!(),
+    }
+}
+
+/// Whether the literal may be rewritten: it isn't a field of a tuple, and it isn't inside a macro call that `macros` excludes.
+fn is_chosen(macros: Macros, literal: Restylable<'_>) -> bool
+    ensures { result ≡ is_chosen macros literal.entry.is_field literal.entry.in_macro }
+{
+    match macros {
+        Macros::Skip => !literal.is_field && !literal.in_macro,
+        Macros::All => !literal.is_field,
+    }
+}
+
+/// Returns the new text of a literal of the source, or `None` if the literal is unchanged.
+pub(crate) fn text_of<A: Allocator + Copy>(
+    alloc: A,
+    style: Style,
+    macros: Macros,
+    source: &str,
+    literal: Restylable<'_>,
+) -> Result<Option<String<A>>, AllocError>
+    requires { (front : List ℕ) × IsTextBetween (chars source.now) 0 literal.token.lo front }
+    ensures { IfOk result (λ new. IsTextOf style macros (chars source.now) literal.entry (text_in new)) }
+{
+    if !is_chosen(macros, literal) {
+        return Ok(None);
+    }
+    new_text(
+        alloc,
+        style,
+        between(source, 0, literal.token.lo),
+        literal.token.text,
+    )
+}

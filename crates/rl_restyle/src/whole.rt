@@ -1,0 +1,73 @@
+//! Rewrites all literals of a source by a style.
+
+ghost use Rattle.std.specs.Prelude.{◌≡◌, ◌++◌, List, ℕ, length, map, string_bytes, IfErr, IfOk};
+ghost use Rattle.std.specs.Str.{chars};
+ghost use Rattle.rl_restyle.specs.Edits.{IsRestyleError, Restyles, edit_in};
+ghost use Rattle.rl_restyle.specs.Places.{IsTextBetween};
+ghost use Rattle.rl_restyle.specs.declared.edit.RestyleError.TheVariants.{Memory};
+
+use crate::draft::{Draft, put_literal};
+use crate::edit::{Macros, RestyleError, Restyled};
+use crate::slices::between;
+use rl_style::{Restylables, Style, may_restyle};
+use std::alloc::{AllocError, Allocator};
+
+/// Returns the complete new text: the draft, with the rest of the source appended.
+fn finished<A: Allocator>(source: &str, draft: Draft<A>) -> Result<Restyled<A>, RestyleError>
+    requires { (rest : List ℕ) × IsTextBetween (chars source.now) draft.at (length source.now) rest }
+    ensures text { IfOk result (λ r. (rest : List ℕ)
+        → IsTextBetween (chars source.now) draft.at (length source.now) rest
+        → chars (string_bytes r.text) ≡ chars (string_bytes draft.text) ++ rest) }
+    ensures edits { IfOk result (λ r. map edit_in r.edits.items ≡ map edit_in draft.edits.items) }
+    ensures error { IfErr result (λ e. e ≡ Memory) }
+{
+    let mut text = draft.text;
+    match text.push_str(between(source, draft.at, source.len())) {
+        Ok(()) => Ok(Restyled {
+            text,
+            edits: draft.edits,
+        }),
+        Err(_) => Err(RestyleError::Memory),
+    }
+}
+
+/// Rewrites the literals of a source by a style, and returns the new text and its edits: each literal that the style changes.
+///
+/// Some literals aren't rewritten: invalid literal tokens, numbers that may be fields of a tuple (`t.0`, `S { 0: x }`), and,
+/// with `Macros::Skip`, literals inside macro calls, `macro_rules!` definitions and attributes. The new text is lexed into the
+/// same tokens, except that each rewritten literal has its new text.
+///
+/// # Errors
+///
+/// Returns `Script` if the source begins as an interpreter's line does, `Source` if a quote or a comment isn't closed, and
+/// `Memory` if an allocation fails. In these cases no text is returned.
+pub fn rewrite_source<A: Allocator + Copy>(
+    alloc: A,
+    style: Style,
+    macros: Macros,
+    text: &str,
+) -> Result<Restyled<A>, RestyleError>
+    ensures restyled { IfOk result (λ r. Restyles style macros (chars text.now) (chars (string_bytes r.text))
+        (map edit_in r.edits.items)) }
+    ensures error { IfErr result (IsRestyleError (chars text.now)) }
+{
+    if !may_restyle(text) {
+        return Err(RestyleError::Script);
+    }
+    let mut literals = Restylables::new(text);
+    let mut draft = Draft {
+        text: String::new(alloc),
+        edits: Vec::new(alloc),
+        at: 0,
+    };
+    while let Some(literal) = literals.next() {
+        match put_literal(alloc, style, macros, text, literal, &mut draft) {
+            Ok(()) => {}
+            Err(_) => return Err(RestyleError::Memory),
+        }
+    }
+    match literals.error() {
+        Some(error) => Err(RestyleError::Source(error)),
+        None => finished(text, draft),
+    }
+}

@@ -1,5 +1,0 @@
-use Rattle.rl_restyled.proofs.Theorems.{has_one_text}
-use Rattle.rl_restyled.proofs.laws.a_source_has_one_text_in_a_style.Goals as goal
-
-pub returns : goal.returns
-returns c = has_one_text

@@ -1,7 +1,0 @@
-use Rattle.rl_text.proofs.Common.{chars, sym}
-use Rattle.rl_restyled.proofs.NewTexts.{literal_text}
-use Rattle.rl_restyled.proofs.texts.text_of.Goals as goal
-
-pub returns : goal.returns
-returns g c = literal_text c.args.style c.args.macros (chars c.args.source.now) c.args.literal
-    (chars c.between.result.now) c.new_text.result (sym c.if-not-is_chosen.ensures) c.between.ensures c.new_text.ensures

@@ -1,0 +1,50 @@
+-- The call of the function `comes_back`: its arguments, and the result for the caller. Assumes `Logic`.
+use Rattle.std.proofs.Common.{◌≡◌, ℕ, List, [], ◌∷◌, refl, ap}
+use seplogic.Ra.Ura.{Ura}
+use mir.Val.{Val, vunit, vptr}
+use base.Logic.{SProp, ent, sep, guard, id⊢}
+use base.Fml.{Lft, Share, ftrue, fsep, flft}
+use prog.Memory.{Memory}
+use prog.Routine.{Routine}
+use types.Logic.{Logic, sem}
+use contract.Monad.{Fun}
+use types.Kit.{‵, ◌⊛◌, some, later, ◌$◌, ◌∵◌, !, qed, move, keep, use1, split, join, pick, fjoin, feq_i, feq_l, check, await, updating, now as at_once, done}
+use denote.RattleType.{RattleType}
+use denote.Memory.{hidden_shr}
+use denote.Builtin.{unit}
+use denote.Steps.{nothing, only}
+use denote.Triple.Statement.{Contract}
+use denote.Triple.Spec.{triple_of}
+use Rattle.rl_rows.specs.contracts.failing.Plan as P
+use Rattle.rl_rows.specs.contracts.failing.comes_back as B
+
+abbrev Kept : RattleType
+Kept = P.the_row
+
+module _ {M : Type 1} {𝓤 : Ura M} (𝓛 : Logic 𝓤) (at_mem : Memory → SProp 𝓤) (run : Routine → Fun 𝓤) where
+  abbrev pub Back : Contract 𝓤
+  Back = triple_of 𝓛 B.signature (B.spec 𝓛 at_mem run)
+
+  abbrev pub at_back : Lft → Share → Kept.Denot → ℕ × ℕ → Back.Ghost
+  at_back κ q p c = (((κ, tt), (q, tt), tt, (record { ref_ptr = c; now = p }, tt), (vptr c.0 c.1 ∷ [], tt)), tt)
+
+module _ {M : Type 1} {𝓤 : Ura M} (𝓛 : Logic 𝓤) (at_mem : Memory → SProp 𝓤) (run : Routine → Fun 𝓤) (κ : Lft)
+    (q : Share) (p : Kept.Denot) (c : ℕ × ℕ) where
+  open 𝓛 use {H, A}
+
+  pub Back-goes : ent 𝓤 (sep 𝓤 (sem 𝓛 (hidden_shr Kept κ p c.0 c.1)) (A.lft κ q))
+      ((Back 𝓛 at_mem run).pre (at_back 𝓛 at_mem run κ q p c))
+  Back-goes =
+      qed 𝓛 (‵ (hidden_shr Kept κ p c.0 c.1) ∷ ‵ (flft κ q) ∷ []) ∵ feq_i ! (List Val) (vptr c.0 c.1 ∷ [])
+      (vptr c.0 c.1 ∷ []) refl $ fjoin ! $
+      nothing ! $ move ! (1 ∷ []) $ fjoin ! $ nothing ! $ move ! (2 ∷ []) $ join ! $ join ! $ nothing ! $ move !
+      (1 ∷ []) $ done !
+
+  pub Back-gives : (v : Val) → ent 𝓤 ((Back 𝓛 at_mem run).post (at_back 𝓛 at_mem run κ q p c) v)
+      (H.⇛ (guard 𝓤 (v ≡ vunit) (A.lft κ q)))
+  Back-gives v =
+      qed 𝓛 (types.Kit.raw ((Back 𝓛 at_mem run).post (at_back 𝓛 at_mem run κ q p c) v) ∷ []) ∵ updating ! $
+      use1 𝓛 (later (some (λ (r : Unit {0}). ((‵ (flft κ q) ⊛ ‵ ftrue) ⊛ ‵ (unit.own_val r (v ∷ []))) ⊛ some
+      (λ (ws : Unit {0} × Unit {0}). ‵ (fsep ftrue ftrue) ⊛ ‵ ftrue)))) (id⊢ 𝓤 _) $ await ! tt $ pick ! (λ r.
+      split ! $ split ! $ move ! (1 ∷ []) $ feq_l ! (λ e. split ! $ at_once ! $ check ! (ap only e) $ keep ! (0 ∷ []) $
+      done !))

@@ -1,0 +1,98 @@
+-- Lemmas about the output lines for rewritten literals.
+use Rattle.rl_syntax.proofs.Common.{◌≡◌, ℕ, ◌+◌, List, [], ◌∷◌, ◌++◌, length, drop, map, refl, sym, ◌∙◌, ap, subst, arith, append-nil, append_assoc, chars, IsCharBoundary, IsUtf8}
+use Rattle.std.proofs.lemmas.List.{length-drop}
+use Rattle.rl_lexer.specs.Cursors.{IsCursorState}
+use Rattle.rl_program.specs.Lines.{Appends}
+use Rattle.rl_output.specs.declared.form.Form.{Form}
+use Rattle.rl_output.specs.declared.place.Place.{Place}
+use Rattle.rl_restyle.proofs.TextSlices.{slice}
+use Rattle.rl_restyle.specs.Places.{AreEditsIn, IsTextBetween}
+use Rattle.rl_sources.specs.Places.{IsPlaceIn}
+use Rattle.rl_sources.specs.declared.options.Options.{Options}
+use Rattle.rl_scan.specs.Changes.{AreChangeLines, IsChangeLine, change_line}
+
+-- The source can be split where a rewritten literal begins.
+pub boundary : (places text : List ℕ) (lo hi : ℕ) (old : List ℕ) → places ≡ text → IsUtf8 text
+    → IsTextBetween (chars text) lo hi old → IsCharBoundary places lo
+boundary places text lo hi old same u s = rw same ((slice text lo hi old u s).begins)
+
+pub cursor : (places text rest : List ℕ) (lo hi : ℕ) (old : List ℕ) → places ≡ text → IsUtf8 text
+    → IsTextBetween (chars text) lo hi old → rest ≡ drop lo places → IsCursorState places rest
+cursor places text rest lo hi old same u s is =
+    rw (is, same) record { is_text = u; following = (slice text lo hi old u s).tail }
+
+pub left : (places text rest : List ℕ) (lo hi : ℕ) (old : List ℕ) → places ≡ text → IsUtf8 text
+    → IsTextBetween (chars text) lo hi old → rest ≡ drop lo places → lo + length rest ≡ length places
+left places text rest lo hi old same u s is =
+    let cut = slice text lo hi old u s in
+    rw (is, same) (omega (arith, length-drop lo text, cut.ordered, cut.within))
+
+-- The output line for one rewritten literal.
+pub change_told : (options : Options) (form : Form) (places text old old_text new : List ℕ) (lo hi : ℕ) (place : Place)
+    (before after : List ℕ) → places ≡ text → IsPlaceIn options (chars places) lo hi place
+    → IsTextBetween (chars text) lo hi old → old_text ≡ old
+    → after ≡ before ++ change_line form options.path place old_text new
+    → Appends (IsChangeLine options form (chars text) (lo, hi, new)) before after
+change_told options form places text old old_text new lo hi place before after same is stands old_is told = (
+  change_line form options.path place old_text new,
+  (
+    place,
+    old_text,
+    subst (λ (t : List ℕ). IsPlaceIn options (chars t) lo hi place) same is,
+    subst (λ (t : List ℕ). IsTextBetween (chars text) lo hi t) (sym old_is) stands,
+    refl,
+  ),
+  told,
+)
+
+-- The invariant of the loop over rewritten literals: the written lines, with those for the literals in `rest`, are all lines.
+pub record Told (options : Options) (form : Form) (text : List ℕ) (all rest : List (ℕ × ℕ × List ℕ)) (before now : List ℕ)
+    : Type 0 where
+  pub made : List ℕ
+  pub now_is : now ≡ before ++ made
+  pub goes : (more : List ℕ) → AreChangeLines options form text rest more
+      → AreChangeLines options form text all (made ++ more)
+
+pub told_none : (options : Options) (form : Form) (text : List ℕ) (all : List (ℕ × ℕ × List ℕ)) (before : List ℕ)
+    → Told options form text all all before before
+told_none options form text all before = record {
+  made = [];
+  now_is = sym (append-nil before);
+  goes = λ more are. are;
+}
+
+pub told_more : (options : Options) (form : Form) (text : List ℕ) (all rest : List (ℕ × ℕ × List ℕ))
+    (edit : ℕ × ℕ × List ℕ) (before now after : List ℕ) → Told options form text all (edit ∷ rest) before now
+    → Appends (IsChangeLine options form text edit) now after → Told options form text all rest before after
+told_more options form text all rest edit before now after told (line, is, after_is) = record {
+  made = told.made ++ line;
+  now_is = after_is ∙ ap (λ (z : List ℕ). z ++ line) told.now_is ∙ append_assoc before told.made line;
+  goes = λ more are. subst (λ (z : List ℕ). AreChangeLines options form text all z)
+      (sym (append_assoc told.made line more)) (told.goes (line ++ more) (line, more, is, are, refl));
+}
+
+pub told_all : (options : Options) (form : Form) (text : List ℕ) (all : List (ℕ × ℕ × List ℕ)) (before now : List ℕ)
+    → Told options form text all [] before now → Appends (AreChangeLines options form text all) before now
+told_all options form text all before now told = (
+  told.made,
+  subst (λ (z : List ℕ). AreChangeLines options form text all z) (append-nil told.made) (told.goes [] refl),
+  told.now_is,
+)
+
+-- The loop's invariant stays true after one more line.
+pub told_step : (options : Options) (form : Form) (text : List ℕ) (all rest after : List (ℕ × ℕ × List ℕ))
+    (edit : ℕ × ℕ × List ℕ) (before now later : List ℕ) → rest ≡ edit ∷ after → AreEditsIn text rest
+    → Told options form text all rest before now → Appends (IsChangeLine options form text edit) now later
+    → AreEditsIn text after × Told options form text all after before later
+told_step options form text all rest after edit before now later is stands told line = (
+  (subst (λ (z : List (ℕ × ℕ × List ℕ)). AreEditsIn text z) is stands).1,
+  told_more options form text all after edit before now later
+      (subst (λ (z : List (ℕ × ℕ × List ℕ)). Told options form text all z before now) is told) line,
+)
+
+-- After the last rewritten literal, all lines are written.
+pub told_end : {X : Type 0} (f : X → ℕ × ℕ × List ℕ) (xs : List X) (options : Options) (form : Form) (text : List ℕ)
+    (all : List (ℕ × ℕ × List ℕ)) (before now : List ℕ) → length xs ≡ 0
+    → Told options form text all (map f xs) before now → Appends (AreChangeLines options form text all) before now
+told_end f [] options form text all before now none told = told_all options form text all before now told
+told_end f (x ∷ xs) options form text all before now none told = absurd (omega (arith, none))

@@ -1,0 +1,188 @@
+-- Lemmas about the result of a call of `rl_scan`.
+use Rattle.rl_syntax.proofs.Common.{ap, false, length, not, true, ◌==◌, ◌∙◌, Bool, Bor, List, None, Option, Some, [], inl, inr, refl, subst, sym, ℕ, ◌∷◌, ◌≡◌}
+use Rattle.std.specs.Prelude.{IfSome, String}
+use Rattle.std.proofs.lemmas.Bool.{false≢true}
+use Rattle.std.specs.Io.KnownBytes.{Keeps}
+use Rattle.std.proofs.KnownBytes.{Appends-nil}
+use Rattle.rl_files.specs.Globs.{borrowed_texts}
+use Rattle.rl_files.specs.Replacements.{Replacement}
+use Rattle.rl_files.specs.Trees.{World}
+use Rattle.rl_files.specs.Walks.{Waypoint}
+use Rattle.rl_files.proofs.WalkLemmas.{some_visits}
+use Rattle.rl_program.specs.declared.exit.Ending.{Ending}
+use Rattle.rl_program.specs.declared.exit.Ending.TheVariants.{Done, FoundBad, Reported, Closed, Usage, Failed}
+use Rattle.rl_options.specs.declared.command.Action.{Action}
+use Rattle.rl_options.specs.declared.command.Action.TheVariants.{Scan, Help, Version, Files}
+use Rattle.rl_options.specs.declared.command.Command.{Command}
+use Rattle.rl_options.specs.declared.command.Console.{Console}
+use Rattle.rl_options.specs.declared.arguments.ArgumentError.{ArgumentError}
+use Rattle.rl_scan.specs.declared.exit.CallError.{CallError}
+use Rattle.rl_scan.specs.declared.exit.CallError.TheVariants.{NoArguments, Word, Walk, List as NoList, Style as NoStyle, NoFile, Write}
+use Rattle.rl_style.specs.declared.style.Style.{Style}
+use Rattle.rl_restyle.specs.Styles.{default_settings}
+use Rattle.rl_options.specs.declared.rules.RulesError.TheVariants as rules
+use Rattle.rl_scan.specs.Visits.{nothing}
+use Rattle.rl_scan.specs.Runs.{Streams, WritesFront}
+use Rattle.rl_scan.proofs.Handing.{hands_none, written_on}
+use Rattle.rl_scan.proofs.RunLemmas.{not_empty}
+use Rattle.rl_options.specs.Wishes.{Wishes, style_of, wishes_of, reads_current_directory}
+use Rattle.rl_options.specs.Words.{AskForWishes}
+use Rattle.rl_scan.specs.Endings.{EndsText, EndsWish, EndsAsked, EndsAsScan, EndsFrom, EndsListed, EndsPaths, EndsScan, EndsStyled, paths_read, IsCommandFor, IsSelecting}
+
+-- The bytes of a writer are unchanged if nothing is written.
+pub keeps_same : (a : Option (List ℕ)) → Keeps a a
+keeps_same None = tt
+keeps_same (Some xs) = refl
+
+-- The call has written the help. `ends_version` is the lemma for the version.
+pub ends_help : {B : Type 0} (wishes : Wishes) (is_terminal : Bool) (holds : Option World) (o0 o1 e : Option (List ℕ))
+    (h : Option (List Replacement)) (text : List ℕ) (ending : Ending (CallError B)) → wishes.action ≡ Help
+    → EndsText text o0 o1 ending → EndsAsked wishes is_terminal holds (written_on o0 o1 e e h h) ending
+ends_help wishes is_terminal holds o0 o1 e h text ending is ends = rw is (text, ends, keeps_same e, refl)
+
+pub ends_version : {B : Type 0} (wishes : Wishes) (is_terminal : Bool) (holds : Option World)
+    (o0 o1 e : Option (List ℕ)) (h : Option (List Replacement)) (text : List ℕ) (ending : Ending (CallError B))
+    → wishes.action ≡ Version → EndsText text o0 o1 ending
+    → EndsAsked wishes is_terminal holds (written_on o0 o1 e e h h) ending
+ends_version wishes is_terminal holds o0 o1 e h text ending is ends = rw is (text, ends, keeps_same e, refl)
+
+-- Before a run, a beginning of its output is written: nothing.
+pub front_none : (command : Command) (holds : Option World) (waypoints : List Waypoint) (o e : Option (List ℕ))
+    (h : Option (List Replacement)) → IfSome holds (λ w. WritesFront command w waypoints (written_on o o e e h h))
+front_none command None waypoints o e h = tt
+front_none command (Some w) waypoints o e h =
+    let more = some_visits command.selection w waypoints in
+    inl ([], more.0, nothing, more.1, refl, ((0, Appends-nil o), (0, Appends-nil e), hands_none h))
+
+-- The command with its separately parsed lists is the command of the arguments.
+pub command_for : (command selecting : Command) (style : Style) (finds extensions excludes lists paths : List (List ℕ))
+    → IsSelecting command style finds extensions excludes lists selecting
+    → IsCommandFor (wishes_of command finds extensions excludes lists paths) style selecting
+command_for command selecting style finds extensions excludes lists paths is = record {
+  asked = is.same finds extensions excludes lists paths;
+  finds_are = is.finds_are;
+  extensions_are = is.extensions_are;
+  excludes_are = is.excludes_are;
+  lists_are = is.lists_are;
+  rules_are = is.rules_are;
+}
+
+-- There are no lists of paths. `ends_listed` is the lemma for lists of paths.
+pub ends_named : {B : Type 0} (files : List (Bor (List ℕ))) (command : Command) (is_terminal : Bool)
+    (holds : Option World) (paths : List (List ℕ)) (streams : Streams) (ending : Ending (CallError B))
+    → (length files == 0) ≡ true → EndsPaths command holds (paths_read is_terminal paths) streams ending
+    → EndsFrom (borrowed_texts files) command is_terminal holds paths streams ending
+ends_named [] command is_terminal holds paths streams ending none ends = ends
+ends_named (file ∷ files) command is_terminal holds paths streams ending none ends =
+    absurd (false≢true (sym (ap not none) ∙ not_empty (length files)))
+
+pub ends_listed : {B : Type 0} (files : List (Bor (List ℕ))) (command : Command) (is_terminal : Bool)
+    (holds : Option World) (paths : List (List ℕ)) (streams : Streams) (ending : Ending (CallError B))
+    → (length files == 0) ≡ false → EndsListed command (borrowed_texts files) holds paths streams ending
+    → EndsFrom (borrowed_texts files) command is_terminal holds paths streams ending
+ends_listed [] command is_terminal holds paths streams ending some ends = absurd (false≢true (sym some))
+ends_listed (file ∷ files) command is_terminal holds paths streams ending some ends = ends
+
+pub scan_ends : {B : Type 0} (command selecting : Command) (style : Style)
+    (finds extensions excludes lists paths : List (List ℕ)) (is_terminal is_here : Bool) (holds : Option World)
+    (streams : Streams) (ending : Ending (CallError B))
+    → IsSelecting command style finds extensions excludes lists selecting
+    → is_here ≡ reads_current_directory is_terminal (wishes_of command finds extensions excludes lists paths)
+    → EndsFrom (borrowed_texts selecting.files_from.now) selecting is_here holds paths streams ending
+    → EndsScan (wishes_of command finds extensions excludes lists paths) style is_terminal holds streams ending
+scan_ends command selecting style finds extensions excludes lists paths is_terminal is_here holds streams ending is here
+    ends = (
+      selecting,
+      command_for command selecting style finds extensions excludes lists paths is,
+      subst (λ (b : Bool). EndsFrom lists selecting b holds paths streams ending) here
+          (subst (λ (files : List (List ℕ)). EndsFrom files selecting is_here holds paths streams ending) is.lists_are
+          ends),
+    )
+
+-- The option `--style` names a file with the rules of a style.
+pub ends_styled : {B : Type 0} (said : Option (Bor (List ℕ))) (file : Bor (List ℕ)) (wishes : Wishes)
+    (is_terminal : Bool) (holds : Option World) (streams : Streams) (ending : Ending (CallError B)) → said ≡ Some file
+    → EndsStyled (Some file.now) wishes is_terminal holds streams ending
+    → EndsStyled (style_of said) wishes is_terminal holds streams ending
+ends_styled said file wishes is_terminal holds streams ending is ends = rw is ends
+
+-- A call that scans files doesn't end with the error for unreadable arguments.
+scan_arguments : (B : Type 0) (wishes : Wishes) (style : Style) (is_terminal : Bool) (holds : Option World)
+    (streams : Streams)
+    → EndsScan {B = B} wishes style is_terminal holds streams (Failed NoArguments) → ⊥
+scan_arguments B wishes style is_terminal holds streams (command, is, ends) = go wishes.files_from ends
+  where
+    go : (from : List (List ℕ))
+        → EndsFrom {B = B} from command (reads_current_directory is_terminal wishes) holds wishes.paths streams (Failed NoArguments)
+        → ⊥
+    go [] never = never
+    go (file ∷ files) (inl (_, (unread, why, read, never))) = never
+    go (file ∷ files) (inr (all, are, never)) = never
+
+scan_word : {B : Type 0} (error : ArgumentError B) (wishes : Wishes) (style : Style) (is_terminal : Bool)
+    (holds : Option World)
+    (streams : Streams) → EndsScan {B = B} wishes style is_terminal holds streams (Failed (Word error)) → ⊥
+scan_word {B} error wishes style is_terminal holds streams (command, is, ends) = go wishes.files_from ends
+  where
+    go : (from : List (List ℕ))
+        → EndsFrom {B = B} from command (reads_current_directory is_terminal wishes) holds wishes.paths streams (Failed (Word error))
+        → ⊥
+    go [] never = never
+    go (file ∷ files) (inl (_, (unread, why, read, never))) = never
+    go (file ∷ files) (inr (all, are, never)) = never
+
+styled_arguments : (B : Type 0) (file : Option (List ℕ)) (wishes : Wishes) (is_terminal : Bool)
+    (holds : Option World) (streams : Streams)
+    → EndsStyled {B = B} file wishes is_terminal holds streams (Failed NoArguments) → ⊥
+styled_arguments B None wishes is_terminal holds streams ends =
+    scan_arguments B wishes default_settings is_terminal holds streams ends
+styled_arguments B (Some file) wishes is_terminal holds streams (inl (_, (rules.Unread why, has, never))) = never
+styled_arguments B (Some file) wishes is_terminal holds streams (inl (_, (rules.Style error, has, never))) = never
+styled_arguments B (Some file) wishes is_terminal holds streams (inr (style, has, ends)) =
+    scan_arguments B wishes style is_terminal holds streams ends
+
+styled_word : {B : Type 0} (error : ArgumentError B) (file : Option (List ℕ)) (wishes : Wishes) (is_terminal : Bool)
+    (holds : Option World) (streams : Streams)
+    → EndsStyled {B = B} file wishes is_terminal holds streams (Failed (Word error)) → ⊥
+styled_word error None wishes is_terminal holds streams ends =
+    scan_word error wishes default_settings is_terminal holds streams ends
+styled_word error (Some file) wishes is_terminal holds streams (inl (_, (rules.Unread why, has, never))) = never
+styled_word error (Some file) wishes is_terminal holds streams (inl (_, (rules.Style wrong, has, never))) = never
+styled_word error (Some file) wishes is_terminal holds streams (inr (style, has, ends)) =
+    scan_word error wishes style is_terminal holds streams ends
+
+no_arguments : (B : Type 0) (action : Action) (wishes : Wishes) (is_terminal : Bool) (holds : Option World)
+    (streams : Streams) → EndsWish {B = B} action wishes is_terminal holds streams (Failed NoArguments) → ⊥
+no_arguments B Scan wishes is_terminal holds streams ends =
+    styled_arguments B wishes.style wishes is_terminal holds streams ends
+no_arguments B Files wishes is_terminal holds streams ends =
+    styled_arguments B wishes.style wishes is_terminal holds streams ends
+no_arguments B Help wishes is_terminal holds streams (text, (never, begun), kept, same) = never
+no_arguments B Version wishes is_terminal holds streams (text, (never, begun), kept, same) = never
+
+no_word : {B : Type 0} (error : ArgumentError B) (action : Action) (wishes : Wishes) (is_terminal : Bool) (holds : Option World)
+    (streams : Streams) → EndsWish {B = B} action wishes is_terminal holds streams (Failed (Word error)) → ⊥
+no_word error Scan wishes is_terminal holds streams ends =
+    styled_word error wishes.style wishes is_terminal holds streams ends
+no_word error Files wishes is_terminal holds streams ends =
+    styled_word error wishes.style wishes is_terminal holds streams ends
+no_word error Help wishes is_terminal holds streams (text, (never, begun), kept, same) = never
+no_word error Version wishes is_terminal holds streams (text, (never, begun), kept, same) = never
+
+pub call_asked : {A B : Type 0} (args : List (String A)) (console : Console) (holds : Option World) (streams : Streams)
+    (ending : Ending (CallError B)) (wishes : Wishes) → AskForWishes console.has_colors args wishes
+    → EndsAsked wishes console.input_is_terminal holds streams ending → EndsAsScan args console holds streams ending
+call_asked args console holds streams Done wishes asks ends = (wishes, asks, ends)
+call_asked args console holds streams FoundBad wishes asks ends = (wishes, asks, ends)
+call_asked args console holds streams Reported wishes asks ends = (wishes, asks, ends)
+call_asked args console holds streams Closed wishes asks ends = (wishes, asks, ends)
+call_asked args console holds streams (Usage line) wishes asks ends = (wishes, asks, ends)
+call_asked {A} {B} args console holds streams (Failed NoArguments) wishes asks ends = absurd
+    (no_arguments B wishes.action wishes console.input_is_terminal holds streams ends)
+call_asked args console holds streams (Failed (Word error)) wishes asks ends = absurd
+    (no_word error wishes.action wishes console.input_is_terminal holds streams ends)
+call_asked args console holds streams (Failed (Walk error)) wishes asks ends = (wishes, asks, ends)
+call_asked args console holds streams (Failed (NoList file why)) wishes asks ends = (wishes, asks, ends)
+call_asked args console holds streams (Failed (NoStyle file error)) wishes asks ends = (wishes, asks, ends)
+call_asked args console holds streams (Failed NoFile) wishes asks ends = (wishes, asks, ends)
+call_asked args console holds streams (Failed Write) wishes asks ends = (wishes, asks, ends)

@@ -1,0 +1,10 @@
+pub mod DiffLemmas
+pub mod ChangeLemmas
+pub mod PatchLemmas
+pub mod Theorems
+pub mod ReportLemmas
+pub mod Handing
+pub mod VisitLemmas
+pub mod RestyleLemmas
+pub mod RunLemmas
+pub mod EndingLemmas

@@ -1,0 +1,26 @@
+use Rattle.rl_syntax.proofs.Common.{chars, string_bytes}
+use Rattle.std.proofs.lemmas.Result.{on_ok_weaker}
+use Rattle.rl_scan.proofs.ChangeLemmas.{boundary, change_told, cursor, left}
+use Rattle.rl_scan.proofs.changes.push_edit.Goals as goal
+
+pub rest_at-rest-requires : goal.rest_at-rest-requires
+rest_at-rest-requires g c = boundary c.args.places.now c.args.text.now c.args.edit.now.lo c.args.edit.now.hi
+    c.requires.stands.0 c.requires.places c.utf8.text c.requires.stands.1
+
+pub displayed_place-place-requires-clause-text : goal.displayed_place-place-requires-clause-text
+displayed_place-place-requires-clause-text g c = cursor c.args.places.now c.args.text.now c.rest_at-rest.result.now
+    c.args.edit.now.lo c.args.edit.now.hi c.requires.stands.0 c.requires.places c.utf8.text c.requires.stands.1
+    c.rest_at-rest.ensures
+
+pub displayed_place-place-requires-clause-lo : goal.displayed_place-place-requires-clause-lo
+displayed_place-place-requires-clause-lo g c = left c.args.places.now c.args.text.now c.rest_at-rest.result.now
+    c.args.edit.now.lo c.args.edit.now.hi c.requires.stands.0 c.requires.places c.utf8.text c.requires.stands.1
+    c.rest_at-rest.ensures
+
+pub returns-clause-line : goal.returns-clause-line
+returns-clause-line g c = on_ok_weaker c.push_change.result (λ told. change_told c.args.options.now c.args.form
+    c.args.places.now c.args.text.now c.requires.stands.0 (chars c.between-old.result.now)
+    (chars (string_bytes c.args.edit.now.text)) c.args.edit.now.lo c.args.edit.now.hi c.displayed_place-place.result _ _
+    c.requires.places c.displayed_place-place.ensures.place c.requires.stands.1
+    (c.between-old.ensures c.requires.stands.0 c.requires.stands.1)
+    (rw c.as_str.ensures.value at told)) c.push_change.ensures

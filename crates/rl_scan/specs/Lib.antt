@@ -1,0 +1,10 @@
+pub mod Changes
+pub mod Diffs
+pub mod Outcomes
+pub mod Patches
+pub mod Reports
+pub mod Restyling
+pub mod Visits
+pub mod Stats
+pub mod Runs
+pub mod Endings

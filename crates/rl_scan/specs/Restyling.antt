@@ -1,0 +1,137 @@
+-- The output for a source whose literals are rewritten. Texts are lists of characters. Output is a list of bytes.
+use Rattle.std.specs.Prelude.{◌≡◌, ◌≢◌, ◌⊎◌, ℕ, ◌==◌, Bool, true, false, cond, not, List, [], ◌∷◌, ◌++◌, codes, length, encode_utf8_all, Option, Some, None, IsFalse, IsTrue}
+use denote.Ref.{Bor}
+use Rattle.std.specs.Str.{chars, IsUtf8}
+use Rattle.rl_files.specs.Replacements.{Replacement, replacing}
+use Rattle.rl_files.specs.Visible.{visible}
+use Rattle.rl_files.specs.declared.tree.PathError.{PathError}
+use Rattle.rl_scan.specs.Changes.{AreChangeLines}
+use Rattle.rl_scan.specs.Diffs.{diff}
+use Rattle.rl_scan.specs.Outcomes.{AreRejections, IsJudging, IsRestyledAs}
+use Rattle.rl_output.specs.declared.form.Form.{Form}
+use Rattle.rl_restyle.specs.declared.edit.Macros.{Macros}
+use Rattle.rl_restyle.specs.declared.edit.Macros.TheVariants.{Skip}
+use Rattle.rl_sources.specs.declared.options.Options.{Options}
+use Rattle.rl_style.specs.Recut.{begins_with_code}
+use Rattle.rl_options.specs.declared.command.Command.{Command}
+use Rattle.rl_options.specs.declared.command.Output.{Output}
+use Rattle.rl_options.specs.declared.command.Output.TheVariants as output
+use Rattle.rl_options.specs.declared.command.Restyling.{Restyling}
+use Rattle.rl_options.specs.declared.command.Restyling.TheVariants.{Fix, Check, Diff}
+use Rattle.rl_scan.specs.Reports.{Findings, IsErrorReport, IsPathIn, IsShownPath, edition_read, is_by_line, is_input, printed_of}
+
+-- The output is only `out` on standard output. `handed` are the replaced files.
+pub record PrintsAlone (out : List ℕ) (found : Bool) (handed : List Replacement) (printed : Findings) : Type 0 where
+  pub out_is : printed.out ≡ out
+  pub errors_are : printed.errors ≡ []
+  pub has_error_is : printed.has_error ≡ false
+  pub read_is : printed.read ≡ true
+  pub count_is : printed.count ≡ 0
+  pub found_is : printed.found ≡ found
+  pub handed_is : printed.handed ≡ handed
+
+-- Whether literals in macro calls are rewritten. By default they are skipped.
+abbrev pub macros_read : Option Macros → Macros
+macros_read None = Skip
+macros_read (Some macros) = macros
+
+-- An output line for each rewritten literal of a source, in bytes.
+abbrev pub AreChangeBytes : Options → Form → List ℕ → List (ℕ × ℕ × List ℕ) → List ℕ → Type 0
+AreChangeBytes options form text edits bytes =
+    (lines : List ℕ) × AreChangeLines options form text edits lines × (bytes ≡ encode_utf8_all lines)
+
+-- The selection of output for `--fix`: the number of rewritten literals, and not their lines.
+abbrev pub fixed_output : Output → Output
+fixed_output output.Lines = output.Count
+fixed_output output.Count = output.Count
+fixed_output output.Path = output.Path
+fixed_output output.Nothing = output.Nothing
+
+-- The output for the rewritten literals of a file: a line for each, their number, the path, or nothing.
+abbrev pub IsPrintOf : Command → Output → Options → Option (Bor (List ℕ)) → List ℕ → List (ℕ × ℕ × List ℕ) → List ℕ
+    → Type 0
+IsPrintOf command output options named text edits out =
+    (lines : List ℕ) × AreChangeBytes options command.form text edits lines
+    × (out ≡ printed_of output command.nul_after_paths command.form named lines)
+
+-- The output of `--check`: the literals that would be rewritten, with their new texts.
+abbrev pub IsChecked : Command → Options → Option (Bor (List ℕ)) → List ℕ → List (ℕ × ℕ × List ℕ) → Findings → Type 0
+IsChecked command options named text edits printed =
+    (out : List ℕ) × IsPrintOf command command.output options named text edits out
+    × PrintsAlone out (not (length edits == 0)) [] printed
+
+-- The output of `--diff`: the diff of a source and its rewritten form.
+abbrev pub IsCompared : Command → List ℕ → Option (Bor (List ℕ)) → List ℕ → List ℕ → Findings → Type 0
+IsCompared command path named text new printed =
+    (lines : List ℕ) × (lines ≡ encode_utf8_all (diff path text new))
+    × PrintsAlone (printed_of command.output command.nul_after_paths command.form named lines)
+    (not (length lines == 0)) [] printed
+
+-- The output for a file that is replaced: `out`, or the reason why the file can't be replaced. Texts are lists of bytes.
+abbrev pub IsReplaced : List ℕ → List ℕ → List ℕ → List ℕ → Findings → Type 0
+IsReplaced path text new out printed =
+    PrintsAlone out false (replacing path text new ∷ []) printed
+    ⊎ ((why : PathError) × IsErrorReport path why printed)
+
+-- The output of `--fix`. A file is replaced if a literal is rewritten. For standard input, the output is the rewritten source.
+abbrev pub IsFixed : Command → Options → List ℕ → Option (Bor (List ℕ)) → List ℕ → List ℕ → List (ℕ × ℕ × List ℕ)
+    → Findings → Type 0
+IsFixed command options path named text new edits printed =
+    ((is_input path ≡ true) × PrintsAlone new false [] printed)
+    ⊎ ((is_input path ≡ false) × ((length edits == 0) ≡ true) × PrintsAlone [] false [] printed)
+    ⊎ ((is_input path ≡ false) × ((length edits == 0) ≡ false)
+    × ((out : List ℕ) × IsPrintOf command (fixed_output command.output) options named (chars text) edits out
+    × IsReplaced path text new out printed))
+
+-- The output for a source and its rewritten form, for `--check`, `--diff` or `--fix`.
+abbrev pub IsChanged : Restyling → Command → Options → List ℕ → Option (Bor (List ℕ)) → List ℕ → List ℕ
+    → List (ℕ × ℕ × List ℕ) → Findings → Type 0
+IsChanged Check command options path named text new edits printed =
+    IsChecked command options named (chars text) edits printed
+IsChanged Diff command options path named text new edits printed =
+    IsCompared command (chars path) named (chars text) (chars new) printed
+IsChanged Fix command options path named text new edits printed =
+    IsFixed command options path named text new edits printed
+
+-- The output for a source with errors, which isn't rewritten: only the lines that explain the errors, on standard error.
+pub record PrintsRejections (lines : List ℕ) (printed : Findings) : Type 0 where
+  pub out_is : printed.out ≡ []
+  pub errors_are : printed.errors ≡ lines
+  pub has_error_is : printed.has_error ≡ true
+  pub read_is : printed.read ≡ true
+  pub count_is : printed.count ≡ 0
+  pub found_is : printed.found ≡ false
+  pub handed_is : printed.handed ≡ []
+
+-- The standard output for a source that isn't rewritten: the source itself for `--fix` on standard input, else nothing.
+abbrev pub text_left : Restyling → List ℕ → List ℕ → List ℕ
+text_left Fix path text = cond (is_input path) text []
+text_left Check path text = []
+text_left Diff path text = []
+
+-- The output for a source that begins as a script, with `#!`, and isn't rewritten. A warning, which isn't an error, goes to
+-- standard error.
+pub record IsScriptReport (restyling : Restyling) (path text : List ℕ) (printed : Findings) : Type 0 where
+  pub out : printed.out ≡ text_left restyling path text
+  pub has_error : printed.has_error ≡ false
+  pub handed : printed.handed ≡ []
+  pub read : printed.read ≡ true
+  pub found : printed.found ≡ false
+  pub count : printed.count ≡ 0
+  pub errors : chars printed.errors
+      ≡ codes "rl_scan: " ++ (visible (chars path) ++ codes ": left alone: its first line begins with #!\n")
+
+-- The output for a source whose literals are rewritten. If the source has errors, they are the output. If it begins as a script,
+-- the output is a warning.
+abbrev pub IsRestyledReport : Restyling → Command → List ℕ → List ℕ → Findings → Type 0
+IsRestyledReport restyling command path text printed =
+    (options : Options) × (shown named : Option (Bor (List ℕ))) × (lines : List ℕ)
+    × IsShownPath path shown × IsPathIn command.nul_after_paths path named
+    × IsJudging (edition_read command.edition) (is_by_line command.places path) shown options
+    × AreRejections options text lines
+    × ((lines ≢ []) × PrintsRejections lines printed
+    ⊎ ((lines ≡ []) × IsFalse (begins_with_code (chars text)) × IsScriptReport restyling path text printed)
+    ⊎ ((lines ≡ []) × IsTrue (begins_with_code (chars text))
+    × ((new : List ℕ) × (edits : List (ℕ × ℕ × List ℕ)) × IsUtf8 new
+    × IsRestyledAs command.rules (macros_read command.macros) (chars text) (chars new) edits
+    × IsChanged restyling command options path named text new edits printed)))

@@ -1,0 +1,296 @@
+//! Creates the output for a source whose literals are rewritten.
+
+ghost use Rattle.std.specs.Prelude.{◌≡◌, [], OnErr, IfOk, map, string_bytes};
+ghost use Rattle.std.specs.Str.{chars};
+ghost use Rattle.rl_restyle.specs.Edits.{edit_in};
+ghost use Rattle.rl_restyle.specs.Places.{AreEditsIn};
+ghost use Rattle.rl_scan.specs.Reports.{in_report};
+ghost use Rattle.rl_scan.specs.Visits.{ReportsAs};
+ghost use Rattle.rl_scan.specs.Restyling.{AreChangeBytes, IsChanged, IsChecked, IsCompared, IsFixed, IsReplaced, IsRestyledReport, IsScriptReport, PrintsAlone, PrintsRejections, fixed_output as output_of_fixed, macros_read, text_left as text_left_of};
+
+use crate::report::{
+    Report, edition_for, is_by_line, is_input, path_before, path_in, report_error, written,
+};
+use crate::{Outcome, check_options, push_changes, push_diff, rewrite_outcome};
+use rl_files::{Replace, push_visible};
+use rl_options::{Command, Output, Restyling, visible_text};
+use rl_restyle::{Macros, Restyled};
+use rl_sources::Options;
+use std::alloc::{AllocError, Allocator};
+
+/// Returns a report with the bytes `out` for standard output, and nothing for standard error.
+fn report_out<A: Allocator + Copy>(alloc: A, out: Vec<u8, A>, found: bool) -> Report<A>
+    ensures { PrintsAlone out.items found [] (in_report result) }
+{
+    Report {
+        out,
+        errors: Vec::new(alloc),
+        has_error: false,
+        read: true,
+        found,
+        count: 0,
+    }
+}
+
+/// Returns an output line for each rewritten literal of a source.
+fn change_lines<A: Allocator + Copy>(
+    alloc: A,
+    command: Command<'_>,
+    options: Options<'_>,
+    text: &str,
+    restyled: &Restyled<A>,
+) -> Result<Vec<u8, A>, AllocError>
+    requires { AreEditsIn (chars text.now) (map edit_in restyled.now.edits.items) }
+    ensures { IfOk result (λ lines. AreChangeBytes options.entry command.entry.form (chars text.now)
+        (map edit_in restyled.now.edits.items) lines.items) }
+{
+    let mut lines = String::new(alloc);
+    push_changes(
+        &mut lines,
+        options,
+        command.form,
+        text,
+        restyled.edits.as_slice(),
+    )?;
+    Ok(lines.into_bytes())
+}
+
+/// Returns the output of `--check`: the literals that would be rewritten, with their new texts.
+fn report_checked<A: Allocator + Copy>(
+    alloc: A,
+    command: Command<'_>,
+    options: Options<'_>,
+    path: Option<&str>,
+    text: &str,
+    restyled: &Restyled<A>,
+) -> Result<Report<A>, AllocError>
+    requires { AreEditsIn (chars text.now) (map edit_in restyled.now.edits.items) }
+    ensures { IfOk result (λ r. IsChecked command.entry options.entry path.entry (chars text.now)
+        (map edit_in restyled.now.edits.items) (in_report r)) }
+{
+    let lines = change_lines(alloc, command, options, text, restyled)?;
+    let out = written(
+        alloc,
+        command.output,
+        command.nul_after_paths,
+        command.form,
+        path,
+        lines,
+    )?;
+    Ok(report_out(alloc, out, !restyled.edits.is_empty()))
+}
+
+/// Returns the output of `--diff`: the diff of a source and its rewritten form.
+fn report_compared<A: Allocator + Copy>(
+    alloc: A,
+    command: Command<'_>,
+    path: &str,
+    named: Option<&str>,
+    text: &str,
+    new: &str,
+) -> Result<Report<A>, AllocError>
+    ensures { IfOk result (λ r. IsCompared command.entry (chars path.now) named.entry (chars text.now) (chars new.now)
+        (in_report r)) }
+{
+    let mut lines = String::new(alloc);
+    push_diff(&mut lines, path, text, new)?;
+    let lines = lines.into_bytes();
+    let found = !lines.is_empty();
+    let out = written(
+        alloc,
+        command.output,
+        command.nul_after_paths,
+        command.form,
+        named,
+        lines,
+    )?;
+    Ok(report_out(alloc, out, found))
+}
+
+/// Returns the selection of output for `--fix`. It prints the number of rewritten literals, and not their lines.
+fn fixed_output(output: Output) -> Output
+    ensures { result ≡ output_of_fixed output }
+{
+    match output {
+        Output::Lines => Output::Count,
+        _ => output,
+    }
+}
+
+/// Replaces the file at `path`, and returns `out` as its output. If the file can't be replaced, the output is the reason.
+fn report_replaced<A: Allocator + Copy, F: Replace>(
+    alloc: A,
+    files: &mut F,
+    path: &str,
+    text: &str,
+    new: &str,
+    out: Vec<u8, A>,
+) -> Result<Report<A>, AllocError>
+    ensures reports { IfOk result (λ r. ReportsAs (IsReplaced path.now text.now new.now out.items)
+        r (F.handed files.old) (F.handed files.new)) }
+    ensures kept { OnErr result (F.handed files.new ≡ F.handed files.old) }
+{
+    match files.replace(alloc, path, text.as_bytes(), new.as_bytes()) {
+        Ok(()) => Ok(report_out(alloc, out, false)),
+        Err(why) => report_error(alloc, path, why),
+    }
+}
+
+/// Returns the output of `--fix`, after replacing the file at `path`. A file without rewritten literals isn't replaced.
+///
+/// For standard input, the output is the rewritten source.
+fn report_fixed<A: Allocator + Copy, F: Replace>(
+    alloc: A,
+    command: Command<'_>,
+    options: Options<'_>,
+    files: &mut F,
+    path: &str,
+    named: Option<&str>,
+    text: &str,
+    restyled: Restyled<A>,
+) -> Result<Report<A>, AllocError>
+    requires { AreEditsIn (chars text.now) (map edit_in restyled.edits.items) }
+    ensures reports { IfOk result (λ r. ReportsAs (IsFixed command.entry options.entry path.now named.entry text.now
+        (string_bytes restyled.text) (map edit_in restyled.edits.items))
+        r (F.handed files.old) (F.handed files.new)) }
+    ensures kept { OnErr result (F.handed files.new ≡ F.handed files.old) }
+{
+    if is_input(path) {
+        return Ok(report_out(alloc, restyled.text.into_bytes(), false));
+    }
+    if restyled.edits.as_slice().is_empty() {
+        return Ok(report_out(alloc, Vec::new(alloc), false));
+    }
+    let lines = change_lines(alloc, command, options, text, &restyled)?;
+    let output = fixed_output(command.output);
+    let out = written(
+        alloc,
+        output,
+        command.nul_after_paths,
+        command.form,
+        named,
+        lines,
+    )?;
+    report_replaced(alloc, files, path, text, restyled.text.as_str(), out)
+}
+
+/// Returns the output for a source and its rewritten form, for `--check`, `--diff` or `--fix`.
+fn report_change<A: Allocator + Copy, F: Replace>(
+    alloc: A,
+    command: Command<'_>,
+    restyling: Restyling,
+    options: Options<'_>,
+    files: &mut F,
+    path: &str,
+    named: Option<&str>,
+    text: &str,
+    restyled: Restyled<A>,
+) -> Result<Report<A>, AllocError>
+    requires { AreEditsIn (chars text.now) (map edit_in restyled.edits.items) }
+    ensures reports { IfOk result (λ r. ReportsAs (IsChanged restyling command.entry options.entry path.now named.entry
+        text.now (string_bytes restyled.text) (map edit_in restyled.edits.items))
+        r (F.handed files.old) (F.handed files.new)) }
+    ensures kept { OnErr result (F.handed files.new ≡ F.handed files.old) }
+{
+    match restyling {
+        Restyling::Check => report_checked(alloc, command, options, named, text, &restyled),
+        Restyling::Diff => report_compared(
+            alloc,
+            command,
+            path,
+            named,
+            text,
+            restyled.text.as_str(),
+        ),
+        Restyling::Fix => report_fixed(alloc, command, options, files, path, named, text, restyled),
+    }
+}
+
+/// Returns the output for a source with errors, which isn't rewritten. `lines` explain the errors, and go to standard error.
+fn report_rejected<A: Allocator + Copy>(alloc: A, lines: Vec<u8, A>) -> Report<A>
+    ensures { PrintsRejections lines.items (in_report result) }
+{
+    Report {
+        out: Vec::new(alloc),
+        errors: lines,
+        has_error: true,
+        read: true,
+        found: false,
+        count: 0,
+    }
+}
+
+/// Returns whether literals in macro calls are rewritten. By default they are skipped.
+fn macros_for(command: Command<'_>) -> Macros
+    ensures { result ≡ macros_read command.entry.macros }
+{
+    match command.macros {
+        Some(macros) => macros,
+        None => Macros::Skip,
+    }
+}
+
+/// Returns the standard output for a source that isn't rewritten: the source itself for `--fix` on standard input, else nothing.
+fn text_left<'t>(restyling: Restyling, path: &str, text: &'t str) -> &'t str
+    ensures { result.now ≡ text_left_of restyling path.now text.now }
+{
+    match restyling {
+        Restyling::Fix if is_input(path) => text,
+        _ => "",
+    }
+}
+
+/// Returns the output for a source that begins as a script, with `#!`, and isn't rewritten. A warning goes to standard error.
+fn report_script<A: Allocator + Copy>(
+    alloc: A,
+    restyling: Restyling,
+    path: &str,
+    text: &str,
+) -> Result<Report<A>, AllocError>
+    ensures { IfOk result (λ r. IsScriptReport restyling path.now text.now (in_report r)) }
+{
+    let mut warning = String::from_str(alloc, "rl_scan: ")?;
+    push_visible(&mut warning, path)?;
+    writeln!(&mut warning, ": left alone: its first line begins with #!")?;
+    let out = String::from_str(alloc, text_left(restyling, path, text))?;
+    Ok(Report {
+        out: out.into_bytes(),
+        errors: warning.into_bytes(),
+        has_error: false,
+        read: true,
+        found: false,
+        count: 0,
+    })
+}
+
+/// Rewrites the literals of a source, and returns the output.
+///
+/// If the source has errors, they are the output. If it begins as a script, the output is a warning.
+pub(crate) fn report_restyled<A: Allocator + Copy, F: Replace>(
+    alloc: A,
+    command: Command<'_>,
+    restyling: Restyling,
+    files: &mut F,
+    path: &str,
+    text: &str,
+) -> Result<Report<A>, AllocError>
+    ensures reports { IfOk result (λ r. ReportsAs (IsRestyledReport restyling command.entry path.now text.now)
+        r (F.handed files.old) (F.handed files.new)) }
+    ensures kept { OnErr result (F.handed files.new ≡ F.handed files.old) }
+{
+    let shown = visible_text(alloc, path)?;
+    let before = path_before(path, shown.as_str());
+    let named = path_in(command.nul_after_paths, path, before);
+    let options = check_options(
+        edition_for(command),
+        is_by_line(command.places, path),
+        before,
+    );
+    match rewrite_outcome(alloc, options, command.rules, macros_for(command), text)? {
+        Outcome::Rejected(lines) => Ok(report_rejected(alloc, lines)),
+        Outcome::Script => report_script(alloc, restyling, path, text),
+        Outcome::Restyled(restyled) => report_change(
+            alloc, command, restyling, options, files, path, named, text, restyled,
+        ),
+    }
+}

@@ -1,0 +1,98 @@
+//! Creates the output for one visit of a walk.
+
+ghost use Rattle.std.specs.Prelude.{◌≡◌, OnErr, IfOk, IfSome};
+ghost use Rattle.std.specs.Str.{IsUtf8};
+ghost use Rattle.rl_files.specs.Walks.{visited};
+ghost use Rattle.rl_scan.specs.Visits.{IsBytesReport, IsReadReport, IsReport, IsWantedReport, ReportsAs};
+
+use crate::report::{Report, report_error, report_listed, report_text};
+use crate::restyling::report_restyled;
+use rl_files::{PathError, Replace, Tree, Visit};
+use rl_options::{Command, lists_files};
+use std::alloc::{AllocError, Allocator};
+
+/// Returns the output for the source `text`. Its literals are rewritten if the command requests it.
+fn report_wanted<A: Allocator + Copy, F: Replace>(
+    alloc: A,
+    command: Command<'_>,
+    files: &mut F,
+    path: &str,
+    text: &str,
+) -> Result<Report<A>, AllocError>
+    ensures reports { IfOk result (λ r. ReportsAs (IsWantedReport command.entry.restyle command.entry path.now text.now)
+        r (F.handed files.old) (F.handed files.new)) }
+    ensures kept { OnErr result (F.handed files.new ≡ F.handed files.old) }
+{
+    match command.restyle {
+        Some(restyling) => report_restyled(alloc, command, restyling, files, path, text),
+        None => report_text(alloc, command, path, text),
+    }
+}
+
+/// Returns the output for the file at `path`, whose contents are `bytes`. Bytes that aren't UTF-8 are an error.
+fn report_bytes<A: Allocator + Copy, F: Replace>(
+    alloc: A,
+    command: Command<'_>,
+    files: &mut F,
+    path: &str,
+    bytes: &[u8],
+) -> Result<Report<A>, AllocError>
+    ensures reports { IfOk result (λ r. ReportsAs (IsBytesReport command.entry path.now bytes.now)
+        r (F.handed files.old) (F.handed files.new)) }
+    ensures kept { OnErr result (F.handed files.new ≡ F.handed files.old) }
+{
+    match std::str::from_utf8(bytes) {
+        Ok(text) => report_wanted(alloc, command, files, path, text),
+        Err(error) => report_error(alloc, path, PathError::NotUtf8(error.valid_up_to())),
+    }
+}
+
+/// Reads the file at `path`, and returns its output. The file's bytes are dropped before the next file is read.
+fn report_file<A: Allocator + Copy, T: Tree, F: Replace>(
+    alloc: A,
+    command: Command<'_>,
+    tree: &T,
+    files: &mut F,
+    path: &str,
+) -> Result<Report<A>, AllocError>
+    ensures reports { IfOk result (λ r. IfSome (T.holds tree.now)
+        (λ w. ReportsAs (IsReadReport command.entry w path.now) r (F.handed files.old) (F.handed files.new))) }
+    ensures kept { OnErr result (F.handed files.new ≡ F.handed files.old) }
+{
+    let bytes = match tree.bytes(alloc, path) {
+        Ok(bytes) => bytes,
+        Err(error) => return report_error(alloc, path, error),
+    };
+    match report_bytes(alloc, command, files, path, bytes.as_slice()) {
+        Ok(report) => Ok(report),
+        Err(_) => report_error(alloc, path, PathError::OutOfMemory),
+    }
+}
+
+/// Returns the output for one visit of a walk.
+///
+/// For a file, it is the output for its text, or its path if files are only listed. For a path that can't be read, it is one line.
+/// A file whose literals are rewritten is replaced.
+///
+/// # Errors
+///
+/// Returns an error if an allocation fails, even for the line of an error. No file is replaced then.
+pub fn report_of<A: Allocator + Copy, T: Tree, F: Replace>(
+    alloc: A,
+    command: Command<'_>,
+    tree: &T,
+    files: &mut F,
+    visit: &Visit<A>,
+) -> Result<Report<A>, AllocError>
+    ensures reports { IfOk result (λ r. IfSome (T.holds tree.now)
+        (λ w. ReportsAs (IsReport command.entry w (visited visit.now)) r (F.handed files.old) (F.handed files.new))) }
+    ensures kept { OnErr result (F.handed files.new ≡ F.handed files.old) }
+{
+    match visit {
+        Visit::File(path) if lists_files(command.action) => {
+            report_listed(alloc, command, path.as_str())
+        }
+        Visit::File(path) => report_file(alloc, command, tree, files, path.as_str()),
+        Visit::Failed(path, error) => report_error(alloc, path.as_str(), *error),
+    }
+}

@@ -1,0 +1,362 @@
+-- The characters and escapes of a quoted literal in a file, in order, as they are read.
+use Rattle.rl_syntax.proofs.Common.{◌≡◌, ℕ, zero, suc, Bool, true, false, not, ◌==◌, ◌&&◌, ◌||◌, cond, List, [], ◌∷◌, ◌++◌, Option, Some, None, refl, sym, ap, subst, ◌∙◌, append_cancel_right, list_all, option_map, or_from, replicate}
+use Rattle.rl_lenient.proofs.Names.{and_right, Kind, Str, ByteStr, CStr, Byte, Char, after_run, first_passes, is_dropped_blank, is_plain, is_single, is_strict_unit, is_string, strict_text, StrictUnit, Itself, QuoteEscape, PlainEscape, AsciiEscape, ByteEscape, UnicodeEscape, LineBreak}
+use Rattle.rl_syntax.specs.Texts.{begins}
+use Rattle.rl_syntax.proofs.Basics.{all_weaker, apart}
+use Rattle.rl_lenient.specs.Mirrors.UnitAt.{escape_at, unit_at}
+use Rattle.rl_lenient.specs.StrictUnits.{BeginsStrictUnits, BreakEnds}
+use Rattle.rl_lenient.specs.declared.quoted_forms.QuotedForm.TheVariants.{Single as SingleForm}
+use Rattle.rl_lenient.proofs.RunLemmas.{run_ends}
+use Rattle.rl_strict.specs.Mirrors.StrictAt.{escape_rest, is_inside, is_raw_character, is_strict_suffix, unit_rest}
+use Rattle.rl_strict.proofs.StrictRowLemmas.{is_bare, quoted_single, quoted_string}
+use Rattle.rl_strict.proofs.StrictUnitLemmas.{unit_rest_complete, unit_rest_sound}
+use Rattle.rl_strict.proofs.StrictUnitRows.{breaks_to, row_join, row_none, row_unit}
+use Rattle.rl_strict.specs.LineEnds.{is_dropped, lf_text}
+use Rattle.rl_strict.specs.LineEnds.{IsFileRest}
+use Rattle.rl_strict.proofs.FileTextLemmas.{by_first, closes_free, free_text, front_free, lacks_cr, other_kept, rest_free, rest_line, rest_step, row_rest, when_kept}
+use Rattle.rl_strict.proofs.FileSuffixes.{both, run_rest}
+use Rattle.rl_strict.proofs.FileEscapes.{escape_read, lf_pair}
+use Rattle.rl_strict.proofs.ReadQuoted.{plain_row, single_closes}
+
+-- ---- a CR LF
+
+pub no_cr_line : (t : List ℕ) → first_passes (λ c. c == 13) t ≡ false → (c : ℕ) (following : List ℕ) → t ≡ c ∷ following
+    → is_dropped c following ≡ false
+no_cr_line t h c following e = other_kept c following (sym (ap (first_passes (λ d. d == 13)) e) ∙ h)
+
+pub no_lf_line : (t u : List ℕ) → t ≡ 13 ∷ u → first_passes (λ c. c == 10) u ≡ false → (c : ℕ) (following : List ℕ)
+    → t ≡ c ∷ following → is_dropped c following ≡ false
+no_lf_line t u is h c following e =
+    let same : 13 ∷ u ≡ c ∷ following = sym is ∙ e in
+    let back : u ≡ following = cc in
+    and_right (c == 13) (first_passes (λ d. d == 10) following) (sym (ap (first_passes (λ d. d == 10)) back) ∙ h)
+
+pub line_read : (t rest : List ℕ) → t ≡ 13 ∷ 10 ∷ rest → lf_text t ≡ 10 ∷ lf_text rest
+line_read t rest e = ap lf_text e
+
+pub kept_read : (t rest : List ℕ) (c : ℕ) → t ≡ c ∷ rest → is_dropped c rest ≡ false → lf_text t ≡ c ∷ lf_text rest
+kept_read t rest c e h = ap lf_text e ∙ when_kept c rest h
+
+-- ---- white space after an escaped line end
+
+-- White space that the code skips is white space in the text as it is read.
+blanks_past : (t : List ℕ) → after_run is_dropped_blank (lf_text (after_run is_dropped_blank t))
+    ≡ after_run is_dropped_blank (lf_text t)
+blanks_past [] = refl
+blanks_past (c ∷ cs) = go (blanks_past cs) (is_dropped_blank c) refl
+  where
+    go : after_run is_dropped_blank (lf_text (after_run is_dropped_blank cs)) ≡ after_run is_dropped_blank (lf_text cs)
+        → (b : Bool) → is_dropped_blank c ≡ b
+        → after_run is_dropped_blank (lf_text (cond b (after_run is_dropped_blank cs) (c ∷ cs)))
+        ≡ after_run is_dropped_blank (lf_text (c ∷ cs))
+    go ih true h = ih
+        ∙ sym (ap (λ b. cond b (after_run is_dropped_blank (lf_text cs)) (c ∷ lf_text cs)) h)
+        ∙ sym (ap (after_run is_dropped_blank) (when_kept c cs (other_kept c cs (apart is_dropped_blank c 13 h refl))))
+    go ih false h = refl
+
+pub blanks_first : (t rest : List ℕ) → rest ≡ after_run is_dropped_blank t → after_run is_dropped_blank (lf_text rest)
+    ≡ after_run is_dropped_blank (lf_text t)
+blanks_first t rest e = ap (λ z. after_run is_dropped_blank (lf_text z)) e ∙ blanks_past t
+
+pub blanks_on : (t rest after next : List ℕ) → after_run is_dropped_blank (lf_text rest)
+    ≡ after_run is_dropped_blank (lf_text t) → rest ≡ 13 ∷ 10 ∷ after → next ≡ after_run is_dropped_blank after
+    → after_run is_dropped_blank (lf_text next) ≡ after_run is_dropped_blank (lf_text t)
+blanks_on t rest after next same e is = blanks_first after next is
+    ∙ sym (ap (after_run is_dropped_blank) (line_read rest after e)) ∙ same
+
+pub blanks_stop : (t rest : List ℕ) → rest ≡ after_run is_dropped_blank t → first_passes is_dropped_blank rest ≡ false
+blanks_stop t rest e = ap (first_passes is_dropped_blank) e ∙ run_ends is_dropped_blank t
+
+pub blanks_end : (t rest : List ℕ) → after_run is_dropped_blank (lf_text rest) ≡ after_run is_dropped_blank (lf_text t)
+    → first_passes is_dropped_blank rest ≡ false
+    → ((c : ℕ) (following : List ℕ) → rest ≡ c ∷ following → is_dropped c following ≡ false) → lf_text rest
+    ≡ after_run is_dropped_blank (lf_text t)
+blanks_end t rest same stops none = go rest stops none ∙ same
+  where
+    go : (z : List ℕ) → first_passes is_dropped_blank z ≡ false
+        → ((c : ℕ) (following : List ℕ) → z ≡ c ∷ following → is_dropped c following ≡ false) → lf_text z
+        ≡ after_run is_dropped_blank (lf_text z)
+    go [] h n = refl
+    go (c ∷ cs) h n =
+        let e = when_kept c cs (n c cs refl) in
+        e ∙ sym (ap (after_run is_dropped_blank) e
+        ∙ ap (λ b. cond b (after_run is_dropped_blank (lf_text cs)) (c ∷ lf_text cs)) h)
+
+pub blanks_in : (t rest : List ℕ) → rest ≡ after_run is_dropped_blank t → IsFileRest t rest
+blanks_in t rest e = subst (IsFileRest t) (sym e) (run_rest is_dropped_blank refl t)
+
+pub blanks_more : (t rest after next : List ℕ) → IsFileRest t rest → rest ≡ 13 ∷ 10 ∷ after
+    → next ≡ after_run is_dropped_blank after → IsFileRest t next
+blanks_more t rest after next r e is = rest_step t rest next r
+    (rest_step rest after next (rest_line rest after e) (blanks_in after next is))
+
+-- ---- escapes
+
+-- The text after a backslash and a line end.
+pub break_read : (k : Kind) (t blanks rest : List ℕ) → is_string k ≡ true → lf_text t ≡ 10 ∷ lf_text blanks
+    → lf_text rest ≡ after_run is_dropped_blank (lf_text blanks) → Some (lf_text rest) ≡ escape_rest k (lf_text t)
+break_read k t blanks rest s e is = ap Some is
+    ∙ sym (ap (escape_rest k) e
+    ∙ ap (λ b. cond {A = Option (List ℕ)} b (Some (after_run is_dropped_blank (lf_text blanks))) None) s)
+
+pub break_in : (t blanks rest : List ℕ) → t ≡ 10 ∷ blanks → IsFileRest blanks rest → IsFileRest (92 ∷ t) rest
+break_in t blanks rest e r = rest_step (92 ∷ t) blanks rest
+    (rest_free (92 ∷ t) (92 ∷ 10 ∷ []) blanks (ap (λ z. 92 ∷ z) e) refl) r
+
+pub break_line_in : (t line blanks rest : List ℕ) → t ≡ 13 ∷ line → line ≡ 10 ∷ blanks → IsFileRest blanks rest
+    → IsFileRest (92 ∷ t) rest
+break_line_in t line blanks rest e f r = rest_step (92 ∷ t) t rest (rest_free (92 ∷ t) (92 ∷ []) t refl refl)
+    (rest_step t blanks rest (rest_line t blanks (e ∙ ap (λ z. 13 ∷ z) f)) r)
+
+-- After a backslash, a CR that no LF follows isn't a valid escape.
+pub lone_read : (k : Kind) (t line : List ℕ) → t ≡ 13 ∷ line → first_passes (λ c. c == 10) line ≡ false
+    → None ≡ escape_rest k (lf_text t)
+lone_read k t line e h = sym (ap (escape_rest k) (kept_read t line 13 e h))
+
+map_map : (o : Option (List ℕ × List ℕ)) → option_map (λ (p : List ℕ × List ℕ). p.1) (option_map lf_pair o)
+    ≡ option_map (λ (p : List ℕ × List ℕ). lf_text p.1) o
+map_map None = refl
+map_map (Some p) = refl
+
+-- An escape that isn't an escaped line end.
+pub other_read : (k : Kind) (c : ℕ) (cs : List ℕ) → (c == 10) ≡ false → (c == 13) ≡ false
+    → escape_rest k (c ∷ lf_text cs) ≡ option_map (λ (p : List ℕ × List ℕ). lf_text p.1) (escape_at k (c ∷ cs))
+unfolding unit_at
+other_read k c cs n m =
+    let line : Option (List ℕ) = cond (is_string k) (Some (after_run is_dropped_blank (lf_text cs))) None in
+    let other : Option (List ℕ) = option_map (λ (p : List ℕ × List ℕ). p.1) (escape_at k (c ∷ lf_text cs)) in
+    ap (λ b. cond b line (cond (c == 13) None other)) n ∙ ap (λ b. cond b None other) m
+    ∙ ap (option_map (λ (p : List ℕ × List ℕ). p.1)) (escape_read k c cs (or_from (c == 10) (c == 13) n m))
+    ∙ map_map (escape_at k (c ∷ cs))
+
+-- The result of the function call for another escape: the escape, or none.
+pub other_some : (k : Kind) (t cs v rest : List ℕ) (c : ℕ) → t ≡ c ∷ cs → (c == 10) ≡ false → (c == 13) ≡ false
+    → Some (v, rest) ≡ escape_at k t → Some (lf_text rest) ≡ escape_rest k (lf_text t)
+other_some k t cs v rest c e n m is = sym (ap (escape_rest k) (kept_read t cs c e (other_kept c cs m))
+    ∙ other_read k c cs n m ∙ ap (option_map (λ (p : List ℕ × List ℕ). lf_text p.1)) (sym (is ∙ ap (escape_at k) e)))
+
+pub other_none : (k : Kind) (t cs : List ℕ) (c : ℕ) → t ≡ c ∷ cs → (c == 10) ≡ false → (c == 13) ≡ false
+    → None ≡ escape_at k t → None ≡ escape_rest k (lf_text t)
+other_none k t cs c e n m is = sym (ap (escape_rest k) (kept_read t cs c e (other_kept c cs m))
+    ∙ other_read k c cs n m ∙ ap (option_map (λ (p : List ℕ × List ℕ). lf_text p.1)) (sym (is ∙ ap (escape_at k) e)))
+
+-- The text after a character or escape of a string is an end of the text.
+pub unit_in : (k : Kind) (t rest : List ℕ) → is_string k ≡ true → unit_rest k t ≡ Some rest → IsFileRest t rest
+unit_in k t rest s h =
+    let found = row_rest k t rest s (row_unit k t t rest (row_none k t) (unit_rest_sound k t rest (quoted_string k s) h))
+    in
+    rest_free t found.0 rest found.1 found.2
+
+pub other_in : (k : Kind) (t cs v rest : List ℕ) (c : ℕ) → is_string k ≡ true → t ≡ c ∷ cs → (c == 10) ≡ false
+    → (c == 13) ≡ false → Some (v, rest) ≡ escape_at k t → IsFileRest (92 ∷ t) rest
+unfolding unit_rest unit_at
+other_in k t cs v rest c s e n m is =
+    let line : Option (List ℕ) = cond (is_string k) (Some (after_run is_dropped_blank cs)) None in
+    let other : Option (List ℕ) = option_map (λ (p : List ℕ × List ℕ). p.1) (escape_at k (c ∷ cs)) in
+    let left : escape_rest k (c ∷ cs) ≡ Some rest =
+    ap (λ b. cond b line (cond (c == 13) None other)) n ∙ ap (λ b. cond b None other) m
+    ∙ ap (option_map (λ (p : List ℕ × List ℕ). p.1)) (sym (is ∙ ap (escape_at k) e)) in
+    unit_in k (92 ∷ t) rest s (ap (escape_rest k) e ∙ left)
+
+-- ---- an escape, or a CR LF
+
+pub backslash_read : (k : Kind) (t following : List ℕ) (o : Option (List ℕ)) → t ≡ 92 ∷ following
+    → o ≡ escape_rest k (lf_text following) → o ≡ unit_rest k (lf_text t)
+unfolding unit_rest
+backslash_read k t following o e h = h ∙ sym (ap (unit_rest k) (kept_read t following 92 e refl))
+
+pub feed_unit : (k : Kind) (x : List ℕ) → is_string k ≡ true → unit_rest k (10 ∷ x) ≡ Some x
+unfolding unit_rest
+feed_unit Str x s = refl
+feed_unit ByteStr x s = refl
+feed_unit CStr x s = refl
+feed_unit k x s = absurd (cc)
+
+pub feed_read : (k : Kind) (t line after : List ℕ) → is_string k ≡ true → t ≡ 13 ∷ line → line ≡ 10 ∷ after
+    → Some (lf_text after) ≡ unit_rest k (lf_text t)
+feed_read k t line after s e f = sym (ap (unit_rest k) (line_read t after (e ∙ ap (λ z. 13 ∷ z) f))
+    ∙ feed_unit k (lf_text after) s)
+
+pub feed_in : (t line after : List ℕ) → t ≡ 13 ∷ line → line ≡ 10 ∷ after → IsFileRest t after
+feed_in t line after e f = rest_line t after (e ∙ ap (λ z. 13 ∷ z) f)
+
+return_unit : (k : Kind) (x : List ℕ) → is_string k ≡ true → unit_rest k (13 ∷ x) ≡ None
+unfolding unit_rest
+return_unit Str x s = refl
+return_unit ByteStr x s = refl
+return_unit CStr x s = refl
+return_unit k x s = absurd (cc)
+
+pub return_read : (k : Kind) (t line : List ℕ) → is_string k ≡ true → t ≡ 13 ∷ line
+    → first_passes (λ c. c == 10) line ≡ false → None ≡ unit_rest k (lf_text t)
+return_read k t line s e h = sym (ap (unit_rest k) (kept_read t line 13 e h) ∙ return_unit k (lf_text line) s)
+
+pub none_read : (k : Kind) (t : List ℕ) → t ≡ [] → None ≡ unit_rest k (lf_text t)
+unfolding unit_rest
+none_read k t e = sym (ap (λ z. unit_rest k (lf_text z)) e)
+
+pub bad_read : (k : Kind) (t cs : List ℕ) (c : ℕ) → first_passes (is_bare k) t ≡ false → t ≡ c ∷ cs
+    → (c == 92) ≡ false → (c == 13) ≡ false → None ≡ unit_rest k (lf_text t)
+unfolding unit_rest
+bad_read k t cs c h e n m = sym (ap (unit_rest k) (kept_read t cs c e (other_kept c cs m))
+    ∙ ap (λ b. cond b (escape_rest k (lf_text cs)) (cond (is_bare k c) (Some (lf_text cs)) None)) n
+    ∙ ap (λ b. cond b (Some (lf_text cs)) None) (sym (ap (first_passes (is_bare k)) e) ∙ h))
+
+-- ---- sequences of characters and escapes
+
+no_cr_plain : (k : Kind) → is_string k ≡ true → is_plain k 13 ≡ false
+no_cr_plain Str s = refl
+no_cr_plain ByteStr s = refl
+no_cr_plain CStr s = refl
+no_cr_plain k s = absurd (cc)
+
+plain_free : (k : Kind) (run : List ℕ) → is_string k ≡ true → list_all (is_plain k) run ≡ true → lacks_cr run ≡ true
+plain_free k run s h = all_weaker (is_plain k) (λ c. not (c == 13))
+    (λ c p. ap not (apart (is_plain k) c 13 p (no_cr_plain k s))) run h
+
+pub bare_row : (k : Kind) (t run rest : List ℕ) → is_string k ≡ true → t ≡ run ++ rest → list_all (is_plain k) run ≡ true
+    → BeginsStrictUnits k (lf_text t) (lf_text rest)
+bare_row k t run rest s e h = plain_row k (lf_text t) run (lf_text rest) s
+    (ap lf_text e ∙ free_text run rest (plain_free k run s h)) h
+
+pub bare_in : (k : Kind) (t run rest : List ℕ) → is_string k ≡ true → t ≡ run ++ rest → list_all (is_plain k) run ≡ true
+    → IsFileRest t rest
+bare_in k t run rest s e h = rest_free t run rest e (plain_free k run s h)
+
+pub units_more : (k : Kind) (t a b c : List ℕ) → is_string k ≡ true → BeginsStrictUnits k t a → Some b ≡ unit_rest k a
+    → BeginsStrictUnits k b c → BeginsStrictUnits k t c
+units_more k t a b c s r e q = row_join k t b c
+    (row_unit k t a b r (unit_rest_sound k a b (quoted_string k s) (sym e))) q
+
+-- If the text as it is read begins with no valid character or escape, neither does the text as written.
+pub stuck_alone : (k : Kind) (t : List ℕ) → is_string k ≡ true → unit_rest k (lf_text t) ≡ None → unit_rest k t ≡ None
+unfolding unit_rest
+stuck_alone k t s h = go (unit_rest k t) refl
+  where
+    break : (z : List ℕ) → unit_rest k (92 ∷ 10 ∷ z) ≡ None → ⊥
+    break z e =
+        let some : Some (after_run is_dropped_blank z) ≡ None =
+        sym (ap (λ b. cond {A = Option (List ℕ)} b (Some (after_run is_dropped_blank z)) None) s) ∙ e in
+        absurd (cc)
+
+    on : (u : StrictUnit) (x : List ℕ) → is_strict_unit k u ≡ true → BreakEnds u x
+        → unit_rest k (strict_text u ++ x) ≡ None → ⊥
+    on u x is ends e =
+        let some : Some x ≡ None = sym (unit_rest_complete k u x is ends) ∙ e in
+        absurd (cc)
+
+    unit : (u : StrictUnit) (x : List ℕ) → is_strict_unit k u ≡ true → unit_rest k (strict_text u ++ x) ≡ None → ⊥
+    unit (LineBreak blanks) x is e = break (blanks ++ x) e
+    unit (Itself c) x is e = on (Itself c) x is tt e
+    unit (QuoteEscape c) x is e = on (QuoteEscape c) x is tt e
+    unit (PlainEscape c) x is e = on (PlainEscape c) x is tt e
+    unit (AsciiEscape high low) x is e = on (AsciiEscape high low) x is tt e
+    unit (ByteEscape high low) x is e = on (ByteEscape high low) x is tt e
+    unit (UnicodeEscape digits) x is e = on (UnicodeEscape digits) x is tt e
+
+    go : (o : Option (List ℕ)) → unit_rest k t ≡ o → unit_rest k t ≡ None
+    go None e = e
+    go (Some r) e =
+        let front = unit_rest_sound k t r (quoted_string k s) e in
+        let row = row_unit k t t r (row_none k t) front in
+        let found = row_rest k (strict_text front.unit ++ r) r s
+        (row_unit k (strict_text front.unit ++ r) (strict_text front.unit ++ r) r (row_none k (strict_text front.unit ++ r))
+        (record { unit = front.unit; is_unit = front.is_unit; may_end = front.may_end; text_is = refl })) in
+        absurd (unit front.unit (lf_text r) front.is_unit (sym (ap (unit_rest k) (ap lf_text front.text_is
+        ∙ free_text (strict_text front.unit) r (same_front found.0 r (strict_text front.unit) found.1 found.2))) ∙ h))
+      where
+        same_front : (a x b : List ℕ) → b ++ x ≡ a ++ x → lacks_cr a ≡ true → lacks_cr b ≡ true
+        same_front a x b e f = ap lacks_cr (append_cancel_right b a x e) ∙ f
+
+-- ---- a character or byte literal
+
+pub not_string : (k : Kind) → is_single k ≡ true → is_string k ≡ false
+not_string Byte s = refl
+not_string Char s = refl
+not_string k s = absurd (cc)
+
+single_escape : (k : Kind) (t : List ℕ) → is_single k ≡ true → escape_rest k (lf_text t)
+    ≡ option_map lf_text (escape_rest k t)
+unfolding unit_at
+single_escape k t s = by_first (λ z r. escape_rest k r ≡ option_map lf_text (escape_rest k z)) refl
+    (λ cs. ap (λ b. cond {A = Option (List ℕ)} b (Some (after_run is_dropped_blank (lf_text cs))) None) (not_string k s))
+    kept t
+  where
+    Left : Type 0
+    Left = Option (List ℕ)
+
+    none : List ℕ → Left
+    none z = cond (is_string k) (Some (after_run is_dropped_blank z)) None
+
+    kept : (c : ℕ) (cs : List ℕ) → lf_text (c ∷ cs) ≡ c ∷ lf_text cs → escape_rest k (c ∷ lf_text cs)
+        ≡ option_map lf_text (escape_rest k (c ∷ cs))
+    kept c cs e = go (c == 10) refl (c == 13) refl
+      where
+        left : List ℕ → Left
+        left z = option_map (λ (p : List ℕ × List ℕ). p.1) (escape_at k (c ∷ z))
+
+        same : (o : Option (List ℕ × List ℕ)) → option_map (λ (p : List ℕ × List ℕ). lf_text p.1) o
+            ≡ option_map lf_text (option_map (λ (p : List ℕ × List ℕ). p.1) o)
+        same None = refl
+        same (Some p) = refl
+
+        go : (a : Bool) → (c == 10) ≡ a → (b : Bool) → (c == 13) ≡ b
+            → cond a (none (lf_text cs)) (cond b None (left (lf_text cs)))
+            ≡ option_map lf_text (cond a (none cs) (cond b None (left cs)))
+        go true n b m = ap (λ b. cond {A = Left} b (Some (after_run is_dropped_blank (lf_text cs))) None) (not_string k s)
+            ∙ sym (ap (λ b. option_map lf_text (cond {A = Left} b (Some (after_run is_dropped_blank cs)) None))
+            (not_string k s))
+        go false n true m = refl
+        go false n false m = ap (option_map (λ (p : List ℕ × List ℕ). p.1))
+            (escape_read k c cs (or_from (c == 10) (c == 13) n m))
+            ∙ map_map (escape_at k (c ∷ cs)) ∙ same (escape_at k (c ∷ cs))
+
+-- The content of a character or byte literal.
+pub single_read : (k : Kind) (t : List ℕ) → is_single k ≡ true → unit_rest k (lf_text t)
+    ≡ option_map lf_text (unit_rest k t)
+unfolding unit_rest
+single_read k t s = by_first (λ z r. unit_rest k r ≡ option_map lf_text (unit_rest k z)) refl (line k s)
+    (λ c cs e. both (option_map lf_text) (c == 92) (escape_rest k cs) (cond (is_bare k c) (Some cs) None)
+    (escape_rest k (lf_text cs)) (cond (is_bare k c) (Some (lf_text cs)) None) (single_escape k cs s)
+    (both (option_map lf_text) (is_bare k c) (Some cs) None (Some (lf_text cs)) None refl refl)) t
+  where
+    line : (k : Kind) → is_single k ≡ true → (cs : List ℕ) → unit_rest k (10 ∷ lf_text cs)
+        ≡ option_map lf_text (unit_rest k (13 ∷ 10 ∷ cs))
+    line Byte s cs = refl
+    line Char s cs = refl
+    line k s cs = absurd (cc)
+
+pub single_in : (k : Kind) (t rest : List ℕ) → is_single k ≡ true → unit_rest k t ≡ Some rest → IsFileRest t rest
+unfolding is_strict_suffix
+single_in k t rest s h =
+    let front = unit_rest_sound k t rest (quoted_single k s) h in
+    let text : List ℕ = strict_text front.unit in
+    let ends = breaks_to (front.unit ∷ []) rest (39 ∷ []) (λ e. refl) (front.may_end, tt) in
+    let closes = single_closes k (text ++ (39 ∷ [])) (39 ∷ []) [] s
+    (unit_rest_complete k front.unit (39 ∷ []) front.is_unit ends.0) refl refl in
+    rest_free t text rest front.text_is
+    (front_free text (39 ∷ []) (closes_free SingleForm k (text ++ (39 ∷ [])) s closes))
+
+-- ---- a raw string
+
+pub hashes_free : (n : ℕ) → lacks_cr (replicate n 35) ≡ true
+hashes_free zero = refl
+hashes_free (suc n) = hashes_free n
+
+hashes_read : (n : ℕ) (t : List ℕ) → begins (replicate n 35) (lf_text t) ≡ begins (replicate n 35) t
+hashes_read zero t = refl
+hashes_read (suc n) t = by_first (λ z r. begins (35 ∷ replicate n 35) r ≡ begins (35 ∷ replicate n 35) z) refl
+    (λ cs. refl) (λ c cs e. ap (λ b. c == 35 && b) (hashes_read n cs)) t
+
+pub closer_read : (n : ℕ) (hashes t : List ℕ) → hashes ≡ replicate n 35 → begins hashes (lf_text t) ≡ begins hashes t
+closer_read n hashes t e = subst (λ z. begins z (lf_text t) ≡ begins z t) (sym e) (hashes_read n t)
+
+no_cr_inside : (k : Kind) → is_inside k 13 ≡ false
+no_cr_inside Str = refl
+no_cr_inside ByteStr = refl
+no_cr_inside CStr = refl
+no_cr_inside k = refl
+
+pub inside_free : (k : Kind) (run : List ℕ) → list_all (is_inside k) run ≡ true → lacks_cr run ≡ true
+inside_free k run h = all_weaker (is_inside k) (λ c. not (c == 13))
+    (λ c p. ap not (apart (is_inside k) c 13 p (no_cr_inside k))) run h

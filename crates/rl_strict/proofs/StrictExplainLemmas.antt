@@ -1,0 +1,143 @@
+-- The byte offsets of flaws in Rust's grammar.
+use Rattle.rl_syntax.proofs.Common.{◌≡◌, ℕ, List, [], ◌∷◌, ◌+◌, ◌++◌, length, replicate, refl, sym, ap, ◌∙◌, inl, inr, append_assoc, flat_map, IsUtf8, encode_utf8_all, encodes-append, encodes-chars}
+use Rattle.rl_lenient.proofs.Names.{byte_len, Kind, strict_text}
+use Rattle.std.specs.Str.{chars}
+use Rattle.rl_strict.specs.declared.flaws.FlawKind.{FlawKind}
+use Rattle.rl_strict.specs.declared.flaws.FlawKind.TheVariants.{UnexpectedEnd, NoQuote, Unclosed, Nul, NotAscii, TwoCharacters, TooManyHashes, CarriageReturn, TextAfterQuote, ExtraHash}
+use Rattle.rl_lenient.specs.declared.quoted_forms.QuotedForm.{QuotedForm}
+use Rattle.rl_lenient.specs.declared.quoted_forms.QuotedForm.TheVariants.{Cooked as CookedForm, Raw as RawForm, Single as SingleForm}
+use Rattle.rl_strict.specs.Flaws.{StopsBefore}
+use Rattle.rl_lenient.specs.Forms.{form_opener}
+use Rattle.rl_strict.specs.StrictFlawKinds.{ClosedFlaw, IsClosed, IsOpen, OpenFlaw, StrictCloserFlaw, StrictQuotedFlaw, StrictRawFlaw, suffix_piece}
+use Rattle.rl_strict.specs.StrictFlaws.{IsStrictFlawOf}
+use Rattle.rl_strict.specs.StrictShapes.{IsToken}
+use Rattle.rl_strict.proofs.OneStrictUnit.{strict_unit_cut}
+use Rattle.std.proofs.lemmas.List.{length-append}
+
+-- The number of bytes of a prefix, and of the text after it.
+pub cut_bytes : (t rest front : List ℕ) → IsUtf8 t → IsUtf8 rest → chars t ≡ front ++ chars rest → length t
+    ≡ byte_len front + length rest
+cut_bytes t rest front ut ur cut =
+    ap length (sym (encodes-chars t ut))
+    ∙ ap byte_len cut
+    ∙ ap length (encodes-append front (chars rest))
+    ∙ length-append (encode_utf8_all front) (encode_utf8_all (chars rest))
+    ∙ ap (λ z. byte_len front + length z) (encodes-chars rest ur)
+
+-- The number of bytes of the text before an end of the text.
+pub front_bytes : (t rest : List ℕ) → IsUtf8 t → IsUtf8 rest → (s : StopsBefore IsToken (chars t) (chars rest))
+    → length t
+    ≡ byte_len s.front + length rest
+front_bytes t rest ut ur s = cut_bytes t rest s.front ut ur s.text_is
+
+-- ---- a flaw's piece is an end of the text
+
+abbrev Tail : List ℕ → List ℕ → Type 0
+Tail t piece = (before : List ℕ) × (t ≡ before ++ piece)
+
+tail_more : (a b c : List ℕ) → Tail a b → Tail b c → Tail a c
+tail_more a b c (p, e) (q, h) = (p ++ q, e ∙ ap (λ z. p ++ z) h ∙ sym (append_assoc p q c))
+
+-- The piece is an end of the text after the opening delimiter.
+inside_tail : (t before inside piece : List ℕ) → t ≡ before ++ inside → Tail inside piece → Tail t piece
+inside_tail t before inside piece e k = tail_more t inside piece (before, e) k
+
+raw_tail : (kind : Kind) (k : FlawKind) (t before inside piece rest : List ℕ) → t ≡ before ++ inside → Tail t rest
+    → StrictRawFlaw kind k inside piece rest → Tail t piece
+raw_tail kind TooManyHashes t before inside piece rest e r h = (before, e ∙ ap (λ z. before ++ z) (sym h.2))
+raw_tail kind UnexpectedEnd t before inside piece rest e r h = (r.0, r.1 ∙ ap (λ z. r.0 ++ z) (sym h.2))
+raw_tail kind NoQuote t before inside piece rest e r h = (r.0, r.1 ∙ ap (λ z. r.0 ++ z) (sym h.2))
+raw_tail kind Unclosed t before inside piece rest e r h = (r.0, r.1 ∙ ap (λ z. r.0 ++ z) (sym h.2))
+raw_tail kind CarriageReturn t before inside piece rest e r h = (r.0, r.1 ∙ ap (λ z. r.0 ++ z) (sym h.1))
+raw_tail kind Nul t before inside piece rest e r h = (r.0, r.1 ∙ ap (λ z. r.0 ++ z) (sym h.2))
+raw_tail kind NotAscii t before inside piece rest e r h = (r.0, r.1 ∙ ap (λ z. r.0 ++ z) (sym h.2))
+raw_tail kind k t before inside piece rest e r h = absurd h
+
+open_tail : (form : QuotedForm) (kind : Kind) (k : FlawKind) (t before inside piece rest : List ℕ) → t ≡ before
+    ++ inside
+    → Tail t rest → OpenFlaw form kind k inside piece rest → Tail t piece
+open_tail CookedForm kind k t before inside piece rest e r h = inside_tail t before inside piece e
+    (flat_map strict_text h.0.units, h.0.text_is)
+open_tail SingleForm kind k t before inside piece rest e r h = (before, e ∙ ap (λ z. before ++ z) (sym h.1))
+open_tail RawForm kind k t before inside piece rest e r h = raw_tail kind k t before inside piece rest e r h
+
+-- The closing quote, and the suffix after the closing delimiter, begin ends of the text.
+closing_tail : (form : QuotedForm) (kind : Kind) (inside closing suffix : List ℕ)
+    → IsClosed form kind inside closing suffix → Tail inside closing × Tail closing suffix
+closing_tail CookedForm kind inside closing suffix h = ((flat_map strict_text h.0.units, h.0.text_is), (34 ∷ [], h.1))
+closing_tail SingleForm kind inside closing suffix h = ((strict_text h.0.unit, h.0.text_is), (39 ∷ [], h.1))
+closing_tail RawForm kind inside closing suffix h =
+    let hs : List ℕ = replicate h.0 35 in (
+      (hs ++ (34 ∷ h.1.body), h.1.text_is ∙ sym (append_assoc hs (34 ∷ h.1.body) closing)),
+      (34 ∷ hs, h.2),
+    )
+
+piece_tail : (k : FlawKind) (t closing suffix : List ℕ) → Tail t closing → Tail t suffix
+    → Tail t (suffix_piece k closing suffix)
+piece_tail ExtraHash t closing suffix a b = a
+piece_tail TextAfterQuote t closing suffix a b = a
+piece_tail k t closing suffix a b = b
+
+closed_tail : (form : QuotedForm) (kind : Kind) (k : FlawKind) (inside piece rest : List ℕ)
+    → ClosedFlaw form kind k inside piece rest → Tail inside piece
+closed_tail form kind k inside piece rest h =
+    let tails = closing_tail form kind inside h.closing (h.front ++ rest) h.closed in
+    let found = piece_tail k inside h.closing (h.front ++ rest) tails.0
+    (tail_more inside h.closing (h.front ++ rest) tails.0 tails.1) in
+    (found.0, found.1 ∙ ap (λ z. found.0 ++ z) (sym h.piece_is))
+
+pub piece_front : (k : FlawKind) (t piece rest : List ℕ) → StopsBefore IsToken t rest → IsStrictFlawOf k t piece rest
+    → (before : List ℕ) × (t ≡ before ++ piece)
+piece_front k t piece rest s (inl q) = elim q.spoils [
+  | inl h ↦ open_tail q.form q.kind k t (form_opener q.form q.kind) q.inside piece rest q.text_is (s.front, s.text_is) h
+  | inr h ↦ inside_tail t (form_opener q.form q.kind) q.inside piece q.text_is
+      (closed_tail q.form q.kind k q.inside piece rest h)
+]
+piece_front k t piece rest s (inr (inl n)) = ([], sym n.2)
+piece_front k t piece rest s (inr (inr w)) = ([], sym w.1)
+
+pub piece_bytes : (k : FlawKind) (t piece rest : List ℕ) → IsUtf8 t → IsUtf8 piece
+    → (s : StopsBefore IsToken (chars t) (chars rest)) → (f : IsStrictFlawOf k (chars t) (chars piece) (chars rest))
+    → length t ≡ byte_len (piece_front k (chars t) (chars piece) (chars rest) s f).0 + length piece
+piece_bytes k t piece rest ut up s f = let cut = piece_front k (chars t) (chars piece) (chars rest) s f in
+    cut_bytes t piece cut.0 ut up cut.1
+
+-- ---- the flaw is in the text after the opening delimiter
+
+open_cut : (kind : Kind) (hashes : ℕ) (t rest : List ℕ) → IsOpen kind hashes t rest → Tail t rest
+open_cut kind hashes t rest o = (
+  replicate hashes 35 ++ (34 ∷ o.body),
+  o.text_is ∙ sym (append_assoc (replicate hashes 35) (34 ∷ o.body) rest),
+)
+
+raw_cut : (kind : Kind) (k : FlawKind) (t piece rest : List ℕ) → StrictRawFlaw kind k t piece rest → Tail t rest
+raw_cut kind TooManyHashes t piece rest h = (replicate 255 35, h.0)
+raw_cut kind UnexpectedEnd t piece rest h = (replicate h.0.hashes 35, h.0.text_is)
+raw_cut kind NoQuote t piece rest h = (replicate h.0.hashes 35, h.0.text_is)
+raw_cut kind Unclosed t piece rest h = open_cut kind h.0.0 t rest h.0.1
+raw_cut kind CarriageReturn t piece rest h = open_cut kind h.0.0 t rest h.0.1
+raw_cut kind Nul t piece rest h = open_cut kind h.1.0 t rest h.1.1
+raw_cut kind NotAscii t piece rest h = open_cut kind h.1.0 t rest h.1.1
+raw_cut kind k t piece rest h = absurd h
+
+closer_cut : (kind : Kind) (k : FlawKind) (t rest : List ℕ) → StrictCloserFlaw kind k t rest → Tail t rest
+closer_cut kind Unclosed t rest h = (strict_text h.0.unit, h.0.text_is)
+closer_cut kind TwoCharacters t rest h = (strict_text h.0.unit, h.0.text_is)
+closer_cut kind k t rest h = absurd h
+
+before_closer_cut : (form : QuotedForm) (kind : Kind) (k : FlawKind) (t piece rest : List ℕ)
+    → OpenFlaw form kind k t piece rest → Tail t rest
+before_closer_cut CookedForm kind k t piece rest h = tail_more t piece rest
+    (flat_map strict_text h.0.units, h.0.text_is) (strict_unit_cut kind k piece rest h.2)
+before_closer_cut SingleForm kind k t piece rest h = elim h.0 [
+  | inl u ↦ strict_unit_cut kind k t rest u.1
+  | inr c ↦ closer_cut kind k t rest c
+]
+before_closer_cut RawForm kind k t piece rest h = raw_cut kind k t piece rest h
+
+pub quoted_cut : (form : QuotedForm) (kind : Kind) (k : FlawKind) (t piece rest : List ℕ)
+    → StrictQuotedFlaw form kind k t piece rest → (m : List ℕ) × (t ≡ m ++ rest)
+quoted_cut form kind k t piece rest (inl h) = before_closer_cut form kind k t piece rest h
+quoted_cut form kind k t piece rest (inr h) =
+    let tails = closing_tail form kind t h.closing (h.front ++ rest) h.closed in
+    tail_more t (h.front ++ rest) rest (tail_more t h.closing (h.front ++ rest) tails.0 tails.1) (h.front, refl)

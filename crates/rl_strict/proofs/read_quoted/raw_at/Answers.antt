@@ -1,0 +1,10 @@
+use Rattle.rl_lenient.specs.declared.quoted_forms.QuotedForm.TheVariants.{Raw as Form}
+use Rattle.rl_lenient.proofs.FormLemmas.{front_sound}
+use Rattle.rl_strict.proofs.FormReads.{opened_flaw}
+use Rattle.rl_strict.proofs.read_quoted.raw_at.Goals as goal
+
+pub open_raw-requires : goal.open_raw-requires
+open_raw-requires c = (front_sound _ _ c.requires).has
+
+pub returns-in-Err-clause-flaw : goal.returns-in-Err-clause-flaw
+returns-in-Err-clause-flaw c = opened_flaw c.args.ends _ Form _ _ _ _ _ c.requires (c.in-Err.ensures.stops c.args.ends)

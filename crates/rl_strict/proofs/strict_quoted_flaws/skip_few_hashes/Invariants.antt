@@ -1,0 +1,18 @@
+use Rattle.rl_syntax.proofs.Common.{◌≡◌, ◌≤◌, ◌++◌, replicate}
+use Rattle.rl_lenient.proofs.Names.{IsTail}
+use Rattle.std.proofs.Common.{◌-◌}
+use denote.Text.{Utf8}
+use denote.Shadow.{shadow}
+use Rattle.std.specs.Str.{chars}
+use Rattle.rl_strict.proofs.strict_quoted_flaws.skip_few_hashes.Given as goal
+
+abbrev pub invariant-loop-count : goal.invariant-loop-count
+invariant-loop-count l = record {
+  utf8 : shadow (Utf8 l.rest);
+  following : IsTail l.text l.rest;
+  few : l.count ≤ 255;
+  hashes : chars l.text ≡ replicate l.count 35 ++ chars l.rest;
+}
+
+abbrev pub decreases-loop-count : goal.decreases-loop-count
+decreases-loop-count l = 255 - l.count

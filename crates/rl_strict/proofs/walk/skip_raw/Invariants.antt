@@ -1,0 +1,17 @@
+use Rattle.rl_syntax.proofs.Common.{◌≡◌, length}
+use denote.Text.{Utf8}
+use denote.Shadow.{shadow}
+use Rattle.std.specs.Str.{chars}
+use Rattle.rl_strict.specs.LineEnds.{IsRestOf, read_of}
+use Rattle.rl_strict.specs.Mirrors.StrictFlawAt.{raw_stop}
+use Rattle.rl_strict.proofs.walk.skip_raw.Given as goal
+
+abbrev pub invariant-loop-c : goal.invariant-loop-c
+invariant-loop-c l = record {
+  utf8 : shadow (Utf8 l.rest);
+  same : raw_stop l.kind (chars l.hashes) (read_of l.ends (chars l.rest)) ≡ raw_stop l.kind (chars l.hashes) (read_of l.ends (chars l.text));
+  is_rest : IsRestOf l.ends (chars l.text) (chars l.rest);
+}
+
+abbrev pub decreases-loop-c : goal.decreases-loop-c
+decreases-loop-c l = length l.rest

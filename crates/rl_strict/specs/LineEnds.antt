@@ -1,0 +1,77 @@
+-- The text of a literal as it is read: unchanged outside files, and with each CR LF read as LF in a file. Texts are lists of
+-- characters.
+use Rattle.std.specs.Prelude.{◌≡◌, ◌⊎◌, ℕ, ◌==◌, ◌&&◌, Bool, false, true, not, cond, List, [], ◌∷◌, ◌++◌, Some, IsFalse, IsTrue}
+use Rattle.std.specs.Str.{chars}
+use Prim.Native.Char.{code}
+use Rattle.rl_syntax.specs.Texts.{begins_char, first_passes}
+use Rattle.rl_lexer.specs.Sources.{is_apostrophe}
+use Rattle.rl_strict.specs.Mirrors.StrictAt.{unit_rest}
+use Rattle.rl_strict.specs.Mirrors.SuffixRead.{suffix_read_at}
+use Rattle.rl_strict.specs.Mirrors.UnitFlawAt.{found_flaw}
+use Rattle.rl_strict.specs.declared.flaws.FlawAt.{FlawAt}
+use Rattle.rl_strict.specs.declared.flaws.FlawKind.TheVariants.{Unclosed}
+use Rattle.rl_syntax.specs.declared.kind.Kind.{Kind}
+use Rattle.rl_lenient.specs.declared.quoted_forms.QuotedForm.{QuotedForm}
+use Rattle.rl_strict.specs.declared.flaws.FlawKind.{FlawKind}
+use Rattle.rl_strict.specs.declared.line_ends.LineEnds.{LineEnds}
+use Rattle.rl_strict.specs.declared.line_ends.LineEnds.TheVariants.{Text, File}
+use Rattle.rl_strict.specs.QuotedRead.{StopsIn}
+
+-- The character `c` is a CR, and the text after it begins with LF.
+abbrev pub is_dropped : ℕ → List ℕ → Bool
+is_dropped c following = c == code "\r" && begins_char (code "\n") following
+
+-- The text as rustc reads it in a file: without each CR before an LF.
+abbrev pub lf_text : List ℕ → List ℕ
+lf_text [] = []
+lf_text (c ∷ cs) = cond (is_dropped c cs) (lf_text cs) (c ∷ lf_text cs)
+
+-- The text as it is read: unchanged outside files, and without each CR before an LF in a file.
+abbrev pub read_of : LineEnds → List ℕ → List ℕ
+read_of Text text = text
+read_of File text = lf_text text
+
+-- The character `c` isn't read: it is a CR before an LF, in a file.
+abbrev pub drops : LineEnds → ℕ → List ℕ → Bool
+drops Text c following = false
+drops File c following = is_dropped c following
+
+-- The border between the front and the rest isn't between a CR and an LF.
+abbrev pub is_seam : List ℕ → List ℕ → Bool
+is_seam [] rest = true
+is_seam (c ∷ []) rest = not (is_dropped c rest)
+is_seam (c ∷ d ∷ ds) rest = is_seam (d ∷ ds) rest
+
+-- In a file, the border between the front and the rest isn't between a CR and an LF.
+abbrev pub is_seam_of : LineEnds → List ℕ → List ℕ → Bool
+is_seam_of Text front rest = true
+is_seam_of File front rest = is_seam front rest
+
+-- The rest is an end of the text. In a file it doesn't begin between a CR and an LF.
+pub record IsRestOf (ends : LineEnds) (text rest : List ℕ) : Type 0 where
+  pub front : List ℕ
+  pub text_is : text ≡ front ++ rest
+  pub seam : IsTrue (is_seam_of ends front rest)
+
+abbrev pub IsFileRest : List ℕ → List ℕ → Type 0
+IsFileRest text rest = IsRestOf File text rest
+
+-- The text `whole` after an opening delimiter, as it is read, isn't the end of a literal of the form. The flaw's kind
+-- describes the error in the piece and the rest as they are read. Both are ends of `text`, the text as written.
+pub record StopsAsRead (ends : LineEnds) (form : QuotedForm) (kind : Kind) (flaw : FlawKind) (whole text piece rest : List ℕ) : Type 0 where
+  pub stops : StopsIn form kind flaw whole (read_of ends piece) (read_of ends rest)
+  pub piece_in : IsRestOf ends text piece
+  pub rest_in : IsRestOf ends text rest
+
+-- The flaw is at the piece where a literal's valid content ends, or after its closing delimiter. If no text follows the valid
+-- content, the flaw is the missing closing quote.
+abbrev pub IsOfStretch : QuotedForm → List ℕ → FlawAt → Type 0
+IsOfStretch form closing found =
+    ((found.piece.now ≡ closing) × (chars closing ≡ [] → found.kind ≡ Unclosed))
+    ⊎ ((suffix : List ℕ) × (Some (found_flaw found.kind (chars found.rest.now)) ≡ suffix_read_at form suffix))
+
+-- The valid content of a character or byte literal: one character or escape if a quote follows it, and no text otherwise.
+abbrev pub IsGoodUnit : Kind → List ℕ → List ℕ → Type 0
+IsGoodUnit kind text closing =
+    ((unit_rest kind text ≡ Some closing) × IsTrue (first_passes is_apostrophe closing))
+    ⊎ ((closing ≡ text) × ((rest : List ℕ) → unit_rest kind text ≡ Some rest → IsFalse (first_passes is_apostrophe rest)))

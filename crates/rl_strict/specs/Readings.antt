@@ -1,0 +1,120 @@
+-- The parse results and flaws of a text, with CR LF read as LF or not, and with a minus before a number allowed or not. Texts
+-- of parse results are bytes. Other texts are lists of characters.
+use Rattle.std.specs.Prelude.{◌≡◌, ◌⊎◌, ℕ, Bool, true, false, List, drop, encode_utf8_all}
+use Rattle.std.specs.Str.{chars, IsCharBoundary}
+use Rattle.rl_syntax.specs.Reading.{HasReading, IsPast}
+use Rattle.rl_lenient.specs.declared.found.Body.{Body}
+use Rattle.rl_lenient.specs.Founds.{suffix_in}
+use Rattle.rl_syntax.specs.Texts.{byte_len}
+use Rattle.rl_strict.specs.declared.flaws.Flaw.{Flaw}
+use Rattle.rl_strict.specs.declared.flaws.FlawKind.{FlawKind}
+use Rattle.rl_strict.specs.declared.line_ends.LineEnds.{LineEnds}
+use Rattle.rl_strict.specs.declared.line_ends.LineEnds.TheVariants.{Text as InText, File as InFile}
+use Rattle.rl_strict.specs.declared.strict_reading.Reading.{Reading}
+use Rattle.rl_strict.specs.declared.strict_reading.Reading.TheVariants.{Text, Unit, Integer, Float, Truth}
+use Rattle.rl_strict.specs.FileTexts.{ExplainsInFile, ExplainsSignedInFile, ExplainsSignedValueInFile, ExplainsValueInFile, IsPlaceInFile}
+use Rattle.rl_strict.specs.Flaws.{StopsBefore}
+use Rattle.rl_strict.specs.Limits.{ExplainsLimit, ExplainsValue, IsFloatBySuffix}
+use Rattle.rl_strict.specs.LineEnds.{IsRestOf, lf_text, read_of}
+use Rattle.rl_strict.specs.SignedFlaws.{ExplainsSigned, IsSignedFlawOf, IsSignedToken}
+use Rattle.rl_strict.specs.StrictFlaws.{ExplainsStrictly, IsStrictFlawOf}
+use Rattle.rl_strict.specs.StrictRead.{IsSignedRead, IsStrictReading}
+use Rattle.rl_strict.specs.StrictShapes.{IsToken}
+
+-- ---- parse results
+
+-- The text is a literal token. If the flag is true, a minus and a number is allowed too.
+abbrev pub IsTokenIf : Bool → List ℕ → Type 0
+IsTokenIf false = IsToken
+IsTokenIf true = IsSignedToken
+
+-- The parse result of a literal token. If the flag is true, a minus and a number is allowed too.
+abbrev pub ReadsOf : Bool → List ℕ → Reading → Type 0
+ReadsOf false text reading = IsStrictReading text reading
+ReadsOf true text reading = IsSignedRead text reading
+
+-- The bytes of the text as rustc reads it in a file: without each CR before an LF.
+abbrev pub lf_bytes : List ℕ → List ℕ
+lf_bytes text = encode_utf8_all (lf_text (chars text))
+
+-- `read` has the byte offsets of the body in the text as rustc reads it, and `body` the same positions in the text as written.
+-- Whether the body is the literal's value isn't known.
+pub record IsBodyInFile (text : List ℕ) (read body : Body) : Type 0 where
+  pub lo : IsPlaceInFile (chars text) read.lo body.lo
+  pub hi : IsPlaceInFile (chars text) read.hi body.hi
+  pub suffix_at : IsPlaceInFile (chars text) read.suffix_at body.suffix_at
+  pub suffix_is : suffix_in text body ≡ suffix_in (lf_bytes text) read
+  pub plain_is : body.plain ≡ false
+
+-- The parse result of a literal's text in a file. A string parses as the text does that rustc reads. No other literal contains
+-- a CR LF, so it parses as written.
+abbrev pub IsReadingInFile : Bool → List ℕ → Reading → Type 0
+IsReadingInFile signed text (Text kind body) =
+    (read : Body) × IsStrictReading (lf_bytes text) (Text kind read) × IsBodyInFile text read body
+IsReadingInFile signed text (Unit kind body unit) =
+    (lf_text (chars text) ≡ chars text) × ReadsOf signed text (Unit kind body unit)
+IsReadingInFile signed text (Integer magnitude suffix_at) =
+    (lf_text (chars text) ≡ chars text) × ReadsOf signed text (Integer magnitude suffix_at)
+IsReadingInFile signed text (Float suffix_at) =
+    (lf_text (chars text) ≡ chars text) × ReadsOf signed text (Float suffix_at)
+IsReadingInFile signed text (Truth truth) =
+    (lf_text (chars text) ≡ chars text) × ReadsOf signed text (Truth truth)
+
+-- The parse result of a literal's text, outside files or in a file.
+abbrev pub IsReadingOf : LineEnds → Bool → List ℕ → Reading → Type 0
+IsReadingOf InText signed text reading = ReadsOf signed text reading
+IsReadingOf InFile signed text reading = IsReadingInFile signed text reading
+
+-- Whether the body is known to be the literal's value. In a file it isn't.
+abbrev pub plain_of : LineEnds → Bool → Bool
+plain_of InText plain = plain
+plain_of InFile plain = false
+
+-- ---- flaws of a text
+
+-- The flaw's kind describes the error in the text, whose piece and rest are given. If the flag is true, a minus and a number
+-- is allowed too.
+abbrev pub SaysOf : Bool → FlawKind → List ℕ → List ℕ → List ℕ → Type 0
+SaysOf false kind text piece rest = IsStrictFlawOf kind text piece rest
+SaysOf true kind text piece rest = IsSignedFlawOf kind text piece rest
+
+-- The text as it is read isn't a literal token (nor a minus and a number, if the flag is true). Its longest prefix that can be
+-- completed ends before the rest, and the flaw's kind describes the error in the text from the piece on. The piece and the
+-- rest are ends of the text as written.
+pub record IsFlawOf (ends : LineEnds) (signed : Bool) (text : List ℕ) (kind : FlawKind) (piece rest : List ℕ) : Type 0 where
+  pub none : IsTokenIf signed (read_of ends text) → ⊥
+  pub stops : StopsBefore (IsTokenIf signed) (read_of ends text) (read_of ends rest)
+  pub says : SaysOf signed kind (read_of ends text) (read_of ends piece) (read_of ends rest)
+  pub piece_in : IsRestOf ends text piece
+  pub rest_in : IsRestOf ends text rest
+
+-- The byte offset `at` is where the rest of the text begins.
+pub record IsRestPlace (ends : LineEnds) (text rest : List ℕ) (at : ℕ) : Type 0 where
+  pub is_rest : IsRestOf ends text rest
+  pub at_is : at ≡ byte_len is_rest.front
+
+-- The byte offset `at` is after the first character of the rest as it is read, or is the text's end.
+pub record IsPlaceAfter (ends : LineEnds) (text rest : List ℕ) (at : ℕ) : Type 0 where
+  pub after : List ℕ
+  pub place : IsRestPlace ends text after at
+  pub after_is : read_of ends after ≡ drop 1 (read_of ends rest)
+
+-- The flaw explains why the text isn't a literal token, nor, if the flag is true, a minus and a number.
+abbrev pub ExplainsOf : LineEnds → Bool → List ℕ → Flaw → Type 0
+ExplainsOf InText false text flaw = ExplainsStrictly text flaw
+ExplainsOf InText true text flaw = ExplainsSigned text flaw
+ExplainsOf InFile false text flaw = ExplainsInFile text flaw
+ExplainsOf InFile true text flaw = ExplainsSignedInFile text flaw
+
+-- ---- texts with a value
+
+-- The text as it is read, in a file or not, has a value in Rust.
+abbrev pub HasValueOf : LineEnds → List ℕ → Type 0
+HasValueOf ends text = HasReading (read_of ends text) ⊎ IsFloatBySuffix (read_of ends text)
+
+-- The flaw explains why the text has no value. If the flag is true, a minus and a number is allowed.
+abbrev pub ExplainsValueOf : LineEnds → Bool → List ℕ → Flaw → Type 0
+ExplainsValueOf InText false text flaw = ExplainsStrictly text flaw ⊎ (IsToken text × ExplainsLimit text flaw)
+ExplainsValueOf InText true text flaw = ExplainsValue text flaw
+ExplainsValueOf InFile false text flaw = ExplainsValueInFile text flaw
+ExplainsValueOf InFile true text flaw = ExplainsSignedValueInFile text flaw

@@ -1,0 +1,46 @@
+-- The flaws of a text that may be a literal token, or a minus and a number.
+use Rattle.std.specs.Prelude.{◌≡◌, ◌≢◌, ◌⊎◌, ℕ, ◌==◌, List, [], codes, ◌++◌, IsTrue, IsFalse}
+use Rattle.std.specs.Char.{is_ascii_digit}
+use Prim.Native.Char.{code}
+use Rattle.rl_syntax.specs.Texts.{byte_len, first_passes}
+use Rattle.rl_strict.specs.declared.flaws.Flaw.{Flaw}
+use Rattle.rl_strict.specs.declared.flaws.FlawKind.{FlawKind}
+use Rattle.rl_strict.specs.declared.flaws.FlawKind.TheVariants.{NoNumber, UnexpectedEnd}
+use Rattle.rl_strict.specs.Flaws.{HasKind, IsPlaced}
+use Rattle.rl_strict.specs.StrictFlaws.{IsStrictFlawOf}
+use Rattle.rl_strict.specs.StrictNumberFlaws.{IsStrictNumberFlaw}
+use Rattle.rl_strict.specs.StrictShapes.{IsToken}
+
+-- The text is a literal token, or a minus and a number.
+abbrev pub IsSignedToken : List ℕ → Type 0
+IsSignedToken text =
+    IsToken text
+    ⊎ ((number : List ℕ) × (text ≡ codes "-" ++ number) × IsTrue (first_passes is_ascii_digit number) × IsToken number)
+
+-- A minus isn't followed by a digit: the text ends there, or another character follows.
+abbrev pub LacksNumber : FlawKind → List ℕ → Type 0
+LacksNumber NoNumber rest = rest ≢ []
+LacksNumber UnexpectedEnd rest = rest ≡ []
+LacksNumber kind rest = ⊥
+
+abbrev pub IsMinusFlawOf : FlawKind → List ℕ → List ℕ → Type 0
+IsMinusFlawOf kind number rest =
+    (IsTrue (first_passes is_ascii_digit number) × HasKind (IsStrictNumberFlaw kind) number rest)
+    ⊎ (IsFalse (first_passes is_ascii_digit number) × (number ≡ rest) × LacksNumber kind rest)
+
+-- The flaw's kind describes the error in a text that begins with a minus, or in one that doesn't.
+abbrev pub IsSignedFlawOf : FlawKind → List ℕ → List ℕ → List ℕ → Type 0
+IsSignedFlawOf kind text piece rest =
+    (IsFalse (first_passes (λ c. c == code "-") text) × IsStrictFlawOf kind text piece rest)
+    ⊎ ((number : List ℕ) × (text ≡ codes "-" ++ number) × IsMinusFlawOf kind number rest × (piece ≡ text))
+
+-- The text is neither a literal token nor a minus and a number. The flaw's range is where the longest prefix ends that can
+-- become one, and its kind describes the error in the text from the piece on.
+pub record ExplainsSigned (text : List ℕ) (flaw : Flaw) : Type 0 where
+  pub no_token : IsSignedToken text → ⊥
+  pub place : IsPlaced IsSignedToken text flaw.lo flaw.hi
+  pub before : List ℕ
+  pub piece : List ℕ
+  pub text_is : text ≡ before ++ piece
+  pub from_is : flaw.from ≡ byte_len before
+  pub kind : IsSignedFlawOf flaw.kind text piece place.rest

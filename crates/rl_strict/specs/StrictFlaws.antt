@@ -1,0 +1,29 @@
+-- The flaw of a text that isn't a literal token of Rust's grammar.
+use Rattle.std.specs.Prelude.{◌≡◌, ◌⊎◌, ℕ, List, ◌++◌, IsTrue}
+use Rattle.std.specs.Char.{is_ascii_digit}
+use Rattle.rl_syntax.specs.Texts.{byte_len, first_passes}
+use Rattle.rl_strict.specs.declared.flaws.Flaw.{Flaw}
+use Rattle.rl_strict.specs.declared.flaws.FlawKind.{FlawKind}
+use Rattle.rl_strict.specs.Flaws.{HasKind, IsPlaced}
+use Rattle.rl_strict.specs.StrictFlawKinds.{HasStrictQuotedFlaw}
+use Rattle.rl_strict.specs.StrictNumberFlaws.{IsStrictNumberFlaw, IsStrictWordFlaw}
+use Rattle.rl_strict.specs.StrictShapes.{IsToken}
+
+-- The flaw's kind describes the error in the text, which begins at the rest. In a number or a word, its piece is all of the
+-- text.
+abbrev pub IsStrictFlawOf : FlawKind → List ℕ → List ℕ → List ℕ → Type 0
+IsStrictFlawOf kind text piece rest =
+    HasStrictQuotedFlaw kind text piece rest
+    ⊎ (IsTrue (first_passes is_ascii_digit text) × HasKind (IsStrictNumberFlaw kind) text rest × (piece ≡ text))
+    ⊎ (HasKind (IsStrictWordFlaw kind) text rest × (piece ≡ text))
+
+-- The flaw explains why the text isn't a literal token: its range is where the longest prefix ends that can become one, and
+-- its kind describes the error in the text from the piece on.
+pub record ExplainsStrictly (text : List ℕ) (flaw : Flaw) : Type 0 where
+  pub no_token : IsToken text → ⊥
+  pub place : IsPlaced IsToken text flaw.lo flaw.hi
+  pub before : List ℕ
+  pub piece : List ℕ
+  pub text_is : text ≡ before ++ piece
+  pub from_is : flaw.from ≡ byte_len before
+  pub kind : IsStrictFlawOf flaw.kind text piece place.rest

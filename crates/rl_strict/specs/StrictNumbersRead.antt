@@ -1,0 +1,42 @@
+-- The parse result of a number of Rust's grammar.
+use Rattle.std.specs.Prelude.{◌≡◌, ℕ, List, Option, Some, None, nat_le, if◌then◌else◌}
+use Rattle.std.specs.Str.{chars}
+use Rattle.rl_syntax.specs.Numbers.{limit}
+use Rattle.rl_syntax.specs.declared.kind.Kind.TheVariants.{Int, Float as FloatKind}
+use Rattle.rl_syntax.specs.Reading.{Contents, Digits}
+use Rattle.rl_syntax.specs.Strict.{Strict, dec}
+use Rattle.rl_strict.specs.declared.flaws.FlawKind.{FlawKind}
+use Rattle.rl_strict.specs.Flaws.{HasKind, StopsBefore}
+use Rattle.rl_strict.specs.StrictNumberFlaws.{IsStrictNumberFlaw}
+use Rattle.rl_strict.specs.declared.read_numbers.Number.{Number}
+use Rattle.rl_strict.specs.declared.read_numbers.Number.TheVariants.{Integer, Float}
+use Rattle.rl_strict.specs.StrictShapes.{IsToken}
+
+-- The number `n` if it fits 128 bits, and `None` otherwise.
+abbrev pub in_128_bits : ℕ → Option ℕ
+in_128_bits n = if nat_le n limit then Some n else None
+
+-- The text is an integer of any size with this suffix. `magnitude` is `None` above 128 bits.
+abbrev pub IsIntegerRead : List ℕ → Option ℕ → List ℕ → Type 0
+IsIntegerRead text magnitude suffix = (n : ℕ) × Strict text Int (Digits (dec n)) suffix × (magnitude ≡ in_128_bits n)
+
+-- The text is a float with this suffix.
+abbrev pub IsFloatRead : List ℕ → List ℕ → Type 0
+IsFloatRead text suffix = (v : Contents) × Strict text FloatKind v suffix
+
+-- The number's suffix, which is the end of the text.
+abbrev pub suffix_of : Number → List ℕ
+suffix_of (Integer magnitude suffix) = suffix.now
+suffix_of (Float suffix) = suffix.now
+
+-- The text parses as the number: an integer or a float with its suffix.
+abbrev pub IsNumberRead : List ℕ → Number → Type 0
+IsNumberRead text (Integer magnitude suffix) = IsIntegerRead text magnitude (chars suffix.now)
+IsNumberRead text (Float suffix) = IsFloatRead text (chars suffix.now)
+
+-- The text isn't a literal token, its longest completable prefix ends before the rest, and the flaw's kind describes the error
+-- there.
+pub record IsStop (t : List ℕ) (k : FlawKind) (rest : List ℕ) : Type 0 where
+  pub none : IsToken t → ⊥
+  pub stops : StopsBefore IsToken t rest
+  pub kind : HasKind (IsStrictNumberFlaw k) t rest

@@ -1,0 +1,86 @@
+//! Integers above 128 bits, which are literal tokens without a value.
+
+ghost use Rattle.std.specs.Prelude.{◌≡◌, ◌↔◌, Bool, IfNone, IfSome, IsTrue, drop};
+ghost use Rattle.std.specs.Str.{chars, IsCharBoundary};
+ghost use Rattle.rl_syntax.specs.Reading.{IsPast};
+ghost use Rattle.rl_strict.specs.Limits.{ExplainsLimit, IsFloatBySuffix, IsFloatSuffix, IsLimitFlaw, oversized_suffix_at};
+ghost use Rattle.rl_strict.specs.LineEnds.{read_of};
+ghost use Rattle.rl_strict.specs.Readings.{HasValueOf, IsReadingOf, IsTokenIf};
+ghost use Rattle.rl_strict.specs.declared.line_ends.LineEnds.{LineEnds};
+
+use crate::flaws::{Flaw, FlawKind, make_flaw};
+use crate::strict_reading::Reading;
+use rl_lenient::digit_runs::{after_minus, begins_digit, skip_digits};
+
+/// Returns the byte offset of the suffix if `reading` is an integer above 128 bits, and `None` otherwise.
+pub fn oversized_suffix_at(reading: Reading) -> Option<usize>
+    ensures { result ≡ oversized_suffix_at reading }
+{
+    match reading {
+        Reading::Integer(None, suffix_at) => Some(suffix_at),
+        _ => None,
+    }
+}
+
+/// Whether the suffix is `f32` or `f64`.
+fn is_float_suffix(suffix: &str) -> bool
+    ensures { IsTrue result ↔ IsFloatSuffix (chars suffix.now) }
+{
+    matches!(suffix, "f32" | "f64")
+}
+
+/// Returns `true` if Rust reads the text as a float because of its suffix: decimal digits, optionally after a minus, and `f32`
+/// or `f64`.
+///
+/// Such a float may be above 128 bits, as in rustc: `340282366920938463463374607431768211456f64` is valid.
+pub fn is_float_by_suffix(text: &str) -> bool
+    ensures { IsTrue result ↔ IsFloatBySuffix (chars text.now) }
+{
+    let number = after_minus(text);
+    if begins_digit(number) {
+        is_float_suffix(skip_digits(number).rest)
+    } else {
+        false
+    }
+}
+
+/// Returns the flaw of an integer above 128 bits, whose suffix begins at the byte offset `suffix_at`. The piece begins at the
+/// start of `text`.
+pub fn limit_flaw(text: &str, suffix_at: usize) -> Flaw
+    requires boundary { IsCharBoundary text.now suffix_at }
+    requires past { (past : IsPast (chars text.now)) × (past.suffix ≡ chars (drop suffix_at text.now)) }
+    ensures { IsLimitFlaw (chars text.now) result }
+{
+    let found = make_flaw(FlawKind::TooLarge, &text[suffix_at..]).in_piece(text);
+    found.in_text(text)
+}
+
+/// Returns the flaw of an integer above 128 bits, whose suffix begins at the byte offset `suffix_at`, or `None` if the suffix
+/// makes the number a float.
+pub fn limit_flaw_unless_float(text: &str, suffix_at: usize) -> Option<Flaw>
+    requires boundary { IsCharBoundary text.now suffix_at }
+    requires past { (past : IsPast (chars text.now)) × (past.suffix ≡ chars (drop suffix_at text.now)) }
+    ensures none { IfNone result (IsFloatBySuffix (chars text.now)) }
+    ensures some { IfSome result (λ flaw. IsLimitFlaw (chars text.now) flaw × (IsFloatBySuffix (chars text.now) → ⊥)) }
+{
+    if is_float_by_suffix(text) {
+        None
+    } else {
+        Some(limit_flaw(text, suffix_at))
+    }
+}
+
+/// Returns the flaw of `text` if `reading`, its parse result, is an integer above 128 bits that its suffix doesn't make a
+/// float.
+pub fn limit_of(text: &str, reading: Reading) -> Option<Flaw>
+    requires { (ends : LineEnds) × (signed : Bool) × IsReadingOf ends signed text.now reading
+        × IsTokenIf signed (read_of ends (chars text.now)) }
+    ensures none { IfNone result ((ends : LineEnds) (signed : Bool) → IsReadingOf ends signed text.now reading
+        → IsTokenIf signed (read_of ends (chars text.now)) → HasValueOf ends (chars text.now)) }
+    ensures some { IfSome result (ExplainsLimit (chars text.now)) }
+{
+    match oversized_suffix_at(reading) {
+        Some(suffix_at) => limit_flaw_unless_float(text, suffix_at),
+        None => None,
+    }
+}

@@ -1,0 +1,10 @@
+//! The two ways to read a CR LF in the text of a literal.
+
+/// How a CR LF in the text of a literal is read: unchanged in a separate text, and as LF in a file, as rustc does.
+#[derive(Clone, Copy)]
+pub enum LineEnds {
+    /// The text isn't from a file: CR LF is two characters.
+    Text,
+    /// The text is from a file: CR LF is read as LF.
+    File,
+}

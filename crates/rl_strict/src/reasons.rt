@@ -1,0 +1,68 @@
+//! Returns the flaw of a text that isn't a literal token, or has no value.
+
+ghost use Rattle.std.specs.Prelude.{IfNone, IfSome};
+ghost use Rattle.std.specs.Str.{chars};
+ghost use Rattle.rl_strict.specs.LineEnds.{read_of};
+ghost use Rattle.rl_strict.specs.Readings.{ExplainsValueOf, HasValueOf, IsTokenIf};
+ghost use Rattle.rl_strict.specs.StrictFlaws.{ExplainsStrictly};
+ghost use Rattle.rl_strict.specs.StrictShapes.{IsToken};
+
+use crate::flaws::Flaw;
+use crate::limits::limit_of;
+use crate::line_ends::LineEnds;
+use crate::strict_reading::read;
+
+/// Returns the flaw that explains why `text` isn't a literal token of Rust's grammar, or `None` if it is one.
+///
+/// The flaw is the error that [`read`] returns. A minus is a token of its own, so the text of a negative number has a flaw. An
+/// integer above 128 bits is a token, and [`explain_value`] reports it. Nothing is allocated.
+///
+/// # Example
+///
+/// ```
+/// use rl_grammar::explain;
+///
+/// pub fn reason(text: &str) -> Option<&'static str> {
+///     Some(explain(text)?.kind.message())
+/// }
+/// // reason("\"a\\q\"") == Some("unknown escape")
+/// // reason("0b102") == Some("invalid digit for this base")
+/// // reason("0b101") == None
+/// ```
+pub fn explain(text: &str) -> Option<Flaw>
+    ensures none { IfNone result (IsToken (chars text.now)) }
+    ensures some { IfSome result (ExplainsStrictly (chars text.now)) }
+{
+    match read(text, LineEnds::Text, false) {
+        Ok(_) => None,
+        Err(flaw) => Some(flaw),
+    }
+}
+
+/// Returns the flaw that explains why `text` has no value in Rust, or `None` if it has one.
+///
+/// The flaw is the error that [`read`] returns, or [`limit_flaw`](crate::limit_flaw) for an integer above 128 bits. A text that
+/// is a float because of its suffix ([`is_float_by_suffix`](crate::is_float_by_suffix)) has a value. Nothing is allocated.
+///
+/// # Example
+///
+/// ```
+/// use rl_grammar::{LineEnds, explain_value};
+///
+/// pub fn why_no_value(text: &str) -> Option<&'static str> {
+///     Some(explain_value(text, LineEnds::Text, true)?.kind.message())
+/// }
+/// // why_no_value("-340282366920938463463374607431768211456") == Some("integer above 128 bits")
+/// // why_no_value("-1e") == Some("no digit in the exponent")
+/// // why_no_value("-1") == None
+/// ```
+pub fn explain_value(text: &str, ends: LineEnds, signed: bool) -> Option<Flaw>
+    ensures token { IfNone result (IsTokenIf signed (read_of ends (chars text.now))) }
+    ensures none { IfNone result (HasValueOf ends (chars text.now)) }
+    ensures some { IfSome result (ExplainsValueOf ends signed (chars text.now)) }
+{
+    match read(text, ends, signed) {
+        Ok(reading) => limit_of(text, reading),
+        Err(flaw) => Some(flaw),
+    }
+}

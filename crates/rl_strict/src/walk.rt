@@ -1,0 +1,230 @@
+//! Parses a quoted literal of Rust's grammar in one pass, in a separate text or in a file. The result is the range of its valid
+//! content and its suffix, or its flaw.
+
+ghost use Rattle.std.specs.Prelude.{◌≡◌, ◌≢◌, ◌≤◌, ◌<◌, ◌∷◌, ◌++◌, ℕ, List, [], None, Some, MatchOption, IfErr, IfOk, IfSome, IsTrue, length, replicate};
+ghost use Rattle.std.specs.List.{list_all};
+ghost use Rattle.std.specs.Str.{chars};
+ghost use Rattle.rl_syntax.specs.Texts.{IsTail, code};
+ghost use Rattle.rl_syntax.specs.Quoted.{is_plain, is_single, is_string};
+ghost use Rattle.rl_lenient.specs.Mirrors.UnitAt.{piece_value, unit_at};
+ghost use Rattle.rl_lenient.specs.StrictUnits.{BeginsStrictUnits};
+ghost use Rattle.rl_strict.specs.Mirrors.StrictAt.{is_strict_suffix, unit_rest};
+ghost use Rattle.rl_strict.specs.StrictShapes.{ClosesForm};
+ghost use Rattle.rl_strict.specs.LineEnds.{IsGoodUnit, IsOfStretch, IsRestOf, StopsAsRead, read_of};
+ghost use Rattle.rl_strict.specs.Mirrors.StrictFlawAt.{raw_stop};
+
+use crate::flaws::{FlawAt, FlawKind, end_flaw, make_flaw};
+use crate::line_ends::LineEnds;
+use crate::read_quoted::{split_unit, suffix_flaw};
+use crate::strict::{after_closer, skip_inside};
+use crate::strict_quoted_flaws::{
+    ends_raw_content, raw_character_flaw, skip_few_hashes, unit_flaw,
+};
+use crate::walk_units::{skip_units, split};
+use rl_lenient::quoted_forms::{QuotedForm, after_quote};
+use rl_lenient::units::{Piece, split_plain};
+use rl_syntax::Kind;
+use rl_syntax::text::{before, split_char};
+
+/// Returns the text that begins at a raw string's closing delimiter, or at the first character that a raw string of the kind
+/// `kind` can't contain.
+#[inline(always)]
+fn skip_raw<'t>(ends: LineEnds, kind: Kind, hashes: &str, text: &'t str) -> &'t str
+    requires { (n : ℕ) × (chars hashes.now ≡ replicate n (code "#")) }
+    ensures stop { read_of ends (chars result.now) ≡ raw_stop kind (chars hashes.now) (read_of ends (chars text.now)) }
+    ensures rest { IsRestOf ends (chars text.now) (chars result.now) }
+{
+    let mut rest = skip_inside(kind, text);
+    while let Some((c, after)) = split(ends, rest) {
+        if ends_raw_content(kind, hashes, c, after) {
+            return rest;
+        }
+        rest = skip_inside(kind, after);
+    }
+    rest
+}
+
+/// The end of a quoted literal's valid content, and the literal's suffix or flaw.
+#[derive(Clone, Copy)]
+pub struct QuotedContent<'t> {
+    /// The text that begins at the closing quote, or at the faulty piece.
+    pub closing: &'t str,
+    /// Whether the text before `closing` is known to contain no escapes. Outside files it is the literal's value then.
+    pub plain: bool,
+    pub end: Result<&'t str, FlawAt<'t>>,
+}
+
+/// Parses the text after the opening quote of a string with escapes.
+#[inline(always)]
+pub fn walk_cooked(ends: LineEnds, kind: Kind, text: &str) -> QuotedContent<'_>
+    requires { IsTrue (is_string kind) }
+    ensures run { BeginsStrictUnits kind (read_of ends (chars text.now)) (read_of ends (chars result.closing.now)) }
+    ensures rest { IsRestOf ends (chars text.now) (chars result.closing.now) }
+    ensures stuck { unit_rest kind (read_of ends (chars result.closing.now)) ≡ None }
+    ensures at { IfErr result.end (IsOfStretch QuotedForm.Cooked result.closing.now) }
+    ensures suffix { IfOk result.end (λ suffix. IsTail result.closing.now suffix.now) }
+    ensures quote { IfOk result.end (λ suffix. chars result.closing.now ≡ code "\"" ∷ chars suffix.now) }
+    ensures strict { IfOk result.end (λ suffix. IsTrue (is_strict_suffix (read_of ends (chars suffix.now)))) }
+    ensures plain { IfOk result.end (λ suffix. (body : List ℕ) → chars text.now ≡ body ++ chars result.closing.now
+        → result.plain ≡ list_all (is_plain kind) body) }
+    ensures closes { IfOk result.end (λ suffix. ClosesForm QuotedForm.Cooked kind (read_of ends (chars text.now))) }
+    ensures stops { IfErr result.end (λ f. StopsAsRead ends QuotedForm.Cooked kind f.kind (read_of ends (chars text.now))
+        (chars text.now) (chars f.piece.now) (chars f.rest.now)) }
+{
+    let (_, following) = split_plain(kind, text);
+    if let Some(suffix) = after_quote(Kind::Str, following) {
+        return match suffix_flaw(QuotedForm::Cooked, following, suffix) {
+            None => QuotedContent {
+                closing: following,
+                plain: true,
+                end: Ok(suffix),
+            },
+            Some(flaw) => QuotedContent {
+                closing: following,
+                plain: true,
+                end: Err(flaw),
+            },
+        };
+    }
+    let closing = skip_units(ends, kind, following);
+    match after_quote(Kind::Str, closing) {
+        Some(suffix) => match suffix_flaw(QuotedForm::Cooked, closing, suffix) {
+            None => QuotedContent {
+                closing,
+                plain: false,
+                end: Ok(suffix),
+            },
+            Some(flaw) => QuotedContent {
+                closing,
+                plain: false,
+                end: Err(flaw),
+            },
+        },
+        None => QuotedContent {
+            closing,
+            plain: false,
+            end: Err(unit_flaw(kind, closing).in_piece(closing)),
+        },
+    }
+}
+
+/// The end of a character or byte literal's content, and either the content and the suffix, or the flaw.
+#[derive(Clone, Copy)]
+pub struct UnitStretch<'t> {
+    /// The text that begins at the closing quote, or at the faulty piece.
+    pub closing: &'t str,
+    pub end: Result<(Piece, &'t str), FlawAt<'t>>,
+}
+
+/// Parses the text after the opening quote of a character or byte literal.
+#[inline(always)]
+pub fn walk_single(ends: LineEnds, kind: Kind, text: &str) -> UnitStretch<'_>
+    requires { IsTrue (is_single kind) }
+    ensures rest { IsRestOf ends (chars text.now) (chars result.closing.now) }
+    ensures good { IsGoodUnit kind (chars text.now) (chars result.closing.now) }
+    ensures at { IfErr result.end (IsOfStretch QuotedForm.Single result.closing.now) }
+    ensures suffix { IfOk result.end (λ p. IsTail result.closing.now p.1.now) }
+    ensures unit { IfOk result.end (λ p. unit_at kind (chars text.now) ≡ Some (piece_value kind p.0, chars result.closing.now)) }
+    ensures left { IfOk result.end (λ p. unit_rest kind (chars text.now) ≡ Some (chars result.closing.now)) }
+    ensures quote { IfOk result.end (λ p. chars result.closing.now ≡ code "'" ∷ chars p.1.now) }
+    ensures closes { IfOk result.end (λ p. ClosesForm QuotedForm.Single kind (read_of ends (chars text.now))) }
+    ensures whole { IfOk result.end (λ p. ClosesForm QuotedForm.Single kind (chars text.now)) }
+    ensures stops { IfErr result.end (λ f. StopsAsRead ends QuotedForm.Single kind f.kind (read_of ends (chars text.now))
+        (chars text.now) (chars f.piece.now) (chars f.rest.now)) }
+{
+    let Some((unit, closing)) = split_unit(kind, text) else {
+        return UnitStretch {
+            closing: text,
+            end: Err(unit_flaw(kind, text).in_piece(text)),
+        };
+    };
+    match after_quote(Kind::Char, closing) {
+        Some(suffix) => match suffix_flaw(QuotedForm::Single, closing, suffix) {
+            None => UnitStretch {
+                closing,
+                end: Ok((unit, suffix)),
+            },
+            Some(flaw) => UnitStretch {
+                closing,
+                end: Err(flaw),
+            },
+        },
+        None => UnitStretch {
+            closing: text,
+            end: Err(end_flaw(FlawKind::Unclosed, FlawKind::TwoCharacters, closing).in_piece(text)),
+        },
+    }
+}
+
+/// Parses the text after the opening quote of a raw string that has `hashes` before this quote.
+#[inline(always)]
+pub fn walk_raw<'t>(ends: LineEnds, kind: Kind, hashes: &str, text: &'t str) -> QuotedContent<'t>
+    requires string { IsTrue (is_string kind) }
+    requires hashes { (n : ℕ) × (n ≤ 255) × (chars hashes.now ≡ replicate n (code "#")) }
+    ensures stop { read_of ends (chars result.closing.now) ≡ raw_stop kind (chars hashes.now) (read_of ends (chars text.now)) }
+    ensures rest { IsRestOf ends (chars text.now) (chars result.closing.now) }
+    ensures at { IfErr result.end (IsOfStretch QuotedForm.Raw result.closing.now) }
+    ensures plain { IsTrue result.plain }
+    ensures quote { IfOk result.end (λ suffix. read_of ends (chars result.closing.now)
+        ≡ code "\"" ∷ (chars hashes.now ++ read_of ends (chars suffix.now))) }
+    ensures suffix { IfOk result.end (λ suffix. IsTrue (is_strict_suffix (read_of ends (chars suffix.now)))) }
+    ensures left { IfOk result.end (λ suffix. IsRestOf ends (chars result.closing.now) (chars suffix.now)) }
+    ensures closes { IfOk result.end (λ suffix. ClosesForm QuotedForm.Raw kind
+        (chars hashes.now ++ (code "\"" ∷ read_of ends (chars text.now)))) }
+    ensures stops { IfErr result.end (λ f. StopsAsRead ends QuotedForm.Raw kind f.kind
+        (chars hashes.now ++ (code "\"" ∷ read_of ends (chars text.now))) (chars text.now) (chars f.piece.now)
+        (chars f.rest.now)) }
+{
+    let closing = skip_raw(ends, kind, hashes, text);
+    let Some((c, after)) = split(ends, closing) else {
+        return QuotedContent {
+            closing,
+            plain: true,
+            end: Err(make_flaw(FlawKind::Unclosed, closing)),
+        };
+    };
+    match after_closer(hashes, c, after) {
+        Some(suffix) => match suffix_flaw(QuotedForm::Raw, closing, suffix) {
+            None => QuotedContent {
+                closing,
+                plain: true,
+                end: Ok(suffix),
+            },
+            Some(flaw) => QuotedContent {
+                closing,
+                plain: true,
+                end: Err(flaw),
+            },
+        },
+        None => QuotedContent {
+            closing,
+            plain: true,
+            end: Err(make_flaw(raw_character_flaw(kind, c), closing)),
+        },
+    }
+}
+
+/// Returns a raw string's hashes and the text after its opening quote, or its flaw. `inside` is the text that begins with the
+/// hashes.
+#[inline(always)]
+pub fn open_raw(kind: Kind, inside: &str) -> Result<(&str, &str), FlawAt<'_>>
+    requires { IsTrue (is_string kind) }
+    ensures hashes { IfOk result (λ p. (n : ℕ) × (n ≤ 255) × (chars p.0.now ≡ replicate n (code "#"))) }
+    ensures opened { IfOk result (λ p. chars inside.now ≡ chars p.0.now ++ (code "\"" ∷ chars p.1.now)) }
+    ensures unopened { IfErr result (λ f. (n : ℕ) (opened : List ℕ) → n ≤ 255
+        → chars inside.now ≢ replicate n (code "#") ++ (code "\"" ∷ opened)) }
+    ensures stops { IfErr result (λ f. (ends : LineEnds) → StopsAsRead ends QuotedForm.Raw kind f.kind
+        (read_of ends (chars inside.now)) (chars inside.now) (chars f.piece.now) (chars f.rest.now)) }
+{
+    let rest = skip_few_hashes(inside);
+    let Some((first, opened)) = split_char(rest) else {
+        return Err(make_flaw(FlawKind::UnexpectedEnd, rest));
+    };
+    if first == '#' {
+        Err(make_flaw(FlawKind::TooManyHashes, rest).in_piece(inside))
+    } else if first == '"' {
+        Ok((before(inside, rest), opened))
+    } else {
+        Err(make_flaw(FlawKind::NoQuote, rest))
+    }
+}

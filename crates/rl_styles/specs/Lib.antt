@@ -1,4 +1,0 @@
-pub mod Rules
-pub mod Values
-pub mod Styles
-pub mod Held

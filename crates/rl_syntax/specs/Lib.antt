@@ -1,0 +1,17 @@
+pub mod Spans
+pub mod Texts
+pub mod Classes
+pub mod Scanning
+pub mod Mirrors
+pub mod Spelling
+pub mod Quoted
+pub mod Numbers
+pub mod Reading
+pub mod Words
+pub mod Written
+pub mod Strict
+pub mod Agreeing
+pub mod Trivia
+pub mod Printed
+pub mod Readings
+pub mod Laws

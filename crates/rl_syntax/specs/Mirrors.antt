@@ -1,0 +1,6 @@
+-- Executable models of private code: functions on lists of characters. The code is proved to return equal results. No
+-- postcondition of a public function cites them.
+
+pub mod RunsAt
+pub mod StopsAt
+pub mod UnlikelyAt

@@ -1,0 +1,78 @@
+//! Rust's integer types, which are suffixes of integer literals.
+
+ghost use Rattle.std.specs.Prelude.{◌≡◌, ◌≢◌, IfNone, IfSome};
+ghost use Rattle.rl_syntax.specs.Words.{type_name};
+ghost use Rattle.rl_syntax.specs.declared.integer_type.IntegerType.{IntegerType as AnyType};
+
+/// An integer type that a literal's suffix names: `u8` in `1u8`.
+#[derive(Clone, Copy, PartialEq, Eq, Debug)]
+pub enum IntegerType {
+    /// The type `u8`.
+    U8,
+    /// The type `u16`.
+    U16,
+    /// The type `u32`.
+    U32,
+    /// The type `u64`.
+    U64,
+    /// The type `u128`.
+    U128,
+    /// The type `usize`.
+    Usize,
+    /// The type `i8`.
+    I8,
+    /// The type `i16`.
+    I16,
+    /// The type `i32`.
+    I32,
+    /// The type `i64`.
+    I64,
+    /// The type `i128`.
+    I128,
+    /// The type `isize`.
+    Isize,
+}
+
+impl IntegerType {
+    /// Returns the integer type that `suffix` names, or `None` for every other suffix.
+    pub fn named(suffix: &str) -> Option<IntegerType>
+        ensures some { IfSome result (λ t. suffix.now ≡ type_name t) }
+        ensures none { IfNone result ((t : AnyType) → suffix.now ≢ type_name t) }
+    {
+        match suffix {
+            "u8" => Some(IntegerType::U8),
+            "u16" => Some(IntegerType::U16),
+            "u32" => Some(IntegerType::U32),
+            "u64" => Some(IntegerType::U64),
+            "u128" => Some(IntegerType::U128),
+            "usize" => Some(IntegerType::Usize),
+            "i8" => Some(IntegerType::I8),
+            "i16" => Some(IntegerType::I16),
+            "i32" => Some(IntegerType::I32),
+            "i64" => Some(IntegerType::I64),
+            "i128" => Some(IntegerType::I128),
+            "isize" => Some(IntegerType::Isize),
+            _ => None,
+        }
+    }
+
+    /// Returns the type's name, as in a literal's suffix: `u8`.
+    pub fn name(self) -> &'static str
+        ensures { result.now ≡ type_name self }
+    {
+        match self {
+            IntegerType::U8 => "u8",
+            IntegerType::U16 => "u16",
+            IntegerType::U32 => "u32",
+            IntegerType::U64 => "u64",
+            IntegerType::U128 => "u128",
+            IntegerType::Usize => "usize",
+            IntegerType::I8 => "i8",
+            IntegerType::I16 => "i16",
+            IntegerType::I32 => "i32",
+            IntegerType::I64 => "i64",
+            IntegerType::I128 => "i128",
+            IntegerType::Isize => "isize",
+        }
+    }
+}

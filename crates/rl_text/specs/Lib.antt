@@ -1,5 +1,0 @@
-pub mod Spans
-pub mod Texts
-pub mod Classes
-pub mod Scanning
-pub mod Mirrors

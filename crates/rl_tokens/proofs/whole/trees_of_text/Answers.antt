@@ -1,8 +1,0 @@
-use Rattle.rl_text.proofs.Common.{arith, common_steps}
-use Rattle.rl_tokens.proofs.whole.trees_of_text.Goals as goal
-
-pub returns-in-Ok-clause-ok : goal.returns-in-Ok-clause-ok
-returns-in-Ok-clause-ok g c = grind (arith, common_steps)
-
-pub returns-in-Err-clause-rejected : goal.returns-in-Err-clause-rejected
-returns-in-Err-clause-rejected g c = grind (arith, common_steps)

@@ -1,0 +1,19 @@
+//! An example of a function that calls `rl_lenient`.
+
+ghost use Rattle.std.specs.Prelude.{[], IfSome};
+ghost use Rattle.std.specs.Str.{chars};
+ghost use Rattle.rl_lenient.specs.Values.{HasIntegerValue};
+
+use rl_lenient::find;
+
+/// Returns the value of the integer literal `text`. Returns `None` if `text` isn't an integer literal without suffix,
+/// or if the integer doesn't fit an `i128`.
+pub fn integer_in(text: &str) -> Option<i128>
+    ensures value { IfSome result (HasIntegerValue (chars text.now) []) }
+{
+    let found = find(text)?;
+    if found.has_suffix(text) {
+        return None;
+    }
+    found.signed(text)
+}

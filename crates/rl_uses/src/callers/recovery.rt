@@ -1,0 +1,16 @@
+//! An example of a function that calls `rl_recovery`.
+
+ghost use Rattle.std.specs.Prelude.{◌≡◌, IfSome, IfNone};
+ghost use Rattle.rl_recovery.specs.declared.leading.LeadingLiteral.{LeadingLiteral};
+ghost use Rattle.rl_recovery.specs.Leading.{Leads, LeadsNone};
+
+use rl_recovery::leading_literal;
+
+/// Returns the text of the literal at the start of `text`, or `None` if `text` doesn't begin with a literal.
+pub fn first_literal(text: &str) -> Option<&str>
+    ensures found { IfSome result
+        (λ literal. (l : LeadingLiteral) × Leads text.now l × (literal.now ≡ l.text.now)) }
+    ensures none { IfNone result (LeadsNone text.now) }
+{
+    Some(leading_literal(text)?.text)
+}

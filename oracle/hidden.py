@@ -1,0 +1,68 @@
+#!/usr/bin/env python3
+"""Compares the characters that `rl_scan --invisible` finds with Unicode's table in perl.
+
+    oracle/hidden.py [--proved] ..      some 5 s
+
+A source contains every character once. The reported characters and their lines must be those of the table. A line has the
+character's number, and its name if the character changes the direction of text. The table has the characters that are ignorable by
+default, those that separate lines or paragraphs, and control characters. The marks of annotations, U+FFF9 to U+FFFB, are added.
+These don't count: variation selectors from U+FE00 to U+FE0F, which choose a glyph, and tab, LF and form feed, which lay out text. A
+character that only a newer table than perl's has is reported as a difference. For other options see frame.py.
+"""
+import functools
+import subprocess
+import sys
+import unicodedata
+
+import frame
+
+# A perl script that prints the code of each character in the class, one in each line.
+SCRIPT = r'for (0 .. 0xd7ff, 0xe000 .. 0x10ffff) { print "$_\n" if chr =~ /%s/ }'
+HIDING = r'[\p{Default_Ignorable_Code_Point}\p{Zl}\p{Zp}\p{Cc}]'
+TURNING = r'\p{Bidi_Control}'
+ANNOTATIONS, SELECTORS, LAYOUT = range(0xfff9, 0xfffc), range(0xfe00, 0xfe10), {0x9, 0xa, 0xc}
+
+
+def codes(of):
+    """Returns the codes of the characters in a class of perl."""
+    return {int(line) for line in frame.output_of(['perl', '-e', SCRIPT % of]).split()}
+
+
+@functools.cache
+def hiding():
+    """Returns the invisible and bidirectional characters."""
+    return frozenset(map(chr, codes(HIDING) - set(SELECTORS) - LAYOUT | set(ANNOTATIONS)))
+
+
+def line_of(character, turning):
+    """Returns the line about a character, after its position."""
+    return f'U+{ord(character):04X}' + (f' {unicodedata.name(character)}' if ord(character) in turning else '')
+
+
+def found_by(program, every):
+    """Returns the characters that the program finds, each with its line. A letter follows each character in the source."""
+    places, at = {}, 0
+    for character in every:
+        places[at] = character
+        at += len(character.encode()) + 1
+    source = ''.join(character + 'x' for character in every).encode()
+    printed = subprocess.run([program, '--invisible', '--bytes', '-'], input=source, stdout=subprocess.PIPE, check=False).stdout
+    found = (line.split(' ', 1) for line in printed.decode().splitlines())
+    return {places[int(place.split('..')[0])]: words for place, words in found}
+
+
+def main():
+    asked = frame.arguments(__doc__, ours=['rl_scan'])
+    report = frame.Report(asked)
+    every, turning = [chr(code) for code in (*range(0xd800), *range(0xe000, 0x110000))], codes(TURNING)
+    wanted = {character: line_of(character, turning) for character in hiding()}
+    found = found_by(asked.rl_scan, every)
+    report.compared = len(every)
+    for it in sorted(wanted.keys() | found.keys()):
+        if wanted.get(it) != found.get(it):
+            report.differs('hidden', it.encode(), str(wanted.get(it)).encode(), str(found.get(it)).encode())
+    return report.end(len(every), 'characters')
+
+
+if __name__ == '__main__':
+    sys.exit(main())

@@ -1,0 +1,286 @@
+#!/usr/bin/env python3
+"""Compares the flaws of texts that aren't tokens or have no value with the model, and their positions with the first errors of
+rustc and litrs.
+
+    oracle/reasons.py [--families worked,cuts,..] [--rustc] [--litrs] [--alone N] ..    a minute for 1,000 random texts, with --rustc ten
+
+The texts are those of oracle/sample.jsonl and of the rows of rl_rows, and generated ones. With --rustc, rustc lexes many texts in
+one source if they leave no quote, comment or group open, and N of the others each alone; --alone sets N. --litrs uses oracle/litrs.
+Tables then show the relation of rustc's or litrs' errors to ours. With --model the model's results are compared with rustc's and
+litrs' instead. Other options: frame.py.
+"""
+import collections
+import itertools
+import os
+import re
+import sys
+
+import frame
+import listed
+import rustc
+import texts as families
+from model import flaws
+from rustc import CUT, EARLIER, kinds, short
+
+# The commands, and the model's function that returns the line for each.
+COMMANDS = {'explain': flaws.line, 'explain-value': flaws.value_line}
+STORED = ('oracle/sample.jsonl', 'crates/rl_rows/stdin')
+Flaw = collections.namedtuple('Flaw', 'kind begin low high')
+# A text with one of these flaws doesn't begin a literal. So rustc lexes its start as an identifier, punctuation or a comment, and
+# continues.
+NO_LITERAL = ('Empty', 'NotALiteral', 'Minus', 'NoQuote', 'UnexpectedEnd')
+
+
+def flaw_of(line):
+    """Returns the flaw in a line of our program."""
+    kind, begin, place = line.decode().split(' ')
+    return Flaw(kind, int(begin), *map(int, place.split('..')))
+
+
+# ---- rustc
+
+# Messages of rustc that begin like these say that another token is at the position.
+OTHER_TOKEN = re.compile('no rules expected|unknown start of token|prefix |unterminated |(unexpected|mismatched) closing delimiter')
+LITERAL = re.compile(r"""[bc]?"|(?:r|br|cr)#*"|b?'|[0-9]|(?:true|false)\Z""")
+UNCLOSED = re.compile('unterminated (double quote|character literal|byte constant|raw string|C string)')
+# After these messages, rustc reports no error in the following text.
+STOPS = re.compile('unterminated (?!unicode)|found invalid character|too many `#` symbols|.*delimiter|expected item')
+LIFETIME = re.compile("'(?:r#)?[A-Za-z_\u00e9]")
+# A token of rustc's lexer, in a sketch, that leaves nothing open. Delimiters and the start of a block comment aren't included.
+TOKEN = re.compile(r"""//[^\n]*+|(?:[bc]?"(?:[^"\\]|\\.)*+"|(?:br|cr|r)(?P<h>\#{0,255})"(?:(?!"(?P=h)).)*+"(?P=h)|b'(?:[^\\]'|(?:[^'\\/\n]|\n(?=')|\\.)*+')
+|'[^\\]'|'(?:[^'\\/\nA-Za-z0-9_\u00e9]|\\.)(?:[^'\\/\n]|\n(?=')|\\.)*+'|'(?:r\#)?[0-9A-Za-z_\u00e9]AFTER*+'?+)(?:WORD)?+|''(?!')|[0-9]AFTER*+
+|(?!(?:r|br|cr)["\#]|b['"]|c")(?:r\#(?=[A-Za-z_\u00e9]))?WORD|[^'"\\(){}\[\]/0-9A-Za-z_\u00e9]|/(?![/*])"""
+                   .replace('WORD', flaws.WORD + '+').replace('AFTER*+', flaws.AFTER + '+'), re.S | re.X)
+RUSTC_TEXTS = 400
+
+
+def leaves_nothing_open(text):
+    """Whether rustc's lexer continues after the text, so that other texts can follow it in one source."""
+    drawn, at = flaws.sketch(text), 0
+    while at < len(drawn) and (token := TOKEN.match(drawn, at)):
+        at = token.end()
+    return at == len(drawn)
+
+
+def rustc_errors(texts):
+    """Returns rustc's errors in each text: byte ranges and messages. If an error stops rustc, it is run on halves of the texts."""
+    # A CR at the text's end must not be directly before the LF.
+    asked = [text + ' ' * text.endswith('\r') for text in texts]
+    found, told = rustc.placed(asked, 'one!{\n', '\n}\n', 'macro_rules! one { ($t:tt) => {} }\n')
+    if len(texts) > 1 and any(STOPS.match(it['message']) for it in told):
+        half = len(texts) // 2
+        return rustc_errors(texts[:half]) + rustc_errors(texts[half:])
+    return [[it for it in errors if it[0] <= len(text.encode())] for text, errors in zip(texts, found)]
+
+
+def cut_before(text, flaw):
+    """Returns the end of rustc's first token, if this token is all the text before the flaw, or all except its dot. Otherwise
+    returns None."""
+    if flaw.kind not in (*CUT, 'BasedFloat'):
+        return None
+    data = text.encode()
+    rest = data[flaw.low:].decode()
+    # Before white space `1.` is a token, and before an identifier `1` is.
+    is_dot_apart = flaw.kind == 'NoFractionDigit' and listed.after_gap(rest) == rest
+    end = flaw.low - is_dot_apart
+    return end if flaws.line(data[:end].decode()) == b'None' else None
+
+
+def rustc_reason(text, flaw, error):
+    """Returns the relation of rustc's first error in the text, or of its missing error, to our flaw, or None if the two contradict
+    each other."""
+    begin, end, message = error or (None, None, '')
+    head, kind = short(message), flaw.kind
+    says_same = kind in kinds(message) or OTHER_TOKEN.match(message) and kind in (*CUT, *NO_LITERAL, 'BasedFloat', 'TwoCharacters')
+    if error and says_same and begin == flaw.low:
+        return 'begins at our place'
+    if error and says_same and begin == flaw.begin:
+        return 'begins at our piece'
+    opener = len(re.match('[bc]?', text)[0])
+    if error and begin in (0, opener) and end >= flaw.low - 1 and (kind in kinds(message) or kind == 'NoQuote' and head == 'prefix '):
+        return 'is the whole literal'
+    if error and UNCLOSED.match(message) and begin in (0, opener) and kind not in CUT:
+        return 'says first that the literal is not closed'
+    if kind in NO_LITERAL and not LITERAL.match(text):
+        return 'is of other tokens: no literal begins the text'
+    if LIFETIME.match(flaws.sketch(text)) and kind in ('TwoCharacters', 'Unclosed') and (not error or begin >= flaw.low or head == 'prefix '):
+        return 'is of other tokens: a lifetime begins the text'
+    if error and kind in EARLIER and flaw.low < begin and kinds(message):
+        return 'comes later: no ending saves what stands before it'
+    if head == 'underscore literal suffix is not allowed' and kind in CUT and begin < flaw.low:
+        return 'comes earlier: a suffix is `_` alone, and might have gone on'
+    end_of_first = cut_before(text, flaw)
+    if end_of_first is not None and error and begin >= end_of_first:
+        return 'comes later: one token is whole, and others follow'
+    if end_of_first is not None and not error and not listed.after_gap(text.encode()[end_of_first:].decode()):
+        return 'none: white space and comments follow one token'
+    if end_of_first is not None and not error and re.search(r'[(){}\[\]]', text):
+        return 'stands elsewhere: one token is whole, and a delimiter without another follows'
+    if kind == 'CarriageReturn' and listed.strict_listed(text) and (not error or begin > flaw.low):
+        return 'takes a CR among the white space after an escaped line end'
+    return None
+
+
+def way_of_rustc(text, line, errors):
+    """Compares rustc's errors of a text with the line that this project prints for it. Returns the reason why both agree, our kind of
+    flaw, and rustc's message. Returns None if rustc and the line contradict each other."""
+    error = min(errors) if errors else None
+    if line == b'None':
+        return ('none: a token', '', '') if error is None else None
+    flaw = flaw_of(line)
+    reason = rustc_reason(text, flaw, error)
+    return reason and (reason, flaw.kind, short(error[2]) if error else '')
+
+
+def print_ways(name, ways):
+    """Prints how often each reason occurs, and below it the kinds and messages."""
+    counts = collections.Counter()
+    for (reason, _, _), number in ways.items():
+        counts[reason] += number
+    for reason, count in sorted(counts.items()):
+        print('%s: %7d %s' % (name, count, reason))
+        for (_, kind, words), number in sorted((way, number) for way, number in ways.items() if way[0] == reason):
+            print('    %7d %s%s' % (number, kind, ': ' + words if words else ''))
+
+
+def compare_rustc(report, alone, answers):
+    """Compares our flaws with rustc's first errors. Texts that leave nothing open are lexed together, and `alone` of the others
+    separately."""
+    # rustc treats CR LF as LF, and accepts no NUL and no byte order mark in a token.
+    chosen = [text for text in answers if not re.search('\r\n|\0|\ufeff', text) and not listed.newer(text)]
+    closed = {text: None for text in chosen if leaves_nothing_open(text)}
+    others = [text for text in chosen if text not in closed]
+    others, ways = others[::max(1, len(others) // max(1, alone))], collections.Counter()
+    for chunk in [*frame.batches(closed, RUSTC_TEXTS), *([text] for text in others)]:
+        for text, errors in zip(chunk, rustc_errors(chunk)):
+            if way := way_of_rustc(text, answers[text], errors):
+                ways[way] += 1
+            else:
+                error = min(errors) if errors else (0, 0, 'no error')
+                report.differs('rustc: ' + error[2], text.encode(), b'%d..%d' % error[:2], answers[text])
+    print_ways('rustc', ways)
+    print('rustc: %d texts, %d of them alone' % (ways.total(), len(others)))
+
+
+# ---- litrs
+
+# For each kind of error of litrs, the kinds of flaws with the same meaning.
+LITRS = {
+    'Empty': ['Empty'], 'EmptyByteLiteral': ['NoCharacter'], 'EmptyCharLiteral': ['NoCharacter'], 'InvalidDigit': ['InvalidDigit', 'BasedFloat', 'NoDigits'],
+    'InvalidFloatTypeSuffix': ['BadSuffix'], 'InvalidIntegerTypeSuffix': ['BadSuffix', 'BasedFloat'], 'InvalidLiteral': [*NO_LITERAL, 'TooManyHashes'],
+    'InvalidStartOfUnicodeEscape': ['NoHexDigit'], 'InvalidUnicodeEscapeChar': ['UnicodeEscapeOutOfRange', 'Surrogate'], 'InvalidXEscape': ['NoHexDigit', 'HexEscapeOutOfRange'],
+    'IsolatedCr': ['CarriageReturn'], 'NoDigits': ['NoDigits'], 'NoExponentDigits': ['NoExponentDigit'], 'NonAsciiInByteLiteral': ['NotAscii'],
+    'NonAsciiXEscape': ['HexEscapeOutOfRange'], 'NonHexDigitInUnicodeEscape': ['NoHexDigit'], 'OverlongByteLiteral': ['TwoCharacters', *CUT],
+    'OverlongCharLiteral': ['TwoCharacters', *CUT], 'TooManyDigitInUnicodeEscape': ['TooManyDigits'], 'UnescapedSingleQuote': ['NoCharacter'],
+    'UnescapedSpecialWhitespace': ['MustEscape'], 'UnexpectedChar': [*CUT, 'UnderscoreSuffix'], 'UnicodeEscapeInByteLiteral': ['NoUnicode'],
+    'UnicodeEscapeWithoutBrace': ['NoBrace', 'Unclosed'], 'UnknownEscape': ['UnknownEscape', 'CarriageReturn'],
+    'UnterminatedEscape': ['NoHexDigit', 'HexEscapeOutOfRange', 'Unclosed', 'UnknownEscape'], 'UnterminatedUnicodeEscape': ['NoHexDigit', 'UnicodeEscapeOutOfRange', 'TooManyDigits', 'Unclosed'],
+    'UnterminatedByteLiteral': ['Unclosed'], 'UnterminatedCharLiteral': ['Unclosed'], 'UnterminatedRawString': ['Unclosed'], 'UnterminatedString': ['Unclosed'],
+}
+# The kinds that litrs reports if the last character isn't the closing quote, or is part of an escape.
+BY_LAST = [kind for kind in LITRS if kind.startswith('Unterminated')] + ['OverlongByteLiteral']
+# Flaws of the strict grammar that litrs 0.2.3 accepts.
+TAKEN = {'CarriageReturn': 'a CR', 'EmptyBraces': 'no digits between the braces', 'TooManyHashes': 'more than 255 hashes'}
+
+
+def litrs_reason(text, flaw, line):
+    """Returns the relation of litrs' result to our flaw, or None."""
+    their, _, place = line.partition(' ')
+    if their == 'panic':
+        return 'panics'
+    if text.startswith(('c"', 'cr"', 'cr#')):
+        return 'has no C strings'
+    if flaw is None:
+        return 'a token to both' if their == 'Ok' else 'has no such suffix, or none after quotes'
+    if their == 'Ok':
+        return 'takes ' + TAKEN[flaw.kind] if flaw.kind in TAKEN else None
+    low = int(place.split('..')[0]) if place != '-' else None
+    if flaw.kind in LITRS[their] and low is None:
+        return 'says the same, without a place'
+    if flaw.kind in LITRS[their] and flaw.begin <= low <= flaw.high:
+        return 'says the same at our ' + ('place' if low == flaw.low else 'piece' if low == flaw.begin else 'piece, inside')
+    if their == 'InvalidStartOfUnicodeEscape' and low == 4:
+        return 'counts the place from the escape, not from the text'
+    if their in BY_LAST or their == 'OverlongCharLiteral' and flaw.kind in CUT:
+        return 'takes the last character for the quote that closes'
+    if flaw.kind == 'BadSuffix' and low is not None and low < flaw.low and their in ('InvalidDigit', 'UnexpectedChar'):
+        return 'has no such suffix, or none after quotes'
+    if flaw.kind in EARLIER and low is not None and low > flaw.low:
+        return 'comes later: no ending saves what stands before it'
+    if flaw.kind in TAKEN and low is not None and low > flaw.low:
+        return 'comes later: it takes ' + TAKEN[flaw.kind]
+    return None
+
+
+def compare_litrs(report, answers):
+    """Compares our flaws with the errors of litrs."""
+    program, ways = os.path.join(frame.helper('litrs'), 'litrs-kinds'), collections.Counter()
+    for text, line in zip(answers, frame.by_length([program], [text.encode() for text in answers])):
+        flaw = None if answers[text] == b'None' else flaw_of(answers[text])
+        reason = litrs_reason(text, flaw, line.decode())
+        if reason:
+            ways[reason, flaw.kind if flaw else 'a token', line.decode().split(' ')[0]] += 1
+        else:
+            report.differs('litrs', text.encode(), line, answers[text])
+    print_ways('litrs', ways)
+    print('litrs: %d texts' % len(answers))
+
+
+# ---- the model
+
+def compare_model(asked, report, answers, data):
+    """Compares the flaws of texts with the model's, and adds the lines of `explain` to the results."""
+    texts = [text.decode() for text in data]
+    for command, line_of in COMMANDS.items():
+        models = [line_of(text) for text in texts]
+        lines = models if asked.model else frame.of_rows(asked.rl_rows, command, data)
+        for text, it, model, line in zip(texts, data, models, lines):
+            if model == line:
+                report.agreeing[command, line.split(b' ')[0].decode()] += 1
+            elif listed.newer(text):
+                report.listed[command, listed.NEWER] += 1
+            else:
+                report.differs('model, ' + command, it, model, line)
+        report.compared += len(texts)
+        if command == 'explain':
+            answers.update(zip(texts, lines))
+
+
+def stored_texts():
+    """Returns the texts that stored rows contain as hexadecimal digits."""
+    for path in STORED:
+        with open(os.path.join(frame.TOP, path), 'rb') as file:
+            words = re.findall(rb'(?<![0-9a-f])(?:[0-9a-f]{2})+(?![0-9a-f])', file.read())
+        for word in words:
+            try:
+                yield bytes.fromhex(word.decode()).decode()
+            except UnicodeDecodeError:
+                continue
+
+
+def fresh_batches(asked):
+    """Returns the texts of the families in batches, each text once."""
+    seen, chosen = set(), families.families(asked.seed, asked.count)
+    for name in asked.families.split(','):
+        count = len(seen)
+        for batch in frame.batches(chosen[name]()):
+            yield frame.fresh(batch, seen)
+        print(f'family {name}: {len(seen) - count} texts', flush=True)
+
+
+def main():
+    asked = frame.arguments(__doc__, ours=['rl_rows'], count=500_000, families='worked,cuts,edits,random', alone=2_000,
+                            rustc=False, litrs=False, model=False)
+    report, answers, rows = frame.Report(asked), {}, frame.fresh(list(stored_texts()), set())
+    print(f'stored: {len(rows)} texts')
+    for data in itertools.chain([rows], fresh_batches(asked)):
+        compare_model(asked, report, answers, data)
+    if asked.rustc:
+        compare_rustc(report, asked.alone, answers)
+    if asked.litrs:
+        compare_litrs(report, answers)
+    return report.end(len(answers))
+
+
+if __name__ == '__main__':
+    sys.exit(main())

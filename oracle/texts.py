@@ -1,0 +1,261 @@
+"""The texts on which literals, lists, settings and tokens are compared, in families, and the literals of files."""
+import itertools
+import random
+
+import frame
+from model.sources import cut_source
+
+LIMIT = 2**128 - 1
+
+# Characters that reach every branch of the parsers, with characters of two, three and four bytes, and U+00B7, which continues an
+# identifier but can't begin one.
+ALPHABET = list('"\'\\rbc#xou{}n019aeE_-+.\r\n\t\0') + ['\u00e9', '\u20ac', '\U0001f600', '\u00b7']
+# Characters for mutations only, which are similar to those of the alphabet.
+NEAR = ALPHABET + list(' \v\f2378fFgAXOBtz/*!;=~$@`,|') + ['\u0085', '\u00a0', '\u2028', '\u200e', '\ufeff', '\u0301', '\x7f', '\x01', '\x1b', '\u3042']
+
+# The texts before and after each exhaustively generated middle.
+FRAMES = [
+    ('"', '"'), ('b"', '"'), ('c"', '"'), ("'", "'"), ("b'", "'"), ('r"', '"'), ('br#"', '"#'), ('cr"', '"'),
+    ('r##"', '"##'), ('"\\', '"'), ('b"\\', '"'), ('c"\\', '"'), ("'\\", "'"), ("b'\\", "'"), ('"\\x', '"'), ('b"\\x', '"'),
+    ('c"\\x', '"'), ('"\\u{', '}"'), ('c"\\u{', '}"'), ("'\\u{", "}'"), ('"\\\n', '"'), ('"\\\r', '"'), ('b"\\\r', '"'), ('c"\\\n', '"'),
+    ('""', ''), ("''", ''), ('r#""#', ''), ('1', ''), ('0x', ''), ('0b', ''), ('0o', ''), ('-', ''), ('-1', ''), ('1.', ''), ('1e', ''),
+    ('1e1', ''), ('1_', ''), ('0xe', ''), ('0b1e', ''), ('tru', ''), ('true', ''), ('-0', ''),
+]
+
+WORKED = [
+    '""', '', '(/*ERROR*/)', 'true', 'false', '"a\\x41\\n"q', '"\\u{1F_600}"', '"\\u{_1}"', '"\\u{}"', '"\\u{D800}"', '"\\u{0000001}"',
+    '"\\x80"', 'b"\\x80"', 'b"\u00e9"', '"a\\\n  b"', '"a\r\nb"', '"a\rb"', 'r#"a"b"#tail', 'r"a"b"', 'r"', 'r#"a"', 'c"\\0"',
+    'c"\\x00"', 'c"\\u{0}"', 'c"\u00e9"', "'''", "''", "b'''", "b'\u00e9'", '0xFF_u8', '-0x1F', '-0', '007', '--1',
+    str(LIMIT), str(LIMIT + 1), str(LIMIT) + '.0', str(LIMIT + 1) + '.0', hex(LIMIT), hex(LIMIT + 1), oct(LIMIT), oct(LIMIT + 1),
+    bin(LIMIT), bin(LIMIT + 1), '-' + str(LIMIT), '-' + str(LIMIT + 1), '000' + str(LIMIT) + 'u128', str(LIMIT + 1) + 'u128',
+    str(LIMIT + 1) + 'f64', '-' + str(LIMIT + 1) + '_f32', str(LIMIT + 1) + 'f16', '-' + str(LIMIT + 1) + 'f644', hex(LIMIT + 1) + 'f64',
+    '1f64', '1e', '1ee5', '1e5', '1e5e6', '1e5\u00b7', '1e+', '1..2', '1-3', '1e5.0', '0b1e3', '0b12', '0x', '0X1F', '0x1.0',
+    '1.0e10f64', '1_0.5E+1_0', '1.', '1.e5', '0_4', '0xe+1', '0b1e+1', '0o17_', '0o8', '0b_1', '0x_F', '0_x1', '0__1', '1__', '1_e5',
+    '1e_5', '1e5_', '1E-_5', '1e__', '1e+_', '1e-5f32', '1.5_f32', '1.5__f32', '1.5_e3', '1._5', '1.f32', '1.e', '1.5e', '1.5ee5', '1.5e5e5',
+    '9' * 39, '9' * 400, '0' * 400 + '1', '1' + '_' * 300 + '1', '1e' + '9' * 300, '0b' + '1' * 129, '0o' + '7' * 43,
+    '"\\0\\t\\r\\\\\\\'\\""', "'\\''", "'\"'", "'\\\"'", '"\'"', "b'\\xfF'", "'\\x7f'", "'\\x80'", "'\\u{10FFFF}'", "'\\u{110000}'",
+    "'\\u{DFFF}'", "'\\u{E000}'", "'\\u{D7FF}'", "'\\u{1_2_3_}'", "'\U0001f600'", "'\u00e9'\u00e9", '"\u20ac"\u00b7', 'c"\\xff\\u{ff}\u20ac"',
+    'c"a\0b"', '"a\0b"', "'\0'", "b'\0'", 'b"\0"', 'r"\0"', 'cr"\0"', 'br"\u00e9"', 'cr#"\u20ac"#_x', 'br##"a"#b"##', 'r###"##"###',
+    'r"a\r\nb"', 'r"a\rb"', 'br"a\r"', 'cr"\r\n"', '"a\\\r\n \t\r\n b"', '"a\\\r b"', '"a\\\n\u00a0b"', '"\\\n\n\n"', '"\\\r"', '"\\\n\\\n"',
+    "'\r'", "'\n'", "'\t'", "b'\t'", "'\r\n'", '"\r\n\r\n"', '"\r\\n"', '"\\\r\n\\x41"', '"a" b', '"a"\n', '1\n', ' 1', '1 ', '"a"#', '"a""b"',
+    "'a'b", "'ab'", "'a", "b'a", 'b"a', 'c"a', "'\\n'x", "'\\u{41}", 'br', 'b', 'c', 'r', 'cr', 'rb"a"', "c'a'", "r'a'", 'r#a', 'bar"a"',
+    'r' + '#' * 255 + '""' + '#' * 255, 'r' + '#' * 256 + '""' + '#' * 256, 'cr' + '#' * 300 + '"a"b' + '#' * 300,
+    '"' + 'a' * 5000 + '"', 'b"' + '\\xFF' * 700 + '"', '"' + '\\u{1F600}' * 300 + '"', '-true', '-"a"', "-'a'", '- 1', '-.5', '.5', '-1.5e-3_f',
+    'e5', '_1', '1\u00e9', '1e5\u00e9', '1e\u00e9', '1.\u00e9', '1.5\u00b7', '0x\u00e9', '0b1\u00b7', '\u0661', '1\u0661', '\u00b2',
+    '// a\n// b\nx', '/* a /* b */ */x', '/**//***/y', '/// x', '//// x\ny', '/*/', '//', '\u00a0\u200ez', '/*! a */', '//! a', '/** a */', '/*** a */',
+    '/* a', '/* /* */', ' \t\r\n\v\f\u0085\u200f\u2028\u2029\u3000x', '//a\r\nb', '/*/**/*/', '/*//*/x', '/**/*/', '/****/x', '/***/x', '//!', '///', '////',
+]
+
+
+def hexes(low, high, pad):
+    return [form % n for n in (low, low + 1, high - 1, high) for form in ('%x', '%X', '%0' + str(pad) + 'x')]
+
+
+# A piece for every row of the table of escapes, and pieces that are just out of its range.
+POINTS = ['0', '1', '7f', '7F', '80', 'ff', '100', '7ff', '800', 'D7FF', 'd800', 'DfFf', 'E000', 'FFFF', '10000', '10FFFF', '110000', 'FFFFFF', '0000000', '000041', '4_1', '4__', '_4', 'g', '']
+PIECES = ['\\n', '\\r', '\\t', '\\\\', "\\'", '\\"', '\\0', '\\x00', '\\x41', '\\x7f', '\\x80', '\\xFf', '\\x4', '\\xg0', '\\x0g', '\\', '\\a', '\\u', '\\u{', '\\u{41', '\\x',
+          '\\\n', '\\\n ', '\\\r', '\\\r\n', '\\\r\n\t\r \n', '\\\n\u00a0', '\\\n\v', '\r\n', '\r', '\n', '\t', '\0', '"', "'", '#', '"#', '##', 'a', '\u00e9', '\u20ac', '\U0001f600', '\x7f', '\x80', '\x1f', ' ',
+          '\\\u00e9', '\\ ', '\\u{d7ff}', '\\N', '\\U{41}', '\\X41', 'n', 'x41', '{41}', '\r\r\n', '\n\r'] + ['\\u{%s}' % p for p in POINTS]
+SUFFIXES = ['', '', '', 'u8', 'f64', '_', '__', '_u8', 'e', 'E', 'e5', 'e_5', 'e+5', 'ee5', 'x', 'X1', 'b1', 'o7', 'a', 'f', 'g', '\u00e9', '\u00b7', 'e5\u00b7', 'e5\u00e9', ' ', '#', '"', "'", '.', '.5', '-', '+1', 'e5.', '\u20ac', 'E-5', 'e5e5', 'e5_', 'e__', '\n', '\0', '\u0661']
+TRIVIA = [' ', '\t', '\n', '\r', '\r\n', '\v', '\f', '\u0085', '\u00a0', '\u200e', '\u200f', '\u200b', '\u2028', '\u3000', '\ufeff', '//', '///', '////', '//!', '/*', '*/', '/**', '/***', '/**/', '/***/', '/*!', '/', '*', '!', 'a', '/* a */', '// a\n', '/*/', '"', '\u00e9']
+
+
+def digits(random, base, count):
+    return ''.join(random.choice('0123456789abcdefABCDEF'[:base if base < 16 else 22]) for _ in range(count))
+
+
+def underscored(random, text):
+    return ''.join(c + '_' * random.choice((0, 0, 0, 0, 1, 2)) for c in text) if random.random() < .4 else text
+
+
+def random_integer(random):
+    base, prefix, form = random.choice(((10, '', 'd'), (10, '', 'd'), (16, '0x', 'x'), (16, '0x', 'X'), (8, '0o', 'o'), (2, '0b', 'b')))
+    if random.random() < .5:
+        around = random.choice((0, 1, 10, 255, 2**31, 2**32, 2**63, 2**64, 2**127, 2**128, 2**128, 2**128, 10**38, 10**39, 2**129, 2**128 // base))
+        body = format(max(0, around + random.randint(-3, 3)), form)
+    else:
+        body = digits(random, base, random.choice((0, 1, 2, 3, 5, 20, 38, 39, 40, 45, 129)))
+    body = '0' * random.choice((0, 0, 0, 1, 5)) + body
+    return random.choice(('', '', '', '-', '+', '--')) + prefix + random.choice(('', '', '', '_')) + underscored(random, body) + random.choice(SUFFIXES)
+
+
+def random_float(random):
+    whole = underscored(random, digits(random, 10, random.choice((0, 1, 1, 2, 5, 40))))
+    point = random.choice(('', '.', '.', '..')) + underscored(random, digits(random, 10, random.choice((0, 1, 2, 20))))
+    power = random.choice(('', 'e', 'E', 'ee')) + random.choice(('', '_', '+', '-', '_+', '+_', '__-', '+-', '-_')) + underscored(random, digits(random, 10, random.choice((0, 1, 2, 5))))
+    return random.choice(('', '', '-')) + whole + point + random.choice(('', power)) + random.choice(SUFFIXES)
+
+
+def random_quoted(random):
+    opener, closer = random.choice((('"', '"'), ('b"', '"'), ('c"', '"'), ("'", "'"), ("b'", "'")))
+    inside = ''.join(random.choice(PIECES) for _ in range(random.choice((0, 1, 1, 1, 2, 3, 6))))
+    return opener + inside + random.choice((closer, closer, closer, closer, '')) + random.choice(SUFFIXES)
+
+
+def random_raw(random):
+    hashes = random.choice((0, 1, 2, 3, random.randint(0, 300)))
+    inside = ''.join(random.choice(PIECES + ['"', '"#', '"##', '"###']) for _ in range(random.choice((0, 1, 2, 4))))
+    more = random.choice((0, 0, 0, -1, 1))
+    return random.choice(('r', 'br', 'cr', 'rb', 'R')) + '#' * hashes + '"' + inside + '"' + '#' * max(0, hashes + more) + random.choice(SUFFIXES)
+
+
+def random_trivia(random):
+    return ''.join(random.choice(TRIVIA) for _ in range(random.randint(1, 8)))
+
+
+def random_point(random):
+    point = random.choice(POINTS) if random.random() < .3 else '%x' % random.choice((random.randint(0, 0x120000), 0xD7FF + random.randint(-2, 2), 0xDFFF + random.randint(-2, 3), 0x10FFFF + random.randint(-2, 2), random.randint(0, 0x900)))
+    point = random.choice(('', '', '', '0', '00', '_')) + underscored(random, random.choice((point, point.upper())))
+    opener, closer = random.choice((('"', '"'), ('b"', '"'), ('c"', '"'), ("'", "'"), ("b'", "'")))
+    return opener + '\\u{' + point + '}' + closer + random.choice(SUFFIXES)
+
+
+def random_soup(random):
+    return ''.join(random.choice(NEAR) for _ in range(random.randint(4, 12)))
+
+
+def mutated(random):
+    text = random.choice(WORKED)
+    for _ in range(random.choice((1, 1, 2, 3))):
+        at = random.randint(0, min(len(text), 60)) if random.random() < .8 else random.randint(0, len(text))
+        end = min(len(text), at + random.choice((0, 0, 1, 1, 2, 5)))
+        other = random.choice(WORKED)
+        cut = random.randint(0, len(other))
+        text = text[:at] + random.choice(('', random.choice(NEAR), random.choice(PIECES), random.choice(SUFFIXES), other[:cut], other[cut:])) + text[end:]
+    return text
+
+
+MAKERS = [random_integer, random_integer, random_float, random_float, random_quoted, random_quoted, random_raw, random_point, random_trivia, random_soup, mutated, mutated, mutated]
+
+
+def cuts():
+    for text in WORKED:
+        for at in range(len(text) + 1):
+            yield text[:at]
+            yield text[at:]
+
+
+def single_edits():
+    for text in WORKED:
+        if len(text) > 60:
+            continue
+        for at in range(len(text) + 1):
+            yield text[:at] + text[at + 1:]
+            yield text[:at] + text[at:at + 1] * 2 + text[at + 1:]
+            yield text[:at] + text[at + 1:at + 2] + text[at:at + 1] + text[at + 2:]
+            for c in NEAR:
+                yield text[:at] + c + text[at:]
+                yield text[:at] + c + text[at + 1:]
+
+
+def short():
+    for length in range(5):
+        for row in itertools.product(ALPHABET, repeat=length):
+            yield ''.join(row)
+
+
+def framed():
+    for length in range(4):
+        for row in itertools.product(ALPHABET, repeat=length):
+            middle = ''.join(row)
+            for opener, closer in FRAMES if length < 3 else FRAMES[:35]:
+                yield opener + middle + closer
+
+
+def characters():
+    for code in itertools.chain(range(0xD800), range(0xE000, 0x110000)):
+        c = chr(code)
+        yield '1' + c
+        yield "'" + c + "'a" + c
+
+
+def trivia():
+    for length in range(8):
+        for row in itertools.product('/*!\n\r a', repeat=length):
+            yield ''.join(row)
+
+
+GAPS = [' ', ' ', '\n', '\t', '\r\n', '/**/', '/* a */', '// a\n', '//\n', '/* /* */ " */', '//// a\n', '/***/', '\u00a0', '\u200e', '\v']
+ODD_GAPS = ['-', '+', '|', '//', '(', ')', '[', ']', '{', '/*', '*/', '/// a\n', '//! a\n', '/** a */', '#', "'", '`', '\u200b']
+ITEMS = ['1', '0xFF_u8', '1.5', '1.', '1e5', '1e', '1.0e', '1e-5', '2.e', '1..2', '"a"', "'a'", "b'a'", 'b"a"', 'r"a"', 'r#"a"b"#', 'br##"x"#"##', 'true', 'false', '"a"u8', "'\\''", '"\\""', '"//"', '"/*"', '007', '9' * 40, '-1', '- 1.5', '-0x1F', '-/**/2u8']
+ODD_ITEMS = ['truer', 'e5', 'u8', '_', "'''", "'a", 'r#a', '0b12', '0x', '[1]', '{}', '-"a"', '"\\q"', '--1', 'b"\u00e9"', '""']
+
+
+def lists(seed, count):
+    """Returns items with gaps between them. Most of the lists are valid, and some have one error."""
+    source = random.Random(seed + 1)
+    for _ in range(count):
+        text = source.choice(('', '', '', source.choice(GAPS)))
+        for _ in range(source.choice((1, 2, 2, 3, 4, 6))):
+            near = source.random()
+            text += source.choice(ITEMS) if near < .8 else source.choice(MAKERS)(source) if near < .9 else source.choice(ODD_ITEMS)
+            near = source.random()
+            text += source.choice(GAPS) if near < .7 else '' if near < .95 else source.choice(ODD_GAPS)
+        yield text
+
+
+STRICT_GAPS = [' ', ' ', '\n', '\t', '/**/', '/* a */', '// a\n', '//\n', '/* /* */ " */', '//// a\n', '/***/', '\u200e', '\v', '\u2028', '\u0085']
+STRICT_ITEMS = [
+    '1', '0xFF_u8', '0b1_', '1.5', '1.', '1e-5f32', '9' * 30, '"a"', '"a"u8', '"\u20ac\\\n  x"', "'a'x", "'\\''", "b'\\xFF'", 'b"\\xFF"', 'br##"a"#b"##', 'r"\\"',
+    'c"a"', 'c"\u00e9"', 'cr#"a"b"#_x', 'c"\\xFF\\u{e9}"u8', 'cr"\u20ac"', 'true', 'false', '-1', '- 1.5', '-0x1F', '-/**/2u8',
+]
+NO_ITEMS = ['x', '+', '(1)', '[c"a" 2]', '{}', '-"a"', '--1', '- c"a"', 'truer', ',', '->', "'a", 'r#a', '/// a\n', '(', ']', '"a', '/* a']
+
+
+def printed(seed, count):
+    """Returns literals of the strict grammar, including C strings, with gaps between them. One of four texts has one error."""
+    source = random.Random(seed + 3)
+    for _ in range(count):
+        items = [source.choice(STRICT_ITEMS) for _ in range(source.choice((1, 2, 3, 4, 8, 30) if source.random() < .2 else (1, 2, 3)))]
+        if source.random() < .25:
+            items.insert(source.randint(0, len(items)), source.choice(NO_ITEMS))
+        yield ''.join(item + ''.join(source.choice(STRICT_GAPS) for _ in range(source.choice((1, 1, 1, 2, 3)))) for item in items)
+
+
+NAMES = ['a', 'b', 'ab', 'name', 'true', 'false', '_', 'if', 'u8', '\u00e9', 'e\u0301', 'a1', 'A', 'r', 'b', 'c']
+ODD_NAMES = ['', '1', '"a"', 'r#a', "'a", '-', 'a b', 'a.b', '(a)', '#[a]']
+
+
+def attributes(seed, count):
+    """Returns names that are set to literals, with commas between them. Most of the texts are valid, and some have one error."""
+    source = random.Random(seed + 2)
+    gap = lambda: source.choice(GAPS) if source.random() < .4 else ''
+    for _ in range(count):
+        text = gap()
+        for at in range(source.choice((1, 1, 2, 2, 3, 5, 40) if source.random() < .1 else (0, 1, 1, 2, 3))):
+            near = source.random()
+            name = source.choice(NAMES) + (str(at) if source.random() < .7 else '') if near < .95 else source.choice(ODD_NAMES)
+            near = source.random()
+            value = source.choice(ITEMS) if near < .85 else source.choice(MAKERS)(source) if near < .92 else source.choice(ODD_ITEMS)
+            equals = '=' if source.random() < .96 else source.choice(('', '==', ':', '=>', '= ='))
+            comma = ',' if source.random() < .95 else source.choice(('', ',,', ';', ' '))
+            text += name + gap() + equals + gap() + value + gap() + comma + gap()
+        yield text.rstrip(', ') if source.random() < .5 else text
+
+
+def randoms(seed, count):
+    source = random.Random(seed)
+    for _ in range(count):
+        yield source.choice(MAKERS)(source)
+
+
+def families(seed, count):
+    """Returns the families by name. A family is a function that returns its texts. A random family returns `count` texts."""
+    return {
+        'worked': lambda: iter(WORKED), 'cuts': cuts, 'edits': single_edits, 'short': short, 'framed': framed,
+        'trivia': trivia, 'random': lambda: randoms(seed, count), 'lists': lambda: lists(seed, count), 'characters': characters,
+        'attributes': lambda: attributes(seed, count), 'printed': lambda: printed(seed, count),
+    }
+
+
+# The commands for which a family is meaningful, if not all.
+ABOUT = {
+    'trivia': ['skip', 'read', 'spans'], 'characters': ['text', 'skip', 'read', 'strict'], 'lists': ['read', 'spans'], 'attributes': ['attr'], 'printed': ['spans', 'read'],
+    'short': ['text', 'int', 'float', 'skip', 'value', 'read', 'strict'], 'framed': ['text', 'int', 'float', 'skip', 'value', 'read', 'strict'],
+}
+
+
+def literals_of(folders):
+    """Returns the texts of the literals in the files below the folders, each once, as the model lexes them."""
+    cuts = (cut_source(data.decode(errors='ignore')) for data in frame.contents(frame.sources_below(folders)))
+    return list(dict.fromkeys(token.text for cut in cuts for token in cut.literals()))

@@ -1,0 +1,271 @@
+//! Tests of the entries of attributes, with tokens that rustc passes to macros.
+
+use navyspindle_macros::{at_values, attribute, converted, entries, options, Described};
+
+type Entry = (
+    &'static str,
+    &'static str,
+    &'static str,
+    &'static str,
+    &'static str,
+);
+type Errors = &'static [(&'static str, &'static str, &'static str)];
+
+/// Returns the name, the form and the tokens of each entry.
+fn forms(entries: &'static [Entry]) -> Vec<(&'static str, &'static str, &'static str)> {
+    entries.iter().map(|it| (it.0, it.2, it.3)).collect()
+}
+
+#[test]
+fn each_form() {
+    let none: &[Entry] = entries!();
+    assert!(none.is_empty());
+    let found: &[Entry] = entries!(verbose, name = "x", inner(a = 1), max = u8::MAX,);
+    assert_eq!(
+        forms(found),
+        [
+            ("verbose", "flag", ""),
+            ("name", "literal", "\"x\""),
+            ("inner", "list", "a=1"),
+            ("max", "value", "u8::MAX"),
+        ]
+    );
+    let found: &[Entry] =
+        entries!(a[1, 2], b { c }, d = -1, e = true, f = 'x', g = "y".to_string());
+    assert_eq!(
+        forms(found),
+        [
+            ("a", "list", "1,2"),
+            ("b", "list", "c"),
+            ("d", "literal", "-1"),
+            ("e", "literal", "true"),
+            ("f", "literal", "'x'"),
+            ("g", "value", "\"y\".to_string()"),
+        ]
+    );
+}
+
+#[test]
+fn names() {
+    let found: &[Entry] = entries!(r#type = 1, r#fn, type, a::b::c = 2, ::d, crate::e, r#f::r#g);
+    let names: Vec<_> = found.iter().map(|it| (it.0, it.1)).collect();
+    assert_eq!(
+        names,
+        [
+            ("type", "r#type"),
+            ("fn", "r#fn"),
+            ("type", "type"),
+            ("a::b::c", "a"),
+            ("::d", ":"),
+            ("crate::e", "crate"),
+            ("f::g", "r#f"),
+        ]
+    );
+}
+
+#[test]
+fn commas_that_end_no_value() {
+    let found: &[Entry] = entries! {
+        a = HashMap::<u8, Vec<u8>>::new(),
+        b = <T as Into<A, B>>::into,
+        c = |x, y| x < y,
+        d = move |x: &str| -> Result<u8, String> { Ok(1) },
+        e = [1, 2],
+        f = x < y,
+        g = f(1, 2) > z,
+        h = move |x, y| x < y,
+        i = static |x, y| x
+    };
+    let names: Vec<_> = found.iter().map(|it| (it.0, it.2)).collect();
+    let expected = ["a", "b", "c", "d", "e", "f", "g", "h", "i"].map(|name| (name, "value"));
+    assert_eq!(names, expected);
+}
+
+/// Tokens that `macro_rules!` passes on are in groups without delimiters.
+#[test]
+fn passed_on() {
+    macro_rules! passed {
+        ($name:path, $literal:literal, $value:expr, $word:ident) => {
+            entries!($name, $name = $literal, $word = $literal, b = $value, $word)
+        };
+    }
+    let found: &[Entry] = passed!(a::b, -1, 1 + 2, c);
+    let (names, forms): (Vec<_>, Vec<_>) = found.iter().map(|it| (it.0, it.2)).unzip();
+    assert_eq!(names, ["a::b", "a::b", "c", "b", "c"]);
+    assert_eq!(forms, ["flag", "literal", "literal", "value", "flag"]);
+    assert_eq!((found[1].3, found[1].4), ("-1", "1"));
+}
+
+#[test]
+fn errors_of_entries() {
+    macro_rules! error {
+        ($($input:tt)*) => {{
+            let [error]: [(&str, &str, &str); 1] = *entries!($($input)*);
+            error
+        }};
+    }
+    assert_eq!(error!(a b), ("expected `,`", "b", "b"));
+    assert_eq!(error!(a(1) b), ("expected `,`", "b", "b"));
+    assert_eq!(error!("a"), ("expected identifier", "\"a\"", "\"a\""));
+    assert_eq!(error!(a, , b), ("expected identifier", ",", ","));
+    assert_eq!(
+        error!(a::),
+        ("unexpected end of input, expected identifier", ":", ":")
+    );
+    assert_eq!(error!(a:b), ("expected `:`", "b", "b"));
+    assert_eq!(
+        error!(a =),
+        ("unexpected end of input, expected a value", "=", "=")
+    );
+    assert_eq!(error!(a = , b), ("expected a value", ",", ","));
+    assert_eq!(error!(a == 1), ("expected a value", "=", "="));
+    assert_eq!(error!(a => 1), ("expected a value", ">", ">"));
+}
+
+#[test]
+fn by_name() {
+    assert_eq!(options!(name = "a\x41"), ("aA", 1, false, '-', "", None, 0));
+    let read = options! {
+        verbose, inner(size = 1.5), size = 0x10, max = u8::MAX, alias = "b", name = r"a", alias = "c", short = 'n'
+    };
+    assert_eq!(read, ("a", 16, true, 'n', "u8::MAX", Some(1.5), 2));
+    assert_eq!(
+        options!(name = "a", verbose = false),
+        ("a", 1, false, '-', "", None, 0)
+    );
+    assert!(options!(name = "a", verbose = true).2);
+    // An integer above 128 bits that is a float by its suffix.
+    let large = options!(
+        name = "a",
+        inner(size = 340282366920938463463374607431768211456f64)
+    );
+    assert_eq!(large.5, Some(340282366920938463463374607431768211456f64));
+}
+
+#[test]
+fn errors_by_name() {
+    macro_rules! error {
+        ($($input:tt)*) => {{
+            let [error]: [(&str, &str, &str); 1] = *options!($($input)*);
+            error
+        }};
+    }
+    let unexpected = "expected string literal, found integer literal";
+    assert_eq!(error!(name = -1), (unexpected, "-", "1"));
+    assert_eq!(
+        error!(name = "a"x),
+        ("unexpected suffix `x`", "\"a\"x", "\"a\"x")
+    );
+    assert_eq!(error!(name = f()), ("expected literal", "f", "f"));
+    assert_eq!(
+        error!(name = "a" "b"),
+        ("expected literal", "\"b\"", "\"b\"")
+    );
+    assert_eq!(
+        error!(name),
+        ("expected a value: `name = ..`", "name", "name")
+    );
+    assert_eq!(error!(name("a")), ("expected a value", "(", "("));
+    assert_eq!(
+        error!(name = "a", name = "b"),
+        ("repeated name `name`", "name", "name")
+    );
+    // The error is at the second of the two entries.
+    assert_eq!(
+        error!(name = "a", r#name = "b"),
+        ("repeated name `name`", "r#name", "r#name")
+    );
+    assert_eq!(
+        error!(name = "a", size = 256),
+        ("number that u8 doesn't hold", "256", "256")
+    );
+    assert_eq!(
+        error!(name = "a", size = -1),
+        ("minus before a number of u8", "-", "1")
+    );
+    let unexpected = "expected integer literal, found string literal";
+    assert_eq!(
+        error!(name = "a", size = "1"),
+        (unexpected, "\"1\"", "\"1\"")
+    );
+    let unexpected = "expected floating point literal, found character literal";
+    assert_eq!(
+        error!(name = "a", inner(size = 'x')),
+        (unexpected, "'x'", "'x'")
+    );
+    assert_eq!(
+        error!(name = "a", inner),
+        ("expected a list: `inner(..)`", "inner", "inner")
+    );
+    assert_eq!(error!(name = "a", inner = 1), ("expected a list", "1", "1"));
+    assert_eq!(
+        error!(name = "a", verbose(1)),
+        ("unexpected list", "(", "(")
+    );
+    let unexpected = "expected boolean literal, found integer literal";
+    assert_eq!(error!(name = "a", verbose = 1), (unexpected, "1", "1"));
+    // The error for a missing name is at the macro's call.
+    let (message, first, last) = error!(size = 1);
+    assert_eq!(message, "missing `name`");
+    assert!(first.starts_with("options!") && first == last, "{first}");
+}
+
+#[test]
+fn all_unknown_names_are_reported() {
+    let errors: Errors = options!(nme = "a", size = 1, verbos, a::b(c));
+    assert_eq!(
+        errors,
+        [
+            ("unknown name `nme`", "nme", "nme"),
+            ("unknown name `verbos`", "verbos", "verbos"),
+            ("unknown name `a::b`", "a", "b"),
+        ]
+    );
+}
+
+#[test]
+fn a_missing_name_is_reported_at_its_attribute() {
+    assert_eq!(attribute!(opt(name = "a")).0, "a");
+    let errors: Errors = attribute!(a::opt(size = 1));
+    assert_eq!(errors, [("missing `name`", "a", "opt")]);
+    let errors: Errors = attribute!(opt);
+    assert_eq!(errors, [("expected a list: `opt(..)`", "opt", "opt")]);
+    let errors: Errors = attribute!(opt(name = "a") more);
+    assert_eq!(errors, [("unexpected token", "more", "more")]);
+}
+
+#[test]
+fn errors_of_the_package_become_errors_of_macros() {
+    let errors: Errors = converted!(300 here);
+    let message = "number that u8 doesn't hold";
+    assert_eq!(errors[0].0, message);
+    assert!(errors[0].1.starts_with("converted!"), "{}", errors[0].1);
+    assert_eq!(errors[1], (message, "here", "here"));
+}
+
+#[derive(Described)]
+#[allow(dead_code)]
+#[described(text = "a struct", level = 0x10)]
+struct Thing;
+
+#[test]
+fn derived() {
+    assert_eq!(Thing::description(), ("a struct", 16));
+}
+
+/// An error at a value has the span from the first token of the value to the last. The lists below have the text of these tokens.
+#[test]
+fn errors_at_values() {
+    let errors: Errors = at_values!(a = -1, b = u16::MAX, c(d = 1), e, f = "x".to_string(), g::h);
+    assert_eq!(
+        errors,
+        [
+            ("a", "-", "1"),
+            ("b", "u16", "MAX"),
+            ("c", "(d = 1)", "(d = 1)"),
+            ("e", "e", "e"),
+            ("f", "\"x\"", "()"),
+            ("g::h", "g", "h"),
+        ]
+    );
+}

@@ -1,0 +1,675 @@
+// Rendered from crates/rl_options/src/arguments.rt by tools/render, which erases contracts: change that file, and render anew.
+//! Parses the command-line arguments of the program `rl_scan`.
+
+use crate::rattle_std::prelude::{String, Vec};
+use crate::rl_options::command::{Action, Command, Output, PlaceForm};
+use crate::rl_options::conflicts::clash_of;
+use crate::rl_options::flags::{
+    Flag, Next, Operand, When, add_flag, after_front, count_of, edition_of, flag_of, form_in,
+    form_when, format_of, has_more_than_extension, has_other_mark, joined_of, letter_of, macros_of,
+    matches_nothing, next_after, recolored, taken_by, when_of,
+};
+use crate::rl_options::suggestion::{meant_by, option_part};
+use crate::rl_options::visible::visible_text;
+use crate::rl_files::Selection;
+use crate::rl_output::{Matching, Shown, Spelling, names};
+use crate::rl_restyle::default_style;
+use crate::rl_tokens::text::split_char;
+use crate::rattle_std::alloc::{AllocError, Allocator, Global};
+use crate::rattle_std::fmt;
+
+/// An error in the command-line arguments of `rl_scan`.
+pub enum ArgumentError<A: Allocator = Global> {
+    /// An allocation failed.
+    Memory,
+    /// The option is unknown. The fields are the argument, and the option that was likely meant.
+    UnknownOption(String<A>, Option<&'static str>),
+    /// A letter in a group of short options is unknown, as `x` in `-ix`. The fields are `-` and the letter, the whole argument, and
+    /// the option that was likely meant.
+    UnknownLetter(String<A>, String<A>, Option<&'static str>),
+    /// The argument gives a value to an option that has no value, as `--bad=1`. The field is the option.
+    NoValue(String<A>),
+    /// `--only` names an unknown kind of literal.
+    UnknownKind(String<A>),
+    /// `--only` is the last argument, without its list of kinds.
+    NoKinds,
+    /// `--bad`, `--invisible` and `--only` are combined or repeated.
+    TwoChoices,
+    /// `--find` or `-e` is the last argument, without its text.
+    NoText,
+    /// The text of `--find` is empty.
+    EmptyText,
+    /// `--find` is combined with `--bad` or `--invisible`.
+    BadAndFind,
+    /// `--find` is combined with an `--only` list that names only kinds whose values contain no text, as numbers.
+    TextlessKinds,
+    /// JSON objects or GitHub annotations are requested, but the output is paths or counts and not lines.
+    ObjectsOfPaths,
+    /// `--stats` is combined with `--files`, which lists files and reads none.
+    StatsOfPaths,
+    /// `--fix`, `--check` and `--diff` are combined or repeated.
+    TwoRestylings,
+    /// `--fix`, `--check` or `--diff` is combined with an option that selects other output.
+    RestylesAlone,
+    /// `--fix` or `--diff` is combined with an option that prints counts or paths. Only `--check` allows these options.
+    SumsOfCheck,
+    /// `--style` is used without `--fix`, `--check` or `--diff`.
+    StyleAlone,
+    /// `--macros` is used without `--fix`, `--check` or `--diff`.
+    MacrosAlone,
+    /// `--any-suffix` is used without `--bad`.
+    SuffixAlone,
+    /// `--edition` is used without `--bad`, `--fix`, `--check` or `--diff`.
+    EditionAlone,
+    /// `--style` is the last argument, without its value.
+    NoStyle,
+    /// `--macros` is the last argument, without its value.
+    NoMacros,
+    /// The value of `--macros` is unknown.
+    UnknownMacros(String<A>),
+    /// `--color` is the last argument, without its value.
+    NoColor,
+    /// The value of `--color` is unknown.
+    UnknownColor(String<A>),
+    /// `--extension` is the last argument, without its value.
+    NoExtension,
+    /// `--exclude` is the last argument, without its value.
+    NoPattern,
+    /// The pattern of `--exclude` is empty.
+    EmptyPattern,
+    /// The pattern of `--exclude` contains a character that gitignore files interpret in another way: `[`, `\`, or `!` at its
+    /// start.
+    OtherPattern(String<A>),
+    /// The pattern of `--exclude` matches no path below a directory, as `./src`.
+    UselessPattern(String<A>),
+    /// The value of `--extension` isn't a file extension: it contains a comma, `*` or `/`.
+    UnknownExtension(String<A>),
+    /// `--files-from` is the last argument, without its value.
+    NoList,
+    /// `--edition` is the last argument, without its value.
+    NoEdition,
+    /// The value of `--edition` is unknown.
+    UnknownEdition(String<A>),
+    /// `--format` is the last argument, without its value.
+    NoFormat,
+    /// The value of `--format` is unknown.
+    UnknownFormat(String<A>),
+    /// `--context`, `--before-context` or `--after-context` is the last argument, without its value.
+    NoCount,
+    /// The value of `--context`, `--before-context` or `--after-context` isn't a number of lines.
+    UnknownCount(String<A>),
+}
+
+impl<A: Allocator> From<AllocError> for ArgumentError<A> {
+    fn from(_: AllocError) -> Self {
+        Self::Memory
+    }
+}
+
+impl<A: Allocator> fmt::Display for ArgumentError<A> {
+    fn fmt(&self, f: &mut fmt::Formatter<'_>) -> fmt::Result {
+        match self {
+            ArgumentError::Memory => write!(f, "out of memory"),
+            ArgumentError::UnknownOption(word, None) => {
+                write!(
+                    f,
+                    "unknown option '{word}': rl_scan --help lists all options"
+                )
+            }
+            ArgumentError::UnknownOption(word, Some(meant)) => {
+                write!(f, "unknown option '{word}': did you mean '{meant}'?")
+            }
+            ArgumentError::UnknownLetter(letter, word, None) => write!(
+                f,
+                "unknown option '{letter}' in '{word}': rl_scan --help lists all options"
+            ),
+            ArgumentError::UnknownLetter(letter, word, Some(meant)) => write!(
+                f,
+                "unknown option '{letter}' in '{word}': did you mean '{meant}'?"
+            ),
+            ArgumentError::NoValue(option) => write!(f, "{option} takes no value"),
+            ArgumentError::UnknownKind(word) => write!(
+                f,
+                "unknown kind '{word}': expected Str, ByteStr, CStr, Byte, Char, Int, Float, Bool or Verbatim"
+            ),
+            ArgumentError::NoKinds => write!(f, "--only needs a value, such as --only Str,ByteStr"),
+            ArgumentError::TwoChoices => write!(
+                f,
+                "--bad, --invisible and --only can't be combined or repeated"
+            ),
+            ArgumentError::NoText => write!(f, "-e, --find needs a value, such as --find TODO"),
+            ArgumentError::EmptyText => write!(f, "the text of -e, --find is empty"),
+            ArgumentError::BadAndFind => write!(
+                f,
+                "--bad and --invisible can't be used with -e, --find"
+            ),
+            ArgumentError::TextlessKinds => write!(
+                f,
+                "-e, --find searches only Str, ByteStr, CStr, Byte and Char, and --only has none of these kinds"
+            ),
+            ArgumentError::ObjectsOfPaths => write!(
+                f,
+                "--json and --format json, github can't be used with -c, --count, -l, --files-with-matches, --files"
+            ),
+            ArgumentError::StatsOfPaths => {
+                write!(f, "--stats can't be used with --files, which reads none")
+            }
+            ArgumentError::TwoRestylings => {
+                write!(f, "--fix, --check and --diff can't be combined or repeated")
+            }
+            ArgumentError::RestylesAlone => write!(
+                f,
+                "--fix, --check and --diff can't be used with --bad, --invisible, --only, -e, --find, --files, --text, --json, --format, -C, -B, -A, --stats"
+            ),
+            ArgumentError::SumsOfCheck => write!(
+                f,
+                "-c, --count, -l, --files-with-matches can't be used with --fix or --diff"
+            ),
+            ArgumentError::StyleAlone => { write!(f, "--style needs --fix, --check or --diff") }
+            ArgumentError::MacrosAlone => { write!(f, "--macros needs --fix, --check or --diff") }
+            ArgumentError::SuffixAlone => write!(f, "--any-suffix needs --bad"),
+            ArgumentError::EditionAlone => {
+                write!(f, "--edition needs --bad, --fix, --check or --diff")
+            }
+            ArgumentError::NoStyle => write!(f, "--style needs a value, such as --style style.txt"),
+            ArgumentError::NoMacros => write!(f, "--macros needs a value: skip or all"),
+            ArgumentError::UnknownMacros(word) => {
+                write!(
+                    f,
+                    "unknown value '{word}' of --macros: expected skip or all"
+                )
+            }
+            ArgumentError::NoColor => write!(f, "--color needs a value: auto, always or never"),
+            ArgumentError::UnknownColor(word) => {
+                write!(
+                    f,
+                    "unknown value '{word}' of --color: expected auto, always or never"
+                )
+            }
+            ArgumentError::NoExtension => write!(
+                f,
+                "--extension needs a value, such as --extension rs.in"
+            ),
+            ArgumentError::NoPattern => {
+                write!(f, "--exclude needs a value, such as --exclude tests/ui")
+            }
+            ArgumentError::EmptyPattern => write!(f, "the pattern of --exclude is empty"),
+            ArgumentError::OtherPattern(word) => write!(
+                f,
+                "invalid pattern '{word}': --exclude supports *, ?, ** and /, but not [, \\ or ! at the start"
+            ),
+            ArgumentError::UselessPattern(word) => write!(
+                f,
+                "the pattern '{word}' of --exclude matches nothing: it is relative to a PATH, such as src or /src"
+            ),
+            ArgumentError::UnknownExtension(word) => write!(
+                f,
+                "invalid extension '{word}': expected one extension, such as rs.in"
+            ),
+            ArgumentError::NoList => write!(
+                f,
+                "--files-from needs a value, such as --files-from list"
+            ),
+            ArgumentError::NoEdition => {
+                write!(f, "--edition needs a value: 2015, 2018, 2021 or 2024")
+            }
+            ArgumentError::UnknownEdition(word) => write!(
+                f,
+                "unknown edition '{word}': expected 2015, 2018, 2021 or 2024"
+            ),
+            ArgumentError::NoFormat => write!(f, "--format needs a value: text, json or github"),
+            ArgumentError::UnknownFormat(word) => {
+                write!(f, "unknown format '{word}': expected text, json or github")
+            }
+            ArgumentError::NoCount => write!(
+                f,
+                "-C, -B and -A need a number of lines, such as --context 2"
+            ),
+            ArgumentError::UnknownCount(word) => {
+                write!(
+                    f,
+                    "invalid number of lines '{word}': expected a number, such as 2"
+                )
+            }
+        }
+    }
+}
+
+/// The names of the kinds of literals. `Verbatim` is the kind of a literal that can't be parsed.
+const KINDS: &str = "Str,ByteStr,CStr,Byte,Char,Int,Float,Bool,Verbatim";
+
+/// Whether `word` isn't the name of a kind of literals. Case doesn't count.
+fn is_no_kind(word: &str) -> bool {
+    !names(KINDS, word)
+}
+
+/// Returns the first unknown kind of literals in a list, or `None`. Commas separate the kinds.
+fn unknown_kind(list: &str) -> Option<&str> {
+    list.split(',').find(|word| is_no_kind(word))
+}
+
+/// The parsed command-line arguments of `rl_scan`.
+pub struct ParsedArguments<'a, A: Allocator = Global> {
+    pub command: Command<'a>,
+    pub paths: Vec<String<A>, A>,
+    /// The texts of `--find`: a literal is printed if its value contains one of them.
+    pub finds: Vec<&'a str, A>,
+    /// The file extensions of `--extension`, without a dot at their start.
+    pub extensions: Vec<&'a str, A>,
+    /// The patterns of `--exclude` for paths that aren't read.
+    pub excludes: Vec<&'a str, A>,
+    /// The files of `--files-from`, which list the paths to read.
+    pub lists: Vec<&'a str, A>,
+    next: Next,
+}
+
+/// Whether an argument is a path: it is `-`, or doesn't begin with a dash.
+fn is_path(word: &str) -> bool {
+    word == "-" || !word.as_bytes().starts_with(b"-".as_slice())
+}
+
+/// Returns the error of an option that is the last argument, and whose value is missing. `operand` is the kind of value.
+fn missing<A: Allocator>(operand: Operand) -> ArgumentError<A> {
+    match operand {
+        Operand::Kinds => ArgumentError::NoKinds,
+        Operand::Text => ArgumentError::NoText,
+        Operand::Color => ArgumentError::NoColor,
+        Operand::Extension => ArgumentError::NoExtension,
+        Operand::Pattern => ArgumentError::NoPattern,
+        Operand::List => ArgumentError::NoList,
+        Operand::Edition => ArgumentError::NoEdition,
+        Operand::Format => ArgumentError::NoFormat,
+        Operand::Around | Operand::Before | Operand::After => ArgumentError::NoCount,
+        Operand::Style => ArgumentError::NoStyle,
+        Operand::Macros => ArgumentError::NoMacros,
+    }
+}
+
+/// Returns the error for an argument that isn't an option. If the part before `=` is an option, the error is that the option has no
+/// value.
+fn unknown_option<A: Allocator>(alloc: A, word: &str) -> Result<ArgumentError<A>, AllocError> {
+    let option = option_part(word);
+    if flag_of(option).is_some() {
+        return Ok(ArgumentError::NoValue(visible_text(alloc, option)?));
+    }
+    Ok(ArgumentError::UnknownOption(visible_text(alloc, word)?, meant_by(word)))
+}
+
+/// Returns the error for the unknown letter `c` in `word`, a group of short options.
+fn unknown_letter<A: Allocator + Copy>(
+    alloc: A,
+    word: &str,
+    c: char,
+) -> Result<ArgumentError<A>, AllocError> {
+    let mut option = String::from_str(alloc, "-")?;
+    option.push(c)?;
+    if word == option.as_str() {
+        return unknown_option(alloc, word);
+    }
+    let option = visible_text(alloc, option.as_str())?;
+    let said = visible_text(alloc, word)?;
+    Ok(ArgumentError::UnknownLetter(option, said, meant_by(word)))
+}
+
+/// Returns a file extension without the dot at its start, if there is one.
+fn without_dot(text: &str) -> &str {
+    match after_front(".", text) {
+        Some(extension) => extension,
+        None => text,
+    }
+}
+
+/// Returns the letters of a group of short options as `-iw`, or `None` if the argument begins with two dashes.
+fn letters_of(word: &str) -> Option<&str> {
+    let letters = after_front("-", word)?;
+    if letters.as_bytes().starts_with(b"-".as_slice()) {
+        return None;
+    }
+    Some(letters)
+}
+
+/// Returns the kind of value of a short option, or `None`.
+///
+/// `rest` is the argument after the option's letter. If `rest` is empty, the value isn't in this argument, and the result is
+/// `None`.
+fn operand_in(flag: Flag, rest: &str) -> Option<Operand> {
+    if rest.is_empty() {
+        return None;
+    }
+    operand_of(next_after(flag))
+}
+
+/// Returns the kind of value that the next argument must be, or `None` if the option before it doesn't need one.
+fn operand_of(wanted: Next) -> Option<Operand> {
+    match wanted {
+        Next::Operand(operand) => Some(operand),
+        Next::Any | Next::Path => None,
+    }
+}
+
+impl<'a, A: Allocator + Copy> ParsedArguments<'a, A> {
+    /// Adds a path to read to the parsed arguments.
+    fn take_path(&mut self, alloc: A, word: &str) -> Result<(), AllocError> {
+        self.paths.push(String::from_str(alloc, word)?)?;
+        Ok(())
+    }
+
+    /// Sets the kinds of literals that are printed to a list of kinds.
+    fn take_kinds(&mut self, alloc: A, list: &'a str) -> Result<(), ArgumentError<A>> {
+        if let Some(word) = unknown_kind(list) {
+            return Err(ArgumentError::UnknownKind(visible_text(alloc, word)?));
+        }
+        self.command.shown = Shown::Only(list);
+        Ok(())
+    }
+
+    /// Adds a text to search for to the parsed arguments.
+    fn take_text(&mut self, text: &'a str) -> Result<(), ArgumentError<A>> {
+        if text.is_empty() {
+            return Err(ArgumentError::EmptyText);
+        }
+        self.command.searches = true;
+        match self.finds.push(text) {
+            Ok(()) => Ok(()),
+            Err(_) => Err(ArgumentError::Memory),
+        }
+    }
+
+    /// Sets whether lines have colours, from the value of `--color`. `has_colors` is true if the output accepts colours.
+    fn take_color(&mut self, alloc: A, has_colors: bool, word: &str) -> Result<(), ArgumentError<A>> {
+        let Some(when) = when_of(word) else {
+            return Err(ArgumentError::UnknownColor(visible_text(alloc, word)?));
+        };
+        self.command.form = recolored(self.command.form, form_when(has_colors, when));
+        Ok(())
+    }
+
+    /// Sets the edition of Rust, from the value of `--edition`.
+    fn take_edition(&mut self, alloc: A, word: &str) -> Result<(), ArgumentError<A>> {
+        let Some(edition) = edition_of(word) else {
+            return Err(ArgumentError::UnknownEdition(visible_text(alloc, word)?));
+        };
+        self.command.edition = Some(edition);
+        Ok(())
+    }
+
+    /// Sets the format of lines, from the value of `--format`. `has_colors` is true if the output accepts colours.
+    fn take_format(
+        &mut self,
+        alloc: A,
+        has_colors: bool,
+        word: &str,
+    ) -> Result<(), ArgumentError<A>> {
+        let Some(format) = format_of(word) else {
+            return Err(ArgumentError::UnknownFormat(visible_text(alloc, word)?));
+        };
+        self.command.form = form_in(has_colors, self.command.form, format);
+        Ok(())
+    }
+
+    /// Sets the number of lines of context on both sides, from the value of `--context`.
+    fn take_around(&mut self, alloc: A, word: &str) -> Result<(), ArgumentError<A>> {
+        let Some(count) = count_of(word) else {
+            return Err(ArgumentError::UnknownCount(visible_text(alloc, word)?));
+        };
+        self.command.around = Some(count);
+        Ok(())
+    }
+
+    /// Sets the number of lines of context before a line, from the value of `--before-context`.
+    fn take_before(&mut self, alloc: A, word: &str) -> Result<(), ArgumentError<A>> {
+        let Some(count) = count_of(word) else {
+            return Err(ArgumentError::UnknownCount(visible_text(alloc, word)?));
+        };
+        self.command.before = Some(count);
+        Ok(())
+    }
+
+    /// Sets the number of lines of context after a line, from the value of `--after-context`.
+    fn take_after(&mut self, alloc: A, word: &str) -> Result<(), ArgumentError<A>> {
+        let Some(count) = count_of(word) else {
+            return Err(ArgumentError::UnknownCount(visible_text(alloc, word)?));
+        };
+        self.command.after = Some(count);
+        Ok(())
+    }
+
+    /// Sets the file with the rules of a style, from the value of `--style`.
+    fn take_style(&mut self, file: &'a str) -> Result<(), ArgumentError<A>> {
+        self.command.style = Some(file);
+        Ok(())
+    }
+
+    /// Sets whether literals in macro calls are rewritten, from the value of `--macros`.
+    fn take_macros(&mut self, alloc: A, word: &str) -> Result<(), ArgumentError<A>> {
+        let Some(macros) = macros_of(word) else {
+            return Err(ArgumentError::UnknownMacros(visible_text(alloc, word)?));
+        };
+        self.command.macros = Some(macros);
+        Ok(())
+    }
+
+    /// Adds a file extension to read, from the value of `--extension`.
+    fn take_extension(&mut self, alloc: A, text: &'a str) -> Result<(), ArgumentError<A>> {
+        if has_more_than_extension(text) {
+            return Err(ArgumentError::UnknownExtension(visible_text(alloc, text)?));
+        }
+        match self.extensions.push(without_dot(text)) {
+            Ok(()) => Ok(()),
+            Err(_) => Err(ArgumentError::Memory),
+        }
+    }
+
+    /// Adds a pattern of paths that aren't read, from the value of `--exclude`.
+    fn take_pattern(&mut self, alloc: A, pattern: &'a str) -> Result<(), ArgumentError<A>> {
+        if pattern.is_empty() {
+            return Err(ArgumentError::EmptyPattern);
+        }
+        if has_other_mark(pattern) {
+            return Err(ArgumentError::OtherPattern(visible_text(alloc, pattern)?));
+        }
+        if matches_nothing(pattern) {
+            return Err(ArgumentError::UselessPattern(visible_text(alloc, pattern)?));
+        }
+        match self.excludes.push(pattern) {
+            Ok(()) => Ok(()),
+            Err(_) => Err(ArgumentError::Memory),
+        }
+    }
+
+    /// Adds a file that lists paths, from the value of `--files-from`.
+    fn take_list(&mut self, file: &'a str) -> Result<(), ArgumentError<A>> {
+        match self.lists.push(file) {
+            Ok(()) => Ok(()),
+            Err(_) => Err(ArgumentError::Memory),
+        }
+    }
+
+    /// Adds the value `text` of an option to the parsed arguments. The next argument may be an option or a path. `has_colors` is
+    /// true if the output accepts colours.
+    fn take_operand(
+        &mut self,
+        alloc: A,
+        has_colors: bool,
+        operand: Operand,
+        text: &'a str,
+    ) -> Result<(), ArgumentError<A>> {
+        self.next = Next::Any;
+        match operand {
+            Operand::Kinds => self.take_kinds(alloc, text),
+            Operand::Text => self.take_text(text),
+            Operand::Color => self.take_color(alloc, has_colors, text),
+            Operand::Extension => self.take_extension(alloc, text),
+            Operand::Pattern => self.take_pattern(alloc, text),
+            Operand::List => self.take_list(text),
+            Operand::Edition => self.take_edition(alloc, text),
+            Operand::Format => self.take_format(alloc, has_colors, text),
+            Operand::Around => self.take_around(alloc, text),
+            Operand::Before => self.take_before(alloc, text),
+            Operand::After => self.take_after(alloc, text),
+            Operand::Style => self.take_style(text),
+            Operand::Macros => self.take_macros(alloc, text),
+        }
+    }
+
+    /// Adds an option to the parsed arguments, and determines what the next argument may be.
+    fn take_flag(&mut self, flag: Flag) -> Result<(), ArgumentError<A>> {
+        match add_flag(self.command, flag) {
+            Ok(command) => self.command = command,
+            Err(error) => return Err(error),
+        }
+        self.next = next_after(flag);
+        Ok(())
+    }
+
+    /// Adds an option whose value is in its own argument, as `--find=TEXT` or `-eTEXT`. `has_colors` is true if the output accepts
+    /// colours.
+    fn take_joined(
+        &mut self,
+        alloc: A,
+        has_colors: bool,
+        operand: Operand,
+        text: &'a str,
+    ) -> Result<(), ArgumentError<A>> {
+        match add_flag(self.command, taken_by(operand)) {
+            Ok(_) => self.take_operand(alloc, has_colors, operand, text),
+            Err(error) => Err(error),
+        }
+    }
+
+    /// Adds a group of short options as `-iw`. The value of the last option may follow its letter, as in `-eTEXT`.
+    ///
+    /// `letters` is the argument `word` without its dash. `has_colors` is true if the output accepts colours.
+    fn take_letters(
+        &mut self,
+        alloc: A,
+        has_colors: bool,
+        word: &str,
+        letters: &'a str,
+    ) -> Result<(), ArgumentError<A>> {
+        let mut rest = letters;
+        while let Some((c, after)) = split_char(rest) {
+            let Some(flag) = letter_of(c) else {
+                return Err(unknown_letter(alloc, word, c)?);
+            };
+            if let Some(operand) = operand_in(flag, after) {
+                return self.take_joined(alloc, has_colors, operand, after);
+            }
+            match self.take_flag(flag) {
+                Ok(()) => {}
+                Err(error) => return Err(error),
+            }
+            rest = after;
+        }
+        Ok(())
+    }
+
+    /// Adds an argument that isn't a path: an option, an option with its value after `=`, or a group of short options.
+    fn take_option(
+        &mut self,
+        alloc: A,
+        has_colors: bool,
+        word: &'a str,
+    ) -> Result<(), ArgumentError<A>> {
+        if let Some(flag) = flag_of(word) {
+            return self.take_flag(flag);
+        }
+        if let Some((operand, text)) = joined_of(word) {
+            return self.take_joined(alloc, has_colors, operand, text);
+        }
+        match letters_of(word) {
+            Some(letters) => self.take_letters(alloc, has_colors, word, letters),
+            None => Err(unknown_option(alloc, word)?),
+        }
+    }
+
+    /// Adds the next argument: the value of the option before it, a path, or an option.
+    fn take_word(
+        &mut self,
+        alloc: A,
+        has_colors: bool,
+        word: &'a str,
+    ) -> Result<(), ArgumentError<A>> {
+        match self.next {
+            Next::Operand(operand) => self.take_operand(alloc, has_colors, operand, word),
+            Next::Path => Ok(self.take_path(alloc, word)?),
+            Next::Any if is_path(word) => Ok(self.take_path(alloc, word)?),
+            Next::Any => self.take_option(alloc, has_colors, word),
+        }
+    }
+}
+
+/// Returns the command without any arguments. `has_colors` is true if the output accepts colours.
+fn first_command<'a>(has_colors: bool) -> Command<'a> {
+    Command {
+        action: Action::Scan,
+        shown: Shown::All,
+        searches: false,
+        finds: &[],
+        matching: Matching {
+            ignores_case: false,
+            whole_words: false,
+        },
+        places: PlaceForm::Usual,
+        output: Output::Lines,
+        nul_after_paths: false,
+        rejects_strays: false,
+        any_suffix: false,
+        edition: None,
+        around: None,
+        before: None,
+        after: None,
+        spelling: Spelling::Value,
+        form: form_when(has_colors, When::Auto),
+        selection: Selection {
+            all: false,
+            extensions: &[],
+            excludes: &[],
+        },
+        files_from: &[],
+        prints_errors: true,
+        prints_stats: false,
+        restyle: None,
+        style: None,
+        rules: default_style(),
+        macros: None,
+    }
+}
+
+/// Parses the command-line arguments of `rl_scan`, without the program's name.
+///
+/// If `has_colors` is true, lines have colours by default.
+///
+/// # Errors
+///
+/// Returns the error of the first invalid argument. After the last argument, it returns an error if that argument is an option
+/// without its value, as `NoKinds`. Then it returns an error if options contradict each other: `TextlessKinds`, `ObjectsOfPaths`,
+/// `StatsOfPaths`, `RestylesAlone`, `SumsOfCheck`, `StyleAlone`, `MacrosAlone`, `SuffixAlone`, `EditionAlone`.
+pub fn parse_arguments<A: Allocator + Copy>(
+    alloc: A,
+    has_colors: bool,
+    words: &[String<A>],
+) -> Result<ParsedArguments<'_, A>, ArgumentError<A>> {
+    let mut asked = ParsedArguments {
+        command: first_command(has_colors),
+        paths: Vec::new(alloc),
+        finds: Vec::new(alloc),
+        extensions: Vec::new(alloc),
+        excludes: Vec::new(alloc),
+        lists: Vec::new(alloc),
+        next: Next::Any,
+    };
+    for word in words {
+        match asked.take_word(alloc, has_colors, word.as_str()) {
+            Ok(()) => {}
+            Err(error) => return Err(error),
+        }
+    }
+    if let Some(operand) = operand_of(asked.next) {
+        return Err(missing(operand));
+    }
+    if let Some(error) = clash_of(asked.command) {
+        return Err(error);
+    }
+    Ok(asked)
+}

@@ -1,0 +1,77 @@
+// Rendered from crates/rl_options/src/suggestion.rt by tools/render, which erases contracts: change that file, and render anew.
+//! Suggests the option, or the rule of a style, that a misspelled word was likely meant to be.
+
+/// The names of the options of `rl_scan`. Commas separate them.
+const OPTIONS: &str =
+    "--bad,--invisible,--only,--find,--ignore-case,--word,--no-stray,--any-suffix,--edition,--all,--extension,--exclude,--files,--files-from,--no-messages,--bytes,--lines,--text,--json,--format,--context,--before-context,--after-context,--color,--count,--files-with-matches,--null,--quiet,--stats,--fix,--check,--diff,--style,--macros,--help,--version";
+
+/// The names of the rules of a style. Commas separate them.
+const RULES: &str =
+    "hex_digits,drop_underscores,drop_leading_zeros,suffix_separator,binary_groups,octal_groups,decimal_groups,hexadecimal_groups,min_digits,float_zero,exponent_letter,drop_exponent_plus,escape_digits,fewest_escape_digits,drop_ascii_escapes,named_escapes,drop_quote_escapes,fewest_hashes,drop_raw,escape_invisible";
+
+/// Whether `said` is `meant` with its first two bytes exchanged, or both are equal.
+fn is_swapped(said: &[u8], meant: &[u8]) -> bool {
+    match (said, meant) {
+        ([a, b, said @ ..], [c, d, meant @ ..]) => *a == *d && *b == *c && said == meant,
+        _ => said == meant,
+    }
+}
+
+/// Returns the bytes after the first one.
+fn after_first(word: &[u8]) -> &[u8] {
+    match word {
+        [] => word,
+        [_, rest @ ..] => rest,
+    }
+}
+
+/// Whether `said` and `meant` differ at most by one typing error at their start: a byte too many, a byte too few, another byte, or
+/// two exchanged bytes.
+fn slips_here(said: &[u8], meant: &[u8]) -> bool {
+    let less_said = after_first(said);
+    let less_meant = after_first(meant);
+    less_said == meant || said == less_meant || less_said == less_meant || is_swapped(said, meant)
+}
+
+/// Whether `said` and `meant` differ at most by one typing error: a byte too many, a byte too few, another byte, or two exchanged
+/// bytes.
+fn is_slip(said: &[u8], meant: &[u8]) -> bool {
+    let mut said = said;
+    let mut meant = meant;
+    while let ([a, less_said @ ..], [b, less_meant @ ..]) = (said, meant) {
+        if *a != *b {
+            return slips_here(said, meant);
+        }
+        said = less_said;
+        meant = less_meant;
+    }
+    slips_here(said, meant)
+}
+
+/// Whether `word` is similar to `meant`: they differ at most by one typing error, or `word` is the start of `meant`.
+fn is_near(word: &str, meant: &str) -> bool {
+    is_slip(word.as_bytes(), meant.as_bytes()) || meant.as_bytes().starts_with(word.as_bytes())
+}
+
+/// Returns the part of an argument before the first `=`, or the whole argument.
+pub(crate) fn option_part(word: &str) -> &str {
+    match word.split_once('=') {
+        Some((option, _)) => option,
+        None => word,
+    }
+}
+
+/// Returns the first name in a list that `word` is similar to, or `None`. Commas separate the names.
+fn nearest(list: &'static str, word: &str) -> Option<&'static str> {
+    list.split(',').find(|meant| is_near(word, meant))
+}
+
+/// Returns the first option that an argument is similar to, or `None`. Only the part before `=` is compared.
+pub(crate) fn meant_by(word: &str) -> Option<&'static str> {
+    nearest(OPTIONS, option_part(word))
+}
+
+/// Returns the first rule of a style that `name` is similar to, or `None`.
+pub(crate) fn near_rule(name: &str) -> Option<&'static str> {
+    nearest(RULES, name)
+}

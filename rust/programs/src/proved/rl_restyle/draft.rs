@@ -1,0 +1,53 @@
+// Rendered from crates/rl_restyle/src/draft.rt by tools/render, which erases contracts: change that file, and render anew.
+//! The new text of a source while it is being written.
+
+use crate::rattle_std::prelude::{String, Vec};
+use crate::rl_restyle::edit::{Edit, Macros};
+use crate::rl_restyle::slices::between;
+use crate::rl_restyle::texts::text_of;
+use crate::rl_style::{Restylable, Style};
+use crate::rattle_std::alloc::{AllocError, Allocator};
+
+/// A partly rewritten source: the new text up to a literal, the edits made before, and the byte offset `at` after that literal
+/// in the old text.
+pub(crate) struct Draft<A: Allocator> {
+    pub(crate) text: String<A>,
+    pub(crate) edits: Vec<Edit<A>, A>,
+    pub(crate) at: usize,
+}
+
+/// Appends the old text before the literal, and then the literal's new text `new`.
+fn put<A: Allocator>(
+    draft: &mut Draft<A>,
+    source: &str,
+    literal: Restylable<'_>,
+    new: String<A>,
+) -> Result<(), AllocError> {
+    draft
+        .text
+        .push_str(between(source, draft.at, literal.token.lo))?;
+    draft.text.push_str(new.as_str())?;
+    draft.at = literal.token.hi;
+    draft.edits.push(Edit {
+        lo: literal.token.lo,
+        hi: literal.token.hi,
+        text: new,
+    })?;
+    Ok(())
+}
+
+/// Processes the next literal of the source, and rewrites it if the style changes it.
+pub(crate) fn put_literal<A: Allocator + Copy>(
+    alloc: A,
+    style: Style,
+    macros: Macros,
+    source: &str,
+    literal: Restylable<'_>,
+    draft: &mut Draft<A>,
+) -> Result<(), AllocError> {
+    let new = text_of(alloc, style, macros, source, literal)?;
+    match new {
+        Some(new) => put(draft, source, literal, new),
+        None => Ok(()),
+    }
+}

@@ -1,0 +1,45 @@
+// Rendered from crates/rl_restyle/src/edit.rt by tools/render, which erases contracts: change that file, and render anew.
+//! The edits that rewrite a source, and the reasons why a source isn't rewritten.
+
+use crate::rattle_std::prelude::{String, Vec};
+use crate::rl_lexer::LexError;
+use crate::rattle_std::alloc::{Allocator, Global};
+
+/// Selects whether literals inside macro calls, `macro_rules!` definitions and attributes are rewritten. A macro may depend on
+/// a literal's text.
+#[derive(Clone, Copy)]
+pub enum Macros {
+    /// Literals inside macro calls, `macro_rules!` definitions and attributes aren't rewritten.
+    Skip,
+    /// Literals inside macro calls, `macro_rules!` definitions and attributes are rewritten like all others.
+    All,
+}
+
+/// The change of one literal in a source.
+pub struct Edit<A: Allocator = Global> {
+    /// The byte offset in the old text where the literal begins.
+    pub lo: usize,
+    /// The byte offset in the old text after the literal.
+    pub hi: usize,
+    /// The new text of the literal.
+    pub text: String<A>,
+}
+
+/// A rewritten source: its new text, and the edits.
+pub struct Restyled<A: Allocator = Global> {
+    /// The new text of the whole source.
+    pub text: String<A>,
+    /// The changes of literals, with byte offsets in the old text, in ascending order.
+    pub edits: Vec<Edit<A>, A>,
+}
+
+/// The reason why a source isn't rewritten.
+#[derive(Clone, Copy)]
+pub enum RestyleError {
+    /// The source begins with `#!` but not with `#![`. So its first line is an interpreter's line, or looks like one.
+    Script,
+    /// The source contains a quote or a comment that isn't closed.
+    Source(LexError),
+    /// An allocation of memory failed.
+    Memory,
+}

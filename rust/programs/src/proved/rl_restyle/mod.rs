@@ -1,0 +1,19 @@
+// Rendered from crates/rl_restyle/src/lib.rt by tools/render, which erases contracts: change that file, and render anew.
+//! Rewrites all literals of a source by a style, and returns the edits and the new text. Parses styles from configurations too.
+
+mod draft;
+mod edit;
+mod rule;
+mod slices;
+mod style_error;
+mod styles;
+mod texts;
+mod value;
+mod values;
+mod whole;
+
+pub use crate::rl_restyle::edit::{Edit, Macros, RestyleError, Restyled};
+pub use crate::rl_restyle::slices::between;
+pub use crate::rl_restyle::style_error::{Expected, StyleError, StyleErrorKind};
+pub use crate::rl_restyle::styles::{default_style, style_of};
+pub use crate::rl_restyle::whole::rewrite_source;

@@ -1,0 +1,99 @@
+// Rendered from crates/rl_restyle/src/rule.rt by tools/render, which erases contracts: change that file, and render anew.
+//! The rules of a style by their names in configurations.
+
+use crate::rl_restyle::style_error::Expected;
+
+/// The number of rules of a style.
+pub(crate) const RULES: usize = 20;
+
+/// A rule of a style, or one part of its rule for digit groups.
+#[derive(Clone, Copy)]
+pub(crate) enum Rule {
+    HexDigits,
+    DropUnderscores,
+    DropLeadingZeros,
+    SuffixSeparator,
+    BinaryGroups,
+    OctalGroups,
+    DecimalGroups,
+    HexadecimalGroups,
+    MinDigits,
+    FloatZero,
+    ExponentLetter,
+    DropExponentPlus,
+    EscapeDigits,
+    FewestEscapeDigits,
+    DropAsciiEscapes,
+    NamedEscapes,
+    DropQuoteEscapes,
+    FewestHashes,
+    DropRaw,
+    EscapeInvisible,
+}
+
+/// Returns the rule with the name `name`, or `None` if no rule has it.
+pub(crate) fn rule_of(name: &str) -> Option<Rule> {
+    match name {
+        "hex_digits" => Some(Rule::HexDigits),
+        "drop_underscores" => Some(Rule::DropUnderscores),
+        "drop_leading_zeros" => Some(Rule::DropLeadingZeros),
+        "suffix_separator" => Some(Rule::SuffixSeparator),
+        "binary_groups" => Some(Rule::BinaryGroups),
+        "octal_groups" => Some(Rule::OctalGroups),
+        "decimal_groups" => Some(Rule::DecimalGroups),
+        "hexadecimal_groups" => Some(Rule::HexadecimalGroups),
+        "min_digits" => Some(Rule::MinDigits),
+        "float_zero" => Some(Rule::FloatZero),
+        "exponent_letter" => Some(Rule::ExponentLetter),
+        "drop_exponent_plus" => Some(Rule::DropExponentPlus),
+        "escape_digits" => Some(Rule::EscapeDigits),
+        "fewest_escape_digits" => Some(Rule::FewestEscapeDigits),
+        "drop_ascii_escapes" => Some(Rule::DropAsciiEscapes),
+        "named_escapes" => Some(Rule::NamedEscapes),
+        "drop_quote_escapes" => Some(Rule::DropQuoteEscapes),
+        "fewest_hashes" => Some(Rule::FewestHashes),
+        "drop_raw" => Some(Rule::DropRaw),
+        "escape_invisible" => Some(Rule::EscapeInvisible),
+        _ => None,
+    }
+}
+
+/// Returns the index of a rule in the list of all rules.
+pub(crate) fn number_of(rule: Rule) -> usize {
+    match rule {
+        Rule::HexDigits => 0,
+        Rule::DropUnderscores => 1,
+        Rule::DropLeadingZeros => 2,
+        Rule::SuffixSeparator => 3,
+        Rule::BinaryGroups => 4,
+        Rule::OctalGroups => 5,
+        Rule::DecimalGroups => 6,
+        Rule::HexadecimalGroups => 7,
+        Rule::MinDigits => 8,
+        Rule::FloatZero => 9,
+        Rule::ExponentLetter => 10,
+        Rule::DropExponentPlus => 11,
+        Rule::EscapeDigits => 12,
+        Rule::FewestEscapeDigits => 13,
+        Rule::DropAsciiEscapes => 14,
+        Rule::NamedEscapes => 15,
+        Rule::DropQuoteEscapes => 16,
+        Rule::FewestHashes => 17,
+        Rule::DropRaw => 18,
+        Rule::EscapeInvisible => 19,
+    }
+}
+
+/// Returns the values that a rule may have in a configuration.
+pub(crate) fn expected_of(rule: Rule) -> Expected {
+    match rule {
+        Rule::HexDigits | Rule::ExponentLetter | Rule::EscapeDigits => Expected::Case,
+        Rule::SuffixSeparator => Expected::Separator,
+        Rule::BinaryGroups
+        | Rule::OctalGroups
+        | Rule::DecimalGroups
+        | Rule::HexadecimalGroups
+        | Rule::MinDigits => Expected::Size,
+        _ => Expected::Truth,
+    }
+}

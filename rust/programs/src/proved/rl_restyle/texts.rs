@@ -1,0 +1,75 @@
+// Rendered from crates/rl_restyle/src/texts.rt by tools/render, which erases contracts: change that file, and render anew.
+//! Creates the new text of a literal in a style.
+
+use crate::rattle_std::prelude::{String, vec};
+use crate::rl_restyle::edit::Macros;
+use crate::rl_restyle::slices::between;
+use crate::rl_style::{Restylable, Style, rewrite_into};
+use crate::rattle_std::alloc::{AllocError, Allocator};
+
+/// Returns the size of the buffer that [`rewrite_into`] needs for a literal with this text, in bytes.
+fn buffer_len(text: &str) -> Result<usize, AllocError> {
+    let Some(most) = text.len().checked_mul(4) else {
+        return Err(AllocError);
+    };
+    match most.checked_add(1) {
+        Some(room) => Ok(room),
+        None => Err(AllocError),
+    }
+}
+
+/// Returns a copy of `new` if it differs from `old`, and `None` otherwise.
+fn other_text<A: Allocator>(alloc: A, old: &str, new: &str) -> Result<Option<String<A>>, AllocError> {
+    if new == old {
+        return Ok(None);
+    }
+    let mut made = String::new(alloc);
+    made.push_str(new)?;
+    Ok(Some(made))
+}
+
+/// Returns the rewritten text of the literal `text` if it differs, and `None` otherwise. `front` is the text before the
+/// literal.
+fn new_text<A: Allocator + Copy>(
+    alloc: A,
+    style: Style,
+    front: &str,
+    text: &str,
+) -> Result<Option<String<A>>, AllocError> {
+    let room = buffer_len(text)?;
+    let mut bytes = vec![in alloc; 0; room]?;
+    let Ok(len) = rewrite_into(front, text, style, bytes.as_mut_slice()) else {
+        return Ok(None);
+    };
+    match crate::rattle_std::str::from_utf8(&bytes.as_slice()[..len]) {
+        Ok(new) => other_text(alloc, text, new),
+        Err(_) => unreachable!(),
+    }
+}
+
+/// Whether the literal may be rewritten: it isn't a field of a tuple, and it isn't inside a macro call that `macros` excludes.
+fn is_chosen(macros: Macros, literal: Restylable<'_>) -> bool {
+    match macros {
+        Macros::Skip => !literal.is_field && !literal.in_macro,
+        Macros::All => !literal.is_field,
+    }
+}
+
+/// Returns the new text of a literal of the source, or `None` if the literal is unchanged.
+pub(crate) fn text_of<A: Allocator + Copy>(
+    alloc: A,
+    style: Style,
+    macros: Macros,
+    source: &str,
+    literal: Restylable<'_>,
+) -> Result<Option<String<A>>, AllocError> {
+    if !is_chosen(macros, literal) {
+        return Ok(None);
+    }
+    new_text(
+        alloc,
+        style,
+        between(source, 0, literal.token.lo),
+        literal.token.text,
+    )
+}

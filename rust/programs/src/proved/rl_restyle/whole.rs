@@ -1,0 +1,58 @@
+// Rendered from crates/rl_restyle/src/whole.rt by tools/render, which erases contracts: change that file, and render anew.
+//! Rewrites all literals of a source by a style.
+
+use crate::rattle_std::prelude::{String, Vec};
+use crate::rl_restyle::draft::{Draft, put_literal};
+use crate::rl_restyle::edit::{Macros, RestyleError, Restyled};
+use crate::rl_restyle::slices::between;
+use crate::rl_style::{Restylables, Style, may_restyle};
+use crate::rattle_std::alloc::{AllocError, Allocator};
+
+/// Returns the complete new text: the draft, with the rest of the source appended.
+fn finished<A: Allocator>(source: &str, draft: Draft<A>) -> Result<Restyled<A>, RestyleError> {
+    let mut text = draft.text;
+    match text.push_str(between(source, draft.at, source.len())) {
+        Ok(()) => Ok(Restyled {
+            text,
+            edits: draft.edits,
+        }),
+        Err(_) => Err(RestyleError::Memory),
+    }
+}
+
+/// Rewrites the literals of a source by a style, and returns the new text and its edits: each literal that the style changes.
+///
+/// Some literals aren't rewritten: invalid literal tokens, numbers that may be fields of a tuple (`t.0`, `S { 0: x }`), and,
+/// with `Macros::Skip`, literals inside macro calls, `macro_rules!` definitions and attributes. The new text is lexed into the
+/// same tokens, except that each rewritten literal has its new text.
+///
+/// # Errors
+///
+/// Returns `Script` if the source begins as an interpreter's line does, `Source` if a quote or a comment isn't closed, and
+/// `Memory` if an allocation fails. In these cases no text is returned.
+pub fn rewrite_source<A: Allocator + Copy>(
+    alloc: A,
+    style: Style,
+    macros: Macros,
+    text: &str,
+) -> Result<Restyled<A>, RestyleError> {
+    if !may_restyle(text) {
+        return Err(RestyleError::Script);
+    }
+    let mut literals = Restylables::new(text);
+    let mut draft = Draft {
+        text: String::new(alloc),
+        edits: Vec::new(alloc),
+        at: 0,
+    };
+    while let Some(literal) = literals.next() {
+        match put_literal(alloc, style, macros, text, literal, &mut draft) {
+            Ok(()) => {}
+            Err(_) => return Err(RestyleError::Memory),
+        }
+    }
+    match literals.error() {
+        Some(error) => Err(RestyleError::Source(error)),
+        None => finished(text, draft),
+    }
+}

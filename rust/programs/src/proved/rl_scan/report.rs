@@ -1,0 +1,327 @@
+// Rendered from crates/rl_scan/src/report.rt by tools/render, which erases contracts: change that file, and render anew.
+//! Creates the output for a source, for a file that is only listed, and for a path that can't be read.
+
+use crate::rattle_std::prelude::{String, Vec};
+use crate::rl_scan::stats::requested_count;
+use crate::rl_files::{PathError, push_visible};
+use crate::rl_options::{Command, Output, PlaceForm, asks_context, visible_text};
+use crate::rl_output::{LineColumn, count_line_feeds};
+use crate::rl_sources::{
+    Context, Edition, Form, Options, Paint, Place, ScanError, Shown, is_json, push_painted,
+    push_source_error, scan,
+};
+use crate::rl_tokens::LexKind;
+use crate::rattle_std::alloc::{AllocError, Allocator, Global};
+
+/// The output for one file, or for one path that can't be read.
+pub struct Report<A: Allocator = Global> {
+    /// The bytes for standard output.
+    pub out: Vec<u8, A>,
+    /// The bytes for standard error.
+    pub errors: Vec<u8, A>,
+    /// Whether standard error receives an error, and not only a warning.
+    pub has_error: bool,
+    /// Whether the file was read as text.
+    pub read: bool,
+    /// Whether the file has a finding: a literal, an error or a character that the options report, or a literal to rewrite. A
+    /// listed file counts as one.
+    pub found: bool,
+    /// The number of findings, or 0 if statistics aren't requested.
+    pub count: usize,
+}
+
+/// The output lines for a source, and an error of the source that isn't in these lines.
+pub(crate) struct Scanned<A: Allocator = Global> {
+    pub(crate) lines: Vec<u8, A>,
+    error: Option<(Place, LexKind)>,
+}
+
+/// Whether a path is `-`, which is standard input.
+pub(crate) fn is_input(path: &str) -> bool {
+    path == "-"
+}
+
+/// Whether positions in the file at `path` are displayed as lines and columns, and not as byte offsets.
+pub(crate) fn is_by_line(form: PlaceForm, path: &str) -> bool {
+    match form {
+        PlaceForm::Usual => !is_input(path),
+        PlaceForm::Bytes => false,
+        PlaceForm::Lines => true,
+    }
+}
+
+/// Returns the edition of the command, 2021 by default.
+pub(crate) fn edition_for(command: Command<'_>) -> Edition {
+    match command.edition {
+        Some(edition) => edition,
+        None => Edition::E2021,
+    }
+}
+
+/// Whether only invalid literals are shown.
+pub(crate) fn is_bad(shown: Shown<'_>) -> bool {
+    matches!(shown, Shown::Bad)
+}
+
+/// Whether a finding leads to the exit status 1: if invalid literals, or invisible and bidirectional characters, are shown.
+pub(crate) fn is_alarm(shown: Shown<'_>) -> bool {
+    matches!(shown, Shown::Bad | Shown::Hidden)
+}
+
+/// Returns the path before each position of a file, or `None` for standard input. `shown` is the path with escapes for invisible
+/// characters.
+pub(crate) fn path_before<'a>(path: &str, shown: &'a str) -> Option<&'a str> {
+    if is_input(path) {
+        return None;
+    }
+    Some(shown)
+}
+
+/// Returns the path of a file in the output: `path` itself if `is_exact`, else `shown`, the path with escapes for invisible
+/// characters. For standard input the result is `None`.
+pub(crate) fn path_in<'a>(is_exact: bool, path: &'a str, shown: Option<&'a str>) -> Option<&'a str> {
+    if is_exact && shown.is_some() {
+        return Some(path);
+    }
+    shown
+}
+
+/// Returns the number of lines of context on one side. `own` is the option for this side, and `around` the option for both sides.
+fn side_lines(own: Option<usize>, around: Option<usize>) -> usize {
+    match (own, around) {
+        (Some(count), _) | (None, Some(count)) => count,
+        (None, None) => 0,
+    }
+}
+
+/// Returns the numbers of lines of context before and after a line, or `None` if context isn't requested. An output of paths or
+/// counts has no context.
+fn context_of(command: Command<'_>) -> Option<Context> {
+    if !asks_context(command) || !matches!(command.output, Output::Lines) {
+        return None;
+    }
+    Some(Context {
+        before: side_lines(command.before, command.around),
+        after: side_lines(command.after, command.around),
+    })
+}
+
+/// Returns the options for scanning the file at `path`. `shown` is the path with escapes for invisible characters, or `None` for
+/// standard input.
+fn options_for<'a>(command: Command<'a>, path: &'a str, shown: Option<&'a str>) -> Options<'a> {
+    Options {
+        shown: command.shown,
+        finds: command.finds,
+        matching: command.matching,
+        spelling: command.spelling,
+        form: command.form,
+        context: context_of(command),
+        by_line: is_by_line(command.places, path),
+        rejects_strays: command.rejects_strays,
+        any_suffix: command.any_suffix,
+        edition: edition_for(command),
+        explains: is_bad(command.shown),
+        path: path_in(is_json(command.form), path, shown),
+    }
+}
+
+/// Scans a source, and returns its output lines.
+pub(crate) fn scan_text<A: Allocator + Copy>(
+    alloc: A,
+    options: Options<'_>,
+    text: &str,
+) -> Result<Scanned<A>, AllocError> {
+    let mut lines = Vec::new(alloc);
+    match scan(alloc, options, text, &mut lines) {
+        Ok(_) => Ok(Scanned { lines, error: None }),
+        Err(ScanError::Source(place, kind)) => Ok(Scanned {
+            lines,
+            error: Some((place, kind)),
+        }),
+        Err(ScanError::Program(_)) => Err(AllocError),
+    }
+}
+
+/// Returns a position as line and column if `by_line`, else as byte offsets. Only a position that has both is changed.
+fn worded_place(by_line: bool, place: Place) -> Place {
+    match place {
+        Place::Whole(extent) if by_line => Place::Line(LineColumn {
+            line: extent.start.line,
+            column: extent.start.column,
+        }),
+        Place::Whole(extent) => Place::Bytes(extent.lo, extent.hi),
+        _ => place,
+    }
+}
+
+/// Returns the line on standard error for an error that ended the scan of a source. Without an error the line is empty.
+fn error_line<A: Allocator + Copy>(
+    alloc: A,
+    by_line: bool,
+    shown: Option<&str>,
+    error: Option<(Place, LexKind)>,
+) -> Result<String<A>, AllocError> {
+    let mut line = String::new(alloc);
+    match error {
+        None => Ok(line),
+        Some((place, kind)) => {
+            let place = worded_place(by_line, place);
+            push_source_error(&mut line, Form::Plain, shown, place, kind)?;
+            Ok(line)
+        }
+    }
+}
+
+/// Returns the text after a path without a position: NUL if `nul`, else `usual`.
+fn after_path(nul: bool, usual: &str) -> &str {
+    if nul { "\0" } else { usual }
+}
+
+/// Appends the line with the number of output lines of a file, with the path if there is one.
+fn push_count_line<A: Allocator>(
+    out: &mut String<A>,
+    nul: bool,
+    form: Form,
+    path: Option<&str>,
+    count: usize,
+) -> Result<(), AllocError> {
+    match path {
+        Some(path) => {
+            push_painted(out, form, Paint::Path, path)?;
+            out.push_str(after_path(nul, ":"))?;
+            writeln!(out, "{count}")
+        }
+        None => writeln!(out, "{count}"),
+    }
+}
+
+/// Appends the path of a file, or `-` without a path, with a line end or a NUL.
+fn push_path_line<A: Allocator>(
+    out: &mut String<A>,
+    nul: bool,
+    form: Form,
+    path: Option<&str>,
+) -> Result<(), AllocError> {
+    push_painted(out, form, Paint::Path, path.unwrap_or("-"))?;
+    out.push_str(after_path(nul, "\n"))?;
+    Ok(())
+}
+
+/// Returns the output for a file: its lines, their number, its path, or nothing, as `output` selects. A file without lines has no
+/// output.
+pub(crate) fn written<A: Allocator + Copy>(
+    alloc: A,
+    output: Output,
+    nul: bool,
+    form: Form,
+    path: Option<&str>,
+    lines: Vec<u8, A>,
+) -> Result<Vec<u8, A>, AllocError> {
+    if lines.is_empty() {
+        return Ok(lines);
+    }
+    let mut line = String::new(alloc);
+    match output {
+        Output::Lines => return Ok(lines),
+        Output::Count => {
+            push_count_line(
+                &mut line,
+                nul,
+                form,
+                path,
+                count_line_feeds(lines.as_slice()),
+            )?
+        }
+        Output::Path => push_path_line(&mut line, nul, form, path)?,
+        Output::Nothing => {}
+    }
+    Ok(line.into_bytes())
+}
+
+/// Scans the source of the file at `path`, and returns its output.
+pub(crate) fn report_text<A: Allocator + Copy>(
+    alloc: A,
+    command: Command<'_>,
+    path: &str,
+    text: &str,
+) -> Result<Report<A>, AllocError> {
+    let shown = visible_text(alloc, path)?;
+    let before = path_before(path, shown.as_str());
+    let options = options_for(command, path, before);
+    let scanned = scan_text(alloc, options, text)?;
+    let errors = error_line(alloc, options.by_line, before, scanned.error)?.into_bytes();
+    let has_error = !errors.is_empty();
+    let asked = command.prints_stats;
+    let count = requested_count(alloc, asked, options, text, scanned.lines.as_slice())?;
+    let found = !scanned.lines.is_empty();
+    let nul = command.nul_after_paths;
+    let named = path_in(nul, path, before);
+    let lines = scanned.lines;
+    let out = written(alloc, command.output, nul, options.form, named, lines)?;
+    Ok(Report {
+        out,
+        errors,
+        has_error,
+        read: true,
+        found,
+        count,
+    })
+}
+
+/// Whether an error ends a call with status 2. A name in a directory that isn't UTF-8 is skipped, with a warning.
+fn is_error(error: PathError) -> bool {
+    !matches!(error, PathError::NameNotUtf8)
+}
+
+/// Returns the output for a path that can't be read: a line on standard error. For a skipped name the line is a warning.
+pub(crate) fn report_error<A: Allocator + Copy>(
+    alloc: A,
+    path: &str,
+    error: PathError,
+) -> Result<Report<A>, AllocError> {
+    let mut errors = String::from_str(alloc, "rl_scan: ")?;
+    push_visible(&mut errors, path)?;
+    writeln!(&mut errors, ": {error}")?;
+    Ok(Report {
+        out: Vec::new(alloc),
+        errors: errors.into_bytes(),
+        has_error: is_error(error),
+        read: false,
+        found: false,
+        count: 0,
+    })
+}
+
+/// Returns the output for a file that is only listed: its path, or nothing if no output is requested.
+fn listed<A: Allocator>(
+    alloc: A,
+    command: Command<'_>,
+    path: Option<&str>,
+) -> Result<String<A>, AllocError> {
+    let mut line = String::new(alloc);
+    match command.output {
+        Output::Nothing => {}
+        _ => push_path_line(&mut line, command.nul_after_paths, command.form, path)?,
+    }
+    Ok(line)
+}
+
+/// Returns the output for the file at `path`, which is only listed and not read.
+pub(crate) fn report_listed<A: Allocator + Copy>(
+    alloc: A,
+    command: Command<'_>,
+    path: &str,
+) -> Result<Report<A>, AllocError> {
+    let shown = visible_text(alloc, path)?;
+    let before = path_before(path, shown.as_str());
+    let named = path_in(command.nul_after_paths, path, before);
+    let line = listed(alloc, command, named)?;
+    Ok(Report {
+        out: line.into_bytes(),
+        errors: Vec::new(alloc),
+        has_error: false,
+        read: false,
+        found: true,
+        count: 0,
+    })
+}

@@ -1,0 +1,247 @@
+// Rendered from crates/rl_scan/src/restyling.rt by tools/render, which erases contracts: change that file, and render anew.
+//! Creates the output for a source whose literals are rewritten.
+
+use crate::rattle_std::prelude::{String, Vec};
+use crate::rl_scan::report::{
+    Report, edition_for, is_by_line, is_input, path_before, path_in, report_error, written,
+};
+use crate::rl_scan::{Outcome, check_options, push_changes, push_diff, rewrite_outcome};
+use crate::rl_files::{Replace, push_visible};
+use crate::rl_options::{Command, Output, Restyling, visible_text};
+use crate::rl_restyle::{Macros, Restyled};
+use crate::rl_sources::Options;
+use crate::rattle_std::alloc::{AllocError, Allocator};
+
+/// Returns a report with the bytes `out` for standard output, and nothing for standard error.
+fn report_out<A: Allocator + Copy>(alloc: A, out: Vec<u8, A>, found: bool) -> Report<A> {
+    Report {
+        out,
+        errors: Vec::new(alloc),
+        has_error: false,
+        read: true,
+        found,
+        count: 0,
+    }
+}
+
+/// Returns an output line for each rewritten literal of a source.
+fn change_lines<A: Allocator + Copy>(
+    alloc: A,
+    command: Command<'_>,
+    options: Options<'_>,
+    text: &str,
+    restyled: &Restyled<A>,
+) -> Result<Vec<u8, A>, AllocError> {
+    let mut lines = String::new(alloc);
+    push_changes(
+        &mut lines,
+        options,
+        command.form,
+        text,
+        restyled.edits.as_slice(),
+    )?;
+    Ok(lines.into_bytes())
+}
+
+/// Returns the output of `--check`: the literals that would be rewritten, with their new texts.
+fn report_checked<A: Allocator + Copy>(
+    alloc: A,
+    command: Command<'_>,
+    options: Options<'_>,
+    path: Option<&str>,
+    text: &str,
+    restyled: &Restyled<A>,
+) -> Result<Report<A>, AllocError> {
+    let lines = change_lines(alloc, command, options, text, restyled)?;
+    let out = written(
+        alloc,
+        command.output,
+        command.nul_after_paths,
+        command.form,
+        path,
+        lines,
+    )?;
+    Ok(report_out(alloc, out, !restyled.edits.is_empty()))
+}
+
+/// Returns the output of `--diff`: the diff of a source and its rewritten form.
+fn report_compared<A: Allocator + Copy>(
+    alloc: A,
+    command: Command<'_>,
+    path: &str,
+    named: Option<&str>,
+    text: &str,
+    new: &str,
+) -> Result<Report<A>, AllocError> {
+    let mut lines = String::new(alloc);
+    push_diff(&mut lines, path, text, new)?;
+    let lines = lines.into_bytes();
+    let found = !lines.is_empty();
+    let out = written(
+        alloc,
+        command.output,
+        command.nul_after_paths,
+        command.form,
+        named,
+        lines,
+    )?;
+    Ok(report_out(alloc, out, found))
+}
+
+/// Returns the selection of output for `--fix`. It prints the number of rewritten literals, and not their lines.
+fn fixed_output(output: Output) -> Output {
+    match output {
+        Output::Lines => Output::Count,
+        _ => output,
+    }
+}
+
+/// Replaces the file at `path`, and returns `out` as its output. If the file can't be replaced, the output is the reason.
+fn report_replaced<A: Allocator + Copy, F: Replace>(
+    alloc: A,
+    files: &mut F,
+    path: &str,
+    text: &str,
+    new: &str,
+    out: Vec<u8, A>,
+) -> Result<Report<A>, AllocError> {
+    match files.replace(alloc, path, text.as_bytes(), new.as_bytes()) {
+        Ok(()) => Ok(report_out(alloc, out, false)),
+        Err(why) => report_error(alloc, path, why),
+    }
+}
+
+/// Returns the output of `--fix`, after replacing the file at `path`. A file without rewritten literals isn't replaced.
+///
+/// For standard input, the output is the rewritten source.
+fn report_fixed<A: Allocator + Copy, F: Replace>(
+    alloc: A,
+    command: Command<'_>,
+    options: Options<'_>,
+    files: &mut F,
+    path: &str,
+    named: Option<&str>,
+    text: &str,
+    restyled: Restyled<A>,
+) -> Result<Report<A>, AllocError> {
+    if is_input(path) {
+        return Ok(report_out(alloc, restyled.text.into_bytes(), false));
+    }
+    if restyled.edits.as_slice().is_empty() {
+        return Ok(report_out(alloc, Vec::new(alloc), false));
+    }
+    let lines = change_lines(alloc, command, options, text, &restyled)?;
+    let output = fixed_output(command.output);
+    let out = written(
+        alloc,
+        output,
+        command.nul_after_paths,
+        command.form,
+        named,
+        lines,
+    )?;
+    report_replaced(alloc, files, path, text, restyled.text.as_str(), out)
+}
+
+/// Returns the output for a source and its rewritten form, for `--check`, `--diff` or `--fix`.
+fn report_change<A: Allocator + Copy, F: Replace>(
+    alloc: A,
+    command: Command<'_>,
+    restyling: Restyling,
+    options: Options<'_>,
+    files: &mut F,
+    path: &str,
+    named: Option<&str>,
+    text: &str,
+    restyled: Restyled<A>,
+) -> Result<Report<A>, AllocError> {
+    match restyling {
+        Restyling::Check => report_checked(alloc, command, options, named, text, &restyled),
+        Restyling::Diff => report_compared(
+            alloc,
+            command,
+            path,
+            named,
+            text,
+            restyled.text.as_str(),
+        ),
+        Restyling::Fix => report_fixed(alloc, command, options, files, path, named, text, restyled),
+    }
+}
+
+/// Returns the output for a source with errors, which isn't rewritten. `lines` explain the errors, and go to standard error.
+fn report_rejected<A: Allocator + Copy>(alloc: A, lines: Vec<u8, A>) -> Report<A> {
+    Report {
+        out: Vec::new(alloc),
+        errors: lines,
+        has_error: true,
+        read: true,
+        found: false,
+        count: 0,
+    }
+}
+
+/// Returns whether literals in macro calls are rewritten. By default they are skipped.
+fn macros_for(command: Command<'_>) -> Macros {
+    match command.macros {
+        Some(macros) => macros,
+        None => Macros::Skip,
+    }
+}
+
+/// Returns the standard output for a source that isn't rewritten: the source itself for `--fix` on standard input, else nothing.
+fn text_left<'t>(restyling: Restyling, path: &str, text: &'t str) -> &'t str {
+    match restyling {
+        Restyling::Fix if is_input(path) => text,
+        _ => "",
+    }
+}
+
+/// Returns the output for a source that begins as a script, with `#!`, and isn't rewritten. A warning goes to standard error.
+fn report_script<A: Allocator + Copy>(
+    alloc: A,
+    restyling: Restyling,
+    path: &str,
+    text: &str,
+) -> Result<Report<A>, AllocError> {
+    let mut warning = String::from_str(alloc, "rl_scan: ")?;
+    push_visible(&mut warning, path)?;
+    writeln!(&mut warning, ": left alone: its first line begins with #!")?;
+    let out = String::from_str(alloc, text_left(restyling, path, text))?;
+    Ok(Report {
+        out: out.into_bytes(),
+        errors: warning.into_bytes(),
+        has_error: false,
+        read: true,
+        found: false,
+        count: 0,
+    })
+}
+
+/// Rewrites the literals of a source, and returns the output.
+///
+/// If the source has errors, they are the output. If it begins as a script, the output is a warning.
+pub(crate) fn report_restyled<A: Allocator + Copy, F: Replace>(
+    alloc: A,
+    command: Command<'_>,
+    restyling: Restyling,
+    files: &mut F,
+    path: &str,
+    text: &str,
+) -> Result<Report<A>, AllocError> {
+    let shown = visible_text(alloc, path)?;
+    let before = path_before(path, shown.as_str());
+    let named = path_in(command.nul_after_paths, path, before);
+    let options = check_options(
+        edition_for(command),
+        is_by_line(command.places, path),
+        before,
+    );
+    match rewrite_outcome(alloc, options, command.rules, macros_for(command), text)? {
+        Outcome::Rejected(lines) => Ok(report_rejected(alloc, lines)),
+        Outcome::Script => report_script(alloc, restyling, path, text),
+        Outcome::Restyled(restyled) => report_change(
+            alloc, command, restyling, options, files, path, named, text, restyled,
+        ),
+    }
+}

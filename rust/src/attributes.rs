@@ -1,0 +1,307 @@
+//! Access by name to the entries of an attribute, in a procedural macro.
+
+use crate::macro_error::MacroError;
+use crate::meta::Meta;
+use crate::proc_macros::LitOfKind;
+use crate::value::Number;
+use alloc::string::String;
+use alloc::vec::{self, Vec};
+use core::fmt;
+use core::slice;
+use proc_macro::{Span, TokenStream};
+
+/// The entries of an attribute, read by name.
+///
+/// If a name isn't set, `string`, `number` and the other methods that take a name return `None`. The caller then uses a default, or
+/// returns [`missing_error`](Attrs::missing_error). Reading a name that is set twice is an error. [`Attrs::all`] returns each entry
+/// of a name that may be repeated.
+///
+/// ```no_run
+/// extern crate proc_macro;
+/// use navyspindle::{Attrs, MacroError};
+/// use proc_macro::TokenStream;
+///
+/// struct Options {
+///     name: String,
+///     size: u8,
+///     verbose: bool,
+///     default: Option<TokenStream>,
+/// }
+///
+/// /// Reads `name = "x", size = 10, verbose, default = "x".to_string()`. The name is required.
+/// fn options(input: TokenStream) -> Result<Options, MacroError> {
+///     let attrs = Attrs::parse(input)?;
+///     attrs.check(&["name", "size", "verbose", "default"])?;
+///     Ok(Options {
+///         name: attrs.string("name")?.ok_or_else(|| attrs.missing_error("name"))?,
+///         size: attrs.number("size")?.unwrap_or(1),
+///         verbose: attrs.flag("verbose")?,
+///         default: attrs.value("default")?,
+///     })
+/// }
+/// ```
+#[doc(alias = "parse_nested_meta")]
+#[derive(Clone, Debug)]
+pub struct Attrs {
+    entries: Vec<Meta>,
+    /// The first and the last span of the attribute's name. `None` if errors about the attribute are reported at the macro's call.
+    place: Option<(Span, Span)>,
+}
+
+impl Attrs {
+    /// Parses entries separated by commas, such as the input of an attribute macro.
+    ///
+    /// An error about the attribute as a whole, such as a missing name, is at the macro's call. For the entries of `#[opt(..)]`
+    /// call [`Meta::list`], with which such an error is at the name `opt`.
+    ///
+    /// # Errors
+    ///
+    /// Returns the error of [`Meta::parse_all`].
+    ///
+    /// ```no_run
+    /// extern crate proc_macro;
+    /// let attrs = navyspindle::Attrs::parse("a = 1, verbose".parse().unwrap())?;
+    /// assert_eq!(attrs.entries().len(), 2);
+    /// # Ok::<(), navyspindle::MacroError>(())
+    /// ```
+    pub fn parse(input: TokenStream) -> Result<Attrs, MacroError> {
+        Ok(Attrs::of(Meta::parse_all(input)?, None))
+    }
+
+    pub(crate) fn of(entries: Vec<Meta>, place: Option<(Span, Span)>) -> Attrs {
+        Attrs { entries, place }
+    }
+
+    /// Returns the entries in the order of the input.
+    ///
+    /// ```no_run
+    /// extern crate proc_macro;
+    /// let attrs = navyspindle::Attrs::parse("a = 1, verbose".parse().unwrap())?;
+    /// assert_eq!(attrs.entries()[1].name(), "verbose");
+    /// # Ok::<(), navyspindle::MacroError>(())
+    /// ```
+    #[must_use]
+    pub fn entries(&self) -> &[Meta] {
+        &self.entries
+    }
+
+    /// Iterates over the entries with this name, which may be repeated.
+    ///
+    /// ```no_run
+    /// extern crate proc_macro;
+    /// use navyspindle::{Attrs, MacroError};
+    ///
+    /// fn aliases(attrs: &Attrs) -> Result<Vec<String>, MacroError> {
+    ///     attrs.all("alias").map(|meta| meta.string()).collect()
+    /// }
+    /// ```
+    pub fn all<'a>(&'a self, name: &'a str) -> impl Iterator<Item = &'a Meta> + Clone + 'a {
+        self.entries.iter().filter(move |meta| meta.name() == name)
+    }
+
+    /// Returns the entry of `name`, or `None` if the name isn't set.
+    ///
+    /// # Errors
+    ///
+    /// Returns an error if the name is repeated. The error is at the second entry.
+    ///
+    /// ```no_run
+    /// extern crate proc_macro;
+    /// let attrs = navyspindle::Attrs::parse("a = 1, b, b".parse().unwrap())?;
+    /// assert!(attrs.get("a")?.is_some());
+    /// assert!(attrs.get("c")?.is_none());
+    /// assert_eq!(attrs.get("b").unwrap_err().to_string(), "repeated name `b`");
+    /// # Ok::<(), navyspindle::MacroError>(())
+    /// ```
+    pub fn get(&self, name: &str) -> Result<Option<&Meta>, MacroError> {
+        let mut entries = self.entries.iter().filter(|meta| meta.name() == name);
+        let first = entries.next();
+        match entries.next() {
+            None => Ok(first),
+            Some(second) => Err(second.error(format_args!("repeated name `{name}`"))),
+        }
+    }
+
+    /// Returns the result of `read` for the entry of `name`, or `None` if the name isn't set.
+    fn read<V>(
+        &self,
+        name: &str,
+        read: impl FnOnce(&Meta) -> Result<V, MacroError>,
+    ) -> Result<Option<V>, MacroError> {
+        let Some(meta) = self.get(name)? else {
+            return Ok(None);
+        };
+        read(meta).map(Some)
+    }
+
+    /// Checks that the name of every entry is one of `known`.
+    ///
+    /// # Errors
+    ///
+    /// Returns an error for each unknown name, combined into one.
+    ///
+    /// ```no_run
+    /// extern crate proc_macro;
+    /// let attrs = navyspindle::Attrs::parse("size = 1, nme = \"a\"".parse().unwrap())?;
+    /// let error = attrs.check(&["name", "size"]).unwrap_err();
+    /// assert_eq!(error.to_string(), "unknown name `nme`");
+    /// # Ok::<(), navyspindle::MacroError>(())
+    /// ```
+    pub fn check(&self, known: &[&str]) -> Result<(), MacroError> {
+        let mut all: Option<MacroError> = None;
+        for meta in &self.entries {
+            if !known.contains(&meta.name()) {
+                match &mut all {
+                    Some(all) => all.combine(meta.unknown()),
+                    None => all = Some(meta.unknown()),
+                }
+            }
+        }
+        all.map_or(Ok(()), Err)
+    }
+
+    /// Returns the string that `name` is set to, or `None` if the name isn't set.
+    ///
+    /// # Errors
+    ///
+    /// Returns an error if the name is repeated, or if its value isn't one string literal without a suffix.
+    ///
+    /// ```no_run
+    /// extern crate proc_macro;
+    /// let attrs = navyspindle::Attrs::parse(r#"name = "a""#.parse().unwrap())?;
+    /// assert_eq!(attrs.string("name")?.as_deref(), Some("a"));
+    /// # Ok::<(), navyspindle::MacroError>(())
+    /// ```
+    pub fn string(&self, name: &str) -> Result<Option<String>, MacroError> {
+        self.read(name, Meta::string)
+    }
+
+    /// Returns the number that `name` is set to, or `None` if the name isn't set.
+    ///
+    /// # Errors
+    ///
+    /// Returns an error if the name is repeated, or if its value isn't one number that Rust accepts for the type.
+    ///
+    /// ```no_run
+    /// extern crate proc_macro;
+    /// let attrs = navyspindle::Attrs::parse("size = 10".parse().unwrap())?;
+    /// assert_eq!(attrs.number::<u8>("size")?.unwrap_or(1), 10);
+    /// # Ok::<(), navyspindle::MacroError>(())
+    /// ```
+    pub fn number<N: Number>(&self, name: &str) -> Result<Option<N>, MacroError> {
+        self.read(name, Meta::number)
+    }
+
+    /// Returns `true` for `name` and for `name = true`. Returns `false` for `name = false` and if the name isn't set.
+    ///
+    /// # Errors
+    ///
+    /// Returns an error if the name is repeated, or if it is a list or has a value other than `true` and `false`.
+    ///
+    /// ```no_run
+    /// extern crate proc_macro;
+    /// let attrs = navyspindle::Attrs::parse("verbose".parse().unwrap())?;
+    /// assert_eq!((attrs.flag("verbose")?, attrs.flag("quiet")?), (true, false));
+    /// # Ok::<(), navyspindle::MacroError>(())
+    /// ```
+    pub fn flag(&self, name: &str) -> Result<bool, MacroError> {
+        self.get(name)?.map_or(Ok(false), Meta::flag)
+    }
+
+    /// Returns the literal of kind `L` that `name` is set to, and the literal's span. Returns `None` if the name isn't set.
+    ///
+    /// # Errors
+    ///
+    /// Returns an error if the name is repeated, or if its value isn't one literal of kind `L`.
+    ///
+    /// ```no_run
+    /// extern crate proc_macro;
+    /// use navyspindle::{Attrs, LitChar};
+    ///
+    /// let attrs = Attrs::parse("short = 'a'".parse().unwrap())?;
+    /// let (short, span) = attrs.literal_of::<LitChar>("short")?.unwrap();
+    /// assert_eq!(short.value(), 'a');
+    /// # Ok::<(), navyspindle::MacroError>(())
+    /// ```
+    pub fn literal_of<L: LitOfKind>(&self, name: &str) -> Result<Option<(L, Span)>, MacroError> {
+        self.read(name, Meta::literal_of)
+    }
+
+    /// Returns the tokens of the value that `name` is set to, or `None` if the name isn't set.
+    ///
+    /// # Errors
+    ///
+    /// Returns an error if the name is repeated, or if it has no value.
+    ///
+    /// ```no_run
+    /// extern crate proc_macro;
+    /// let attrs = navyspindle::Attrs::parse("max = u8::MAX".parse().unwrap())?;
+    /// assert_eq!(attrs.value("max")?.unwrap().into_iter().count(), 4);
+    /// # Ok::<(), navyspindle::MacroError>(())
+    /// ```
+    pub fn value(&self, name: &str) -> Result<Option<TokenStream>, MacroError> {
+        self.read(name, Meta::value)
+    }
+
+    /// Returns the entries of the list `name`, or `None` if the name isn't set.
+    ///
+    /// # Errors
+    ///
+    /// Returns an error if the name is repeated, or if it isn't a list of entries.
+    ///
+    /// ```no_run
+    /// extern crate proc_macro;
+    /// let attrs = navyspindle::Attrs::parse("inner(a = 1)".parse().unwrap())?;
+    /// let inner = attrs.list("inner")?.unwrap();
+    /// assert_eq!(inner.number::<u8>("a")?, Some(1));
+    /// # Ok::<(), navyspindle::MacroError>(())
+    /// ```
+    pub fn list(&self, name: &str) -> Result<Option<Attrs>, MacroError> {
+        self.read(name, Meta::list)
+    }
+
+    /// Creates the error for a required name that isn't set. The error is at the attribute's name, or at the macro's call.
+    ///
+    /// ```no_run
+    /// extern crate proc_macro;
+    /// let attrs = navyspindle::Attrs::parse("size = 1".parse().unwrap())?;
+    /// assert_eq!(attrs.missing_error("name").to_string(), "missing `name`");
+    /// # Ok::<(), navyspindle::MacroError>(())
+    /// ```
+    #[must_use]
+    pub fn missing_error(&self, name: &str) -> MacroError {
+        self.error(format_args!("missing `{name}`"))
+    }
+
+    /// Creates an error at the attribute's name. For entries of [`Attrs::parse`] the error is at the macro's call.
+    ///
+    /// ```no_run
+    /// extern crate proc_macro;
+    /// let attrs = navyspindle::Attrs::parse("min = 2, max = 1".parse().unwrap())?;
+    /// assert_eq!(attrs.error("empty range").to_string(), "empty range");
+    /// # Ok::<(), navyspindle::MacroError>(())
+    /// ```
+    #[must_use]
+    pub fn error(&self, message: impl fmt::Display) -> MacroError {
+        let (first, last) = self.place.unwrap_or((Span::call_site(), Span::call_site()));
+        MacroError::between(message, first, last)
+    }
+}
+
+impl<'a> IntoIterator for &'a Attrs {
+    type Item = &'a Meta;
+    type IntoIter = slice::Iter<'a, Meta>;
+
+    fn into_iter(self) -> Self::IntoIter {
+        self.entries.iter()
+    }
+}
+
+impl IntoIterator for Attrs {
+    type Item = Meta;
+    type IntoIter = vec::IntoIter<Meta>;
+
+    fn into_iter(self) -> Self::IntoIter {
+        self.entries.into_iter()
+    }
+}

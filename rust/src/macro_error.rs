@@ -1,0 +1,373 @@
+//! Errors of procedural macros.
+
+use crate::kind::Kind;
+use crate::macro_places::Place;
+use crate::parse_error::ParseError;
+use crate::value::ValueError;
+use alloc::string::{String, ToString};
+use alloc::vec::Vec;
+use core::fmt;
+use core::num::{ParseFloatError, ParseIntError};
+use proc_macro::{Delimiter, Group, LexError, Literal, Span, TokenStream, TokenTree};
+
+/// An error in the input of a procedural macro, with the tokens that the error is about.
+///
+/// `?` converts errors of this crate to a `MacroError` at the macro's call. [`MacroError::at`] moves the `MacroError` to a token.
+///
+/// ```no_run
+/// extern crate proc_macro;
+/// use navyspindle::{next_literal_of, LitInt, LitStr, MacroError};
+/// use proc_macro::TokenStream;
+///
+/// /// `repeat!("ab", 2)` is `"abab"`.
+/// // #[proc_macro]
+/// pub fn repeat(input: TokenStream) -> TokenStream {
+///     repeated(input).unwrap_or_else(|error| error.to_compile_error())
+/// }
+///
+/// fn repeated(input: TokenStream) -> Result<TokenStream, MacroError> {
+///     let mut tokens = input.into_iter();
+///     let (string, span) = next_literal_of::<LitStr>(&mut tokens)?;
+///     tokens.next();
+///     let (count, at) = next_literal_of::<LitInt>(&mut tokens)?;
+///     let count: u8 = count.value().map_err(|error| MacroError::from(error).at(at))?;
+///     LitStr::new(&string.value().repeat(count.into())).to_token_stream(span)
+/// }
+/// ```
+///
+/// A `MacroError` can be sent to another thread. On another thread it has its messages but no spans, because `proc_macro` works
+/// only on the macro's thread.
+#[doc(alias = "Error")]
+#[derive(Clone)]
+pub struct MacroError {
+    first: Message,
+    others: Vec<Message>,
+}
+
+/// The message of one error, and the tokens that the error is about. `place` is `None` if the error is at the macro's call.
+#[derive(Clone)]
+struct Message {
+    text: String,
+    place: Option<Place>,
+}
+
+impl Message {
+    /// Returns the spans of the first and the last token that the error is about.
+    fn spans(&self) -> (Span, Span) {
+        match &self.place {
+            Some(place) => place.spans(),
+            None => (Span::call_site(), Span::call_site()),
+        }
+    }
+
+    /// Returns a call of `compile_error!`. The compiler shows the error from the call's first token to its last.
+    fn to_compile_error(&self) -> TokenStream {
+        let (first, last) = self.spans();
+        let path: TokenStream = "::core::compile_error!".parse().expect("tokens");
+        let text = TokenTree::from(Literal::string(&self.text));
+        let group = Group::new(Delimiter::Brace, spanned(text, last).into());
+        let path = path.into_iter().map(|tree| spanned(tree, first));
+        let group = spanned(TokenTree::Group(group), last);
+        path.chain([group]).collect()
+    }
+}
+
+/// Returns the token tree with the span `span`.
+pub(crate) fn spanned(mut tree: TokenTree, span: Span) -> TokenTree {
+    tree.set_span(span);
+    tree
+}
+
+impl MacroError {
+    /// Creates an error with the message `message` at `span`.
+    ///
+    /// ```no_run
+    /// extern crate proc_macro;
+    /// let error = navyspindle::MacroError::new("expected a comma", proc_macro::Span::call_site());
+    /// assert_eq!(error.to_string(), "expected a comma");
+    /// ```
+    #[must_use]
+    pub fn new(message: impl fmt::Display, span: Span) -> Self {
+        MacroError::between(message, span, span)
+    }
+
+    /// Creates an error with the message `message`. Its tokens are those from `first` to `last`.
+    ///
+    /// ```no_run
+    /// extern crate proc_macro;
+    /// use navyspindle::MacroError;
+    /// use proc_macro::TokenTree;
+    ///
+    /// fn unexpected(minus: &TokenTree, number: &TokenTree) -> MacroError {
+    ///     MacroError::between("negative number", minus.span(), number.span())
+    /// }
+    /// ```
+    #[must_use]
+    pub fn between(message: impl fmt::Display, first: Span, last: Span) -> Self {
+        MacroError::of(&message, Some(Place::between(first, last)))
+    }
+
+    fn of(message: &dyn fmt::Display, place: Option<Place>) -> Self {
+        let text = message.to_string();
+        MacroError {
+            first: Message { text, place },
+            others: Vec::new(),
+        }
+    }
+
+    /// Moves the error to `span`. Use this method after `?` or `from`, whose errors are at the macro's call. If errors are
+    /// combined, only the first one moves.
+    ///
+    /// ```no_run
+    /// extern crate proc_macro;
+    /// use navyspindle::{LitInt, MacroError};
+    /// use proc_macro::Span;
+    ///
+    /// fn port(number: &LitInt, span: Span) -> Result<u16, MacroError> {
+    ///     number.value::<u16>().map_err(|error| MacroError::from(error).at(span))
+    /// }
+    /// ```
+    #[must_use]
+    pub fn at(mut self, span: Span) -> Self {
+        self.first.place = Some(Place::between(span, span));
+        self
+    }
+
+    /// Appends another error, so that the compiler reports all combined errors.
+    ///
+    /// ```no_run
+    /// extern crate proc_macro;
+    /// use navyspindle::{LitInt, MacroError};
+    /// use proc_macro::TokenStream;
+    ///
+    /// /// Checks that each token is an integer. Each other token is an error.
+    /// fn integers(input: TokenStream) -> Result<(), MacroError> {
+    ///     let errors = input.into_iter().filter_map(|tree| LitInt::try_from(&tree).err());
+    ///     let all = errors.reduce(|mut all, error| {
+    ///         all.combine(error);
+    ///         all
+    ///     });
+    ///     all.map_or(Ok(()), Err)
+    /// }
+    /// ```
+    pub fn combine(&mut self, other: MacroError) {
+        self.others.push(other.first);
+        self.others.extend(other.others);
+    }
+
+    /// Creates the error for a literal of another kind than the expected one: `expected string literal, found byte literal`.
+    ///
+    /// ```no_run
+    /// extern crate proc_macro;
+    /// use navyspindle::{Kind, MacroError};
+    ///
+    /// let error = MacroError::expected(Kind::Str, Kind::Byte, proc_macro::Span::call_site());
+    /// assert_eq!(error.to_string(), "expected string literal, found byte literal");
+    /// ```
+    #[must_use]
+    pub fn expected(expected: Kind, found: Kind, span: Span) -> Self {
+        MacroError::new(Mismatch(expected, found), span)
+    }
+
+    /// Returns the span of the first token that the error is about. If errors are combined, it is the span of the first error.
+    ///
+    /// ```no_run
+    /// extern crate proc_macro;
+    /// let error = navyspindle::MacroError::new("no name", proc_macro::Span::call_site());
+    /// println!("{:?}", error.span());
+    /// ```
+    #[must_use]
+    pub fn span(&self) -> Span {
+        self.first.spans().0
+    }
+
+    /// Returns a call of `compile_error!` for each error, at the error's tokens. A macro returns these calls in place of its
+    /// output.
+    ///
+    /// ```no_run
+    /// extern crate proc_macro;
+    /// let error = navyspindle::MacroError::new("no name", proc_macro::Span::call_site());
+    /// assert_eq!(error.to_compile_error().to_string(), r#":: core :: compile_error ! { "no name" }"#);
+    /// ```
+    #[must_use]
+    pub fn to_compile_error(&self) -> TokenStream {
+        let messages = core::iter::once(&self.first).chain(&self.others);
+        messages.map(Message::to_compile_error).collect()
+    }
+
+    /// Returns the tokens of [`MacroError::to_compile_error`]. This method takes the error by value, so it can be passed to
+    /// `unwrap_or_else`.
+    ///
+    /// ```no_run
+    /// extern crate proc_macro;
+    /// use navyspindle::{next_literal, MacroError};
+    /// use proc_macro::TokenStream;
+    ///
+    /// // #[proc_macro]
+    /// pub fn first(input: TokenStream) -> TokenStream {
+    ///     let literal = next_literal(&mut input.into_iter());
+    ///     let tokens = literal.and_then(|(literal, span)| literal.to_token_stream(span));
+    ///     tokens.unwrap_or_else(MacroError::into_compile_error)
+    /// }
+    /// ```
+    #[must_use]
+    pub fn into_compile_error(self) -> TokenStream {
+        self.to_compile_error()
+    }
+}
+
+/// Prints the error's message. If errors are combined, it is the message of the first error.
+impl fmt::Display for MacroError {
+    fn fmt(&self, f: &mut fmt::Formatter<'_>) -> fmt::Result {
+        f.pad(&self.first.text)
+    }
+}
+
+/// Prints the messages of all combined errors, without their spans.
+impl fmt::Debug for MacroError {
+    fn fmt(&self, f: &mut fmt::Formatter<'_>) -> fmt::Result {
+        let mut tuple = f.debug_tuple("MacroError");
+        tuple.field(&self.first.text);
+        for other in &self.others {
+            tuple.field(&other.text);
+        }
+        tuple.finish()
+    }
+}
+
+impl core::error::Error for MacroError {}
+
+/// The message for a literal of the wrong kind: the expected kind and the kind that was found.
+pub(crate) struct Mismatch(pub(crate) Kind, pub(crate) Kind);
+
+impl fmt::Display for Mismatch {
+    fn fmt(&self, f: &mut fmt::Formatter<'_>) -> fmt::Result {
+        let Mismatch(expected, found) = self;
+        write!(f, "expected {expected}, found {found}")
+    }
+}
+
+/// Implements `From` for the error types of this crate. The message is the error's message without the byte offset, which means
+/// nothing to the user of the macro.
+macro_rules! from_errors {
+    ($($(#[$doc:meta])* $name:ty: $error:ident => $message:expr,)*) => {$(
+        $(#[$doc])*
+        impl From<$name> for MacroError {
+            fn from($error: $name) -> Self {
+                MacroError::of(&$message, None)
+            }
+        }
+    )*};
+}
+
+from_errors! {
+    /// Converts a `ParseError`. The message is its [`ParseError::kind`], at the macro's call.
+    ParseError: error => error.kind(),
+    /// Converts a `ValueError`. The message is its [`ValueError::message`], at the macro's call.
+    ValueError: error => error.message(),
+    /// Converts an error of [`LitInt::base10_parse`](crate::LitInt::base10_parse). The `MacroError` is at the macro's call.
+    ParseIntError: error => error,
+    /// Converts an error of [`LitFloat::base10_parse`](crate::LitFloat::base10_parse). The `MacroError` is at the macro's call.
+    ParseFloatError: error => error,
+    /// Converts an error of `TokenStream::from_str`. The `MacroError` is at the macro's call.
+    LexError: error => error,
+}
+
+#[cfg(feature = "sources")]
+from_errors! {
+    /// Converts a `ListError`. The message is its [`ListError::kind`](crate::ListError::kind), at the macro's call.
+    crate::ListError: error => error.kind(),
+}
+
+#[cfg(feature = "settings")]
+from_errors! {
+    /// Converts a `SettingError`. The message is its [`SettingError::kind`](crate::SettingError::kind), at the macro's call.
+    /// [`MacroInput::error`](crate::MacroInput::error) creates an error at the setting's tokens.
+    crate::SettingError: error => error.kind(),
+    /// Converts a `SettingsSyntaxError`. The message is the [`SettingError::kind`](crate::SettingError::kind) of the same error, at
+    /// the macro's call.
+    crate::SettingsSyntaxError: error => crate::SettingError::from(error).kind(),
+}
+
+#[cfg(feature = "flaws")]
+from_errors! {
+    /// Converts an `InvalidPiece`. The message is its [`InvalidPiece::kind`](crate::InvalidPiece::kind), at the macro's call.
+    crate::InvalidPiece: error => error.kind(),
+    /// Converts a `TypeError`. The `MacroError` is at the macro's call.
+    crate::TypeError: error => error,
+}
+
+#[cfg(test)]
+mod tests {
+    use super::MacroError;
+    use crate::{LitInt, LitStr};
+    use std::boxed::Box;
+    use std::error::Error;
+    use std::format;
+    use std::string::ToString;
+
+    fn number(text: &str) -> Result<u8, MacroError> {
+        let literal = LitInt::parse(text)?;
+        let value = literal.value::<u8>()?;
+        Ok(value.max(literal.base10_parse()?))
+    }
+
+    #[test]
+    fn errors_become_errors_of_macros_without_a_byte() {
+        let message = |text| number(text).unwrap_err().to_string();
+        assert_eq!(number("0x1F").ok(), Some(31));
+        assert_eq!(message("0b2"), "invalid digit for this base");
+        assert_eq!(
+            message("1.5"),
+            "expected integer literal, found floating point literal"
+        );
+        assert_eq!(message("300"), "number that u8 doesn't hold");
+        let digits = LitInt::parse("300").map(|it| it.base10_parse::<u8>());
+        let error = MacroError::from(digits.expect("an integer").unwrap_err());
+        assert_eq!(error.to_string(), "number too large to fit in target type");
+    }
+
+    #[test]
+    fn every_error_of_the_package_becomes_one() {
+        #[cfg(feature = "sources")]
+        {
+            let error = crate::parse_list("word").find_map(Result::err);
+            let error = MacroError::from(error.expect("a word"));
+            assert_eq!(error.to_string(), "not a literal");
+        }
+        #[cfg(feature = "settings")]
+        {
+            let error = MacroError::from(crate::parse_settings("a = 1, a = 2").unwrap_err());
+            assert_eq!(error.to_string(), "repeated name `a`");
+            let error = crate::Settings::read("a = ").unwrap_err();
+            let words = "unexpected end of input, expected literal";
+            assert_eq!(MacroError::from(error).to_string(), words);
+        }
+        #[cfg(feature = "flaws")]
+        {
+            let bad = crate::flaws(r#""\q""#).next().expect("a flaw");
+            assert_eq!(MacroError::from(bad).to_string(), "unknown escape");
+            let error = MacroError::from(crate::TypeError::OutOfRange);
+            assert_eq!(error.to_string(), "out of its type's range");
+        }
+    }
+
+    #[test]
+    fn an_error_moves_to_other_threads() {
+        fn moves<T: Send + Sync>() {}
+        moves::<MacroError>();
+        let mut error = MacroError::from(LitStr::parse("1").unwrap_err());
+        error.combine(MacroError::from(LitInt::parse("'").unwrap_err()));
+        let shown = std::thread::spawn(move || {
+            let boxed: Box<dyn Error + Send + Sync> = error.clone().into();
+            format!("{boxed}; {error:?}")
+        });
+        let first = "expected string literal, found integer literal";
+        let second = LitInt::parse("'").unwrap_err().kind();
+        let shown = shown.join().expect("no panic");
+        assert_eq!(
+            shown,
+            format!("{first}; MacroError({first:?}, \"{second}\")")
+        );
+    }
+}

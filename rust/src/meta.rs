@@ -1,0 +1,561 @@
+//! An entry of an attribute: a flag, a value or a list.
+
+use crate::attributes::Attrs;
+use crate::macro_error::{MacroError, Mismatch};
+use crate::proc_macros::{next_placed, LitOfKind, Placed};
+use crate::value::Number;
+use crate::value_end::{Shape, ValueEnd};
+use crate::{Kind, Lit, LitBool, LitFloat, LitStr};
+use alloc::string::{String, ToString};
+use alloc::vec;
+use alloc::vec::Vec;
+use core::fmt;
+use core::iter::Peekable;
+use proc_macro::token_stream::IntoIter;
+use proc_macro::{Delimiter, Group, Span, TokenStream, TokenTree};
+
+/// An entry of an attribute: a flag (`verbose`), a value (`name = "x"`, `max = u8::MAX`) or a list (`inner(a = 1)`).
+///
+/// The name is an identifier, or a path such as `a::b`. Keywords are names too, and `r#type` has the name `type`. A list may have
+/// `(..)`, `[..]` or `{..}`.
+///
+/// A value is all tokens up to the next comma. These commas don't end a value: a comma in brackets; a comma in `<..>` at the
+/// value's start, after `::` or in a closure's return type; a comma among a closure's parameters.
+///
+/// The methods `string`, `number`, `flag` and `literal_of` read a value that is one literal. The literal may follow a minus, or be
+/// in a group of `macro_rules!`.
+///
+/// ```no_run
+/// extern crate proc_macro;
+/// use navyspindle::{LitStr, MacroError, Meta};
+/// use proc_macro::TokenStream;
+///
+/// #[derive(Default)]
+/// struct Options {
+///     skip: bool,
+///     rename: Option<String>,
+///     with: Option<TokenStream>,
+/// }
+///
+/// /// Reads `skip`, `rename = "x"` and `with = path::to::function`, in any order.
+/// fn options(input: TokenStream) -> Result<Options, MacroError> {
+///     let mut options = Options::default();
+///     for meta in Meta::parse_all(input)? {
+///         match meta.name() {
+///             "skip" => options.skip = meta.flag()?,
+///             "rename" => options.rename = Some(meta.string()?),
+///             "with" => options.with = Some(meta.value()?),
+///             _ => return Err(meta.unknown()),
+///         }
+///     }
+///     Ok(options)
+/// }
+/// ```
+#[doc(alias = "MetaNameValue")]
+#[doc(alias = "MetaList")]
+#[doc(alias = "NestedMeta")]
+#[derive(Clone)]
+pub struct Meta {
+    name: String,
+    first: Span,
+    last: Span,
+    form: Form,
+}
+
+/// The tokens after an entry's name: none, a value or a list.
+#[derive(Clone)]
+enum Form {
+    Flag,
+    Value(Vec<TokenTree>),
+    List(Group),
+}
+
+impl Meta {
+    /// Parses the whole input as one entry, such as the tokens inside `#[..]`.
+    ///
+    /// # Errors
+    ///
+    /// Returns an error if the input isn't an entry, or if tokens follow it.
+    ///
+    /// ```no_run
+    /// extern crate proc_macro;
+    /// use navyspindle::{Attrs, MacroError, Meta};
+    /// use proc_macro::Group;
+    ///
+    /// /// The entries of `#[opt(..)]`, by the group that follows `#`; `None` for another attribute.
+    /// fn opt(brackets: &Group) -> Result<Option<Attrs>, MacroError> {
+    ///     let meta = Meta::parse(brackets.stream())?;
+    ///     (meta.name() == "opt").then(|| meta.list()).transpose()
+    /// }
+    /// ```
+    pub fn parse(input: TokenStream) -> Result<Meta, MacroError> {
+        let mut trees = Trees::of(input);
+        let meta = next_meta(&mut trees)?;
+        match trees.next() {
+            None => Ok(meta),
+            Some(tree) => Err(MacroError::new("unexpected token", tree.span())),
+        }
+    }
+
+    /// Parses entries separated by commas. A trailing comma is allowed.
+    ///
+    /// # Errors
+    ///
+    /// Returns an error if a name, a value or a comma is missing. The error is at the unexpected token, or at the last token of the
+    /// input.
+    ///
+    /// ```no_run
+    /// extern crate proc_macro;
+    /// let metas = navyspindle::Meta::parse_all("a, b = 1, c(d = 2),".parse().unwrap())?;
+    /// let names: Vec<_> = metas.iter().map(|meta| meta.name()).collect();
+    /// assert_eq!(names, ["a", "b", "c"]);
+    /// # Ok::<(), navyspindle::MacroError>(())
+    /// ```
+    pub fn parse_all(input: TokenStream) -> Result<Vec<Meta>, MacroError> {
+        let (mut trees, mut metas) = (Trees::of(input), Vec::new());
+        while trees.peek().is_some() {
+            metas.push(next_meta(&mut trees)?);
+            match trees.next() {
+                None => break,
+                Some(tree) if is_mark(&tree, ',') => {}
+                Some(tree) => return Err(MacroError::new("expected `,`", tree.span())),
+            }
+        }
+        Ok(metas)
+    }
+
+    /// Returns the entry's name, without `r#`. The parts of a path have `::` between them.
+    ///
+    /// ```no_run
+    /// extern crate proc_macro;
+    /// assert_eq!(navyspindle::Meta::parse("r#type = 1".parse().unwrap())?.name(), "type");
+    /// # Ok::<(), navyspindle::MacroError>(())
+    /// ```
+    #[must_use]
+    pub fn name(&self) -> &str {
+        &self.name
+    }
+
+    /// Returns the span of the first token of the entry's name.
+    ///
+    /// ```no_run
+    /// extern crate proc_macro;
+    /// use navyspindle::{MacroError, Meta};
+    ///
+    /// fn deprecated(meta: &Meta) -> MacroError {
+    ///     MacroError::new("use `rename`", meta.span())
+    /// }
+    /// ```
+    #[must_use]
+    pub fn span(&self) -> Span {
+        self.first
+    }
+
+    /// Creates an error at the entry's name.
+    ///
+    /// ```no_run
+    /// extern crate proc_macro;
+    /// let meta = navyspindle::Meta::parse("a = 1".parse().unwrap())?;
+    /// assert_eq!(meta.error("use `b`").to_string(), "use `b`");
+    /// # Ok::<(), navyspindle::MacroError>(())
+    /// ```
+    #[must_use]
+    pub fn error(&self, message: impl fmt::Display) -> MacroError {
+        MacroError::between(message, self.first, self.last)
+    }
+
+    /// Creates an error with the span of the value, from its first token to its last, or of the list. For a flag, the error is at the
+    /// name.
+    ///
+    /// ```no_run
+    /// extern crate proc_macro;
+    /// use navyspindle::{MacroError, Meta};
+    ///
+    /// fn size(meta: &Meta) -> Result<u8, MacroError> {
+    ///     match meta.number()? {
+    ///         0 => Err(meta.value_error("expected a positive number")),
+    ///         size => Ok(size),
+    ///     }
+    /// }
+    /// ```
+    #[must_use]
+    pub fn value_error(&self, message: impl fmt::Display) -> MacroError {
+        match &self.form {
+            Form::Value(trees) => {
+                let (first, last) = (&trees[0], &trees[trees.len() - 1]);
+                MacroError::between(message, first.span(), last.span())
+            }
+            Form::List(group) => MacroError::new(message, group.span()),
+            Form::Flag => self.error(message),
+        }
+    }
+
+    /// Creates the error that the entry's name is unknown. The error is at the name.
+    ///
+    /// ```no_run
+    /// extern crate proc_macro;
+    /// let meta = navyspindle::Meta::parse("nme = 1".parse().unwrap())?;
+    /// assert_eq!(meta.unknown().to_string(), "unknown name `nme`");
+    /// # Ok::<(), navyspindle::MacroError>(())
+    /// ```
+    #[must_use]
+    pub fn unknown(&self) -> MacroError {
+        self.error(format_args!("unknown name `{}`", self.name))
+    }
+
+    /// Returns the entry's value if it is a single literal, and the span of the literal's token. Returns `None` for a flag, for a
+    /// list, and for any other value.
+    ///
+    /// ```no_run
+    /// extern crate proc_macro;
+    /// use navyspindle::Meta;
+    ///
+    /// let literal = |text: &str| Meta::parse(text.parse().unwrap()).unwrap().literal();
+    /// assert_eq!(literal("a = -1").unwrap().0.text(), "-1");
+    /// assert!(literal("a = u8::MAX").is_none());
+    /// ```
+    #[must_use]
+    pub fn literal(&self) -> Option<(Lit<'static>, Span)> {
+        let placed = self.placed().ok()?;
+        Some((placed.literal, placed.span))
+    }
+
+    /// Returns the entry's value as a literal of kind `L`, and the span of the literal's token.
+    ///
+    /// # Errors
+    ///
+    /// Returns an error if there is no value, if it isn't one literal, or if the literal isn't of kind `L`.
+    ///
+    /// ```no_run
+    /// extern crate proc_macro;
+    /// use navyspindle::{LitChar, Meta};
+    ///
+    /// let meta = Meta::parse("short = 'a'".parse().unwrap())?;
+    /// assert_eq!(meta.literal_of::<LitChar>()?.0.value(), 'a');
+    /// # Ok::<(), navyspindle::MacroError>(())
+    /// ```
+    pub fn literal_of<L: LitOfKind>(&self) -> Result<(L, Span), MacroError> {
+        let placed = self.placed()?;
+        let (first, span) = (placed.first, placed.span);
+        match L::try_from(placed.literal) {
+            Ok(literal) => Ok((literal, span)),
+            Err(other) => Err(mismatch(L::KIND, &other, first, span)),
+        }
+    }
+
+    /// Returns the text that the entry's string literal represents. The literal must have no suffix.
+    ///
+    /// # Errors
+    ///
+    /// Returns an error if there is no value, or if it isn't one string literal without a suffix.
+    ///
+    /// ```no_run
+    /// extern crate proc_macro;
+    /// let meta = navyspindle::Meta::parse(r#"rename = "a\x41""#.parse().unwrap())?;
+    /// assert_eq!(meta.string()?, "aA");
+    /// # Ok::<(), navyspindle::MacroError>(())
+    /// ```
+    pub fn string(&self) -> Result<String, MacroError> {
+        let (literal, span) = self.literal_of::<LitStr>()?;
+        match literal.suffix() {
+            "" => Ok(literal.into_value().into_owned()),
+            suffix => Err(MacroError::new(
+                format_args!("unexpected suffix `{suffix}`"),
+                span,
+            )),
+        }
+    }
+
+    /// Returns the entry's value as a number of type `N`, if Rust accepts the literal for `N`
+    /// ([`LitInt::value`](crate::LitInt::value), [`LitFloat::value`]).
+    ///
+    /// # Errors
+    ///
+    /// Returns an error if there is no value, if it isn't one number, or if the number isn't of the type.
+    ///
+    /// ```no_run
+    /// extern crate proc_macro;
+    /// let meta = navyspindle::Meta::parse("size = 0x1F".parse().unwrap())?;
+    /// assert_eq!(meta.number::<u8>()?, 31);
+    /// # Ok::<(), navyspindle::MacroError>(())
+    /// ```
+    pub fn number<N: Number>(&self) -> Result<N, MacroError> {
+        let Placed {
+            literal,
+            first,
+            span,
+        } = self.placed()?;
+        let number = match &literal {
+            Lit::Int(literal) => literal.value(),
+            Lit::Float(literal) => literal.value(),
+            // An integer above 128 bits that is a float by its suffix.
+            Lit::Verbatim(large) => LitFloat::new(large.text())?.value(),
+            _ if N::TYPE.is_float() => return Err(mismatch(Kind::Float, &literal, first, span)),
+            _ => return Err(mismatch(Kind::Int, &literal, first, span)),
+        };
+        number.map_err(|error| MacroError::between(error.message(), first, span))
+    }
+
+    /// Returns `true` for a flag and for the value `true`, and `false` for the value `false`.
+    ///
+    /// # Errors
+    ///
+    /// Returns an error if the entry is a list, or has a value other than `true` and `false`.
+    ///
+    /// ```no_run
+    /// extern crate proc_macro;
+    /// use navyspindle::Meta;
+    ///
+    /// let flag = |text: &str| Meta::parse(text.parse().unwrap())?.flag();
+    /// assert_eq!((flag("verbose")?, flag("verbose = false")?), (true, false));
+    /// # Ok::<(), navyspindle::MacroError>(())
+    /// ```
+    pub fn flag(&self) -> Result<bool, MacroError> {
+        match &self.form {
+            Form::Flag => Ok(true),
+            Form::Value(_) => Ok(self.literal_of::<LitBool>()?.0.value()),
+            Form::List(group) => Err(MacroError::new("unexpected list", group.span_open())),
+        }
+    }
+
+    /// Returns the tokens of the entry's value. They aren't checked: rustc reports an invalid expression where the macro's output
+    /// uses it.
+    ///
+    /// # Errors
+    ///
+    /// Returns an error if the entry is a flag or a list.
+    ///
+    /// ```no_run
+    /// extern crate proc_macro;
+    /// let meta = navyspindle::Meta::parse("max = u8::MAX".parse().unwrap())?;
+    /// assert_eq!(meta.value()?.into_iter().count(), 4);
+    /// # Ok::<(), navyspindle::MacroError>(())
+    /// ```
+    pub fn value(&self) -> Result<TokenStream, MacroError> {
+        Ok(self.value_trees()?.iter().cloned().collect())
+    }
+
+    /// Returns the tokens inside the entry's list.
+    ///
+    /// # Errors
+    ///
+    /// Returns an error if the entry is a flag or has a value.
+    ///
+    /// ```no_run
+    /// extern crate proc_macro;
+    /// use navyspindle::{next_literal_of, LitStr, MacroError, Meta};
+    ///
+    /// /// `"x"` of `alias("x")`.
+    /// fn alias(meta: &Meta) -> Result<LitStr<'static>, MacroError> {
+    ///     Ok(next_literal_of(&mut meta.tokens()?.into_iter())?.0)
+    /// }
+    /// ```
+    pub fn tokens(&self) -> Result<TokenStream, MacroError> {
+        match &self.form {
+            Form::List(group) => Ok(group.stream()),
+            Form::Flag => Err(self.error(format_args!("expected a list: `{}(..)`", self.name))),
+            Form::Value(trees) => Err(MacroError::new("expected a list", trees[0].span())),
+        }
+    }
+
+    /// Parses the tokens inside the entry's list as entries.
+    ///
+    /// # Errors
+    ///
+    /// Returns an error if the entry is a flag or has a value. Otherwise returns the error of [`Meta::parse_all`].
+    ///
+    /// ```no_run
+    /// extern crate proc_macro;
+    /// let meta = navyspindle::Meta::parse("inner(a = 1)".parse().unwrap())?;
+    /// assert_eq!(meta.list()?.number::<u8>("a")?, Some(1));
+    /// # Ok::<(), navyspindle::MacroError>(())
+    /// ```
+    pub fn list(&self) -> Result<Attrs, MacroError> {
+        let entries = Meta::parse_all(self.tokens()?)?;
+        Ok(Attrs::of(entries, Some((self.first, self.last))))
+    }
+
+    fn value_trees(&self) -> Result<&[TokenTree], MacroError> {
+        match &self.form {
+            Form::Value(trees) => Ok(trees),
+            Form::Flag => Err(self.error(format_args!("expected a value: `{} = ..`", self.name))),
+            Form::List(group) => Err(MacroError::new("expected a value", group.span_open())),
+        }
+    }
+
+    /// Returns the entry's value if it is one literal, with its spans.
+    fn placed(&self) -> Result<Placed, MacroError> {
+        let mut trees = self.value_trees()?.iter().cloned();
+        let placed = next_placed(&mut trees)?;
+        match trees.next() {
+            None => Ok(placed),
+            Some(tree) => Err(MacroError::new("expected literal", tree.span())),
+        }
+    }
+}
+
+/// Prints the entry's name and form, without the tokens of its value or list.
+impl fmt::Debug for Meta {
+    fn fmt(&self, f: &mut fmt::Formatter<'_>) -> fmt::Result {
+        f.write_str(&self.name)?;
+        f.write_str(match &self.form {
+            Form::Flag => "",
+            Form::Value(_) => " = ..",
+            Form::List(_) => "(..)",
+        })
+    }
+}
+
+fn mismatch(expected: Kind, found: &Lit<'_>, first: Span, last: Span) -> MacroError {
+    MacroError::between(Mismatch(expected, found.kind()), first, last)
+}
+
+/// A cursor over token trees, with a view of the next tree and the span of the previous one. `open` is a stack: below the innermost
+/// opened group without brackets are the trees that follow the group.
+struct Trees {
+    open: Vec<Peekable<IntoIter>>,
+    before: Option<Span>,
+}
+
+impl Trees {
+    fn of(input: TokenStream) -> Trees {
+        Trees {
+            open: vec![input.into_iter().peekable()],
+            before: None,
+        }
+    }
+
+    /// Returns the innermost opened group that has trees left, after dropping the groups at their end.
+    fn innermost(&mut self) -> Option<&mut Peekable<IntoIter>> {
+        while self.open.last_mut()?.peek().is_none() {
+            self.open.pop();
+        }
+        self.open.last_mut()
+    }
+
+    fn peek(&mut self) -> Option<&TokenTree> {
+        self.innermost()?.peek()
+    }
+
+    fn next(&mut self) -> Option<TokenTree> {
+        let tree = self.innermost()?.next()?;
+        self.before = Some(tree.span());
+        Some(tree)
+    }
+
+    fn begins_with_kind(&mut self, mark: char) -> bool {
+        self.peek().is_some_and(|tree| is_mark(tree, mark))
+    }
+
+    /// Enters the groups without brackets that are next. `macro_rules!` passes a path on in such a group.
+    fn open_groups(&mut self) {
+        while let Some(TokenTree::Group(group)) = self.peek() {
+            if group.delimiter() != Delimiter::None {
+                return;
+            }
+            let inside = group.stream().into_iter().peekable();
+            self.next();
+            self.open.push(inside);
+        }
+    }
+
+    /// Creates the error that the next tree, or the end of the input, isn't the expected `what`.
+    fn expected(&mut self, what: &str) -> MacroError {
+        match self.peek() {
+            Some(tree) => MacroError::new(format_args!("expected {what}"), tree.span()),
+            None => {
+                let span = self.before.unwrap_or_else(Span::call_site);
+                MacroError::new(
+                    format_args!("unexpected end of input, expected {what}"),
+                    span,
+                )
+            }
+        }
+    }
+}
+
+fn is_mark(tree: &TokenTree, mark: char) -> bool {
+    matches!(tree, TokenTree::Punct(punct) if punct.as_char() == mark)
+}
+
+/// Consumes and returns the next entry.
+fn next_meta(trees: &mut Trees) -> Result<Meta, MacroError> {
+    let (name, first, last) = next_name(trees)?;
+    let form = match trees.peek() {
+        Some(TokenTree::Group(group)) if group.delimiter() != Delimiter::None => {
+            let group = group.clone();
+            trees.next();
+            Form::List(group)
+        }
+        Some(tree) if is_mark(tree, '=') => {
+            trees.next();
+            Form::Value(next_value(trees)?)
+        }
+        _ => Form::Flag,
+    };
+    Ok(Meta {
+        name,
+        first,
+        last,
+        form,
+    })
+}
+
+/// Consumes a path. Returns it as text, with its first and its last span.
+fn next_name(trees: &mut Trees) -> Result<(String, Span, Span), MacroError> {
+    trees.open_groups();
+    let (mut name, mut first) = (String::new(), None);
+    loop {
+        if trees.begins_with_kind(':') {
+            first = first.or(trees.peek().map(TokenTree::span));
+            trees.next();
+            if !trees.begins_with_kind(':') {
+                return Err(trees.expected("`:`"));
+            }
+            trees.next();
+            name.push_str("::");
+        }
+        let Some(TokenTree::Ident(word)) = trees.peek() else {
+            return Err(trees.expected("identifier"));
+        };
+        let (text, span) = (word.to_string(), word.span());
+        trees.next();
+        name.push_str(text.strip_prefix("r#").unwrap_or(&text));
+        if !trees.begins_with_kind(':') {
+            return Ok((name, first.unwrap_or(span), span));
+        }
+        first = first.or(Some(span));
+    }
+}
+
+/// Consumes the next value, which is all token trees up to the comma that ends it, and returns these trees.
+fn next_value(trees: &mut Trees) -> Result<Vec<TokenTree>, MacroError> {
+    let (mut value, mut end) = (Vec::new(), ValueEnd::default());
+    while let Some(tree) = trees.peek() {
+        if end.is_at(shape_of(tree)) {
+            break;
+        }
+        value.extend(trees.next());
+    }
+    // A value that begins with `=` or `>` belongs to the token `==` or `=>`, which can't follow a name.
+    match value.first() {
+        Some(tree) if is_mark(tree, '=') || is_mark(tree, '>') => {
+            Err(MacroError::new("expected a value", tree.span()))
+        }
+        Some(_) => Ok(value),
+        None => Err(trees.expected("a value")),
+    }
+}
+
+/// Classifies a token tree for the search for the end of a value.
+fn shape_of(tree: &TokenTree) -> Shape {
+    match tree {
+        TokenTree::Punct(punct) => Shape::Mark(punct.as_char()),
+        TokenTree::Group(group) if group.delimiter() == Delimiter::Brace => Shape::Braces,
+        TokenTree::Ident(word) => match word.to_string().as_str() {
+            "move" | "async" | "static" => Shape::BeforeClosure,
+            _ => Shape::Other,
+        },
+        _ => Shape::Other,
+    }
+}

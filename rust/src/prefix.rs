@@ -1,0 +1,132 @@
+//! Parsing of the literal at the start of a text, for parsers that read literals among their own tokens.
+
+use crate::lit::Lit;
+use crate::rl_lexer::{first_source_token, whitespace};
+use crate::rl_recovery::{leading_literal, leading_signed, LeadingLiteral};
+use alloc::borrow::Cow;
+
+/// Returns the literal, and the text after it.
+fn split(leading: LeadingLiteral<'_>) -> (Lit<'_>, &str) {
+    let literal = Lit::of_token(Cow::Borrowed(leading.text), leading.found);
+    (literal, leading.following)
+}
+
+impl<'t> Lit<'t> {
+    /// Parses the literal at the start of the text. Returns the literal, and the text after it.
+    ///
+    /// Returns `None` if something else begins the text: an identifier, a punctuation character, a lifetime, white space or a
+    /// comment ([`skip_trivia`] skips these two), or a quote that isn't closed.
+    ///
+    /// The literal ends where [`source`](crate::source) ends its token. A token without a value, such as `'\q'`, is returned as
+    /// [`Lit::Verbatim`]. A minus isn't part of the literal; see [`Lit::parse_prefix_signed`]. The time grows with the token, not
+    /// with the text.
+    ///
+    /// A parser reads literals among its own tokens like this:
+    ///
+    /// ```
+    /// use navyspindle::{skip_trivia, Lit};
+    ///
+    /// /// Sums and products of numbers; the value, and what is left.
+    /// fn sum(text: &str) -> Option<(f64, &str)> {
+    ///     let (mut left, mut rest) = product(text)?;
+    ///     while let Some(following) = mark(rest, '+') {
+    ///         let (right, after) = product(following)?;
+    ///         (left, rest) = (left + right, after);
+    ///     }
+    ///     Some((left, rest))
+    /// }
+    ///
+    /// fn product(text: &str) -> Option<(f64, &str)> {
+    ///     let (mut left, mut rest) = number(text)?;
+    ///     while let Some(following) = mark(rest, '*') {
+    ///         let (right, after) = number(following)?;
+    ///         (left, rest) = (left * right, after);
+    ///     }
+    ///     Some((left, rest))
+    /// }
+    ///
+    /// fn number(text: &str) -> Option<(f64, &str)> {
+    ///     if let Some(following) = mark(text, '-') {
+    ///         let (value, rest) = number(following)?;
+    ///         return Some((-value, rest));
+    ///     }
+    ///     match Lit::parse_prefix(skip_trivia(text))? {
+    ///         (Lit::Int(literal), rest) => Some((literal.value::<u32>().ok()?.into(), rest)),
+    ///         (Lit::Float(literal), rest) => Some((literal.value::<f64>().ok()?, rest)),
+    ///         _ => None,
+    ///     }
+    /// }
+    ///
+    /// fn mark(text: &str, mark: char) -> Option<&str> {
+    ///     skip_trivia(text).strip_prefix(mark)
+    /// }
+    ///
+    /// assert_eq!(sum("1 + 0x2f * -3.5e2"), Some((-16449.0, "")));
+    /// assert_eq!(sum("2 /* two */ * 3; x"), Some((6.0, "; x")));
+    /// ```
+    #[must_use]
+    pub fn parse_prefix(text: &'t str) -> Option<(Lit<'t>, &'t str)> {
+        leading_literal(text).map(split)
+    }
+
+    /// Parses the literal at the start of the text like [`Lit::parse_prefix`], or a minus and the number directly after it.
+    ///
+    /// ```
+    /// use navyspindle::Lit;
+    ///
+    /// let (literal, rest) = Lit::parse_prefix_signed("-1.5, 2").unwrap();
+    /// assert_eq!((literal.text(), rest), ("-1.5", ", 2"));
+    /// assert!(Lit::parse_prefix_signed("- 1").is_none());
+    /// assert!(Lit::parse_prefix_signed("-'a'").is_none());
+    /// ```
+    #[must_use]
+    pub fn parse_prefix_signed(text: &'t str) -> Option<(Lit<'t>, &'t str)> {
+        leading_signed(text).map(split)
+    }
+}
+
+/// Returns the text after the white space and the plain comments at its start. A doc comment isn't skipped, and neither is a block
+/// comment that isn't closed.
+///
+/// ```
+/// assert_eq!(navyspindle::skip_trivia(" /* a */ // b\n\t1"), "1");
+/// assert_eq!(navyspindle::skip_trivia("/// doc"), "/// doc");
+/// ```
+#[must_use]
+pub fn skip_trivia(text: &str) -> &str {
+    whitespace::skip(text)
+}
+
+/// Returns the text after its first token, or `None` if the text doesn't begin with a token.
+///
+/// A token is a literal, an identifier, a lifetime, a doc comment, or one punctuation character, delimiter or other character. The
+/// result is `None` at the end of the text, at white space or a comment ([`skip_trivia`] skips these two), and at a quote or a
+/// block comment that isn't closed.
+///
+/// The tokens are those of [`source`](fn@crate::source). A loop over a text skips the tokens that aren't literals one by one, in
+/// time that grows with the text:
+///
+/// ```
+/// use navyspindle::{skip_trivia, skip_token, Lit};
+///
+/// fn strings(text: &str) -> Vec<Lit<'_>> {
+///     let (mut rest, mut found) = (skip_trivia(text), Vec::new());
+///     while let Some(following) = skip_token(rest) {
+///         if let Some((literal @ Lit::Str(_), _)) = Lit::parse_prefix(rest) {
+///             found.push(literal);
+///         }
+///         rest = skip_trivia(following);
+///     }
+///     found
+/// }
+///
+/// let found = strings(r##"f(é, 'a, "b", r#"c"#) // "d""##);
+/// assert_eq!(found.iter().map(Lit::text).collect::<Vec<_>>(), [r#""b""#, r##"r#"c"#"##]);
+/// ```
+#[must_use]
+pub fn skip_token(text: &str) -> Option<&str> {
+    if skip_trivia(text).len() < text.len() {
+        return None;
+    }
+    first_source_token(text).map(|(_, following)| following)
+}

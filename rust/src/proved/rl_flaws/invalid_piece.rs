@@ -1,0 +1,46 @@
+// Rendered from crates/rl_flaws/src/invalid_piece.rt by tools/render, which erases contracts: change that file, and render anew.
+//! A flaw, and the range of text to show for it.
+
+use crate::rl_flaws::piece_ends::{after_bad_piece, after_first, is_flaw_of_unit};
+use crate::rl_strict::flaws::FlawAt;
+use crate::rl_strict::{Flaw, FlawKind, LineEnds};
+
+/// A flaw, and the end of its piece: the range of text to show for the flaw.
+#[derive(Clone, Copy, PartialEq, Eq, Debug)]
+pub struct InvalidPiece {
+    /// The flaw. Its piece begins at the byte offset `flaw.from`.
+    pub flaw: Flaw,
+    /// The byte offset after the piece. For an invalid escape or character, it is the byte offset where parsing
+    /// continues. For any other flaw, it is the flaw's `hi`.
+    pub end: usize,
+}
+
+/// Returns the byte offset of `rest`, which is the end of a text of `len` bytes.
+fn rest_offset(len: usize, rest: &str) -> usize {
+    len - rest.len()
+}
+
+/// Returns the byte offset after a flaw's piece. `piece` is the text that begins at the piece, and `hi` is the byte offset
+/// after the flaw.
+fn end_of(ends: LineEnds, len: usize, quote: char, kind: FlawKind, piece: &str, hi: usize) -> usize {
+    if is_flaw_of_unit(kind) {
+        rest_offset(len, after_bad_piece(ends, quote, piece))
+    } else {
+        hi
+    }
+}
+
+/// Converts a flaw that was found inside a literal to byte offsets. The flaw's texts are ends of the input text, which has
+/// `len` bytes.
+pub fn placed(ends: LineEnds, len: usize, quote: char, found: FlawAt<'_>) -> InvalidPiece {
+    let hi = rest_offset(len, after_first(ends, found.rest));
+    InvalidPiece {
+        flaw: Flaw {
+            kind: found.kind,
+            from: rest_offset(len, found.piece),
+            lo: rest_offset(len, found.rest),
+            hi,
+        },
+        end: end_of(ends, len, quote, found.kind, found.piece, hi),
+    }
+}

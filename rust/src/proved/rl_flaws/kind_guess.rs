@@ -1,0 +1,63 @@
+// Rendered from crates/rl_flaws/src/kind_guess.rt by tools/render, which erases contracts: change that file, and render anew.
+//! Guesses the kind of a possibly invalid literal from its beginning.
+
+use crate::rl_flaws::walks::open;
+use crate::rl_lenient::bool_of;
+use crate::rl_lenient::digit_runs::{after_minus, begins_digit, skip_digits};
+use crate::rl_lenient::number_forms::split_radix;
+use crate::rl_syntax::Kind;
+use crate::rl_syntax::text::split_char;
+
+/// Whether the text continues a number as only a float does: with a dot, `e` or `E`.
+fn begins_float(text: &str) -> bool {
+    matches!(split_char(text), Some(('.' | 'e' | 'E', _)))
+}
+
+/// Returns the kind of a number, which begins with a digit: integer or float.
+fn number_kind(digits: &str) -> Kind {
+    let (radix, run) = split_radix(digits);
+    if radix != 10 {
+        return Kind::Int;
+    }
+    if begins_float(skip_digits(run).rest) {
+        Kind::Float
+    } else {
+        Kind::Int
+    }
+}
+
+/// Returns the kind of the number that the text begins with, optionally after a minus, or `None` without a digit.
+fn guess_number_kind(text: &str) -> Option<Kind> {
+    let digits = after_minus(text);
+    if begins_digit(digits) {
+        Some(number_kind(digits))
+    } else {
+        None
+    }
+}
+
+/// Returns the kind of literal that the text begins as, or `None` if it begins otherwise.
+fn front_kind(text: &str) -> Option<Kind> {
+    if let Some((opened, _)) = open(text) {
+        return Some(opened.kind);
+    }
+    if let Some(kind) = guess_number_kind(text) {
+        return Some(kind);
+    }
+    match bool_of(text) {
+        Some(_) => Some(Kind::Bool),
+        None => None,
+    }
+}
+
+/// Returns the kind of literal that the text begins as, whether or not it is a valid literal.
+///
+/// A prefix and an opening quote identify a quoted literal. A digit, or a minus and a digit, identify a number. Among other
+/// texts only `true` and `false` have a kind.
+///
+/// For a valid literal token, the result is the token's kind. A number is a float if a dot, `e` or `E` follows its decimal
+/// digits, and an integer otherwise. A raw string begins with its prefix, at most 255 hashes, and a quote. Nothing is
+/// allocated.
+pub fn guess_kind(text: &str) -> Option<Kind> {
+    front_kind(text)
+}

@@ -1,0 +1,42 @@
+// Rendered from crates/rl_lenient/src/lib.rt by tools/render, which erases contracts: change that file, and render anew.
+//! Parsers of literals by the lenient grammar, which is that of `syn`: of a single literal, and of the literals of
+//! lists and of Rust sources. Other functions return the segments of a literal's body, and the range of a literal's
+//! text that a range of its decoded value comes from.
+//!
+//! The parsers follow the module `value` in `src/lit.rs` of the crate `syn` 3.0.9. Nothing is allocated.
+
+pub mod contents;
+pub mod digit_runs;
+mod digits;
+pub mod found;
+mod next_literals;
+pub mod number_forms;
+mod numbers;
+pub mod quoted_forms;
+mod ranges;
+mod segments;
+mod source_literals;
+pub mod units;
+#[cfg(feature = "rendered")]
+mod values;
+
+pub use crate::rl_lenient::contents::bytes_into;
+#[cfg(feature = "rendered")]
+pub use crate::rl_lenient::contents::{
+    byte_of, byte_of_body, char_of, char_of_body, is_plain, str_into,
+};
+pub use crate::rl_lenient::digits::{float_digits_into, is_plain_integer};
+pub use crate::rl_lenient::found::{Body, Found, bool_of, find, find_negative};
+#[cfg(feature = "rendered")]
+pub use crate::rl_lenient::found::{Parts, find_float, find_int, shape};
+pub use crate::rl_lenient::next_literals::{
+    ListStep, NextLiteral, Rejection, RejectionKind, list_step, next_literal,
+};
+#[cfg(feature = "rendered")]
+pub use crate::rl_lenient::number_forms::{float_shape, int_shape, shape_negative};
+pub use crate::rl_lenient::numbers::{FloatParts, IntegerParts, float_parts, integer_parts};
+pub use crate::rl_lenient::ranges::text_range;
+pub use crate::rl_lenient::segments::{Segment, SegmentValue, Segments, split_segment};
+#[cfg(feature = "rendered")]
+pub use crate::rl_lenient::segments::text_offset;
+pub use crate::rl_lenient::source_literals::{SourceStep, source_step};

@@ -1,0 +1,61 @@
+// Rendered from crates/rl_recovery/src/leading.rt by tools/render, which erases contracts: change that file, and render anew.
+//! The literal at the start of a text, optionally with a minus before it.
+
+use crate::rl_lenient::{Found, find, find_negative};
+use crate::rl_lexer::{SourceToken, first_source_token};
+use crate::rl_syntax::text::{before, strip_byte};
+
+/// The literal at the start of a text.
+#[derive(Clone, Copy)]
+pub struct LeadingLiteral<'t> {
+    /// The text of the literal, including its minus if it has one.
+    pub text: &'t str,
+    /// The parse result, or `None` if the literal token isn't valid by `syn`'s grammar.
+    pub found: Option<Found>,
+    /// The text after the literal.
+    pub following: &'t str,
+}
+
+/// Returns the literal at the start of the text, its parse result, and the text after the literal.
+///
+/// The literal is a literal token, as the lexer splits the text, or `true` or `false`. Returns `None` if the text begins with
+/// another token, with white space or a comment, or with no token. The running time is proportional to the token's length.
+pub fn leading_literal(text: &str) -> Option<LeadingLiteral<'_>> {
+    let (form, following) = first_source_token(text)?;
+    let literal = before(text, following);
+    let token = SourceToken {
+        form,
+        text: literal,
+        lo: 0,
+        hi: literal.len(),
+    };
+    if !token.is_literal() {
+        return None;
+    }
+    Some(LeadingLiteral {
+        text: literal,
+        found: find(literal),
+        following,
+    })
+}
+
+/// Returns a minus and the number directly after it, if the text begins with them and they parse as one negative number.
+fn leading_negative(text: &str) -> Option<LeadingLiteral<'_>> {
+    let unsigned = strip_byte(text, b'-')?;
+    let number = leading_literal(unsigned)?;
+    let found = find_negative(number.text)?;
+    Some(LeadingLiteral {
+        text: before(text, number.following),
+        found: Some(found),
+        following: number.following,
+    })
+}
+
+/// Returns the literal at the start of the text, as [`leading_literal`] does, or a minus and the number directly after it if
+/// they parse as one negative number.
+pub fn leading_signed(text: &str) -> Option<LeadingLiteral<'_>> {
+    match leading_literal(text) {
+        Some(literal) => Some(literal),
+        None => leading_negative(text),
+    }
+}

@@ -1,0 +1,117 @@
+// Rendered from crates/rl_strict/src/quoted_flaws.rt by tools/render, which erases contracts: change that file, and render anew.
+//! The flaws of invalid escapes and invalid characters in quoted literals.
+
+use crate::rl_strict::flaws::{FlawAt, FlawKind, make_flaw};
+use crate::rl_lenient::units::{CodeDigits, allows_code, code_digits, has_unicode};
+use crate::rl_syntax::Kind;
+use crate::rl_syntax::text::split_char;
+
+/// Returns the flaw after the first digit of a `\x` escape. If the second digit exists, the escape is `\x00` in a C string.
+fn low_digit_flaw(text: &str) -> FlawAt<'_> {
+    match split_char(text) {
+        None => make_flaw(FlawKind::Unclosed, text),
+        Some((c, _)) if c.is_ascii_hexdigit() => make_flaw(FlawKind::Nul, text),
+        Some(_) => make_flaw(FlawKind::NoHexDigit, text),
+    }
+}
+
+/// Returns the first flaw after `\x` in a literal of the kind `kind`.
+fn hex_flaw(kind: Kind, text: &str) -> FlawAt<'_> {
+    let Some((first, rest)) = split_char(text) else {
+        return make_flaw(FlawKind::Unclosed, text);
+    };
+    match first.to_digit(16) {
+        Some(high) if kind.holds_characters() && high > 7 => make_flaw(
+            FlawKind::HexEscapeOutOfRange,
+            text,
+        ),
+        Some(_) => low_digit_flaw(rest),
+        None => make_flaw(FlawKind::NoHexDigit, text),
+    }
+}
+
+/// Whether a literal of the kind `kind` can contain the character with the number `code`.
+fn is_code(kind: Kind, code: u32) -> bool {
+    char::from_u32(code).is_some() && allows_code(kind, code)
+}
+
+/// Returns the reason why a literal can't contain the character with the number `code`.
+fn code_flaw(code: u32) -> FlawKind {
+    if code > 0x10FFFF {
+        FlawKind::UnicodeEscapeOutOfRange
+    } else if code == 0 {
+        FlawKind::Nul
+    } else {
+        FlawKind::Surrogate
+    }
+}
+
+/// Returns the flaw of the number that the digits of `\u{..}` represent, or the first flaw after the digits.
+fn digits_flaw(kind: Kind, text: &str, digits: CodeDigits) -> FlawAt<'_> {
+    if digits.count == 6 && !is_code(kind, digits.value) {
+        return make_flaw(code_flaw(digits.value), &text[digits.last..]);
+    }
+    let rest = &text[digits.end..];
+    match split_char(rest) {
+        None => make_flaw(FlawKind::Unclosed, rest),
+        Some(('}', _)) => make_flaw(code_flaw(digits.value), rest),
+        Some((next, _)) if next.is_ascii_hexdigit() => make_flaw(FlawKind::TooManyDigits, rest),
+        Some(_) => make_flaw(FlawKind::NoHexDigit, rest),
+    }
+}
+
+/// Returns the first flaw after `\u{`.
+fn first_digit_flaw(kind: Kind, text: &str) -> FlawAt<'_> {
+    if let Some(digits) = code_digits(text, 0) {
+        return digits_flaw(kind, text, digits);
+    }
+    match split_char(text) {
+        None => make_flaw(FlawKind::Unclosed, text),
+        Some(('}', _)) => make_flaw(FlawKind::EmptyBraces, text),
+        Some(_) => make_flaw(FlawKind::NoHexDigit, text),
+    }
+}
+
+/// Returns the first flaw after `\u`.
+fn unicode_flaw(kind: Kind, text: &str) -> FlawAt<'_> {
+    match split_char(text) {
+        None => make_flaw(FlawKind::Unclosed, text),
+        Some(('{', inside)) => first_digit_flaw(kind, inside),
+        Some(_) => make_flaw(FlawKind::NoBrace, text),
+    }
+}
+
+/// Returns the first flaw after a backslash.
+pub(crate) fn escape_flaw(kind: Kind, text: &str) -> FlawAt<'_> {
+    match split_char(text) {
+        None => make_flaw(FlawKind::Unclosed, text),
+        Some(('x', digits)) => hex_flaw(kind, digits),
+        Some(('u', braces)) => {
+            if has_unicode(kind) {
+                unicode_flaw(kind, braces)
+            } else {
+                make_flaw(FlawKind::NoUnicode, text)
+            }
+        }
+        Some(('0', _)) => make_flaw(FlawKind::Nul, text),
+        Some(_) => make_flaw(FlawKind::UnknownEscape, text),
+    }
+}
+
+/// Returns the reason why the character `c` isn't allowed unescaped.
+pub(crate) fn character_flaw(c: char) -> FlawKind {
+    match c {
+        '\0' => FlawKind::Nul,
+        '\'' => FlawKind::NoCharacter,
+        c if c.is_ascii() => FlawKind::MustEscape,
+        _ => FlawKind::NotAscii,
+    }
+}
+
+/// Returns the flaw of a character other than CR that a raw string of the kind `kind` can't contain.
+pub(crate) fn spoiled_flaw(kind: Kind) -> FlawKind {
+    match kind {
+        Kind::CStr => FlawKind::Nul,
+        _ => FlawKind::NotAscii,
+    }
+}

@@ -1,0 +1,198 @@
+// Rendered from crates/rl_strict/src/read_quoted.rt by tools/render, which erases contracts: change that file, and render anew.
+//! Quoted literals of Rust's grammar: parses one to the byte offsets of its parts and its value, or to its flaw.
+
+use crate::rl_strict::flaws::{FlawAt, FlawKind, make_flaw};
+use crate::rl_strict::line_ends::LineEnds;
+use crate::rl_strict::read_numbers::skip_suffix;
+use crate::rl_strict::strict_quoted_flaws::{begins_hash, quote_of};
+use crate::rl_strict::strict_reading::Reading;
+use crate::rl_strict::walk::{open_raw, walk_cooked, walk_raw, walk_single};
+use crate::rl_lenient::Body;
+use crate::rl_lenient::quoted_forms::{QuotedForm, places};
+use crate::rl_lenient::units::{Piece, is_bare_character, piece_unit, unit};
+use crate::rl_syntax::Kind;
+use crate::rl_syntax::text::split_char;
+
+/// Whether the text is a single underscore.
+fn is_lone_underscore(text: &str) -> bool {
+    match split_char(text) {
+        Some((first, rest)) => rest.is_empty() && first == '_',
+        None => false,
+    }
+}
+
+/// Returns the flaw after the closing quote, unless the text there is a suffix. `closing` is the text that begins with the
+/// closing quote, and `suffix` is the text after the closing delimiter. `suffix` isn't empty.
+#[inline(never)]
+fn some_suffix_flaw<'t>(form: QuotedForm, closing: &'t str, suffix: &'t str) -> Option<FlawAt<'t>> {
+    if begins_hash(form, suffix) {
+        return Some(make_flaw(FlawKind::ExtraHash, suffix).in_piece(closing));
+    }
+    let rest = skip_suffix(suffix);
+    match split_char(rest) {
+        None => {
+            if is_lone_underscore(suffix) {
+                Some(make_flaw(FlawKind::UnderscoreSuffix, rest).in_piece(suffix))
+            } else {
+                None
+            }
+        }
+        Some((c, _)) if c == quote_of(form) => {
+            Some(make_flaw(FlawKind::TextAfterQuote, rest).in_piece(closing))
+        }
+        Some(_) => Some(make_flaw(FlawKind::BadSuffix, rest).in_piece(suffix)),
+    }
+}
+
+/// Returns the flaw after the closing quote, unless the text there is a suffix or empty. `closing` is the text that begins with
+/// the closing quote, and `suffix` is the text after the closing delimiter. Most literals have no suffix, and return here at
+/// once.
+#[inline(always)]
+pub fn suffix_flaw<'t>(form: QuotedForm, closing: &'t str, suffix: &'t str) -> Option<FlawAt<'t>> {
+    if suffix.is_empty() {
+        return None;
+    }
+    some_suffix_flaw(form, closing, suffix)
+}
+
+/// Whether the body is known to be the literal's value, byte for byte. In a file the result is `false`, since a CR LF in the
+/// body would be read as LF.
+#[inline(always)]
+fn plain_of(ends: LineEnds, plain: bool) -> bool {
+    match ends {
+        LineEnds::Text => plain,
+        LineEnds::File => false,
+    }
+}
+
+/// Parses a string with escapes, and returns the byte offsets of its parts, or its flaw. `inside` is the text after the opening
+/// quote.
+#[cfg_attr(debug_assertions, inline)]
+#[cfg_attr(not(debug_assertions), inline(always))]
+pub(crate) fn text_at<'t>(
+    ends: LineEnds,
+    kind: Kind,
+    text: &'t str,
+    inside: &'t str,
+) -> Result<Body, FlawAt<'t>> {
+    let stretch = walk_cooked(ends, kind, inside);
+    match stretch.end {
+        Ok(suffix) => Ok(places(
+            text,
+            inside,
+            stretch.closing,
+            suffix,
+            plain_of(ends, stretch.plain),
+        )),
+        Err(flaw) => Err(flaw),
+    }
+}
+
+/// A parsed character or byte literal: the byte offsets of its parts, and its value.
+#[derive(Clone, Copy)]
+pub struct Single {
+    pub body: Body,
+    pub unit: u32,
+}
+
+/// Returns the character or escape at the beginning of the text after the opening quote of a character or byte literal, and the
+/// text after it.
+#[cfg_attr(debug_assertions, inline)]
+#[cfg_attr(not(debug_assertions), inline(always))]
+pub fn split_unit(kind: Kind, text: &str) -> Option<(Piece, &str)> {
+    match split_char(text) {
+        None => None,
+        Some(('\\', _)) => unit(kind, text),
+        Some((first, _)) => {
+            if is_bare_character(first) {
+                unit(kind, text)
+            } else {
+                None
+            }
+        }
+    }
+}
+
+/// Parses a character or byte literal, and returns the byte offsets of its parts and its value, or its flaw. `inside` is the
+/// text after the opening quote.
+#[inline(always)]
+pub(crate) fn unit_at<'t>(
+    ends: LineEnds,
+    kind: Kind,
+    text: &'t str,
+    inside: &'t str,
+) -> Result<Single, FlawAt<'t>> {
+    let stretch = walk_single(ends, kind, inside);
+    match stretch.end {
+        Ok((piece, suffix)) => Ok(Single {
+            body: places(text, inside, stretch.closing, suffix, false),
+            unit: piece_unit(kind, piece),
+        }),
+        Err(flaw) => Err(flaw),
+    }
+}
+
+/// Parses the rest of a raw string, and returns the byte offsets of its parts, or its flaw. `opened` is the text after the
+/// opening quote, and `hashes` the hashes before that quote.
+fn opened_at<'t>(
+    ends: LineEnds,
+    kind: Kind,
+    text: &'t str,
+    inside: &'t str,
+    hashes: &'t str,
+    opened: &'t str,
+) -> Result<Body, FlawAt<'t>> {
+    let stretch = walk_raw(ends, kind, hashes, opened);
+    match stretch.end {
+        Ok(suffix) => Ok(places(
+            text,
+            opened,
+            stretch.closing,
+            suffix,
+            plain_of(ends, stretch.plain),
+        )),
+        Err(flaw) => Err(flaw),
+    }
+}
+
+/// Parses a raw string, and returns the byte offsets of its parts, or its flaw. `inside` is the text that begins with the
+/// hashes.
+#[inline(always)]
+fn raw_at<'t>(
+    ends: LineEnds,
+    kind: Kind,
+    text: &'t str,
+    inside: &'t str,
+) -> Result<Body, FlawAt<'t>> {
+    match open_raw(kind, inside) {
+        Ok((hashes, opened)) => opened_at(ends, kind, text, inside, hashes, opened),
+        Err(flaw) => Err(flaw),
+    }
+}
+
+/// Parses a quoted literal of the form `form` and the kind `kind`, or returns its flaw. `inside` is the text after the opening
+/// delimiter.
+#[cfg_attr(debug_assertions, inline)]
+#[cfg_attr(not(debug_assertions), inline(always))]
+pub(crate) fn quoted_at<'t>(
+    ends: LineEnds,
+    form: QuotedForm,
+    kind: Kind,
+    text: &'t str,
+    inside: &'t str,
+) -> Result<Reading, FlawAt<'t>> {
+    match form {
+        QuotedForm::Cooked => match text_at(ends, kind, text, inside) {
+            Ok(body) => Ok(Reading::Text(kind, body)),
+            Err(flaw) => Err(flaw),
+        },
+        QuotedForm::Single => match unit_at(ends, kind, text, inside) {
+            Ok(single) => Ok(Reading::Unit(kind, single.body, single.unit)),
+            Err(flaw) => Err(flaw),
+        },
+        QuotedForm::Raw => match raw_at(ends, kind, text, inside) {
+            Ok(body) => Ok(Reading::Text(kind, body)),
+            Err(flaw) => Err(flaw),
+        },
+    }
+}

@@ -1,0 +1,308 @@
+// Rendered from crates/rl_strict/src/strict_reading.rt by tools/render, which erases contracts: change that file, and render anew.
+//! Parses a text as one literal token of Rust's grammar, or returns its flaw.
+
+use crate::rl_strict::flaws::{Flaw, FlawAt, FlawKind, end_flaw, first_flaw, make_flaw};
+use crate::rl_strict::line_ends::LineEnds;
+use crate::rl_strict::read_numbers::{Number, number_of};
+use crate::rl_strict::read_quoted::{Single, quoted_at, text_at, unit_at};
+use crate::rl_strict::walk_units::split;
+use crate::rl_lenient::digit_runs::begins_digit;
+use crate::rl_lenient::quoted_forms::split_opener;
+use crate::rl_lenient::units::is_bare_character;
+use crate::rl_lenient::{Body, bool_of};
+use crate::rl_syntax::Kind;
+use crate::rl_syntax::text::{ascii_at, begins_with, strip_byte};
+
+/// The parse result of a literal token. Offsets are in bytes of the token's text as written.
+///
+/// For a text in a file, `plain` is always false: it isn't known whether the body is the literal's value.
+#[derive(Clone, Copy)]
+pub enum Reading {
+    /// A string of this kind, and the byte offsets of its parts.
+    Text(Kind, Body),
+    /// A character or byte literal, the byte offsets of its parts, and its value.
+    Unit(Kind, Body, u32),
+    /// An integer: its magnitude, or `None` above 128 bits, and the byte offset of its suffix. Without a suffix, this is the
+    /// text's end.
+    Integer(Option<u128>, usize),
+    /// A float, and the byte offset of its suffix.
+    Float(usize),
+    /// The literal `true` or `false`.
+    Truth(bool),
+}
+
+/// How a text begins. The first bytes identify most literals, and the function that parses each of them.
+#[derive(Clone, Copy)]
+pub enum Front<'t> {
+    /// The text begins with `"`, and this is the text after it. [`read_string`] parses the text.
+    Quote(&'t str),
+    /// The text is this ASCII character, unescaped, between single quotes, for example `'a'`.
+    Bare(u8),
+    /// The text begins with `'`, and this is the text after it. [`read_character`] parses the text.
+    Apostrophe(&'t str),
+    /// The text begins with a digit. [`read_digits`] parses the text.
+    Digit,
+    /// The text begins otherwise. [`read_other`] parses the text.
+    Other,
+}
+
+/// Returns the character if the text is one unescaped ASCII character between single quotes, for example `'a'`.
+#[cfg_attr(debug_assertions, inline)]
+#[cfg_attr(not(debug_assertions), inline(always))]
+fn bare_of(text: &str) -> Option<u8> {
+    let bytes = text.as_bytes();
+    if bytes.len() != 3 || bytes[0] != b'\'' || bytes[2] != b'\'' || bytes[1] >= 128 {
+        return None;
+    }
+    if is_bare_character(bytes[1] as char) {
+        Some(bytes[1])
+    } else {
+        None
+    }
+}
+
+/// Returns how the text begins.
+#[cfg_attr(debug_assertions, inline)]
+#[cfg_attr(not(debug_assertions), inline(always))]
+pub fn front_of(text: &str) -> Front<'_> {
+    match ascii_at(text, 0) {
+        Some((b'"', at)) => Front::Quote(&text[at..]),
+        Some((b'\'', at)) => match bare_of(text) {
+            Some(c) => Front::Bare(c),
+            None => Front::Apostrophe(&text[at..]),
+        },
+        Some((b'0'..=b'9', _)) => Front::Digit,
+        _ => Front::Other,
+    }
+}
+
+/// Converts a parsed number, whose suffix is the end of `text`, to a `Reading` with the suffix's byte offset in `text`.
+#[inline(always)]
+pub fn placed(text: &str, number: Number<'_>) -> Reading {
+    match number {
+        Number::Integer(magnitude, suffix) => {
+            Reading::Integer(magnitude, text.len() - suffix.len())
+        }
+        Number::Float(suffix) => Reading::Float(text.len() - suffix.len()),
+    }
+}
+
+/// Parses all of `text`, which begins with a digit, as a number.
+#[inline(always)]
+fn number_at(text: &str) -> Result<Reading, FlawAt<'_>> {
+    match number_of(text) {
+        Ok(number) => Ok(placed(text, number)),
+        Err(stop) => Err(FlawAt {
+            kind: stop.kind,
+            piece: text,
+            rest: stop.rest,
+        }),
+    }
+}
+
+/// Parses a negative number. `number` is the part of `text` after the minus.
+#[cfg_attr(debug_assertions, inline)]
+#[cfg_attr(not(debug_assertions), inline(always))]
+fn negative_at<'t>(text: &'t str, number: &'t str) -> Result<Reading, FlawAt<'t>> {
+    if begins_digit(number) {
+        match number_of(number) {
+            Ok(read) => Ok(placed(text, read)),
+            Err(stop) => Err(FlawAt {
+                kind: stop.kind,
+                piece: text,
+                rest: stop.rest,
+            }),
+        }
+    } else {
+        let flaw = end_flaw(FlawKind::UnexpectedEnd, FlawKind::NoNumber, number);
+        Err(FlawAt {
+            kind: flaw.kind,
+            piece: text,
+            rest: flaw.rest,
+        })
+    }
+}
+
+/// Returns the flaw of a text that begins neither with a digit nor as a quoted literal, and isn't `true` or `false`.
+fn word_flaw(text: &str) -> FlawAt<'_> {
+    if begins_with(text, '-') {
+        make_flaw(FlawKind::Minus, text)
+    } else {
+        first_flaw(text).in_piece(text)
+    }
+}
+
+/// Parses a text that doesn't begin with a digit as a literal token.
+#[inline(always)]
+fn other_at(ends: LineEnds, text: &str) -> Result<Reading, FlawAt<'_>> {
+    match split_opener(text) {
+        Some((form, kind, inside)) => quoted_at(ends, form, kind, text, inside),
+        None => match bool_of(text) {
+            Some(truth) => Ok(Reading::Truth(truth)),
+            None => Err(word_flaw(text)),
+        },
+    }
+}
+
+/// Parses a text that doesn't begin with a digit as a literal token. Each value of `ends` has its own compiled copy of the
+/// code.
+#[inline(never)]
+fn read_rare(ends: LineEnds, text: &str) -> Result<Reading, FlawAt<'_>> {
+    match ends {
+        LineEnds::Text => other_at(LineEnds::Text, text),
+        LineEnds::File => other_at(LineEnds::File, text),
+    }
+}
+
+/// Parses the text as a literal token. The error is the flaw as ends of the text, before it's converted to byte offsets.
+#[inline]
+fn read_at(ends: LineEnds, text: &str) -> Result<Reading, FlawAt<'_>> {
+    match front_of(text) {
+        Front::Quote(inside) => match text_at(ends, Kind::Str, text, inside) {
+            Ok(body) => Ok(Reading::Text(Kind::Str, body)),
+            Err(flaw) => Err(flaw),
+        },
+        Front::Bare(c) => {
+            let body = Body {
+                lo: 1,
+                hi: 2,
+                suffix_at: 3,
+                plain: false,
+            };
+            Ok(Reading::Unit(Kind::Char, body, c as u32))
+        }
+        Front::Apostrophe(inside) => match unit_at(ends, Kind::Char, text, inside) {
+            Ok(single) => Ok(Reading::Unit(Kind::Char, single.body, single.unit)),
+            Err(flaw) => Err(flaw),
+        },
+        Front::Digit => match number_at(text) {
+            Ok(reading) => Ok(reading),
+            Err(flaw) => Err(flaw),
+        },
+        Front::Other => read_rare(ends, text),
+    }
+}
+
+/// Returns the text after its minus if `signed` is true and the text begins with one.
+#[inline(always)]
+fn after_minus(signed: bool, text: &str) -> Option<&str> {
+    if signed { strip_byte(text, b'-') } else { None }
+}
+
+/// Parses the text as a literal token, or as a minus and a number if `signed` is true. The error is the flaw as ends of the
+/// text, before it's converted to byte offsets.
+#[cfg_attr(debug_assertions, inline)]
+#[cfg_attr(not(debug_assertions), inline(always))]
+fn signed_at(text: &str, ends: LineEnds, signed: bool) -> Result<Reading, FlawAt<'_>> {
+    match after_minus(signed, text) {
+        Some(number) => match negative_at(text, number) {
+            Ok(reading) => Ok(reading),
+            Err(flaw) => Err(flaw),
+        },
+        None => match read_at(ends, text) {
+            Ok(reading) => Ok(reading),
+            Err(flaw) => Err(flaw),
+        },
+    }
+}
+
+/// Returns the text after its first character, or an empty text. In a file a CR LF is one character.
+fn after_first(ends: LineEnds, text: &str) -> &str {
+    match split(ends, text) {
+        Some((_, rest)) => rest,
+        None => text,
+    }
+}
+
+/// Converts a flaw to byte offsets in `text` as written. In a file, a CR LF at the flaw's position is one character.
+pub fn place_flaw(ends: LineEnds, found: FlawAt<'_>, text: &str) -> Flaw {
+    let after = after_first(ends, found.rest);
+    Flaw {
+        kind: found.kind,
+        from: text.len() - found.piece.len(),
+        lo: text.len() - found.rest.len(),
+        hi: text.len() - after.len(),
+    }
+}
+
+/// Parses all of `text` as a string literal, and returns the byte offsets of its parts. `inside` is the text after the opening
+/// `"`.
+///
+/// # Errors
+///
+/// Returns the flaw if the text isn't a string literal.
+#[inline(always)]
+pub fn read_string(text: &str, inside: &str) -> Result<Body, Flaw> {
+    match text_at(LineEnds::Text, Kind::Str, text, inside) {
+        Ok(body) => Ok(body),
+        Err(found) => Err(place_flaw(LineEnds::Text, found, text)),
+    }
+}
+
+/// Parses all of `text` as a character literal. `inside` is the text after the opening `'`.
+///
+/// # Errors
+///
+/// Returns the flaw if the text isn't a character literal.
+#[inline(always)]
+pub fn read_character(text: &str, inside: &str) -> Result<Single, Flaw> {
+    match unit_at(LineEnds::Text, Kind::Char, text, inside) {
+        Ok(single) => Ok(single),
+        Err(found) => Err(place_flaw(LineEnds::Text, found, text)),
+    }
+}
+
+/// Parses all of `text`, which begins with a digit, as a number.
+///
+/// # Errors
+///
+/// Returns the flaw if the text isn't a number.
+#[inline(always)]
+pub fn read_digits(text: &str) -> Result<Reading, Flaw> {
+    match number_at(text) {
+        Ok(reading) => Ok(reading),
+        Err(found) => Err(place_flaw(LineEnds::Text, found, text)),
+    }
+}
+
+/// Parses all of `text`, which doesn't begin with a digit, as a literal token, or as a minus and a number.
+///
+/// # Errors
+///
+/// Returns the flaw if the text is neither a literal token nor a minus and a number.
+#[inline(never)]
+pub fn read_other(text: &str) -> Result<Reading, Flaw> {
+    match strip_byte(text, b'-') {
+        Some(number) => match negative_at(text, number) {
+            Ok(reading) => Ok(reading),
+            Err(found) => Err(place_flaw(LineEnds::Text, found, text)),
+        },
+        None => match other_at(LineEnds::Text, text) {
+            Ok(reading) => Ok(reading),
+            Err(found) => Err(place_flaw(LineEnds::Text, found, text)),
+        },
+    }
+}
+
+/// Parses all of `text` as one literal token of Rust's grammar. Nothing is allocated.
+///
+/// If `signed` is true, a minus is allowed directly before a number: `-1.5`.
+///
+/// With `LineEnds::File`, the text is the text of a literal in a file, where rustc reads CR LF as LF. The result is that of the
+/// text without each CR before an LF. Byte offsets count the bytes of the text as written, and none is between a CR and its LF:
+/// an offset of an LF is that of its CR.
+///
+/// Integers of any size are tokens. The magnitude of an integer above 128 bits is `None`.
+///
+/// # Errors
+///
+/// Returns the flaw if the text isn't a literal token, nor a minus and a number where `signed` is true. The text before the
+/// flaw's `lo` is the longest prefix that can still become a valid text: some ending completes it, and with the text's next
+/// character no ending does.
+#[inline(always)]
+pub fn read(text: &str, ends: LineEnds, signed: bool) -> Result<Reading, Flaw> {
+    match signed_at(text, ends, signed) {
+        Ok(reading) => Ok(reading),
+        Err(found) => Err(place_flaw(ends, found, text)),
+    }
+}

@@ -1,0 +1,168 @@
+// Rendered from crates/rl_strict/src/walk.rt by tools/render, which erases contracts: change that file, and render anew.
+//! Parses a quoted literal of Rust's grammar in one pass, in a separate text or in a file. The result is the range of its valid
+//! content and its suffix, or its flaw.
+
+use crate::rl_strict::flaws::{FlawAt, FlawKind, end_flaw, make_flaw};
+use crate::rl_strict::line_ends::LineEnds;
+use crate::rl_strict::read_quoted::{split_unit, suffix_flaw};
+use crate::rl_strict::strict::{after_closer, skip_inside};
+use crate::rl_strict::strict_quoted_flaws::{
+    ends_raw_content, raw_character_flaw, skip_few_hashes, unit_flaw,
+};
+use crate::rl_strict::walk_units::{skip_units, split};
+use crate::rl_lenient::quoted_forms::{QuotedForm, after_quote};
+use crate::rl_lenient::units::{Piece, split_plain};
+use crate::rl_syntax::Kind;
+use crate::rl_syntax::text::{before, split_char};
+
+/// Returns the text that begins at a raw string's closing delimiter, or at the first character that a raw string of the kind
+/// `kind` can't contain.
+#[inline(always)]
+fn skip_raw<'t>(ends: LineEnds, kind: Kind, hashes: &str, text: &'t str) -> &'t str {
+    let mut rest = skip_inside(kind, text);
+    while let Some((c, after)) = split(ends, rest) {
+        if ends_raw_content(kind, hashes, c, after) {
+            return rest;
+        }
+        rest = skip_inside(kind, after);
+    }
+    rest
+}
+
+/// The end of a quoted literal's valid content, and the literal's suffix or flaw.
+#[derive(Clone, Copy)]
+pub struct QuotedContent<'t> {
+    /// The text that begins at the closing quote, or at the faulty piece.
+    pub closing: &'t str,
+    /// Whether the text before `closing` is known to contain no escapes. Outside files it is the literal's value then.
+    pub plain: bool,
+    pub end: Result<&'t str, FlawAt<'t>>,
+}
+
+/// Parses the text after the opening quote of a string with escapes.
+#[cfg_attr(debug_assertions, inline)]
+#[cfg_attr(not(debug_assertions), inline(always))]
+pub fn walk_cooked(ends: LineEnds, kind: Kind, text: &str) -> QuotedContent<'_> {
+    let (_, following) = split_plain(kind, text);
+    if let Some(suffix) = after_quote(Kind::Str, following) {
+        return match suffix_flaw(QuotedForm::Cooked, following, suffix) {
+            None => QuotedContent {
+                closing: following,
+                plain: true,
+                end: Ok(suffix),
+            },
+            Some(flaw) => QuotedContent {
+                closing: following,
+                plain: true,
+                end: Err(flaw),
+            },
+        };
+    }
+    let closing = skip_units(ends, kind, following);
+    match after_quote(Kind::Str, closing) {
+        Some(suffix) => match suffix_flaw(QuotedForm::Cooked, closing, suffix) {
+            None => QuotedContent {
+                closing,
+                plain: false,
+                end: Ok(suffix),
+            },
+            Some(flaw) => QuotedContent {
+                closing,
+                plain: false,
+                end: Err(flaw),
+            },
+        },
+        None => QuotedContent {
+            closing,
+            plain: false,
+            end: Err(unit_flaw(kind, closing).in_piece(closing)),
+        },
+    }
+}
+
+/// The end of a character or byte literal's content, and either the content and the suffix, or the flaw.
+#[derive(Clone, Copy)]
+pub struct UnitStretch<'t> {
+    /// The text that begins at the closing quote, or at the faulty piece.
+    pub closing: &'t str,
+    pub end: Result<(Piece, &'t str), FlawAt<'t>>,
+}
+
+/// Parses the text after the opening quote of a character or byte literal.
+#[cfg_attr(debug_assertions, inline)]
+#[cfg_attr(not(debug_assertions), inline(always))]
+pub fn walk_single(ends: LineEnds, kind: Kind, text: &str) -> UnitStretch<'_> {
+    let Some((unit, closing)) = split_unit(kind, text) else {
+        return UnitStretch {
+            closing: text,
+            end: Err(unit_flaw(kind, text).in_piece(text)),
+        };
+    };
+    match after_quote(Kind::Char, closing) {
+        Some(suffix) => match suffix_flaw(QuotedForm::Single, closing, suffix) {
+            None => UnitStretch {
+                closing,
+                end: Ok((unit, suffix)),
+            },
+            Some(flaw) => UnitStretch {
+                closing,
+                end: Err(flaw),
+            },
+        },
+        None => UnitStretch {
+            closing: text,
+            end: Err(end_flaw(FlawKind::Unclosed, FlawKind::TwoCharacters, closing).in_piece(text)),
+        },
+    }
+}
+
+/// Parses the text after the opening quote of a raw string that has `hashes` before this quote.
+#[cfg_attr(debug_assertions, inline)]
+#[cfg_attr(not(debug_assertions), inline(always))]
+pub fn walk_raw<'t>(ends: LineEnds, kind: Kind, hashes: &str, text: &'t str) -> QuotedContent<'t> {
+    let closing = skip_raw(ends, kind, hashes, text);
+    let Some((c, after)) = split(ends, closing) else {
+        return QuotedContent {
+            closing,
+            plain: true,
+            end: Err(make_flaw(FlawKind::Unclosed, closing)),
+        };
+    };
+    match after_closer(hashes, c, after) {
+        Some(suffix) => match suffix_flaw(QuotedForm::Raw, closing, suffix) {
+            None => QuotedContent {
+                closing,
+                plain: true,
+                end: Ok(suffix),
+            },
+            Some(flaw) => QuotedContent {
+                closing,
+                plain: true,
+                end: Err(flaw),
+            },
+        },
+        None => QuotedContent {
+            closing,
+            plain: true,
+            end: Err(make_flaw(raw_character_flaw(kind, c), closing)),
+        },
+    }
+}
+
+/// Returns a raw string's hashes and the text after its opening quote, or its flaw. `inside` is the text that begins with the
+/// hashes.
+#[cfg_attr(debug_assertions, inline)]
+#[cfg_attr(not(debug_assertions), inline(always))]
+pub fn open_raw(kind: Kind, inside: &str) -> Result<(&str, &str), FlawAt<'_>> {
+    let rest = skip_few_hashes(inside);
+    let Some((first, opened)) = split_char(rest) else {
+        return Err(make_flaw(FlawKind::UnexpectedEnd, rest));
+    };
+    if first == '#' {
+        Err(make_flaw(FlawKind::TooManyHashes, rest).in_piece(inside))
+    } else if first == '"' {
+        Ok((before(inside, rest), opened))
+    } else {
+        Err(make_flaw(FlawKind::NoQuote, rest))
+    }
+}

@@ -1,0 +1,20 @@
+// Rendered from crates/rl_syntax/src/ident.rt by tools/render, which erases contracts: change that file, and render anew.
+//! A test of whether a text is an identifier.
+
+use crate::rl_syntax::characters::{is_xid_continue, is_xid_start};
+use crate::rl_syntax::text::split_char;
+
+/// Returns `true` if the text is an identifier: its first character is `_` or has Unicode's property XID_Start, and
+/// every later character has XID_Continue. The empty text isn't an identifier. The text `_` is an identifier.
+#[inline(always)]
+pub fn xid_ok(text: &str) -> bool {
+    match split_char(text) {
+        Some((first, rest)) => { (first == '_' || is_xid_start(first)) && all_continue(rest) }
+        None => false,
+    }
+}
+
+/// Whether every character of the text may continue an identifier.
+fn all_continue(text: &str) -> bool {
+    text.chars().all(|c| is_xid_continue(c))
+}

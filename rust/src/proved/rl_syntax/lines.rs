@@ -1,0 +1,19 @@
+// Rendered from crates/rl_syntax/src/lines.rt by tools/render, which erases contracts: change that file, and render anew.
+//! Functions that find where a line of a text ends.
+
+use crate::rl_syntax::lanes::line_len;
+use crate::rl_syntax::text::split_ascii;
+
+/// Splits the text before its first line feed. If it has no line feed, the first part is the whole text.
+#[inline(always)]
+pub fn split_line(text: &str) -> (&str, &str) {
+    text.split_at(line_len(text.as_bytes()))
+}
+
+/// Returns the text after its first line feed, or `None` if it has no line feed.
+#[inline(always)]
+pub fn next_line(text: &str) -> Option<&str> {
+    let (_, from) = split_line(text);
+    let (_, following) = split_ascii(from)?;
+    Some(following)
+}

@@ -1,0 +1,25 @@
+// Rendered from crates/rl_syntax/src/lib.rt by tools/render, which erases contracts: change that file, and render anew.
+//! Definitions and functions that `syn`'s and Rust's grammars of literals share: characters and their classes, searches
+//! for bytes, spans, the kinds of literals, the integer types, and writers into a slice. The definitions of the two
+//! grammars, of written forms and of printed token lists are in `specs/`, with their laws. Nothing is allocated.
+
+pub mod characters;
+pub mod classes;
+pub mod ident;
+mod integer_type;
+pub mod kind;
+pub mod lanes;
+pub mod lines;
+pub mod scan;
+pub mod slice_writer;
+#[cfg(feature = "rendered")]
+mod span;
+pub mod text;
+mod written_into;
+pub mod written_unit;
+
+pub use crate::rl_syntax::integer_type::IntegerType;
+pub use crate::rl_syntax::kind::Kind;
+#[cfg(feature = "rendered")]
+pub use crate::rl_syntax::span::Span;
+pub use crate::rl_syntax::written_into::{write_bytes_into, write_char_into, write_str_into};

@@ -1,0 +1,64 @@
+// Rendered from crates/rl_syntax/src/written_unit.rt by tools/render, which erases contracts: change that file, and render anew.
+//! The written form of characters and bytes in literals: which ones are escaped, and how.
+
+use crate::rl_syntax::kind::Kind;
+
+/// Returns the escape of the quote that ends a literal of the kind: `\'` or `\"`.
+fn escaped_closer(kind: Kind) -> &'static str {
+    match kind {
+        Kind::Byte | Kind::Char => "\\'",
+        _ => "\\\"",
+    }
+}
+
+/// Returns the escape of the character or byte `c` in a literal of the kind, if it is a backslash and one character, as
+/// `\n`. Returns `None` for every other `c`.
+#[cfg_attr(debug_assertions, inline)]
+#[cfg_attr(not(debug_assertions), inline(always))]
+fn named_escape(kind: Kind, c: char) -> Option<&'static str> {
+    match c {
+        '\0' => Some("\\0"),
+        '\t' => Some("\\t"),
+        '\n' => Some("\\n"),
+        '\r' => Some("\\r"),
+        '\\' => Some("\\\\"),
+        _ if c == kind.quote() => Some(escaped_closer(kind)),
+        _ => None,
+    }
+}
+
+/// Whether the character or byte `c` is written by its number, as `\x7F`, unless it has a shorter escape: a character
+/// below U+0020, U+007F, and in literals of bytes every byte above 127.
+fn is_written_as_number(kind: Kind, c: char) -> bool {
+    c < ' ' || c == '\u{7f}' || ('\u{7f}' < c && !kind.holds_characters())
+}
+
+/// Returns the hexadecimal digit of the value `digit`, in upper case.
+fn upper_digit(digit: u32) -> u8 {
+    let digit = digit as u8;
+    if digit < 10 {
+        b'0' + digit
+    } else {
+        b'A' + (digit - 10)
+    }
+}
+
+/// Writes the escape of the number `c`, as `\x7F`, to `room`, and returns it as a text.
+fn number(c: u32, room: &mut [u8; 4]) -> &str {
+    *room = [b'\\', b'x', upper_digit(c / 16), upper_digit(c % 16)];
+    match core::str::from_utf8(room) {
+        Ok(text) => text,
+        Err(_) => unreachable!(),
+    }
+}
+
+/// Returns the escape of the character or byte `c` in a literal of the kind, or `None` if `c` is written as itself. An
+/// escape by number, as `\x7F`, is written to `room`.
+#[inline(always)]
+pub fn escape(kind: Kind, c: char, room: &mut [u8; 4]) -> Option<&str> {
+    match named_escape(kind, c) {
+        Some(text) => Some(text),
+        None if is_written_as_number(kind, c) => Some(number(c as u32, room)),
+        None => None,
+    }
+}

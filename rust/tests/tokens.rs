@@ -1,0 +1,94 @@
+//! Checks that a loop over the tokens of a text finds the literals that `source` returns.
+#![cfg(feature = "sources")]
+
+use navyspindle::{skip_token, skip_trivia, source, Lit};
+use std::fs;
+use std::ops::Range;
+
+/// Returns the literals of a text that has no `#!` line for an interpreter. If an open quote or comment ends the loop, it also
+/// returns that byte offset.
+fn by_tokens(text: &str) -> (Vec<(Range<usize>, Lit<'_>)>, Option<usize>) {
+    let (mut found, mut rest) = (Vec::new(), skip_trivia(text));
+    while let Some(following) = skip_token(rest) {
+        let (at, end) = (text.len() - rest.len(), text.len() - following.len());
+        if let Some((literal, after)) = Lit::parse_prefix(rest) {
+            assert_eq!(after, following);
+            found.push((at..end, literal));
+        }
+        rest = skip_trivia(following);
+    }
+    let end = text.len() - rest.len();
+    (found, (!rest.is_empty()).then_some(end))
+}
+
+fn check(text: &str) -> usize {
+    let (mut expected, mut end) = (Vec::new(), None);
+    for item in source(text) {
+        match item {
+            Ok(found) => expected.push(found),
+            Err(error) => end = Some(error.offset()),
+        }
+    }
+    let found = by_tokens(text);
+    assert_eq!(found, (expected, end));
+    found.0.len()
+}
+
+#[test]
+fn as_source() {
+    let mut literals = 0;
+    for folder in ["src", "tests", "examples"] {
+        for entry in fs::read_dir(folder).expect("a folder") {
+            let path = entry.expect("an entry").path();
+            if path.extension().is_some_and(|it| it == "rs") {
+                literals += check(&fs::read_to_string(path).expect("a text"));
+            }
+        }
+    }
+    assert!(literals > 2_000, "{literals}");
+    for text in [
+        "",
+        "é ü",
+        "'a 'b' 'r#c",
+        "/// \"a\"\n1",
+        "/** 'b' */ 2",
+        "r#fn r\"a\" r#\"b\"#",
+        "1.5.0 x.0.1",
+        "\"a",
+        "1 /* 2",
+        "'",
+        "a\u{0}b",
+        "b'' 'ab' ''",
+        "true false truth",
+    ] {
+        check(text);
+    }
+}
+
+/// `skip_token` skips each kind of token as a whole, and nothing after it.
+#[test]
+fn one_token_is_passed() {
+    for (token, rest) in [
+        ("word", " 1"),
+        ("1u8", ","),
+        ("\"a\\\"b\"", ";"),
+        ("'life", " x"),
+        ("r#raw", "("),
+        ("(", "1)"),
+        ("}", ""),
+        ("=", "="),
+        ("é", "-"),
+        ("\u{1f600}", "\u{1f600}"),
+        ("/// doc", "\n1"),
+        ("/** doc */", "1"),
+        ("r##\"a\"#\"##", "#"),
+    ] {
+        let text = format!("{token}{rest}");
+        assert_eq!(skip_token(&text), Some(rest), "{text}");
+    }
+    for text in [
+        "", " a", "\n", "// b\nc", "/* d */e", "\"f", "/* g", "r#\"h\"",
+    ] {
+        assert_eq!(skip_token(text), None, "{text}");
+    }
+}

@@ -1,0 +1,226 @@
+"""Writes and checks the sections `## Contracts` of the pages CALLING.md: the public functions of a library with their clauses,
+as in the sources."""
+import re
+import textwrap
+
+from .items import blanked, closing, code_files, core, given_by, holders, items_of, paths, public_items, read
+
+HEAD = '## Contracts\n'
+INTRODUCTION = """
+`tools/docs --write` wrote this section from the sources. `x.now` is the value of a borrowed argument at the call. For an
+argument that is borrowed to be changed, `x.old` is the value at the call, and `x.new` the value at the return. A clause
+without a label can't be cited by name. The line below a law's name is its statement.
+"""
+NAMES = re.compile(r'^( *)ghost use ([\w.]+)\.\{([^}]*)\};', re.M)
+MODULE = re.compile(r'^( *)ghost use ([\w.]+) as (\w+);', re.M)
+
+
+def calling_pages():
+    """Returns the pages with such a section, by crate."""
+    return {it.split('/')[1]: it for it in paths('crates/*/CALLING.md')}
+
+
+def named_at_the_root(crate):
+    """Returns the names that the root of a crate re-exports from its own modules, each with its module."""
+    found = re.findall(r'pub use crate::(\w+)[\w:]*::(?:\{([^}]*)\}|(\w+));', read(f'crates/{crate}/src/lib.rt'))
+    return {name: module for module, several, one in found for name in re.findall(r'\w+', several or one)}
+
+
+def passed_on():
+    """Returns the modules of lower crates that a library re-exports as a whole, and the modules of laws."""
+    given = {at for crate in calling_pages() for at, names in given_by(crate, f'crates/{crate}/src/lib.rt').items()
+             if names is None and at[0] != crate}
+    return given | {(crate, 'laws') for crate in calling_pages()}
+
+
+def core_items(crate):
+    """Returns the items that a crate of the core exports for callers: by name at its root, or in a module that is re-exported as a
+    whole."""
+    named, passed = named_at_the_root(crate), passed_on()
+    for path in code_files(crate):
+        module = path.split('/')[3].removesuffix('.rt')
+        for item in items_of(path):
+            owner, _, method = item.name.partition('::')
+            if (crate, module) in passed or owner in named and (method or named[owner] == module):
+                yield path, item
+
+
+def functions(crate):
+    """Returns the functions that the page of a crate quotes: those that it exports for callers, and those that it re-exports from
+    crates without a page."""
+    items = core_items(crate) if crate in core() else public_items(crate)
+    with_page = {*calling_pages()} - {crate}
+    return [(path, item) for path, item in items if item.kind == 'fn' and path.split('/')[1] not in with_page]
+
+
+def first_sentence(docs):
+    first = re.split(r'\n\n|\n#', docs.strip())[0].replace('\n', ' ')
+    first = re.sub(r'\[(`[^`]*`)\](\([^)]*\)|\[[^\]]*\])?', r'\1', first)
+    return re.split(r'(?<=[.;:])\s', first, maxsplit=1)[0].rstrip(';:')
+
+
+def clauses(text, code, at):
+    """Iterates over the clauses from a position of a file on: whether each is required or ensured, its label and its text."""
+    between, head = re.compile(r'\s*'), re.compile(r'(requires|ensures)\s*(\w*)\s*\{')
+    at = between.match(code, at).end()
+    while it := head.match(code, at):
+        end = closing(code, it.end() - 1)
+        said = re.sub(r'\s+', ' ', re.sub(r'//[^\n]*', '', text[it.end():end - 1])).strip()
+        yield it[1], it[2], said
+        at = between.match(code, end).end()
+
+
+def clauses_of(path, item):
+    """Returns the clauses of a function, and the position where it begins."""
+    text, code = read(path), blanked(read(path))
+    begin = sum(len(line) + 1 for line in text.split('\n')[:item.line - 1])
+    head = re.search(r'\bfn\b', code[begin:])
+    end = re.compile(r'\b(?:requires|ensures)\b|[{;]').search(code, begin + head.end())
+    is_clause = end[0] in ('requires', 'ensures')
+    return (list(clauses(text, code, end.start())) if is_clause else []), begin
+
+
+def is_in(name, said):
+    """Whether a clause contains a name. The name is an operator if it has placeholders for operands."""
+    name = name.split(' as ')[-1].strip()
+    if '◌' in name:
+        return all(part in said for part in name.split('◌') if part)
+    return re.search(rf'(?<![\w.]){re.escape(name)}(?!\w)', said) is not None
+
+
+def statement(said):
+    """Returns the statement of a clause that is the name of a law, or None for any other clause."""
+    name = re.fullmatch(r'([A-Z]\w*)(?: [A-Z])*', said)
+    pattern = rf'^abbrev pub {name[1]} : (?:\([A-Z ]+ : Type 0\) → )?Type 0\n{name[1]}[A-Z ]* =\s*((?:.+\n)+)' if name else ''
+    for file in paths('crates/*/specs/**/*.antt') if name else []:
+        if found := re.search(pattern, read(file), re.M):
+            return re.sub(r'\s+', ' ', found[1]).strip()
+    return None
+
+
+def imports(path, at, said):
+    """Returns the lines `ghost use` that a clause at a position of a file needs: the names, by module."""
+    text = read(path)
+    blocks = [it for it in holders(blanked(text)) if it[0] < at < it[1]]
+
+    def is_seen(found):
+        return not found[1] or any(it[0] < found.start() < it[1] for it in blocks)
+    needed = {}
+    for it in filter(is_seen, NAMES.finditer(text)):
+        names = {name for name in (part.strip() for part in it[3].split(',')) if name and is_in(name, said)}
+        if names:
+            needed.setdefault(it[2], set()).update(names)
+    for it in filter(is_seen, MODULE.finditer(text)):
+        if re.search(rf'(?<![\w.]){it[3]}\.', said):
+            needed[f'{it[2]} as {it[3]}'] = set()
+    return needed
+
+
+def quoted(path, item):
+    """Returns the lines that quote a function, and the lines `ghost use` that its clauses need."""
+    head = item.head[item.head.index('fn '):]
+    lines = [f'/// {first_sentence(item.docs)}', re.sub(r'^fn \w+', f'fn {item.name}', head)]
+    found, at = clauses_of(path, item)
+    needed = {}
+    for sort, label, said in found:
+        lines.append(f'  {sort}{" " + label if label else ""}: {said}')
+        if law := statement(said):
+            lines.append(f'    = {law}')
+        for module, names in imports(path, at, said).items():
+            needed.setdefault(module, set()).update(names)
+    return lines, needed
+
+
+def section(crate):
+    lines, needed, last = [], {}, None
+    for path, item in functions(crate):
+        if path != last:
+            lines.append(f'// {path.removeprefix("crates/")}')
+            last = path
+        said, more = quoted(path, item)
+        lines += said
+        for module, names in more.items():
+            needed.setdefault(module, set()).update(names)
+    uses = [f'ghost use {module}{".{" + ", ".join(sorted(names)) + "}" if names else ""};' for module, names in sorted(needed.items())]
+    return '\n'.join([HEAD + INTRODUCTION, '```text', *lines, '```', '', 'Their words:', '', '```text', *uses, '```', ''])
+
+
+def with_contracts(crate, page):
+    """Returns a page with its section as in the sources, at the end."""
+    return read(page).partition(HEAD)[0].rstrip('\n') + '\n\n' + section(crate)
+
+
+# The page of the laws, the heading of its section, and the subject of each crate's laws.
+LAWS_PAGE, LAWS = 'docs/RATTLE.md', '## Laws and lemmas\n'
+SUBJECTS = {
+    'rl_syntax': 'The two grammars', 'rl_lexer': 'Tokens', 'rl_tokens': 'Printed lists and token trees',
+    'rl_lenient': 'Literals that were found, and the ranges of their values', 'rl_strict': 'Flaws', 'rl_flaws': 'All flaws of a literal',
+    'rl_types': 'Types of literals', 'rl_writing': 'Written numbers and raw strings', 'rl_style': 'Literals that are rewritten',
+    'rl_restyle': 'Sources that are rewritten', 'rust_literals': '`Lit` and its parsers', 'rl_attributes': 'Settings',
+}
+
+
+def paragraph(docs):
+    """Returns the first paragraph of a documentation, as comment lines."""
+    return [f'-- {line}' for line in textwrap.wrap(re.sub(r'\[(`[^`]*`)\]\([^)]*\)', r'\1', ' '.join(docs.strip().split('\n\n')[0].split())), 110)]
+
+
+def comment_of(crate, name):
+    """Returns the comment above a definition of a crate, as its lines."""
+    for path in paths(f'crates/{crate}/specs/*.antt'):
+        found = re.search(rf'(?m)((?:^-- .*\n)+)^(?:unfoldable |abbrev |pub )+{name}\b', read(path))
+        if found:
+            return found[1].rstrip('\n').split('\n')
+    return []
+
+
+def laws_of(crate):
+    """Iterates over the laws of a crate: the comment of each, its clauses with their statements, and the lemmas that prove
+    these."""
+    for path in code_files(crate):
+        for item in items_of(path) if path.endswith('/laws.rt') else []:
+            yield paragraph(item.docs), [(name, statement(name)) for _, _, name in clauses_of(path, item)[0]]
+
+
+def lemma_of(name):
+    """Returns the lemma that proves a statement, which has the statement's name."""
+    return re.sub(r'(?<!^)(?=[A-Z])', '_', name.split(' ')[0]).lower()
+
+
+def lemmas_of(crate):
+    """Returns the lemmas of a crate's theorems, each with its module."""
+    return {name: path.removeprefix('crates/').removesuffix('.antt').replace('/', '.')
+            for path in paths(f'crates/{crate}/proofs/*Theorems.antt') for name in re.findall(r'(?m)^pub ([\w-]+) :', read(path))}
+
+
+def laws_section(crate):
+    lines, uses, modules = [], {}, lemmas_of(crate)
+    for said, laws in laws_of(crate):
+        for name, law in laws:
+            lines += said if len(laws) == 1 else comment_of(crate, name.split(' ')[0])
+            lemma = lemma_of(name)
+            uses.setdefault(modules[lemma], []).append(lemma)
+            lines += [f'{lemma} : {name}', f'    = {law}']
+    used = ''.join(f'use Rattle.{module}.{{{", ".join(sorted(names))}}}\n' for module, names in uses.items())
+    return f'### {SUBJECTS[crate]} (`{crate}`)\n\n```text\n{used}\n' + '\n'.join(lines) + '\n```\n'
+
+
+def with_laws():
+    """Returns the page of the laws, with its last section as in the sources."""
+    front, _, section_now = read(LAWS_PAGE).partition(LAWS)
+    introduction = re.split(r'(?m)^### ', section_now, maxsplit=1)[0]
+    return front + LAWS + introduction.rstrip('\n') + '\n\n' + '\n'.join(laws_section(it) for it in SUBJECTS)
+
+
+def as_they_are():
+    """Iterates over the pages with such a section, each with its text as in the sources."""
+    yield LAWS_PAGE, with_laws()
+    for crate, page in calling_pages().items():
+        yield page, with_contracts(crate, page)
+
+
+def check_contracts(tell):
+    """Checks that each section is equal to the sources, and that each law has a lemma of its name."""
+    for page, text in as_they_are():
+        if text != read(page):
+            tell(f'{page}: the contracts or laws are not those of the sources: run tools/docs --write')
