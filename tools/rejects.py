@@ -9,9 +9,11 @@ import contextlib
 import importlib.machinery
 import importlib.util
 import io
+import itertools
 import pathlib
 import sys
 import tempfile
+from unittest import mock
 
 sys.dont_write_bytecode = True
 
@@ -49,6 +51,8 @@ TRIED = [
     (INLINING, 'skip_inside: ', 'skip_inside ', 'no entry'),
 ]
 
+# The texts before which items are inserted, in a file of the core and in one above it.
+CORE_PLACE, PLACE = 'fn all_continue(', 'fn is_bare'
 # Items whose meaning, memory, linkage or layout rustc decides. The word of each item is rejected wherever it occurs.
 WORDS = {
     'dyn': 'fn odd(it: &dyn Fn()) {}',
@@ -86,8 +90,8 @@ CORE_FINE = ['fn odd() -> bool { matches!(1, 1) }', 'impl fmt::Display for Odd {
              'impl core::error::Error for Odd {\n}', '// unsafe\nconst ODD: &str = "static";']
 FINE = ['trait Odd {}', 'impl From<u8> for Odd {\n}', 'fn odd() { write!(format!(in 1; "")) }', 'fn odd(it: String, all: Vec<Global>) {}']
 
-# An item, and the reason why it is rejected (nothing: it isn't rejected).
-CORE_ITEMS = [
+# The changes that insert an item into a file, each with the reason why it is rejected.
+TRIED += [(IDENT, CORE_PLACE, f'{item}\n\n{CORE_PLACE}', said) for item, said in [
     *((item, f"rejected: {{'{word}'}}") for word, item in WORDS.items()),
     ('trait Odd {}', "rejected: {'trait'}"),
     *((f'fn odd(it: {word}) {{}}', f"takes memory: {{'{word}'}}") for word in CORE_MEMORY),
@@ -95,16 +99,14 @@ CORE_ITEMS = [
     *((item, f"impls: {{'{word}'}}") for word, item in CORE_IMPLS.items()),
     *((item, f'left: {words}') for words, item in LEFT.items()),
     *((item, None) for item in CORE_FINE),
-]
-ITEMS = [
+]]
+TRIED += [(LINE, PLACE, f'{item}\n\n{PLACE}', said) for item, said in [
     *((item, f"rejected: {{'{word}'}}") for word, item in WORDS.items()),
     *((f'fn odd(it: {word}) {{}}', f"rejected: {{'{word}'}}") for word in RUSTS_OWN),
     *((f'fn odd() {{ {word}!(1) }}', f"macros: {{'{word}'}}") for word in MACROS),
     *((item, f'left: {words}') for words, item in LEFT.items()),
     *((item, None) for item in FINE),
-]
-# The texts before which the items are inserted.
-CORE_PLACE, PLACE = 'fn all_continue(', 'fn is_bare'
+]]
 
 # An output of the last eraser, and the reason why it is rejected.
 ERASERS = [
@@ -157,84 +159,56 @@ def render_itself():
     return module
 
 
-class Reading:
-    """A context in which `Path.read_text` returns another text for one file."""
-
-    def __init__(self):
-        self.path = self.text = None
-        self.read = pathlib.Path.read_text
-        pathlib.Path.read_text = lambda path, *words, **more: self.text if path == self.path else self.read(path, *words, **more)
-
-    def put(self, file, old, new):
-        self.path, self.text = None, None
-        source = (TOP / file).read_text()
-        if old not in source:
-            sys.exit(f'rejects: {file} has no {old}')
-        self.path, self.text = TOP / file, source.replace(old, new, 1)
+@contextlib.contextmanager
+def changed(file, old, new):
+    """A context in which reading the file returns its text with one change."""
+    read, path = pathlib.Path.read_text, TOP / file
+    text = path.read_text()
+    if old not in text:
+        sys.exit(f'rejects: {file} has no {old}')
+    text = text.replace(old, new, 1)
+    with mock.patch.object(pathlib.Path, 'read_text', lambda it, *words, **more: text if it == path else read(it, *words, **more)):
+        yield
 
 
-def said_of(call):
+def said_of(call, *words):
     """Returns the error of the call, or None if the call accepts the texts."""
     try:
-        call()
+        call(*words)
     except SystemExit as end:
         return str(end.code)
     return None
 
 
-class Tried:
-    """Counts the changes that were tested, and those with another result than the expected one."""
-
-    def __init__(self):
-        self.tried = self.wrong = 0
-
-    def expect(self, what, said, word):
-        """Expects an error that contains this word, or no error if the word is None."""
-        self.tried += 1
-        if said is not None if word is None else word not in (said or ''):
-            self.wrong += 1
-            print(f'{what}: {said or "it is not rejected"}')
+def render_file(render, file):
+    """Renders a source file, and checks its calls."""
+    part = render.rendered if file == IDENT else render.rendered_program
+    render.check_methods({file: part(file.split('/')[1], TOP / file)})
 
 
-def try_texts(render, reading, tried):
-    """Tests calls, and entries of the lists."""
-    core = render.files_of(render.crates_below('# The core'), render.rendered)
-
-    def read(file):
-        if file == LINE:
-            render.files_of(['rl_program'], render.rendered_program)
-        elif file == IDENT:
-            render.files_of(['rl_syntax'], render.rendered)
-        else:
-            uncalled, inlining = render.Uncalled(), render.Inlining()
-            inlining.core(uncalled.core(core))
-
+def try_texts(render):
+    """Tests the changes of texts. Iterates over their descriptions, their errors, and the expected words of these."""
+    core = render.files_of(render.families()[0], render.rendered)
     for file, old, new, word in TRIED:
-        reading.put(file, old, new)
-        tried.expect(f'{file}: {new}', said_of(lambda: read(file)), word)
+        with changed(file, old, new):
+            if file in (LINE, IDENT):
+                said = said_of(render_file, render, file)
+            else:
+                said = said_of(lambda: render.Inlining().core(render.Uncalled().core(core)))
+        yield f'{file}: {new}', said, word
 
 
-def try_items(render, reading, tried):
-    """Tests items of files, and words that an eraser adds."""
-    rows = [(IDENT, CORE_PLACE, *row) for row in CORE_ITEMS] + [(LINE, PLACE, *row) for row in ITEMS]
-    for file, place, item, word in rows:
-        crate = file.split('/')[1]
-        call = render.rendered if file == IDENT else render.rendered_program
-        reading.put(file, place, f'{item}\n\n{place}')
-        tried.expect(f'{file}: {item}', said_of(lambda: call(crate, TOP / file)), word)
-    reading.put(IDENT, CORE_PLACE, CORE_PLACE)
+def try_erasers(render):
+    """Tests words that an eraser adds."""
     last = render.erase_models
     for eraser, word in ERASERS:
-        render.erase_models = lambda text: eraser(last(text))
-        tried.expect(f'an eraser before {word}', said_of(lambda: render.rendered('rl_syntax', TOP / IDENT)), word)
-    render.erase_models = last
+        with mock.patch.object(render, 'erase_models', lambda text: eraser(last(text))):
+            yield f'an eraser before {word}', said_of(render_file, render, IDENT), word
 
 
-def reported(render, folders, change):
-    """Returns the report of --check on copies of the two folders, one of which was changed, or nothing if the check passes."""
+def report_of(render):
+    """Returns the report of --check on the two folders, or nothing if the check passes."""
     with contextlib.redirect_stdout(io.StringIO()) as printed:
-        change()
-        render.OUT, render.PROGRAMS_OUT = folders
         code = said_of(render.main)
     reports = [line for line in printed.getvalue().split('\n') if line.endswith("isn't what tools/render writes")]
     if code == 'False' and not reports:
@@ -242,36 +216,34 @@ def reported(render, folders, change):
     return '; '.join(reports) if code == 'True' else f'status {code}; {reports}'
 
 
-def try_folders(render, tried):
+def try_folders(render):
     """Tests copies of the two folders, each with one change."""
     with contextlib.redirect_stdout(io.StringIO()):
         both = [render.core_files(), render.program_files()]
     render.core_files, render.program_files = (lambda: both[0]), (lambda: both[1])
     sys.argv = ['render', '--check']
     for at, (change, word) in enumerate(FOLDERS):
-        for changed in 0, 1:
+        for number in 0, 1:
             with tempfile.TemporaryDirectory() as temporary:
-                folders = [pathlib.Path(temporary) / name for name in ('core', 'programs')]
+                render.OUT, render.PROGRAMS_OUT = folders = [pathlib.Path(temporary) / name for name in ('core', 'programs')]
                 for folder, files in zip(folders, both):
-                    put_all(folder, files)
-                said = reported(render, folders, lambda: change(folders[changed]))
-            tried.expect(f'{folders[changed].name}, change {at}', said, word)
-
-
-def put_all(folder, files):
-    for name, text in files.items():
-        (folder / name).parent.mkdir(parents=True, exist_ok=True)
-        (folder / name).write_text(text)
+                    for name, text in files.items():
+                        (folder / name).parent.mkdir(parents=True, exist_ok=True)
+                        (folder / name).write_text(text)
+                change(folders[number])
+                said = report_of(render)
+            yield f'{folders[number].name}, change {at}', said, word
 
 
 def main():
-    render, reading, tried = render_itself(), Reading(), Tried()
-    try_texts(render, reading, tried)
-    try_items(render, reading, tried)
-    reading.put(IDENT, CORE_PLACE, CORE_PLACE)
-    try_folders(render, tried)
-    print(f'rejects: {tried.tried} tried, {tried.wrong} wrong')
-    sys.exit(tried.wrong > 0)
+    render, tried, wrong = render_itself(), 0, 0
+    for what, said, word in itertools.chain(try_texts(render), try_erasers(render), try_folders(render)):
+        tried += 1
+        if said is not None if word is None else word not in (said or ''):
+            wrong += 1
+            print(f'{what}: {said or "it is not rejected"}')
+    print(f'rejects: {tried} tried, {wrong} wrong')
+    sys.exit(wrong > 0)
 
 
 if __name__ == '__main__':

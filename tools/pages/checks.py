@@ -1,13 +1,11 @@
 """The checks of the pages and of the documentation of public items. Each check reports its errors by calling `tell`."""
 import fnmatch
 import glob
-import importlib.machinery
-import importlib.util
 import os
 import re
-import sys
 import textwrap
 
+from .graph import graph
 from .items import (
     TOP, code_files, core, definition_files, libraries, pages, paths, prose_pages, public_items, read, signature_end)
 from .snippets import EXAMPLE, VALUE, Source, blanked, whole_items
@@ -268,20 +266,15 @@ def check_copies(tell):
 def check_diagrams(tell):
     """Checks that each diagram shows a definition that is in a source and on a page, and that the diagram of the crates is up to
     date."""
-    loader = importlib.machinery.SourceFileLoader('diagrams', os.path.join(TOP, 'tools', 'diagrams'))
-    spec = importlib.util.spec_from_loader('diagrams', loader)
-    diagrams = importlib.util.module_from_spec(spec)
-    sys.dont_write_bytecode = True
-    loader.exec_module(diagrams)
     defined = set(re.findall(r'(?m)^(?:abbrev |unfoldable |opaque )*(?:pub )?(?:record|data|abbrev) (?:pub )?(\w+)',
-                             '\n'.join(map(read, paths(*diagrams.SPECS)))))
+                             '\n'.join(map(read, paths('crates/rl_syntax/specs/*.antt', 'crates/rl_lexer/specs/*.antt')))))
     shown = ''.join(map(read, paths('docs/*.md')))
     for path in paths('docs/diagrams/*.svg'):
         name = os.path.basename(path)[:-len('.svg')]
         if f'(diagrams/{name}.svg)' not in shown:
             tell(f'{path}: no page shows it')
         if name == 'crates':
-            if diagrams.crates().replace('->', 'to') not in read(path):
+            if graph().replace('->', 'to') not in read(path):
                 tell(f'{path}: it is not what crates.txt says: run tools/diagrams')
         elif name not in defined:
             tell(f'{path}: there is no definition of this name')

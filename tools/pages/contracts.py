@@ -1,9 +1,11 @@
 """Writes and checks the sections `## Contracts` of the pages CALLING.md: the public functions of a library with their clauses,
 as in the sources."""
+import functools
 import re
 import textwrap
 
-from .items import blanked, closing, code_files, core, given_by, holders, items_of, paths, public_items, read
+from .items import (
+    blanked, closing, code_files, core, given_by, holders, items_of, paths, public_items, read, root_of, signature_end)
 
 HEAD = '## Contracts\n'
 INTRODUCTION = """
@@ -20,23 +22,18 @@ def calling_pages():
     return {it.split('/')[1]: it for it in paths('crates/*/CALLING.md')}
 
 
-def named_at_the_root(crate):
-    """Returns the names that the root of a crate re-exports from its own modules, each with its module."""
-    found = re.findall(r'pub use crate::(\w+)[\w:]*::(?:\{([^}]*)\}|(\w+));', read(f'crates/{crate}/src/lib.rt'))
-    return {name: module for module, several, one in found for name in re.findall(r'\w+', several or one)}
-
-
 def passed_on():
     """Returns the modules of lower crates that a library re-exports as a whole, and the modules of laws."""
-    given = {at for crate in calling_pages() for at, names in given_by(crate, f'crates/{crate}/src/lib.rt').items()
-             if names is None and at[0] != crate}
+    given = {at for crate in calling_pages() for at, names in given_by(crate, root_of(crate)).items() if names is None and at[0] != crate}
     return given | {(crate, 'laws') for crate in calling_pages()}
 
 
 def core_items(crate):
     """Returns the items that a crate of the core exports for callers: by name at its root, or in a module that is re-exported as a
     whole."""
-    named, passed = named_at_the_root(crate), passed_on()
+    exported = re.findall(r'pub use crate::(\w+)[\w:]*::(?:\{([^}]*)\}|(\w+));', read(root_of(crate)))
+    named = {name: module for module, several, one in exported for name in re.findall(r'\w+', several or one)}
+    passed = passed_on()
     for path in code_files(crate):
         module = path.split('/')[3].removesuffix('.rt')
         for item in items_of(path):
@@ -59,25 +56,15 @@ def first_sentence(docs):
     return re.split(r'(?<=[.;:])\s', first, maxsplit=1)[0].rstrip(';:')
 
 
-def clauses(text, code, at):
-    """Iterates over the clauses from a position of a file on: whether each is required or ensured, its label and its text."""
-    between, head = re.compile(r'\s*'), re.compile(r'(requires|ensures)\s*(\w*)\s*\{')
-    at = between.match(code, at).end()
-    while it := head.match(code, at):
-        end = closing(code, it.end() - 1)
-        said = re.sub(r'\s+', ' ', re.sub(r'//[^\n]*', '', text[it.end():end - 1])).strip()
-        yield it[1], it[2], said
-        at = between.match(code, end).end()
-
-
 def clauses_of(path, item):
-    """Returns the clauses of a function, and the position where it begins."""
+    """Returns the clauses of a function: whether each is required or ensured, its label and its text."""
     text, code = read(path), blanked(read(path))
-    begin = sum(len(line) + 1 for line in text.split('\n')[:item.line - 1])
-    head = re.search(r'\bfn\b', code[begin:])
-    end = re.compile(r'\b(?:requires|ensures)\b|[{;]').search(code, begin + head.end())
-    is_clause = end[0] in ('requires', 'ensures')
-    return (list(clauses(text, code, end.start())) if is_clause else []), begin
+    head = re.compile(r'\s*(requires|ensures)\s*(\w*)\s*\{')
+    found, end = [], signature_end(code, item.at)
+    while it := head.match(code, end):
+        end = closing(code, it.end() - 1)
+        found.append((it[1], it[2], ' '.join(re.sub(r'//[^\n]*', '', text[it.end():end - 1]).split())))
+    return found
 
 
 def is_in(name, said):
@@ -88,23 +75,26 @@ def is_in(name, said):
     return re.search(rf'(?<![\w.]){re.escape(name)}(?!\w)', said) is not None
 
 
+@functools.cache
+def statements():
+    """Returns the statement of each law, by the law's name."""
+    law = re.compile(r'^abbrev pub (\w+) : (?:\([A-Z ]+ : Type 0\) → )?Type 0\n\1[A-Z ]* =\s*((?:.+\n)+)', re.M)
+    return {it[1]: ' '.join(it[2].split()) for path in paths('crates/*/specs/**/*.antt') for it in law.finditer(read(path))}
+
+
 def statement(said):
     """Returns the statement of a clause that is the name of a law, or None for any other clause."""
     name = re.fullmatch(r'([A-Z]\w*)(?: [A-Z])*', said)
-    pattern = rf'^abbrev pub {name[1]} : (?:\([A-Z ]+ : Type 0\) → )?Type 0\n{name[1]}[A-Z ]* =\s*((?:.+\n)+)' if name else ''
-    for file in paths('crates/*/specs/**/*.antt') if name else []:
-        if found := re.search(pattern, read(file), re.M):
-            return re.sub(r'\s+', ' ', found[1]).strip()
-    return None
+    return statements().get(name[1]) if name else None
 
 
 def imports(path, at, said):
     """Returns the lines `ghost use` that a clause at a position of a file needs: the names, by module."""
     text = read(path)
-    blocks = [it for it in holders(blanked(text)) if it[0] < at < it[1]]
+    blocks = [it for it in holders(blanked(text)) if it.start < at < it.end]
 
     def is_seen(found):
-        return not found[1] or any(it[0] < found.start() < it[1] for it in blocks)
+        return not found[1] or any(it.start < found.start() < it.end for it in blocks)
     needed = {}
     for it in filter(is_seen, NAMES.finditer(text)):
         names = {name for name in (part.strip() for part in it[3].split(',')) if name and is_in(name, said)}
@@ -120,13 +110,12 @@ def quoted(path, item):
     """Returns the lines that quote a function, and the lines `ghost use` that its clauses need."""
     head = item.head[item.head.index('fn '):]
     lines = [f'/// {first_sentence(item.docs)}', re.sub(r'^fn \w+', f'fn {item.name}', head)]
-    found, at = clauses_of(path, item)
     needed = {}
-    for sort, label, said in found:
+    for sort, label, said in clauses_of(path, item):
         lines.append(f'  {sort}{" " + label if label else ""}: {said}')
         if law := statement(said):
             lines.append(f'    = {law}')
-        for module, names in imports(path, at, said).items():
+        for module, names in imports(path, item.at, said).items():
             needed.setdefault(module, set()).update(names)
     return lines, needed
 
@@ -179,7 +168,7 @@ def laws_of(crate):
     these."""
     for path in code_files(crate):
         for item in items_of(path) if path.endswith('/laws.rt') else []:
-            yield paragraph(item.docs), [(name, statement(name)) for _, _, name in clauses_of(path, item)[0]]
+            yield paragraph(item.docs), [(name, statement(name)) for _, _, name in clauses_of(path, item)]
 
 
 def lemma_of(name):

@@ -3,6 +3,7 @@ import functools
 import glob
 import os
 import re
+from typing import NamedTuple
 
 from .snippets import EXAMPLE, PARTS, bare, blanked
 
@@ -44,9 +45,13 @@ def prose_pages():
     return [*pages(), 'CONTRIBUTING.md', 'rust/README.md']
 
 
-class Item:
-    def __init__(self, kind, name, docs, head, line):
-        self.kind, self.name, self.docs, self.head, self.line = kind, name, docs, head, line
+class Item(NamedTuple):
+    """An item of a file: its kind, its name, its documentation, its signature, and its position in the file."""
+    kind: str
+    name: str
+    docs: str
+    head: str
+    at: int
 
     def examples(self):
         return [it for it in EXAMPLE.findall(self.docs) if bare(it)]
@@ -91,22 +96,24 @@ def docs_before(text, at):
     return '\n'.join(reversed(lines))
 
 
-def holders(text):
-    """Iterates over the blocks of impls and traits: the start and the end of each, its type, and its sort."""
+class Holder(NamedTuple):
+    """The block of an impl or a trait: its range, its type or trait, whether it is a trait, and whether it implements one."""
+    start: int
+    end: int
+    name: str
+    is_trait: bool
+    of_trait: bool
+
+
+def holders(code):
+    """Returns the blocks of impls and traits."""
     head = re.compile(r'^(pub trait|impl(?:<[^\n]*?>)?) ([^\n{]*)', re.M)
     found = []
-    for it in head.finditer(text):
-        at = text.find('{', it.start())
-        is_trait = it[1] == 'pub trait'
-        named = re.sub(r'.* for ', '', it[2]) if not is_trait else it[2]
-        of_trait = ' for ' in it[2]
-        name = re.match(r'\w+', named)[0]
-        found.append((it.start(), closing(text, at), name, is_trait, of_trait, it[0]))
+    for it in head.finditer(code):
+        is_trait, of_trait = it[1] == 'pub trait', ' for ' in it[2]
+        name = re.match(r'\w+', it[2] if is_trait else re.sub(r'.* for ', '', it[2]))[0]
+        found.append(Holder(it.start(), closing(code, code.find('{', it.start())), name, is_trait, of_trait))
     return found
-
-
-def line_at(code, at):
-    return code.count('\n', 0, at) + 1
 
 
 def items_of(path):
@@ -114,17 +121,14 @@ def items_of(path):
     code = blanked(text)
     blocks = holders(code)
     found = []
-    item = re.compile(r'^( *)(pub |)(?:const )?(fn|struct|enum|trait|type) (\w+)', re.M)
-    for it in item.finditer(code):
-        within = next((b for b in blocks if b[0] < it.start() < b[1]), None)
-        is_own = within and not within[4] and (within[3] or it[2])
+    for it in re.finditer(r'(?m)^( *)(pub |)(?:const )?(fn|struct|enum|trait|type) (\w+)', code):
+        within = next((b for b in blocks if b.start < it.start() < b.end), None)
+        is_own = within and not within.of_trait and (within.is_trait or it[2])
         if not (is_own or (it[2] and not within)):
             continue
         end = signature_end(code, it.end())
-        name = f'{within[2]}::{it[4]}' if within else it[4]
-        head = on_a_line(code[it.start(3):end])
-        docs = docs_before(text, it.start())
-        found.append(Item(it[3], name, docs, head, line_at(code, it.start())))
+        name = f'{within.name}::{it[4]}' if within else it[4]
+        found.append(Item(it[3], name, docs_before(text, it.start()), on_a_line(code[it.start(3):end]), it.start()))
         if it[3] in ('struct', 'enum') and code[end] == '{':
             found += parts_of(text, code, end, it[4])
     return found
@@ -133,12 +137,9 @@ def items_of(path):
 def parts_of(text, code, at, name):
     """Iterates over the public fields of a struct, or the variants of an enum, whose brace is at `at`."""
     part = re.compile(r'^    (?:pub (\w+: [^\n]*),$|([A-Z]\w*(?:\([^)]*\))?),)', re.M)
-    found = []
     for it in part.finditer(code, at, closing(code, at)):
         head = it[1] or it[2]
-        named = f"{name}::{re.match('[A-Za-z0-9_]+', head)[0]}"
-        found.append(Item('part', named, docs_before(text, it.start()), head, line_at(code, it.start())))
-    return found
+        yield Item('part', f"{name}::{re.match('[A-Za-z0-9_]+', head)[0]}", docs_before(text, it.start()), head, it.start())
 
 
 def signature_end(code, at):
@@ -154,10 +155,13 @@ def signature_end(code, at):
     return len(code)
 
 
+def families():
+    """Returns the crates that crates.txt lists: those of the core, those above it, and those for development."""
+    return [re.findall(r'(?m)^\w+', part) for part in re.split(r'(?m)^#.*', read('crates.txt'))[1:]]
+
+
 def core():
-    """Returns the crates of the core: those of crates.txt between the line that names the core and the next comment."""
-    part = re.search(r'(?m)^# The core[^\n]*\n((?:[^#\n][^\n]*\n)*)', read('crates.txt'))
-    return re.findall(r'(?m)^(\w+)', part[1])
+    return families()[0]
 
 
 def inner():
