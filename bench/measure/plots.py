@@ -6,11 +6,8 @@ from measure import build
 
 OURS = ('package', 'rl_scan')
 COLOURS = {True: '#2f6db3', False: '#d98a2b'}
-OF_SOURCES = ('rl_scan',)
-BESIDE = (
-    (('package',), ('litrs, borrowed', 'litrs', 'syn')),
-    ((), ("rustc's lexer", 'proc-macro2', 'proc-macro2 and syn', 'UTF-8')),
-)
+# The works that are drawn, in order.
+WORKS = ('rl_scan', 'package', 'litrs, borrowed', 'litrs', 'syn', "rustc's lexer", 'proc-macro2', 'proc-macro2 and syn', 'UTF-8')
 # The image files have no date and no data about the machine.
 PLAIN = {'metadata': {'Software': None}, 'dpi': 100}
 
@@ -21,20 +18,17 @@ def corpora(taken):
     return [corpus for corpus in dict.fromkeys(corpus for corpus, _ in taken) if corpus in others]
 
 
-def bars(axes, taken, corpus):
-    """Draws a bar for each work on a corpus."""
-    names = [work for ours, theirs in BESIDE for work in ours + theirs if (corpus, work) in taken]
-    names = [work for work in OF_SOURCES if (corpus, work) in taken] + names
-    each = [taken[corpus, work][0] for work in names]
-    places = range(len(names))
-    axes.barh(places, each, color=[COLOURS[work in OURS] for work in names], height=0.7)
-    axes.set_yticks(places, [name.replace(' and ', '\nand ') for name in names], fontsize=9)
+def bars(axes, found, limits, shown, after, scale='linear'):
+    """Draws a bar for each name, between these limits, and its value after it."""
+    places = range(len(found))
+    axes.barh(places, found.values(), color=[COLOURS[name in OURS] for name in found], height=0.7)
+    axes.set_yticks(places, [name.replace(' and ', '\nand ') for name in found], fontsize=9)
     axes.invert_yaxis()
-    axes.set_xlim(0, max(each) * 1.22)
+    axes.set_xscale(scale)
+    axes.set_xlim(*limits)
     axes.tick_params(axis='x', labelsize=8)
-    axes.set_title(corpus, fontsize=10, loc='left')
-    for place, value in zip(places, each):
-        axes.text(value + max(each) * 0.015, place, '%.1f' % value, va='center', fontsize=8)
+    for place, value in enumerate(found.values()):
+        axes.text(after(value), place, shown % value, va='center', fontsize=8)
     for side in ('top', 'right'):
         axes.spines[side].set_visible(False)
 
@@ -44,16 +38,17 @@ def speed(pyplot, taken, path):
     names = corpora(taken)
     count = -(-len(names) // 3)
     rows = {'height_ratios': [0.12] + [1] * count}
-    shape = {'figsize': (12, 1 + 3.3 * count), 'layout': 'constrained', 'gridspec_kw': rows}
-    figure, grid = pyplot.subplots(count + 1, 3, **shape)
+    figure, grid = pyplot.subplots(count + 1, 3, figsize=(12, 1 + 3.3 * count), layout='constrained', gridspec_kw=rows)
     top, *panels = [grid[0][1], *grid[1:].flat]
     for axes, corpus in zip(panels, names):
-        bars(axes, taken, corpus)
+        found = {work: taken[corpus, work][0] for work in WORKS if (corpus, work) in taken}
+        most = max(found.values())
+        bars(axes, found, (0, most * 1.22), '%.1f', lambda value: value + most * 0.015)
+        axes.set_title(corpus, fontsize=10, loc='left')
     for axes in [*grid[0], *panels[len(names):]]:
         axes.axis('off')
     marks = [pyplot.Rectangle((0, 0), 1, 1, color=COLOURS[ours]) for ours in (True, False)]
-    labels = ['this repository', 'litrs, syn, proc-macro2']
-    top.legend(marks, labels, loc='center', ncol=2, fontsize=11, frameon=False)
+    top.legend(marks, ['this repository', 'litrs, syn, proc-macro2'], loc='center', ncol=2, fontsize=11, frameon=False)
     figure.suptitle('Instructions a byte on a million bytes; less is better', fontsize=13)
     figure.savefig(path, **PLAIN)
 
@@ -61,18 +56,7 @@ def speed(pyplot, taken, path):
 def speeds(pyplot, found, path):
     """Draws a bar for the megabytes per second of each program or library on whole sources."""
     figure, axes = pyplot.subplots(figsize=(8, 0.5 + 0.42 * len(found)), layout='constrained')
-    names, each = list(found), list(found.values())
-    colours = [COLOURS[name in OURS] for name in names]
-    axes.barh(range(len(names)), each, color=colours, height=0.7)
-    axes.set_yticks(range(len(names)), names, fontsize=9)
-    axes.invert_yaxis()
-    axes.set_xscale('log')
-    axes.set_xlim(min(each) / 2, max(each) * 2.2)
-    axes.tick_params(axis='x', labelsize=8)
-    for place, value in enumerate(each):
-        axes.text(value * 1.04, place, '%d' % value, va='center', fontsize=8)
-    for side in ('top', 'right'):
-        axes.spines[side].set_visible(False)
+    bars(axes, found, (min(found.values()) / 2, max(found.values()) * 2.2), '%d', lambda value: value * 1.04, 'log')
     figure.suptitle("MB a second on the core library's source; more is better", fontsize=11)
     figure.savefig(path, **PLAIN)
 

@@ -9,23 +9,27 @@ pub fn are_there() -> bool {
     env::var_os("BENCH_SOURCES").is_some()
 }
 
-/// Adds the paths of the Rust files in the folder.
-fn add_paths(folder: &Path, paths: &mut Vec<PathBuf>) {
-    for entry in fs::read_dir(folder).expect("a folder") {
-        let path = entry.expect("an entry").path();
-        if path.is_dir() {
-            add_paths(&path, paths);
-        } else if path.extension().is_some_and(|ending| ending == "rs") {
+/// Adds the paths that rl_scan reads in the folder: all `*.rs`, except in hidden folders and in the folder `target` of a package.
+/// Links are left out.
+fn add_paths(folder: &Path, paths: &mut Vec<PathBuf>) -> io::Result<()> {
+    for entry in fs::read_dir(folder)? {
+        let entry = entry?;
+        let (kind, path, name) = (entry.file_type()?, entry.path(), entry.file_name());
+        let is_built = name == "target" && folder.join("Cargo.toml").is_file();
+        if kind.is_dir() && !name.as_encoded_bytes().starts_with(b".") && !is_built {
+            add_paths(&path, paths)?;
+        } else if kind.is_file() && path.extension().is_some_and(|ending| ending == "rs") {
             paths.push(path);
         }
     }
+    Ok(())
 }
 
 /// Returns the files joined in the order of their paths. A file that would exceed `size` bytes in total is left out.
 pub fn text(size: usize) -> String {
     let mut paths = Vec::new();
     let folder = env::var_os("BENCH_SOURCES").expect("the variable BENCH_SOURCES");
-    add_paths(Path::new(&folder), &mut paths);
+    add_paths(Path::new(&folder), &mut paths).expect("a folder");
     paths.sort();
     let mut all = String::new();
     for path in paths {
@@ -72,28 +76,12 @@ pub fn literals(size: usize) -> Vec<String> {
     found
 }
 
-/// Adds the paths that rl_scan reads in the folder: all `*.rs`, except in hidden folders and in the folder `target` of a package.
-/// Links are left out.
-fn add_tree(folder: &Path, paths: &mut Vec<PathBuf>) -> io::Result<()> {
-    for entry in fs::read_dir(folder)? {
-        let entry = entry?;
-        let (kind, path, name) = (entry.file_type()?, entry.path(), entry.file_name());
-        let is_built = name == "target" && folder.join("Cargo.toml").is_file();
-        if kind.is_dir() && !name.as_encoded_bytes().starts_with(b".") && !is_built {
-            add_tree(&path, paths)?;
-        } else if kind.is_file() && path.extension().is_some_and(|ending| ending == "rs") {
-            paths.push(path);
-        }
-    }
-    Ok(())
-}
-
 /// Calls `work` with each text of the folders' files, which are read one after another. Returns the number of files that aren't
 /// texts.
 pub fn each_in(folders: &[&str], mut work: impl FnMut(String)) -> io::Result<usize> {
     let mut paths = Vec::new();
     for folder in folders {
-        add_tree(Path::new(folder), &mut paths)?;
+        add_paths(Path::new(folder), &mut paths)?;
     }
     paths.sort();
     let mut none = 0;

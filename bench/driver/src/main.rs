@@ -108,11 +108,7 @@ fn run_once(work: &Work, corpus: &Corpus, is_timed: bool) {
     let before = processor_time();
     let sum = measured(work, corpus);
     let time = processor_time() - before;
-    let spent = if is_timed {
-        format!(" {time}")
-    } else {
-        String::new()
-    };
+    let spent = is_timed.then(|| format!(" {time}")).unwrap_or_default();
     println!("{} {sum}{spent}", corpus.bytes.len());
 }
 

@@ -1,13 +1,8 @@
 //! The works of other libraries.
 
 use crate::corpus::Corpus;
-use crate::weight::{weight, Kind};
+use crate::weight::{digit_count, weight, Kind};
 use proc_macro2::TokenStream;
-
-/// Returns the number of digits in base ten.
-fn digit_count(value: u128) -> usize {
-    value.checked_ilog10().map_or(1, |log| log as usize + 1)
-}
 
 /// Returns the number of bytes of a float's text without its underscores and pluses.
 fn float_digit_count(numeral: &str) -> usize {
@@ -58,10 +53,7 @@ fn litrs_weight(text: &str, numbers: Numbers) -> u64 {
 /// does in the loop of a caller with only one call of the parser.
 #[inline(never)]
 fn litrs_sum(corpus: &Corpus, numbers: Numbers) -> u64 {
-    corpus
-        .texts()
-        .map(|text| litrs_weight(text, numbers))
-        .fold(0, u64::wrapping_add)
+    corpus.sum(|text| litrs_weight(text, numbers))
 }
 
 /// Returns the length of a type's name.
@@ -87,34 +79,22 @@ pub fn litrs_borrowed(corpus: &Corpus) -> u64 {
 
 /// Returns the number of token trees of proc-macro2's own lexer, or 0 for a text that it rejects.
 pub fn proc_macro2_lex(corpus: &Corpus) -> u64 {
-    corpus
-        .texts()
-        .map(|text| {
-            text.parse::<TokenStream>()
-                .map_or(0, |trees| trees.into_iter().count() as u64)
-        })
-        .fold(0, u64::wrapping_add)
+    let count = |trees: TokenStream| trees.into_iter().count() as u64;
+    corpus.sum(|text| text.parse().map_or(0, count))
 }
 
 /// Returns the number of tokens of rustc's lexer, including white space and comments.
 #[cfg(feature = "rustc_lexer")]
 pub fn rustc_lex(corpus: &Corpus) -> u64 {
-    corpus
-        .texts()
-        .map(|text| {
-            rustc_lexer::tokenize(text)
-                .map(std::hint::black_box)
-                .count() as u64
-        })
-        .fold(0, u64::wrapping_add)
+    corpus.sum(|text| {
+        let tokens = rustc_lexer::tokenize(text);
+        tokens.map(std::hint::black_box).count() as u64
+    })
 }
 
 /// Returns the number of bytes of the texts. The texts are checked to be UTF-8, as in every other work.
 pub fn utf8(corpus: &Corpus) -> u64 {
-    corpus
-        .texts()
-        .map(|text| text.len() as u64)
-        .fold(0, u64::wrapping_add)
+    corpus.sum(|text| text.len() as u64)
 }
 
 #[cfg(feature = "oracle")]
@@ -140,10 +120,7 @@ pub mod syn {
     }
 
     pub fn value(corpus: &Corpus) -> u64 {
-        corpus
-            .texts()
-            .map(|text| literal_weight(&Lit::of(text)))
-            .fold(0, u64::wrapping_add)
+        corpus.sum(|text| literal_weight(&Lit::of(text)))
     }
 
     /// Returns the number of literals in the text. proc-macro2 lexes the text, and syn parses the text of each literal.
@@ -164,9 +141,6 @@ pub mod syn {
     }
 
     pub fn read(corpus: &Corpus) -> u64 {
-        corpus
-            .texts()
-            .map(|text| count(text).unwrap_or(0))
-            .fold(0, u64::wrapping_add)
+        corpus.sum(|text| count(text).unwrap_or(0))
     }
 }

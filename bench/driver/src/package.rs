@@ -1,14 +1,9 @@
 //! The works of the Cargo package in rust/.
 
 use crate::corpus::Corpus;
-use crate::weight::{weight, Kind};
+use crate::weight::{digit_count, weight, Kind};
 use navyspindle::{parse_list, parse_settings, source as literals_of, Lit};
 use std::hint::black_box;
-
-/// Returns the number of digits in base ten.
-fn digit_count(value: u128) -> usize {
-    value.checked_ilog10().map_or(1, |log| log as usize + 1)
-}
 
 /// Returns the weight of a text, or 0 if it isn't a literal.
 fn weight_of(text: &str) -> u64 {
@@ -37,35 +32,25 @@ fn weight_of(text: &str) -> u64 {
 
 /// Returns the sum of the weights of the literals' values.
 pub fn value(corpus: &Corpus) -> u64 {
-    corpus.texts().map(weight_of).fold(0, u64::wrapping_add)
+    corpus.sum(weight_of)
+}
+
+/// Returns the number of literals before the first error. Each literal is parsed.
+fn count<T, E>(literals: impl Iterator<Item = Result<T, E>>) -> u64 {
+    literals.map_while(Result::ok).map(black_box).count() as u64
 }
 
 /// Returns the number of literals in the texts as lists, each up to its first error.
 pub fn list(corpus: &Corpus) -> u64 {
-    corpus
-        .texts()
-        .map(|text| {
-            let literals = parse_list(text).map_while(Result::ok);
-            literals.map(black_box).count() as u64
-        })
-        .fold(0, u64::wrapping_add)
+    corpus.sum(|text| count(parse_list(text)))
 }
 
 /// Returns the number of settings in the texts. A text with an error has none.
 pub fn attributes(corpus: &Corpus) -> u64 {
-    corpus
-        .texts()
-        .map(|text| parse_settings(text).map_or(0, |entries| black_box(entries).len() as u64))
-        .fold(0, u64::wrapping_add)
+    corpus.sum(|text| parse_settings(text).map_or(0, |entries| black_box(entries).len() as u64))
 }
 
-/// Returns the number of literals in the texts as whole sources, each up to its first error. Each literal is parsed.
+/// Returns the number of literals in the texts as whole sources, each up to its first error.
 pub fn source(corpus: &Corpus) -> u64 {
-    corpus
-        .texts()
-        .map(|text| {
-            let literals = literals_of(text).map_while(Result::ok);
-            literals.map(black_box).count() as u64
-        })
-        .fold(0, u64::wrapping_add)
+    corpus.sum(|text| count(literals_of(text)))
 }
