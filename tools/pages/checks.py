@@ -9,7 +9,7 @@ from .graph import graph
 from .items import (
     TOP, code_files, core, definition_files, libraries, pages, paths, prose_pages, public_items, read, signature_end)
 from .snippets import EXAMPLE, VALUE, Source, blanked, whole_items
-from .style import DEFINED, check_habits, check_public_names, check_terms
+from .style import DEFINED, check_habits, check_public_names
 
 # A block of Rust code on a page.
 RUST = re.compile(r'```rust\n(.*?) *```', re.S)
@@ -282,5 +282,4 @@ def check_diagrams(tell):
 
 OF_PAGES = (
     check_core, check_paths, check_snippets, check_definitions, check_names, check_words, check_owners,
-    check_errors, check_diagrams, check_copies, check_limits, check_terms, check_habits,
-    check_public_names)
+    check_errors, check_diagrams, check_copies, check_limits, check_habits, check_public_names)
