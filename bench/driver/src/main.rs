@@ -61,7 +61,7 @@ fn check_all(size: usize) -> Result<(), String> {
 fn print_names() {
     for (name, form) in corpus::all() {
         for work in works::of(form) {
-            let whose = if work.ours { "ours" } else { "other" };
+            let whose = if work.is_ours() { "ours" } else { "other" };
             println!("{}\t{whose}\t{name}\t{}", form.word(), work.name);
         }
     }

@@ -21,61 +21,57 @@ pub enum Sum {
 /// One work: a library's function that runs on a corpus.
 pub struct Work {
     pub name: &'static str,
-    pub ours: bool,
     pub sum: Sum,
     pub run: fn(&Corpus) -> u64,
 }
 
-const fn other(name: &'static str, sum: Sum, run: fn(&Corpus) -> u64) -> Work {
-    #[rustfmt::skip]
-    let work = Work { name, ours: false, sum, run };
-    work
+impl Work {
+    /// Whether the work is the package's.
+    pub fn is_ours(&self) -> bool {
+        self.name.starts_with("package")
+    }
 }
 
-const fn ours(name: &'static str, sum: Sum, run: fn(&Corpus) -> u64) -> Work {
-    let ours = true;
-    Work {
-        ours,
-        ..other(name, sum, run)
-    }
+const fn work(name: &'static str, sum: Sum, run: fn(&Corpus) -> u64) -> Work {
+    Work { name, sum, run }
 }
 
 /// The works for texts that are one literal each.
 const OF_LITERALS: &[Work] = &[
-    other("litrs, borrowed", Sum::Borrows, others::litrs_borrowed),
-    ours("package", Sum::Values, package::value),
-    other("litrs", Sum::Values, others::litrs_value),
+    work("litrs, borrowed", Sum::Borrows, others::litrs_borrowed),
+    work("package", Sum::Values, package::value),
+    work("litrs", Sum::Values, others::litrs_value),
     #[cfg(feature = "oracle")]
-    other("syn", Sum::Values, others::syn::value),
+    work("syn", Sum::Values, others::syn::value),
 ];
 
 /// The works for a text that is a list of literals.
 const OF_LISTS: &[Work] = &[
-    ours("package", Sum::Literals, package::list),
-    other("proc-macro2", Sum::Trees, others::proc_macro2_lex),
+    work("package", Sum::Literals, package::list),
+    work("proc-macro2", Sum::Trees, others::proc_macro2_lex),
     #[cfg(feature = "oracle")]
-    other("proc-macro2 and syn", Sum::Literals, others::syn::read),
+    work("proc-macro2 and syn", Sum::Literals, others::syn::read),
 ];
 
 /// The works for a text that consists of attributes.
 const OF_ATTRIBUTES: &[Work] = &[
-    ours("package", Sum::Settings, package::attributes),
-    other("proc-macro2", Sum::Trees, others::proc_macro2_lex),
+    work("package", Sum::Settings, package::attributes),
+    work("proc-macro2", Sum::Trees, others::proc_macro2_lex),
 ];
 
 /// The works for a text that consists of Rust files.
 const OF_SOURCES: &[Work] = &[
-    ours("package", Sum::SourceLiterals, package::source),
+    work("package", Sum::SourceLiterals, package::source),
     #[cfg(feature = "rustc_lexer")]
-    other("rustc's lexer", Sum::RustTokens, others::rustc_lex),
-    other("proc-macro2", Sum::Trees, others::proc_macro2_lex),
-    other("UTF-8", Sum::Bytes, others::utf8),
+    work("rustc's lexer", Sum::RustTokens, others::rustc_lex),
+    work("proc-macro2", Sum::Trees, others::proc_macro2_lex),
+    work("UTF-8", Sum::Bytes, others::utf8),
 ];
 
 /// The works for invalid input.
 const OF_BAD: &[Work] = &[
-    ours("package", Sum::Values, package::value),
-    ours("package, source", Sum::SourceLiterals, package::source),
+    work("package", Sum::Values, package::value),
+    work("package, source", Sum::SourceLiterals, package::source),
 ];
 
 /// Returns the works for a corpus of this form.
