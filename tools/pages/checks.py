@@ -37,29 +37,25 @@ OF_OTHERS = ['docs/DIFFERENCES.md', 'docs/COMPARISON.md', 'docs/PERFORMANCE.md']
 
 
 def check_items(tell):
-    count = 0
-    shown = {item.name for crate in libraries() for _, item in public_items(crate) if item.examples()}
-    for crate in libraries():
-        items = public_items(crate)
-        names = {item.name for _, item in items}
+    """Checks the documentation of the public items. Returns their number."""
+    public = {crate: public_items(crate) for crate in libraries()}
+    shown = {item.name for items in public.values() for _, item in items if item.examples()}
+    for crate, items in public.items():
         wanted = EXAMPLES.get(crate, '').split()
         for name in wanted:
-            if name not in names:
+            if name not in {item.name for _, item in items}:
                 tell(f'crates/{crate}: no public item {name}, of which an example is wanted')
         for path, item in items:
-            count += 1
-            if not item.docs.strip():
-                tell(f'{path}: {item.name} has no documentation')
-            if item.returns_result() and not item.errors():
-                tell(f'{path}: {item.name} returns a Result and has no `# Errors`')
-            if item.name in wanted and not item.examples() and item.named_example() not in shown:
-                tell(f'{path}: {item.name} has no example')
-            for example in item.examples():
-                if not VALUE.search(example):
-                    tell(f'{path}: an example of {item.name} has no value')
-                if example.count('\n') > 30:
-                    tell(f'{path}: an example of {item.name} is too long')
-    return count
+            lacks = {
+                'has no documentation': not item.docs.strip(),
+                'returns a Result and has no `# Errors`': item.returns_result() and not item.errors(),
+                'has no example': item.name in wanted and not item.examples() and item.named_example() not in shown,
+                'has an example without a value': not all(VALUE.search(it) for it in item.examples()),
+                'has an example that is too long': any(it.count('\n') > 30 for it in item.examples()),
+            }
+            for words in filter(lacks.get, lacks):
+                tell(f'{path}: {item.name} {words}')
+    return sum(map(len, public.values()))
 
 
 # Types in a signature that allocate memory.
@@ -82,18 +78,13 @@ def words_of(definitions):
     return re.sub(r'\s+', '', re.sub(r'(^|\s)--[^\n]*', r'\1', definitions))
 
 
-def definitions_in(block):
-    return [it for it in re.split(r'\n\s*\n', block) if it.strip()]
-
-
 def check_definitions(tell):
     """Checks that each definition on a page is in a crate."""
     found = [words_of(read(it)) for it in definition_files()]
     for page in pages():
-        for block in re.findall(r'```antt\n(.*?)```', read(page), re.S):
-            for piece in definitions_in(block):
-                if not any(words_of(piece) in it for it in found):
-                    tell(f'{page}: is in no source: {piece.strip().splitlines()[0]}')
+        for piece in re.split(r'\n\s*\n', '\n\n'.join(re.findall(r'```antt\n(.*?)```', read(page), re.S))):
+            if not any(words_of(piece) in it for it in found):
+                tell(f'{page}: is in no source: {piece.strip().splitlines()[0]}')
 
 
 def check_names(tell):
@@ -134,20 +125,13 @@ def check_snippets(tell):
             tell(f'{where}: lacks {", ".join(sorted(min(lacks, key=len)))}: {first}')
 
 
-def kept_out():
-    """Returns the patterns of files that are built and never committed."""
-    return [it.rstrip('/') for it in read('.gitignore').split()]
-
-
 def is_there(path, page):
-    folder = os.path.dirname(page)
-    ways = [path, f'{folder}/{path}', f'crates/{path}']
-    pattern = [re.sub(r'\b(?:NAME|X|PATH)\b', '*', it) for it in ways]
-    if any(glob.glob(os.path.join(TOP, it)) for it in pattern):
+    """Whether a path on a page names a file or a folder, or one that is built and never committed."""
+    ways = [re.sub(r'\b(?:NAME|X|PATH)\b', '*', it) for it in (path, f'{os.path.dirname(page)}/{path}', f'crates/{path}')]
+    if any(glob.glob(os.path.join(TOP, it)) for it in ways):
         return True
-    return any(
-        path == it or path.startswith(f'{it}/') or fnmatch.fnmatch(path, f'*/{it}/*')
-        for it in kept_out())
+    kept_out = [it.rstrip('/') for it in read('.gitignore').split()]
+    return any(path == it or path.startswith(f'{it}/') or fnmatch.fnmatch(path, f'*/{it}/*') for it in kept_out)
 
 
 def check_paths(tell):
@@ -170,15 +154,12 @@ def check_paths(tell):
 
 def check_words(tell):
     """Checks that each word in code font that looks like the name of a definition or a type is in a source."""
-    known = set()
-    for path in [*code_files(), *definition_files(), 'crates.txt', *paths('rust/src/**/*.rs', 'include/*.h')]:
-        known.update(re.findall(r'\w+', read(path)))
-    for page in prose_pages():
-        if page in OF_OTHERS:
-            continue
+    sources = [*code_files(), *definition_files(), 'crates.txt', *paths('rust/src/**/*.rs')]
+    known = FOREIGN.union(*(re.findall(r'\w+', read(path)) for path in sources))
+    for page in [it for it in prose_pages() if it not in OF_OTHERS]:
         prose = re.sub(r'```.*?```', '', read(page), flags=re.S)
         for word in re.findall(r'`([A-Z]\w*[a-z]\w*|[a-z]\w*_\w+)`', prose):
-            if word not in known and word not in FOREIGN:
+            if word not in known:
                 tell(f'{page}: {word} is in no source')
 
 
@@ -192,30 +173,21 @@ GIVEN_OUT = re.compile(r'pub use ([^;]*);')
 
 def owned_by(crate):
     """Returns the files of a crate, the names that it defines or re-exports, and its commands."""
-    names = {os.path.basename(it) for it in paths(f'crates/{crate}/*')}
-    for path in code_files(crate):
-        text = read(path)
+    definitions = [it for it in definition_files() if it.startswith(f'crates/{crate}/')]
+    names = {os.path.basename(it) for it in [*paths(f'crates/{crate}/*'), *code_files(crate), *definitions]}
+    names.update(os.path.basename(it)[:-3] for it in code_files(crate))
+    for text in map(read, code_files(crate)):
         names.update(it for found in OWN_CODE.findall(blanked(text)) for it in found)
-        names.update(re.findall(r'"(\w+)"', text))
-        names.update(it for found in GIVEN_OUT.findall(text) for it in re.findall(r'\w+', found))
-        names.update([os.path.basename(path), os.path.basename(path)[:-3]])
-    for path in definition_files():
-        if path.startswith(f'crates/{crate}/'):
-            names.update(OWN_DEFINITION.findall(read(path)))
-            names.add(os.path.basename(path))
-    return names
+        names.update(re.findall(r'"(\w+)"', text), re.findall(r'\w+', ' '.join(GIVEN_OUT.findall(text))))
+    return names.union(*(OWN_DEFINITION.findall(read(it)) for it in definitions))
 
 
 def placed_names(prose):
     """Iterates over the names that a page assigns to a crate, each with the crate."""
-    listed = r'`[^`]+`(?:(?:, | and |, and | or )`[^`]+`)*'
-    crate = r'`(rl_\w+|rust_literals)`'
-    for it in re.finditer(rf'({listed}) of {crate}', prose):
-        yield from ((name, it[2]) for name in re.findall(r'`([^`]+)`', it[1]))
-    for it in re.finditer(rf"{crate}'s? ({listed})", prose):
-        yield from ((name, it[1]) for name in re.findall(r'`([^`]+)`', it[2]))
-    for it in re.finditer(r'`(rl_\w+|rust_literals)::([\w:]+)', prose):
-        yield it[2], it[1]
+    listed, crate = r'(?P<names>`[^`]+`(?:(?:, | and |, and | or )`[^`]+`)*)', r'`(?P<crate>rl_\w+|rust_literals)'
+    for pattern in (rf'{listed} of {crate}`', rf"{crate}`'s? {listed}", rf'{crate}::(?P<names>[\w:]+)'):
+        for it in re.finditer(pattern, prose):
+            yield from ((name, it['crate']) for name in it['names'].split('`')[1::2] or [it['names']])
 
 
 def check_owners(tell):

@@ -22,10 +22,7 @@ def read(path):
 
 @functools.cache
 def paths(*patterns):
-    found = set()
-    for pattern in patterns:
-        found.update(glob.glob(os.path.join(TOP, pattern), recursive=True))
-    return sorted(os.path.relpath(it, TOP) for it in found)
+    return sorted({it for pattern in patterns for it in glob.glob(pattern, root_dir=TOP, recursive=True)})
 
 
 def code_files(crate='*'):
@@ -86,14 +83,8 @@ def on_a_line(code):
 
 def docs_before(text, at):
     """Returns the documentation directly above a position. Attributes may be between."""
-    lines = []
-    for line in reversed(text[:at].split('\n')[:-1]):
-        line = line.strip()
-        if line.startswith('///'):
-            lines.append(line[3:].removeprefix(' '))
-        elif not line.startswith('#['):
-            break
-    return '\n'.join(reversed(lines))
+    above = re.search(r'(?:^ *(?:///|#\[).*\n)*\Z', text[:at], re.M)[0]
+    return '\n'.join(re.findall(r'(?m)^ */// ?(.*)', above))
 
 
 class Holder(NamedTuple):
@@ -205,12 +196,6 @@ def modules(crate):
     return given
 
 
-def is_given(item, names):
-    """Whether an item of a module is exported, if these names of the module are."""
-    owner = item.name.split('::')[0]
-    return names is None or owner in names
-
-
 @functools.cache
 def public_items(crate):
     """Iterates over the items that the library exports, each with its file. Items of inner crates that an earlier library exports
@@ -221,12 +206,12 @@ def public_items(crate):
     found = []
     for path in (path for owner in owners for path in code_files(owner)):
         owner, _, file = path.split('/')[1:4]
-        module = file.removesuffix('.rt')
-        shown = {name for at, names in given.items() if at[0] == owner and names for name in names}
-        names = set() if owner != crate and (owner, module) in before else given.get((owner, module), set())
+        at = owner, file.removesuffix('.rt')
+        shown = {name for (its, _), names in given.items() if its == owner for name in names or ()}
+        names = set() if owner != crate and at in before else given.get(at, set())
         for item in items_of(path):
-            is_method = '::' in item.name and (owner, module) not in before
-            if is_given(item, names) or (is_method and item.name.split('::')[0] in shown):
+            holder, _, method = item.name.partition('::')
+            if names is None or holder in names or method and at not in before and holder in shown:
                 found.append((path, item))
     return found
 
