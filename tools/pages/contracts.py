@@ -1,6 +1,7 @@
 """Writes and checks the sections `## Contracts` of the pages CALLING.md: the public functions of a library with their clauses,
 as in the sources."""
 import functools
+import itertools
 import re
 import textwrap
 
@@ -88,48 +89,38 @@ def statement(said):
     return statements().get(name[1]) if name else None
 
 
-def imports(path, at, said):
-    """Returns the lines `ghost use` that a clause at a position of a file needs: the names, by module."""
+def add_imports(path, at, said, needed):
+    """Adds the `ghost use` lines that a clause at a position of a file needs: the names, by module."""
     text = read(path)
     blocks = [it for it in holders(blanked(text)) if it.start < at < it.end]
 
     def is_seen(found):
         return not found[1] or any(it.start < found.start() < it.end for it in blocks)
-    needed = {}
+
     for it in filter(is_seen, NAMES.finditer(text)):
-        names = {name for name in (part.strip() for part in it[3].split(',')) if name and is_in(name, said)}
-        if names:
+        if names := {name for name in (part.strip() for part in it[3].split(',')) if name and is_in(name, said)}:
             needed.setdefault(it[2], set()).update(names)
     for it in filter(is_seen, MODULE.finditer(text)):
         if re.search(rf'(?<![\w.]){it[3]}\.', said):
             needed[f'{it[2]} as {it[3]}'] = set()
-    return needed
 
 
-def quoted(path, item):
-    """Returns the lines that quote a function, and the lines `ghost use` that its clauses need."""
-    head = item.head[item.head.index('fn '):]
-    lines = [f'/// {first_sentence(item.docs)}', re.sub(r'^fn \w+', f'fn {item.name}', head)]
-    needed = {}
+def quoted(path, item, needed):
+    """Iterates over the lines that quote a function. Adds the `ghost use` lines that its clauses need."""
+    yield f'/// {first_sentence(item.docs)}'
+    yield re.sub(r'^.*?\bfn \w+', f'fn {item.name}', item.head)
     for sort, label, said in clauses_of(path, item):
-        lines.append(f'  {sort}{" " + label if label else ""}: {said}')
+        yield f'  {sort}{" " + label if label else ""}: {said}'
         if law := statement(said):
-            lines.append(f'    = {law}')
-        for module, names in imports(path, item.at, said).items():
-            needed.setdefault(module, set()).update(names)
-    return lines, needed
+            yield f'    = {law}'
+        add_imports(path, item.at, said, needed)
 
 
 def section(crate):
-    lines, needed, last = [], {}, None
-    for path, item in functions(crate):
-        if path != last:
-            lines.append(f'// {path.removeprefix("crates/")}')
-            last = path
-        said, more = quoted(path, item)
-        lines += said
-        for module, names in more.items():
-            needed.setdefault(module, set()).update(names)
+    lines, needed = [], {}
+    for path, items in itertools.groupby(functions(crate), lambda it: it[0]):
+        lines.append(f'// {path.removeprefix("crates/")}')
+        lines += [line for _, item in items for line in quoted(path, item, needed)]
     uses = [f'ghost use {module}{".{" + ", ".join(sorted(names)) + "}" if names else ""};' for module, names in sorted(needed.items())]
     return '\n'.join([HEAD + INTRODUCTION, '```text', *lines, '```', '', 'Their words:', '', '```text', *uses, '```', ''])
 
@@ -163,14 +154,6 @@ def comment_of(crate, name):
     return []
 
 
-def laws_of(crate):
-    """Iterates over the laws of a crate: the comment of each, its clauses with their statements, and the lemmas that prove
-    these."""
-    for path in code_files(crate):
-        for item in items_of(path) if path.endswith('/laws.rt') else []:
-            yield paragraph(item.docs), [(name, statement(name)) for _, _, name in clauses_of(path, item)]
-
-
 def lemma_of(name):
     """Returns the lemma that proves a statement, which has the statement's name."""
     return re.sub(r'(?<!^)(?=[A-Z])', '_', name.split(' ')[0]).lower()
@@ -184,12 +167,14 @@ def lemmas_of(crate):
 
 def laws_section(crate):
     lines, uses, modules = [], {}, lemmas_of(crate)
-    for said, laws in laws_of(crate):
-        for name, law in laws:
-            lines += said if len(laws) == 1 else comment_of(crate, name.split(' ')[0])
+    path = f'crates/{crate}/src/laws.rt'
+    for item in items_of(path):
+        names = [said for _, _, said in clauses_of(path, item)]
+        for name in names:
+            lines += paragraph(item.docs) if len(names) == 1 else comment_of(crate, name.split(' ')[0])
             lemma = lemma_of(name)
             uses.setdefault(modules[lemma], []).append(lemma)
-            lines += [f'{lemma} : {name}', f'    = {law}']
+            lines += [f'{lemma} : {name}', f'    = {statement(name)}']
     used = ''.join(f'use Rattle.{module}.{{{", ".join(sorted(names))}}}\n' for module, names in uses.items())
     return f'### {SUBJECTS[crate]} (`{crate}`)\n\n```text\n{used}\n' + '\n'.join(lines) + '\n```\n'
 

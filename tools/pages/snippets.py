@@ -1,5 +1,6 @@
 """Examines snippets of Rust on pages: whether they are whole items of a file, and the items and imports that they lack to be
 pasted."""
+import functools
 import re
 
 # A string, a character, or a comment up to the line's end.
@@ -23,6 +24,7 @@ def bare(code):
     return re.sub(r'\s+', '', kept)
 
 
+@functools.cache
 def blanked(code):
     """Returns the code with spaces in place of comments, so that positions stay the same."""
     return PARTS.sub(lambda it: ' ' * len(it[0]) if it[0].startswith('//') else it[0], code)
