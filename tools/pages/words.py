@@ -19,23 +19,25 @@ PRINTED = ('UnclosedQuote', 'UnclosedComment', 'StrayCharacter')
 ENTRY = re.compile(r'^### (.*)\n\n(?:Identifier: .*\. )?Kinds?: (.*)\.$', re.M)
 
 
-def strings_of(path, kind, functions):
-    """Returns the string that one of the functions returns for each variant of a type."""
+def strings_of(files, functions):
+    """Returns the string that one of the functions returns for each variant of these types, by the variant's name."""
     found = {}
-    for part in re.split(r'\bfn (?=\w+\()', read(path)):
-        if part.split('(')[0] in functions:
-            found.update(re.findall(kind + r'::(\w+) => "((?:\\.|[^"\\])*)"', part))
-    return {f'{kind}::{variant}': re.sub(r'\\(.)', r'\1', its) for variant, its in found.items()}
+    for kind, path in files.items():
+        for part in re.split(r'\bfn (?=\w+\()', read(path)):
+            if part.split('(')[0] in functions:
+                strings = re.findall(kind + r'::(\w+) => "((?:\\.|[^"\\])*)"', part)
+                found.update((f'{kind}::{variant}', re.sub(r'\\(.)', r'\1', its)) for variant, its in strings)
+    return found
 
 
 def messages():
-    """Returns the message of each variant, by the name of its type and its own name."""
-    return {name: its for kind, path in MESSAGES.items() for name, its in strings_of(path, kind, ['words']).items()}
+    """Returns the message of each variant."""
+    return strings_of(MESSAGES, ['message'])
 
 
 def identifiers():
     """Returns the identifier of each variant that `rl_scan` prints."""
-    found = {name: its for kind, path in IDENTIFIERS.items() for name, its in strings_of(path, kind, ['id', 'id_of']).items()}
+    found = strings_of(IDENTIFIERS, ['id', 'id_of'])
     return {name: its for name, its in found.items() if not name.startswith('LexKind::') or name.split('::')[1] in PRINTED}
 
 
@@ -62,8 +64,12 @@ def with_words():
 
 
 def check_words(tell):
+    """Checks that the page has the messages and identifiers of the sources, and an entry for each."""
     if with_words() != read(PAGE):
         tell(f'{PAGE}: its messages or identifiers are not those of the sources: run tools/docs --write')
-    shown = {it for entry in ENTRY.finditer(read(PAGE)) for it in kinds_of(entry[2])}
-    for name in sorted({*messages(), *identifiers()} - shown - {'LexKind::Memory'}):
+    names, shown = {*messages(), *identifiers()}, {it for entry in ENTRY.finditer(read(PAGE)) for it in kinds_of(entry[2])}
+    for name in sorted(names - shown - {'LexKind::Memory'}):
         tell(f'{PAGE}: has no entry of {name}')
+    for files, found in (MESSAGES, messages()), (IDENTIFIERS, identifiers()):
+        for kind in files.keys() - {name.split('::')[0] for name in found}:
+            tell(f'{files[kind]}: a function with strings for {kind} is not found')
