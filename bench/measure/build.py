@@ -19,8 +19,6 @@ path = "%s"
 # The size in bytes of the corpora on which the sums of works are compared.
 CHECKED = 100_000
 
-# The forms of corpora that consist of valid text.
-GOOD = ('literals', 'list', 'attributes', 'source')
 # A row of the driver's list: the form of the corpus (literals, list, attributes, source, spoiled, hostile; `program` if a whole
 # program is measured), the owner of the work (ours, other), the corpus and the work.
 Row = collections.namedtuple('Row', 'form whose corpus work')
@@ -55,9 +53,8 @@ def with_dependencies(lines):
     link = os.path.join(folder, 'src')
     if not os.path.islink(link):
         os.symlink(os.path.join(DRIVER, 'src'), link)
-    with open(os.path.join(DRIVER, 'Cargo.toml')) as manifest:
+    with open(os.path.join(DRIVER, 'Cargo.toml')) as manifest, open(os.path.join(folder, 'Cargo.toml'), 'w') as copy:
         text = manifest.read().replace('"../../rust"', '"%s"' % os.path.join(TOP, 'rust'))
-    with open(os.path.join(folder, 'Cargo.toml'), 'w') as copy:
         copy.write('\n'.join([text, *lines, '[workspace]\n']))
     return folder
 

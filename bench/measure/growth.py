@@ -1,19 +1,16 @@
 """Measures the time per setting of the package's calls in procedural macros, for inputs with few settings and with many."""
 import os
-import subprocess
 
 from measure import build, tables
 
 USER = os.path.join(build.TOP, 'rust/macros/user')
-EXAMPLE = os.path.join(USER, 'examples/growth.rs')
 
 
 def lines():
     """Returns the output of the example. Its macro measures the times while it is compiled."""
-    os.utime(EXAMPLE)
+    os.utime(os.path.join(USER, 'examples/growth.rs'))
     environment = {**os.environ, 'CARGO_TARGET_DIR': os.path.join(build.BUILD, 'macros')}
-    command = ['cargo', 'run', '--offline', '--quiet', '--example', 'growth']
-    printed = subprocess.run(command, cwd=USER, env=environment, check=True, capture_output=True, text=True).stdout
+    printed = build.output(['cargo', 'run', '--offline', '--quiet', '--example', 'growth'], cwd=USER, env=environment)
     return [line.split('\t') for line in printed.splitlines()]
 
 
