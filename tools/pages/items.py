@@ -58,9 +58,8 @@ class Item(NamedTuple):
         found = re.search(r'example of\s+\[`([\w:]+)`\]', self.docs)
         return found[1] if found else None
 
-    def errors(self):
-        found = re.search(r'# Errors\n+(.*?)(?=\n# |\n```|\n\[|\Z)', self.docs, re.S)
-        return re.sub(r'\s+', ' ', found[1]).strip() if found else ''
+    def has_errors(self):
+        return re.search(r'# Errors\n+\S', self.docs) is not None
 
     def returns_result(self):
         return self.kind == 'fn' and re.search(r'->\s*(?:[\w:]+::)?Result<', self.head) is not None
