@@ -241,7 +241,7 @@ impl Clone for Edits<'_> {
 
 impl fmt::Debug for Edits<'_> {
     fn fmt(&self, f: &mut fmt::Formatter<'_>) -> fmt::Result {
-        f.debug_struct("Restyles")
+        f.debug_struct("Edits")
             .field("style", &self.style)
             .field("skips_macros", &self.skips_macros)
             .finish_non_exhaustive()

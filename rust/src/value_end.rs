@@ -20,7 +20,7 @@ enum Closure {
     Possible,
     /// The closure's parameters are open.
     Parameters,
-    /// The last token tree closed the closure's parameters.
+    /// The closure's parameters are closed. At most minuses follow them.
     Closed,
     /// The search is in the closure's return type, which ends at the braces of the body.
     Type,
@@ -86,7 +86,9 @@ impl ValueEnd {
             (Closure::Possible, Shape::BeforeClosure) => Closure::Possible,
             (Closure::Parameters, Shape::Mark('|')) => Closure::Closed,
             (Closure::Parameters, _) => Closure::Parameters,
-            (Closure::Closed, Shape::Mark('-')) => Closure::Type,
+            // The minus may begin `->`, or the body.
+            (Closure::Closed, Shape::Mark('-')) => Closure::Closed,
+            (Closure::Closed, Shape::Mark('>')) => Closure::Type,
             (Closure::Type, Shape::Braces) => Closure::Passed,
             (Closure::Type, _) => Closure::Type,
             _ => Closure::Passed,
@@ -162,5 +164,11 @@ mod tests {
         // `|` opens a closure's parameters only at the value's beginning.
         assert_eq!(value_of("x | y, z | w"), "x | y");
         assert_eq!(value_of("|x| x < y, z > w"), "|x| x < y");
+        // A minus without `>` begins the body.
+        assert_eq!(value_of("|x| -x < y, z > w"), "|x| -x < y");
+        // After the braces of the body, `<` is an operator.
+        assert_eq!(value_of("|x| -> y { < z, w > v"), "|x| -> y { < z");
+        // `<` opens angle brackets after two colons, not after one.
+        assert_eq!(value_of("x: < y, z > w"), "x: < y");
     }
 }

@@ -544,6 +544,7 @@ fn errors_tell_what_other_formats_write() {
         "a # one\n= 1",
         "; one\na = 1",
         "a =\n# one\n1",
+        "a = 1, # one",
     ] {
         assert_eq!(help(text), comment, "{text:?}");
     }
@@ -564,6 +565,13 @@ fn errors_tell_what_other_formats_write() {
         "a = 2024-01-01",
         "a = 10%",
         "a = null",
+        "a = ’b’",
+        "a = ”b”",
+        "a = „b“",
+        "a = «b»",
+        "a = »b«",
+        "a = _b",
+        "a = Falsehood",
     ] {
         let expected = if text.starts_with("a = /") {
             ""
@@ -577,6 +585,7 @@ fn errors_tell_what_other_formats_write() {
         assert!(message.contains(string), "{message}");
     }
     assert_eq!(help("a = True"), "write `true` or `false`");
+    assert_eq!(help("a = FALSE"), "write `true` or `false`");
     assert_eq!(
         help("[server]\nport = 1"),
         "there are no sections: write `section.name = ..`"
@@ -586,6 +595,7 @@ fn errors_tell_what_other_formats_write() {
     assert_eq!(help("my-host = \"a\""), "a name has no `-`: use `_`");
     assert_eq!(help("é-host = \"a\""), "a name has no `-`: use `_`");
     assert_eq!(help("\"a\" = 1"), "a name has no quotes");
+    assert_eq!(help("'a' = 1"), "a name has no quotes");
     assert_eq!(help("1st = 1"), "a name begins with a letter or `_`");
     assert_eq!(help("a = +1"), "a number has no `+`");
     assert_eq!(help("a = .5"), "a float begins with a digit, as in `0.5`");
@@ -593,6 +603,7 @@ fn errors_tell_what_other_formats_write() {
     assert_eq!(help("a = 1 b = 2"), between);
     assert_eq!(help("a = 1; b = 2"), between);
     assert_eq!(help("a = 1 /* one */ b = 2"), between);
+    assert_eq!(help("a = 1/* one */b = 2"), between);
     for text in [
         "a 1",
         "a - b = 1",
@@ -601,6 +612,8 @@ fn errors_tell_what_other_formats_write() {
         "a = \"b",
         "a = (1)",
         "a = 1 }",
+        "//! one\na = 1",
+        "/** one */\na = 1",
     ] {
         assert_eq!(help(text), "", "{text:?}");
     }
@@ -611,6 +624,7 @@ fn hints_of_settings_between_commas() {
     let help = |text: &str| parse_settings(text).expect_err(text).help();
     assert_eq!(help("a = 1 b = 2"), Some("a comma is between two settings"));
     assert_eq!(help("a.b = 1"), Some("a name has no `.`: use `_`"));
+    assert_eq!(help("a . b = 1"), None);
     assert_eq!(help("[a]\nb = 1"), Some("there are no sections"));
     let error = Settings::read("a = 1 b = 2").unwrap_err().shifted(10);
     let message = "expected `,` at byte 16: a comma is between two settings";

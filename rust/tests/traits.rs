@@ -64,6 +64,14 @@ fn iterators_are_cloned() {
 }
 
 #[test]
+fn iterators_print_their_names() {
+    assert!(format!("{:?}", parse_list("1")).starts_with("Literals("));
+    assert!(format!("{:?}", source("1")).starts_with("Source("));
+    assert!(format!("{:?}", source("1").recover()).starts_with("Recover("));
+    assert!(format!("{:?}", rewrite_source("1", Style::new())).starts_with("Edits {"));
+}
+
+#[test]
 fn kinds_of_errors_print_and_are_errors() {
     fn words(kind: impl Error + Clone + PartialEq + Hash) -> String {
         kind.to_string()
@@ -91,6 +99,10 @@ fn kinds_of_errors_print_and_are_errors() {
     let error = read.number::<u8>(PORT).unwrap_err();
     let source = error.kind().source().unwrap();
     assert_eq!(source.to_string(), "number that u8 doesn't hold at byte 0");
+    let read = Settings::read("port = 0b2").unwrap();
+    let error = read.number::<u8>(PORT).unwrap_err();
+    let source = error.kind().source().unwrap();
+    assert_eq!(source.to_string(), "invalid digit for this base at byte 2");
 }
 
 #[test]

@@ -38,6 +38,10 @@ fn shown_entry(meta: &Meta) -> String {
         (Ok(value), Err(_)) => match meta.literal() {
             Some((literal, span)) => {
                 let (text, value_offset) = (write_str(literal.text()), source(span));
+                let next = next_literal_of::<LitInt>(&mut value.into_iter());
+                for (_, span) in meta.literal_of::<LitInt>().into_iter().chain(next) {
+                    assert_eq!(source(span), value_offset);
+                }
                 return format!("({name}, {at}, \"literal\", {text}, {value_offset}),");
             }
             None => ("value", value),
@@ -60,6 +64,12 @@ pub fn entries(input: TokenStream) -> TokenStream {
         }
         Err(error) => shown_errors(&error),
     }
+}
+
+/// Returns a string literal with the text that `Debug` prints for the entries of the input.
+pub fn debugged(input: TokenStream) -> TokenStream {
+    let metas = Meta::parse_all(input).expect("entries");
+    tokens_of(&write_str(&format!("{metas:?}")))
 }
 
 const KNOWN: [&str; 7] = ["name", "size", "verbose", "short", "max", "inner", "alias"];

@@ -286,6 +286,13 @@ pub fn byte_errors(input: TokenStream) -> TokenStream {
     places::errors(&input)
 }
 
+/// Returns the errors of converting texts that Rust rejects to tokens, in the form of `byte_errors`. The tokens would have the span
+/// of the input's first token.
+#[proc_macro]
+pub fn errors_of_tokens(input: TokenStream) -> TokenStream {
+    places::errors_of_tokens(input)
+}
+
 /// Returns errors that are created from the spans of two token trees, in the form of `byte_errors`, and two messages printed with a
 /// width.
 #[proc_macro]
@@ -298,6 +305,12 @@ pub fn made_errors(input: TokenStream) -> TokenStream {
 #[proc_macro]
 pub fn entries(input: TokenStream) -> TokenStream {
     attributes::entries(input)
+}
+
+/// Returns a string literal with the text that `Debug` prints for the entries of an attribute.
+#[proc_macro]
+pub fn debugged(input: TokenStream) -> TokenStream {
+    attributes::debugged(input)
 }
 
 /// Returns a tuple of the settings in the input of an attribute macro, read by name, or the errors.

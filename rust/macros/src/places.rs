@@ -1,7 +1,7 @@
 //! Macros that return the spans of literals and errors, as source texts.
 
 use crate::{take_comma, tokens_of};
-use navyspindle::{next_literal, write_str, Kind, LitByte, MacroError};
+use navyspindle::{next_literal, write_str, Kind, Lit, LitByte, MacroError};
 use proc_macro::{Span, TokenStream};
 
 /// Returns the source text at a span, as a string literal.
@@ -52,6 +52,15 @@ pub fn errors(input: &TokenStream) -> TokenStream {
     tokens_of(&format!("[{each}{}]", shown(&all.expect("an error"))))
 }
 
+/// Returns the errors of converting texts that Rust rejects to tokens, with the span of the input's first token.
+pub fn errors_of_tokens(input: TokenStream) -> TokenStream {
+    let span = input.into_iter().next().expect("a token").span();
+    let error_of = |text: &str| Lit::new(text).to_token_stream(span).expect_err(text);
+    let errors = ["word", "0b2", "\"\\q\"", "--1"].map(error_of);
+    let errors: String = errors.iter().map(shown).collect();
+    tokens_of(&format!("[{errors}]"))
+}
+
 /// Returns errors that a macro creates from the spans of two token trees.
 pub fn made_errors(input: TokenStream) -> TokenStream {
     let spans: Vec<Span> = input.into_iter().map(|tree| tree.span()).collect();
@@ -59,6 +68,7 @@ pub fn made_errors(input: TokenStream) -> TokenStream {
         MacroError::new("one", spans[1]),
         MacroError::between(format_args!("{}{}", 't', "wo"), spans[0], spans[1]),
         MacroError::expected(Kind::CStr, Kind::Float, spans[1]),
+        MacroError::new("three", spans[0]).at(spans[1]),
     ];
     let padded = format!("[{:>4}] [{:<4}] [{:.1}]", made[0], made[0], made[1]);
     let made: String = made.iter().map(shown).collect();

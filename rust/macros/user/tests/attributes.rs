@@ -1,6 +1,6 @@
 //! Tests of the entries of attributes, with tokens that rustc passes to macros.
 
-use navyspindle_macros::{at_values, attribute, converted, entries, options, Described};
+use navyspindle_macros::{at_values, attribute, converted, debugged, entries, options, Described};
 
 type Entry = (
     &'static str,
@@ -43,6 +43,12 @@ fn each_form() {
             ("g", "value", "\"y\".to_string()"),
         ]
     );
+    // The span of a literal is that of its own token, without the minus.
+    assert_eq!((found[2].4, found[3].4), ("1", "true"));
+    assert_eq!(
+        debugged!(a, b::c = 1, d(e), r#f = "g".h()),
+        "[a, b::c = .., d(..), f = ..]"
+    );
 }
 
 #[test]
@@ -74,11 +80,17 @@ fn commas_that_end_no_value() {
         f = x < y,
         g = f(1, 2) > z,
         h = move |x, y| x < y,
-        i = static |x, y| x
+        i = static |x, y| x,
+        j = async |x, y| x,
+        k = async move |x, y| x < y,
+        l = |x| -x < y,
+        m = 1 > x
     };
     let names: Vec<_> = found.iter().map(|it| (it.0, it.2)).collect();
-    let expected = ["a", "b", "c", "d", "e", "f", "g", "h", "i"].map(|name| (name, "value"));
-    assert_eq!(names, expected);
+    let expected = [
+        "a", "b", "c", "d", "e", "f", "g", "h", "i", "j", "k", "l", "m",
+    ];
+    assert_eq!(names, expected.map(|name| (name, "value")));
 }
 
 /// Tokens that `macro_rules!` passes on are in groups without delimiters.
@@ -194,6 +206,14 @@ fn errors_by_name() {
         (unexpected, "'x'", "'x'")
     );
     assert_eq!(
+        error!(name = "a", inner(size = 1)),
+        ("integer where f64 is wanted", "1", "1")
+    );
+    assert_eq!(
+        error!(name = "a", size = 1.5),
+        ("float where u8 is wanted", "1.5", "1.5")
+    );
+    assert_eq!(
         error!(name = "a", inner),
         ("expected a list: `inner(..)`", "inner", "inner")
     );
@@ -212,13 +232,14 @@ fn errors_by_name() {
 
 #[test]
 fn all_unknown_names_are_reported() {
-    let errors: Errors = options!(nme = "a", size = 1, verbos, a::b(c));
+    let errors: Errors = options!(nme = "a", size = 1, verbos, a::b(c), Size = 2);
     assert_eq!(
         errors,
         [
             ("unknown name `nme`", "nme", "nme"),
             ("unknown name `verbos`", "verbos", "verbos"),
             ("unknown name `a::b`", "a", "b"),
+            ("unknown name `Size`", "Size", "Size"),
         ]
     );
 }
@@ -248,9 +269,16 @@ fn errors_of_the_package_become_errors_of_macros() {
 #[described(text = "a struct", level = 0x10)]
 struct Thing;
 
+/// Names are case-sensitive, so `Level` isn't the name of the level.
+#[derive(Described)]
+#[allow(dead_code)]
+#[described(text = "another", Level = 0x10)]
+struct Other;
+
 #[test]
 fn derived() {
     assert_eq!(Thing::description(), ("a struct", 16));
+    assert_eq!(Other::description(), ("another", 0));
 }
 
 /// An error at a value has the span from the first token of the value to the last. The lists below have the text of these tokens.

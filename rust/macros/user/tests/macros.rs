@@ -1,8 +1,8 @@
 //! Tests of literals that rustc passes to procedural macros.
 
 use navyspindle_macros::{
-    again, byte_errors, hex_bytes, joined_slashes, literals, made_errors, named, placed, printed,
-    settings, slow_calls, strings, strings_errors, sum, sum_error, text, written,
+    again, byte_errors, errors_of_tokens, hex_bytes, joined_slashes, literals, made_errors, named,
+    placed, printed, settings, slow_calls, strings, strings_errors, sum, sum_error, text, written,
 };
 use std::ffi::CStr;
 use std::fmt::Debug;
@@ -195,9 +195,31 @@ fn errors_have_a_place_and_others_after_them() {
                 "second",
                 1
             ),
+            ("three", "second", 1),
         ]
     );
     assert_eq!(padded, "[ one] [one ] [t]");
+}
+
+/// An error is a call in braces, which can be an item too, of the macro in `core`. rustc decides which spaces it prints between
+/// tokens, so they are removed.
+#[test]
+fn errors_are_calls_of_compile_error() {
+    let call = "::core::compile_error!{\"unexpected end of input, expected literal\"}";
+    assert_eq!(printed!().replace(' ', ""), call.replace(' ', ""));
+}
+
+#[test]
+fn texts_that_are_no_tokens() {
+    assert_eq!(
+        errors_of_tokens!(here there),
+        [
+            ("not a literal", "here", 1),
+            ("invalid digit for this base", "here", 1),
+            ("unknown escape", "here", 1),
+            ("expected a digit after `-`", "here", 1),
+        ]
+    );
 }
 
 #[test]
@@ -231,6 +253,7 @@ fn errors_after_a_minus_have_its_place_too() {
     let [(message, first, last)] = strings_errors!(-"a");
     assert_eq!(message, "expected a number after the minus");
     assert_eq!((first, last), ("-", "\"a\""));
+    assert_eq!(strings_errors!(-), [("expected literal", "-", "-")]);
     // The number without its minus isn't a literal either.
     let [(_, first, last)] = strings_errors!(-340282366920938463463374607431768211456);
     assert_eq!(
@@ -327,6 +350,14 @@ fn settings_by_name() {
         named!(size = 1),
         ("missing name: expected a string", "1", "1")
     );
+    assert_eq!(
+        named!(name = "a" size = 1),
+        ("expected `,`", "size", "size")
+    );
+    // An input without tokens is an error at the macro's call.
+    let (message, first, last) = named!();
+    assert_eq!(message, "missing name: expected a string");
+    assert!(first.starts_with("named!") && first == last, "{first}");
 }
 
 #[test]

@@ -280,6 +280,22 @@ fn kinds_of_the_systems_errors() {
     }
 }
 
+/// Tests the conversion of errors of Rust's std that don't come from the system.
+#[test]
+fn kinds_of_stds_errors() {
+    for (theirs, kind) in [
+        (io::ErrorKind::InvalidInput, ErrorKind::InvalidInput),
+        (io::ErrorKind::InvalidData, ErrorKind::InvalidData),
+        (io::ErrorKind::WriteZero, ErrorKind::WriteZero),
+        (io::ErrorKind::OutOfMemory, ErrorKind::OutOfMemory),
+        (io::ErrorKind::UnexpectedEof, ErrorKind::Other),
+        (io::ErrorKind::Other, ErrorKind::Other),
+    ] {
+        let error = Error::from(io::Error::from(theirs));
+        assert_eq!((error.kind(), error.raw_os_error()), (kind, None));
+    }
+}
+
 /// Shows the result of creating a new file at the path.
 fn made(path: &str) -> String {
     let rt = HostRuntime::new();
@@ -391,6 +407,11 @@ fn paths_that_change() {
     assert_eq!(Path::new(real.as_str()).file_name(), Some(OsStr::new("a")));
     let missing = path_in(&here, "no");
     assert_eq!(told(canonicalize(&rt, &missing).map(|_| ())), MISSING);
+    // The path of a link is a text, and the path of its target isn't.
+    fs::write(here.join(OsStr::from_bytes(b"c\xff")), "").expect("the file can be written");
+    symlink(OsStr::from_bytes(b"c\xff"), here.join("odd")).expect("the link can be made");
+    let odd = canonicalize(&rt, &path_in(&here, "odd")).map(|_| ());
+    assert_eq!(told(odd), "Err(InvalidFilename, None)");
     assert_eq!(told(rename(&rt, &missing, &a)), MISSING);
     assert_eq!(told(rename(&rt, &a, "n\0")), NO_PATH);
     assert_eq!(told(rename(&rt, &a, &b)), "Ok(())");

@@ -58,6 +58,12 @@ fn lists_grow_at_the_same_calls() {
     let past_ten = asking(&failing, 50, |i| list.push(i).is_ok());
     assert_eq!(past_ten, [10, 20, 40]);
 
+    let Ok(mut list) = Vec::with_capacity(&failing, 3) else {
+        panic!("no memory")
+    };
+    let past_three = asking(&failing, 50, |i| list.push(i as u8).is_ok());
+    assert_eq!(past_three, [3, 8, 16, 32]);
+
     let mut list = Vec::new(&failing);
     let pieces = asking(&failing, 40, |i| {
         list.extend_from_slice(&[1_u8; 40][..i]).is_ok()
@@ -196,6 +202,11 @@ fn formats() {
     failing.fail(1, 9);
     assert!(format!(in &failing; "{nothing}").is_ok());
     assert_eq!(failing.held(), 0);
+
+    failing.succeed();
+    let text = text_of(&failing, "ab", 2);
+    let padded = format!(in &failing; "[{text:>4}] [{text:-<3}] [{text:.1}] {text:?}");
+    assert!(padded.is_ok_and(|padded| padded.as_str() == "[  ab] [ab-] [a] \"ab\""));
 }
 
 #[test]

@@ -92,6 +92,24 @@ fn what_a_reader_is_asked_for_where_there_is_room() {
     let read = told(script.take(u64::MAX).read_to_end(&mut with_room(100_000)));
     assert_eq!(read, "Ok(100100)");
     assert_eq!(script.asked(), [8192, 16384, 32768, 42656, 512, 12400]);
+
+    // After a short read, the reader is asked for as many bytes as before.
+    let mut script = Script::new(&[Step::Pass(1), Step::Pass(8191)], &[7; 9000]);
+    let read = told(script.take(u64::MAX).read_to_end(&mut with_room(100_000)));
+    assert_eq!(read, "Ok(9000)");
+    assert_eq!(script.asked(), [8192; 4]);
+}
+
+/// A reader is asked for at most 131,072 bytes. This value wasn't printed by Rattle. It follows from the source of its std.
+#[test]
+fn the_most_that_a_reader_is_asked_for() {
+    let bytes = [7; 600_000];
+    let mut script = Script::new(&[], &bytes);
+    let read = told(script.take(1 << 30).read_to_end(&mut list_of(b"")));
+    assert_eq!(read, "Ok(600000)");
+    let first = [512, 512, 1024, 2048, 4096, 8192, 16384, 32768, 65536];
+    assert_eq!(script.asked()[..9], first);
+    assert_eq!(script.asked()[9..], [131_072; 5]);
 }
 
 #[test]

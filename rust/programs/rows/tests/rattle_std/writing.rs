@@ -87,6 +87,29 @@ fn what_a_writer_is_asked_for() {
     assert_eq!(taker.asked(), [5000, 5000, 9000, 8192, 9000, 5000]);
 }
 
+/// Bytes that would fill the whole buffer are written at once. This follows from the source of Rattle's std.
+#[test]
+fn a_whole_buffer_is_not_held() {
+    let mut taker = Taker::new(&[FULL, FULL]);
+    let block = list_of(&[b'x'; 8192]);
+    let mut out = buffered(&mut taker);
+    assert_eq!(told(out.write_all(&block)), "Err(StorageFull, None)");
+    assert_eq!(told(out.write(&block)), "Err(StorageFull, None)");
+    drop(out);
+    assert_eq!(taker.asked(), [8192, 8192]);
+}
+
+/// Flushing a writer flushes its inner writer too. This follows from the source of Rattle's std.
+#[test]
+fn the_inner_writer_is_flushed() {
+    let mut taker = Taker::new(&[FULL]);
+    let mut out = buffered(buffered(&mut taker));
+    assert_eq!(told(out.write_all(b"ab")), "Ok(())");
+    assert_eq!(told(out.flush()), "Err(StorageFull, None)");
+    drop(out);
+    assert_eq!((taker.taken(), taker.asked()), ("ab", [2, 2].as_slice()));
+}
+
 #[test]
 fn a_failure_keeps_what_is_not_written() {
     let steps = [
