@@ -16,8 +16,8 @@ CRATE = re.compile(r"(\w+)/ with (\w+(?: or \w+)*)")
 ENTRY = re.compile(r"(- )?(\S+) (\*|impl \w+ for \w+|\w+|\w+::\w+|\w+::\{\w+(?:, \w+)*\}): (\S.*)")
 
 # The attributes that are written before an item, and before an enum.
-ATTRIBUTE = '#[cfg(feature = "rendered")]\n'
-EXPECTATION = '#[cfg_attr(not(feature = "rendered"), expect(dead_code, reason = "{why}"))]\n'
+ATTRIBUTE = '#[cfg(feature = "__rendered")]\n'
+EXPECTATION = '#[cfg_attr(not(feature = "__rendered"), expect(dead_code, reason = "{why}"))]\n'
 
 # An import: its path, and the one name or the several names.
 USE = re.compile(r"^(pub(?:\(crate\))? |)use ([\w:]+)::(?:(\w+)|\{([\w,\s]+)\});\n", re.M)

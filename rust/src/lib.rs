@@ -108,7 +108,7 @@ mod proc_macros;
 mod ranges;
 mod segments;
 #[cfg_attr(
-    feature = "rendered",
+    feature = "__rendered",
     allow(missing_docs, rustdoc::broken_intra_doc_links)
 )]
 // The translated sources re-export names that the package reaches by other paths. They also have parameters that only contracts
@@ -153,8 +153,8 @@ mod words;
 #[cfg(feature = "writers")]
 mod write;
 
-/// The translated core of the package, for the programs of this repository. Its names may change with each version.
-#[cfg(feature = "rendered")]
+/// Private: the translated core of the package, for the programs of the repository. Its names change in any version.
+#[cfg(feature = "__rendered")]
 #[doc(hidden)]
 pub mod rendered {
     pub use crate::proved::{

@@ -61,12 +61,12 @@ mod vectors;
 mod words;
 
 #[cfg(all(
-    feature = "rendered",
+    feature = "__rendered",
     any(target_feature = "sse2", target_feature = "neon")
 ))]
 pub(crate) use vectors::Simd;
 #[cfg(not(all(
-    feature = "rendered",
+    feature = "__rendered",
     any(target_feature = "sse2", target_feature = "neon")
 )))]
 pub(crate) use words::Simd;
@@ -75,7 +75,7 @@ pub(crate) use words::Simd;
 pub(crate) mod wide {
     #[cfg(all(
         any(
-            feature = "rendered",
+            feature = "__rendered",
             not(any(debug_assertions, feature = "proc-macro"))
         ),
         any(target_feature = "sse2", target_feature = "neon")
@@ -83,7 +83,7 @@ pub(crate) mod wide {
     pub(crate) use super::vectors::u8x16;
     #[cfg(not(all(
         any(
-            feature = "rendered",
+            feature = "__rendered",
             not(any(debug_assertions, feature = "proc-macro"))
         ),
         any(target_feature = "sse2", target_feature = "neon")

@@ -5,7 +5,7 @@
 use crate::rl_lenient::digit_runs::is_negative;
 use crate::rl_lenient::digits::{is_plain_float, is_plain_integer};
 use crate::rl_lenient::number_forms::{Number, read_number};
-#[cfg(feature = "rendered")]
+#[cfg(feature = "__rendered")]
 use crate::rl_lenient::number_forms::{float_suffix, read_integer};
 use crate::rl_lenient::quoted_forms::{
     QuotedForm, begins_character, find_bare_character, find_character, find_cooked, find_raw,
@@ -65,7 +65,7 @@ pub struct Found {
 ///
 /// The body of a quoted literal is the text between its quotes. The body of a number is the text before its suffix,
 /// with sign and prefix. The body of a `bool` is the whole text.
-#[cfg(feature = "rendered")]
+#[cfg(feature = "__rendered")]
 #[derive(Clone, Copy, PartialEq, Eq, Debug)]
 pub struct Parts<'t> {
     /// The kind of the literal.
@@ -78,7 +78,7 @@ pub struct Parts<'t> {
 
 impl Found {
     /// Returns the literal's body, as a slice of `text`. The text must be the one that was parsed.
-    #[cfg(feature = "rendered")]
+    #[cfg(feature = "__rendered")]
     #[inline(always)]
     pub fn body_in<'t>(&self, text: &'t str) -> &'t str {
         &text[self.body.lo..self.body.hi]
@@ -93,7 +93,7 @@ impl Found {
 
     /// Returns the literal's kind, body and suffix. Body and suffix are slices of `text`, which must be the text that
     /// was parsed.
-    #[cfg(feature = "rendered")]
+    #[cfg(feature = "__rendered")]
     #[inline(always)]
     pub(crate) fn parts<'t>(&self, text: &'t str) -> Parts<'t> {
         Parts {
@@ -131,7 +131,7 @@ fn float_found<'t>(text: &'t str, suffix: &'t str) -> Found {
 }
 
 /// Parses the text as an integer literal. Returns `None` if it isn't one, and `Some(None)` if it is one above 128 bits.
-#[cfg(feature = "rendered")]
+#[cfg(feature = "__rendered")]
 pub fn find_int(text: &str) -> Option<Option<Found>> {
     let integer = read_integer(text)?;
     match integer.magnitude {
@@ -142,7 +142,7 @@ pub fn find_int(text: &str) -> Option<Option<Found>> {
 
 /// Parses the text as a float literal, even if it is an integer literal too. Returns `None` if it isn't a float
 /// literal.
-#[cfg(feature = "rendered")]
+#[cfg(feature = "__rendered")]
 pub fn find_float(text: &str) -> Option<Found> {
     let suffix = float_suffix(text)?;
     Some(float_found(text, suffix))
@@ -198,7 +198,7 @@ pub(crate) fn find_truth(text: &str) -> Option<Found> {
 }
 
 /// Returns the parse result of the literal `text`. The text must be a literal.
-#[cfg(feature = "rendered")]
+#[cfg(feature = "__rendered")]
 pub fn found_in(text: &str) -> Found {
     match find(text) {
         Some(found) => found,
@@ -268,7 +268,7 @@ pub fn begins_number(text: &str) -> bool {
 /// The postcondition `strict_bytes` compares `syn`'s grammar with Rust's: take a text without CR. By `syn`'s grammar it
 /// is a byte literal, or a byte string literal that isn't raw, whose suffix is empty or an identifier, exactly if it is
 /// one by Rust's.
-#[cfg(feature = "rendered")]
+#[cfg(feature = "__rendered")]
 pub fn shape(text: &str) -> Option<Parts<'_>> {
     let found = find(text)?;
     Some(found.parts(text))

@@ -5,7 +5,7 @@
 use crate::rl_lenient::digit_runs::{
     DigitRun, after_minus, begins_digit, is_exponent_suffix, is_suffix, read_digit_run, skip_digits,
 };
-#[cfg(feature = "rendered")]
+#[cfg(feature = "__rendered")]
 use crate::rl_lenient::found::{Parts, find_float, find_int, find_unsigned};
 use crate::rl_syntax::classes::{CharClass, skip_class};
 use crate::rl_syntax::text::{split_ascii, split_char};
@@ -92,7 +92,7 @@ pub fn read_integer(text: &str) -> Option<Integer<'_>> {
 /// literal, and `Some(None)` if it is one above 128 bits.
 ///
 /// The body is the text before the suffix, with sign and prefix. Body and suffix are slices of the text.
-#[cfg(feature = "rendered")]
+#[cfg(feature = "__rendered")]
 pub fn int_shape(text: &str) -> Option<Option<Parts<'_>>> {
     match find_int(text) {
         Some(Some(found)) => Some(Some(found.parts(text))),
@@ -172,7 +172,7 @@ pub(crate) fn head_suffix<'t>(text: &'t str, head: Head<'t>) -> Option<&'t str> 
 /// literal too.
 ///
 /// The body is the text before the suffix, with the sign. Body and suffix are slices of the text.
-#[cfg(feature = "rendered")]
+#[cfg(feature = "__rendered")]
 pub fn float_shape(text: &str) -> Option<Parts<'_>> {
     let found = find_float(text)?;
     Some(found.parts(text))
@@ -200,7 +200,7 @@ pub(crate) fn read_number(text: &str) -> Option<Number<'_>> {
 ///
 /// Returns `Some` exactly if a minus and the text are a literal. That literal is an integer or a float. Body and suffix
 /// are slices of the text, without the minus.
-#[cfg(feature = "rendered")]
+#[cfg(feature = "__rendered")]
 pub fn shape_negative(text: &str) -> Option<Parts<'_>> {
     let found = find_unsigned(text)?;
     Some(found.parts(text))

@@ -6,7 +6,7 @@ use crate::rl_syntax::lanes::run_len;
 use crate::rl_syntax::text::{split_ascii, split_char, strip_byte};
 
 /// A class of characters, such as identifier characters or white space.
-#[cfg_attr(not(feature = "rendered"), expect(dead_code, reason = "SuffixContinue, Unquoted, Ascii, NonNul: contracts alone speak of their runs"))]
+#[cfg_attr(not(feature = "__rendered"), expect(dead_code, reason = "SuffixContinue, Unquoted, Ascii, NonNul: contracts alone speak of their runs"))]
 #[derive(Clone, Copy)]
 pub enum CharClass {
     /// Characters that continue an identifier.

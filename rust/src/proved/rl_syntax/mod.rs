@@ -12,7 +12,7 @@ pub mod lanes;
 pub mod lines;
 pub mod scan;
 pub mod slice_writer;
-#[cfg(feature = "rendered")]
+#[cfg(feature = "__rendered")]
 mod span;
 pub mod text;
 mod written_into;
@@ -20,6 +20,6 @@ pub mod written_unit;
 
 pub use crate::rl_syntax::integer_type::IntegerType;
 pub use crate::rl_syntax::kind::Kind;
-#[cfg(feature = "rendered")]
+#[cfg(feature = "__rendered")]
 pub use crate::rl_syntax::span::Span;
 pub use crate::rl_syntax::written_into::{write_bytes_into, write_char_into, write_str_into};
