@@ -34,7 +34,7 @@
 //! | Write a value as a literal | [`write_str`], [`write_integer`], ..; [`LitStr::new`], [`LitInt::suffixed`], .. | `writers` |
 //! | Rewrite literals in a style | [`rewrite`], [`Style`]; with `sources` [`rewrite_source`](fn@rewrite_source) | `style` |
 //! | Read an attribute in a procedural macro | [`Attrs`], [`Meta`], [`MacroError`] | `proc-macro` |
-//! | Read literals in a procedural macro | [`next_literal_of`], [`next_literal`]; with `settings` [`MacroInput`] | `proc-macro` |
+//! | Read literals in a procedural macro | [`next_literal_of`], [`next_literal`], [`next_value`]; with `settings` [`MacroInput`] | `proc-macro` |
 //!
 //! Ranges and places are byte offsets. All features except `proc-macro` are on by default.
 //!
@@ -198,7 +198,7 @@ pub use macro_error::MacroError;
 #[cfg(all(feature = "proc-macro", feature = "settings"))]
 pub use macro_settings::{parse_macro_settings, MacroEntry, MacroInput};
 #[cfg(feature = "proc-macro")]
-pub use meta::Meta;
+pub use meta::{next_value, Meta};
 pub use numbers::{Base, LitFloat, LitInt, NumberType};
 pub use parse_error::{FlawKind, ParseError, ParseErrorKind};
 #[cfg(feature = "sources")]
