@@ -166,15 +166,15 @@ pub mod rendered {
 // The translated code refers to these crates by the paths that are imported here.
 #[cfg(feature = "sources")]
 use proved::rl_recovery;
-#[cfg(any(feature = "sources", feature = "settings"))]
-use proved::rl_settings;
 #[cfg(feature = "style")]
 use proved::rl_style;
 #[cfg(any(feature = "writers", feature = "style"))]
 use proved::rl_writing;
 #[cfg(feature = "flaws")]
 use proved::{rl_flaws, rl_types};
-use proved::{rl_lenient, rl_lexer, rl_strict, rl_syntax};
+use proved::{rl_lenient, rl_strict, rl_syntax};
+#[cfg(any(feature = "sources", feature = "settings"))]
+use proved::{rl_lexer, rl_settings};
 
 #[cfg(feature = "proc-macro")]
 pub use attributes::Attrs;

@@ -54,7 +54,9 @@ macro_rules! lane_types {
     };
 }
 
-// The target and the features of the package decide which implementation is used.
+// The target and the features of the package decide which implementation is used. `vectors` is only for whole sources and for the
+// programs.
+#[cfg(any(test, feature = "sources", feature = "settings"))]
 #[allow(dead_code)]
 mod vectors;
 #[allow(dead_code)]
@@ -72,6 +74,7 @@ pub(crate) use vectors::Simd;
 pub(crate) use words::Simd;
 
 /// The vectors for skipping through whole sources.
+#[cfg(any(feature = "sources", feature = "settings"))]
 pub(crate) mod wide {
     #[cfg(all(
         any(

@@ -2,6 +2,7 @@
 //! The parse result of a text: the literal's kind, the byte offsets of its parts, and the value of an integer, `bool`,
 //! character or byte. A literal is split at these offsets, and isn't parsed again.
 
+#[cfg(any(feature = "sources", feature = "settings"))]
 use crate::rl_lenient::digit_runs::is_negative;
 use crate::rl_lenient::digits::{is_plain_float, is_plain_integer};
 use crate::rl_lenient::number_forms::{Number, read_number};
@@ -132,6 +133,7 @@ fn float_found<'t>(text: &'t str, suffix: &'t str) -> Found {
 
 /// Parses the text as an integer literal. Returns `None` if it isn't one, and `Some(None)` if it is one above 128 bits.
 #[cfg(feature = "__rendered")]
+#[inline]
 pub fn find_int(text: &str) -> Option<Option<Found>> {
     let integer = read_integer(text)?;
     match integer.magnitude {
@@ -143,6 +145,7 @@ pub fn find_int(text: &str) -> Option<Option<Found>> {
 /// Parses the text as a float literal, even if it is an integer literal too. Returns `None` if it isn't a float
 /// literal.
 #[cfg(feature = "__rendered")]
+#[inline]
 pub fn find_float(text: &str) -> Option<Found> {
     let suffix = float_suffix(text)?;
     Some(float_found(text, suffix))
@@ -150,7 +153,7 @@ pub fn find_float(text: &str) -> Option<Found> {
 
 /// Parses the text as a number: as an integer literal if it is one, and otherwise as a float literal. Returns `None` if
 /// it is neither, or an integer above 128 bits.
-#[inline(never)]
+#[inline]
 fn find_number(text: &str) -> Option<Found> {
     // Each arm returns by itself. A value that both arms make would be copied once more, padding included.
     match read_number(text)? {
@@ -163,6 +166,7 @@ fn find_number(text: &str) -> Option<Found> {
 
 /// Parses the text as a number that follows a minus. Returns `None` if the text isn't a number, or begins with a minus
 /// itself.
+#[cfg(any(feature = "sources", feature = "settings"))]
 #[inline(always)]
 pub(crate) fn find_unsigned(text: &str) -> Option<Found> {
     if is_negative(text) {
@@ -174,6 +178,8 @@ pub(crate) fn find_unsigned(text: &str) -> Option<Found> {
 /// Parses the literal that consists of a minus and `text`. Byte offsets in the result count from the minus.
 ///
 /// Returns `Some` exactly if a minus and the text are a literal. That literal is an integer or a float.
+#[cfg(any(feature = "sources", feature = "settings"))]
+#[inline]
 pub fn find_negative(text: &str) -> Option<Found> {
     let found = find_unsigned(text)?;
     Some(Found {
@@ -186,6 +192,7 @@ pub fn find_negative(text: &str) -> Option<Found> {
 }
 
 /// Parses the text as a boolean literal. Returns `None` if it is neither `true` nor `false`.
+#[inline]
 pub(crate) fn find_truth(text: &str) -> Option<Found> {
     let truth = bool_of(text)?;
     Some(Found {
@@ -199,6 +206,7 @@ pub(crate) fn find_truth(text: &str) -> Option<Found> {
 
 /// Returns the parse result of the literal `text`. The text must be a literal.
 #[cfg(feature = "__rendered")]
+#[inline]
 pub fn found_in(text: &str) -> Found {
     match find(text) {
         Some(found) => found,
@@ -226,7 +234,7 @@ pub fn find(text: &str) -> Option<Found> {
 }
 
 /// Parses the text as a quoted or boolean literal. The text must begin with neither a minus nor a decimal digit.
-#[inline(never)]
+#[inline]
 fn find_word_or_quoted(text: &str) -> Option<Found> {
     let Some((form, kind, inside)) = split_opener(text) else {
         return find_truth(text);
@@ -240,6 +248,7 @@ fn find_word_or_quoted(text: &str) -> Option<Found> {
 }
 
 /// Returns the value of the boolean literal `text`, or `None` if the text is neither `true` nor `false`.
+#[inline]
 pub fn bool_of(text: &str) -> Option<bool> {
     match text {
         "true" => Some(true),
@@ -249,6 +258,7 @@ pub fn bool_of(text: &str) -> Option<bool> {
 }
 
 /// Whether the first of the bytes is a minus or a decimal digit.
+#[inline]
 fn is_number_front(bytes: &[u8]) -> bool {
     !bytes.is_empty() && (bytes[0] == b'-' || bytes[0].is_ascii_digit())
 }
@@ -269,6 +279,7 @@ pub fn begins_number(text: &str) -> bool {
 /// is a byte literal, or a byte string literal that isn't raw, whose suffix is empty or an identifier, exactly if it is
 /// one by Rust's.
 #[cfg(feature = "__rendered")]
+#[inline]
 pub fn shape(text: &str) -> Option<Parts<'_>> {
     let found = find(text)?;
     Some(found.parts(text))
