@@ -56,7 +56,14 @@ macro_rules! lane_types {
 
 // The target and the features of the package decide which implementation is used. `vectors` is only for whole sources and for the
 // programs.
-#[cfg(any(test, feature = "sources", feature = "settings"))]
+#[cfg(any(
+    test,
+    feature = "__rendered",
+    all(
+        any(feature = "sources", feature = "settings"),
+        not(any(debug_assertions, feature = "proc-macro"))
+    )
+))]
 #[allow(dead_code)]
 mod vectors;
 #[allow(dead_code)]
