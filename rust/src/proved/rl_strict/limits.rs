@@ -6,7 +6,6 @@ use crate::rl_strict::strict_reading::Reading;
 use crate::rl_lenient::digit_runs::{after_minus, begins_digit, skip_digits};
 
 /// Returns the byte offset of the suffix if `reading` is an integer above 128 bits, and `None` otherwise.
-#[inline]
 pub fn oversized_suffix_at(reading: Reading) -> Option<usize> {
     match reading {
         Reading::Integer(None, suffix_at) => Some(suffix_at),
@@ -15,7 +14,6 @@ pub fn oversized_suffix_at(reading: Reading) -> Option<usize> {
 }
 
 /// Whether the suffix is `f32` or `f64`.
-#[inline]
 fn is_float_suffix(suffix: &str) -> bool {
     matches!(suffix, "f32" | "f64")
 }
@@ -24,7 +22,6 @@ fn is_float_suffix(suffix: &str) -> bool {
 /// or `f64`.
 ///
 /// Such a float may be above 128 bits, as in rustc: `340282366920938463463374607431768211456f64` is valid.
-#[inline]
 pub fn is_float_by_suffix(text: &str) -> bool {
     let number = after_minus(text);
     if begins_digit(number) {
@@ -36,7 +33,6 @@ pub fn is_float_by_suffix(text: &str) -> bool {
 
 /// Returns the flaw of an integer above 128 bits, whose suffix begins at the byte offset `suffix_at`. The piece begins at the
 /// start of `text`.
-#[inline]
 pub fn limit_flaw(text: &str, suffix_at: usize) -> Flaw {
     let found = make_flaw(FlawKind::TooLarge, &text[suffix_at..]).in_piece(text);
     found.in_text(text)
@@ -44,7 +40,6 @@ pub fn limit_flaw(text: &str, suffix_at: usize) -> Flaw {
 
 /// Returns the flaw of an integer above 128 bits, whose suffix begins at the byte offset `suffix_at`, or `None` if the suffix
 /// makes the number a float.
-#[inline]
 pub fn limit_flaw_unless_float(text: &str, suffix_at: usize) -> Option<Flaw> {
     if is_float_by_suffix(text) {
         None
@@ -55,7 +50,6 @@ pub fn limit_flaw_unless_float(text: &str, suffix_at: usize) -> Option<Flaw> {
 
 /// Returns the flaw of `text` if `reading`, its parse result, is an integer above 128 bits that its suffix doesn't make a
 /// float.
-#[inline]
 pub fn limit_of(text: &str, reading: Reading) -> Option<Flaw> {
     match oversized_suffix_at(reading) {
         Some(suffix_at) => limit_flaw_unless_float(text, suffix_at),
