@@ -208,8 +208,7 @@ fn the_literal_that_is_the_whole_input() {
             whole_string!($e)
         };
     }
-    assert_eq!((whole!(0x1F), whole!(-1.5)), (31, -1.5));
-    assert!(whole!(true));
+    assert_eq!((whole!(0x1F), whole!(-1.5), whole!(true)), (31, -1.5, true));
     assert_eq!((whole_string!("a\x41"), passed!("b")), ("aA", "b"));
     assert_eq!(whole!(1, 2), [("unexpected token", ",", ",")]);
     let (second, first) = ("\"b\"", "expected string literal, found integer literal");
