@@ -82,6 +82,7 @@ impl FlawKind {
     /// Returns the kind's identifier for programs, for example `unknown-escape`.
     ///
     /// The identifier never changes, but [`message`](FlawKind::message) may.
+    #[inline]
     pub fn id(self) -> &'static str {
         match self {
             FlawKind::Empty => "empty",
