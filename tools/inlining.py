@@ -1,9 +1,14 @@
-"""Writes the attributes that control the inlining of functions in the rendered core, so that unoptimized code stays small.
+"""Writes the attributes that control the inlining of functions in the rendered core, so that unoptimized code stays small, and so
+that a build of the package doesn't compile what no caller uses.
 
 rustc obeys `#[inline(always)]` in unoptimized builds too, and copies the function into each of its callers. A copy of a small
 function takes little more space than a call of it, and less time. A large function is always inlined only if debug assertions are
 off, as in release builds. tools/inlining.txt lists the large functions whose inlining is left to the compiler, where that is
-faster. No expression is changed.
+faster.
+
+rustc generates the machine code of a function with `#[inline]` in the crates that call it, and that of other functions in every
+build of the package. tools/inlining.txt also lists functions and files that get `#[inline]` for this reason. No expression is
+changed.
 """
 
 import re
@@ -11,7 +16,7 @@ import sys
 from pathlib import Path
 
 LIST = Path(__file__).resolve().parent / "inlining.txt"
-ENTRY = re.compile(r"(\S+) (\w+): (\S.*)")
+ENTRY = re.compile(r"(\+ )?(\S+) (\w+|\*): (\S.*)")
 
 # The largest number of lines in the body of a small function. In unoptimized builds a limit of four lines gives 0.85 of the code
 # and up to 1.12 times the instructions of a limit of eight, and a limit of none gives 0.75 and up to 1.33. Inlining all functions
@@ -28,10 +33,28 @@ def fail(what):
 
 
 def listed():
-    """Returns the functions of the list, each as its file and its name."""
+    """Returns the functions that are left to the compiler, and those that are compiled by their callers, each as its file and its
+    name. For all functions of a file, the name is `*`."""
     lines = [line for line in LIST.read_text().split("\n") if line and not line.startswith("#")]
     entries = [ENTRY.fullmatch(line) or fail(f"no entry: {line}") for line in lines]
-    return {(entry[1], entry[2]) for entry in entries}
+    return [{(entry[2], entry[3]) for entry in entries if bool(entry[1]) == by_callers} for by_callers in (False, True)]
+
+
+def compiled_by_callers(text, function):
+    """Returns the text with `#[inline]` before this function, or before each function without an attribute on inlining if
+    `function` is `*`. None is returned if there is no such function."""
+    name = r"\w+" if function == "*" else function
+    head = re.compile(rf"((?:^ *#\[.*\]\n)*)^( *)((?:pub(?:\(crate\))? )?fn {name}\b)", re.M)
+
+    def with_attribute(found):
+        attributes, indent, function_head = found.groups()
+        if function != "*":
+            attributes = attributes.replace(f"{indent}#[inline(never)]\n", "")
+        if "inline" in attributes:
+            return found[0]
+        return attributes + BY_ITSELF.format(indent) + indent + function_head
+    changed = head.sub(with_attribute, text)
+    return None if changed == text else changed
 
 
 def body_lines(text, at, indent):
@@ -45,7 +68,7 @@ class Inlining:
     """The list of functions, and its application to rendered files, which are given by name."""
 
     def __init__(self):
-        self.left = listed()
+        self.left, self.by_callers = listed()
 
     def attribute(self, name, text, found):
         """Returns the attribute that replaces an `#[inline(always)]` in the file."""
@@ -60,6 +83,10 @@ class Inlining:
     def core(self, files):
         """Changes the files of the core, which must contain each listed function."""
         files = {name: ALWAYS.sub(lambda found: self.attribute(name, text, found), text) for name, text in files.items()}
+        for name, function in sorted(self.by_callers):
+            inside = {path: text for path, text in files.items() if path == name or name.endswith("/") and path.startswith(name)}
+            changed = {path: new for path, text in inside.items() if (new := compiled_by_callers(text, function))}
+            files.update(changed or fail(f"{name} has no function {function} that its callers can compile"))
         for name, function in sorted(self.left):
             fail(f"{name} has no function {function} that is always inlined")
         return files

@@ -43,12 +43,20 @@ TRIED = [
     (UNCALLED, 'LexKind::{Memory}', 'LexKind::{Room}', 'Room'),
     (UNCALLED, 'LexKind::{Memory}', 'Lex::{Memory}', 'Lex::'),
     (UNCALLED, 'Kind::word: ', 'Kind::word ', 'no entry'),
+    (UNCALLED, 'lanes.rs * with sources or settings', 'lanes.rs * with sources, settings', 'no entry'),
+    (UNCALLED, 'classes.rs run_class with', 'classes.rs run_classes with', 'run_classes'),
     # Entries of the list of inlined functions whose file or function doesn't exist, or isn't always inlined; and a line that isn't an entry.
     (INLINING, 'skip_inside', 'skip_inside', None),
     (INLINING, 'strict.rs skip_inside', 'strictly.rs skip_inside', 'strictly.rs'),
     (INLINING, 'strict.rs skip_inside', 'strict.rs skip_outside', 'skip_outside'),
     (INLINING, 'strict.rs skip_inside', 'strict.rs skip_units', 'skip_units'),
     (INLINING, 'skip_inside: ', 'skip_inside ', 'no entry'),
+    # Functions that their callers compile: the file, the crate or the function doesn't exist, or the function is inlined already.
+    (INLINING, '+ rl_lenient/ranges.rs *', '+ rl_lenient/range.rs *', 'range.rs'),
+    (INLINING, '+ rl_settings/ *', '+ rl_setting/ *', 'rl_setting/'),
+    (INLINING, 'found.rs find_number', 'found.rs find_numbers', 'find_numbers'),
+    (INLINING, 'strict_reading.rs read_rare', 'strict_reading.rs read_next', 'read_next'),
+    (INLINING, 'strict_reading.rs read_rare', 'strict_reading.rs number_at', 'number_at'),
 ]
 
 # The texts before which items are inserted, in a file of the core and in one above it.

@@ -1,8 +1,9 @@
-"""Marks the items of the rendered core that the package `navyspindle` itself doesn't call, as tools/uncalled.txt lists them.
+"""Marks the items of the rendered core that the package `navyspindle` doesn't call in each set of features, as tools/uncalled.txt
+lists them.
 
-A listed item gets an attribute that compiles it only for the programs. The imports of the item, and those that only the item needs,
-get it too. For an enum, an attribute tells rustc which variants are never created. An item that nothing calls is left out. No
-expression is changed.
+A listed item gets an attribute that compiles it only with the features of its line, or only for the programs. The imports of the
+item, and those that only such items need, get it too. For an enum, an attribute tells rustc which variants are never created. An
+item that nothing calls is left out. No expression is changed.
 """
 
 import re
@@ -13,11 +14,13 @@ from typing import NamedTuple
 
 LIST = Path(__file__).resolve().parent / "uncalled.txt"
 CRATE = re.compile(r"(\w+)/ with (\w+(?: or \w+)*)")
-ENTRY = re.compile(r"(- )?(\S+) (\*|impl \w+ for \w+|\w+|\w+::\w+|\w+::\{\w+(?:, \w+)*\}): (\S.*)")
+ENTRY = re.compile(r"(- )?(\S+) (\*|impl \w+ for \w+|\w+|\w+::\w+|\w+::\{\w+(?:, \w+)*\})(?: with (\w+(?: or \w+)*))?: (\S.*)")
 
-# The attributes that are written before an item, and before an enum.
-ATTRIBUTE = '#[cfg(feature = "rendered")]\n'
-EXPECTATION = '#[cfg_attr(not(feature = "rendered"), expect(dead_code, reason = "{why}"))]\n'
+# The feature of the programs, which enables all others.
+PROGRAMS = "__rendered"
+
+# The attribute that is written before an enum.
+EXPECTATION = '#[cfg_attr(not(feature = "__rendered"), expect(dead_code, reason = "{why}"))]\n'
 
 # An import: its path, and the one name or the several names.
 USE = re.compile(r"^(pub(?:\(crate\))? |)use ([\w:]+)::(?:(\w+)|\{([\w,\s]+)\});\n", re.M)
@@ -30,6 +33,7 @@ class Entry(NamedTuple):
     """A line of the list."""
     file: str
     item: str
+    features: tuple
     why: str
     is_left_out: bool
 
@@ -52,10 +56,18 @@ def listed():
             continue
         entry = ENTRY.fullmatch(line)
         if entry and not (entry[1] and re.search(r"[*{]", entry[3])):
-            entries.append(Entry(entry[2], entry[3], entry[4], bool(entry[1])))
+            by = tuple((entry[4] or PROGRAMS).split(" or "))
+            entries.append(Entry(entry[2], entry[3], by, entry[5], bool(entry[1])))
         elif line and not line.startswith("#"):
             fail(f"no entry: {line}")
     return entries
+
+
+def attribute_of(features):
+    """Returns the attribute that compiles an item only with one of these features. Without features there is none."""
+    found = [f'feature = "{it}"' for it in features]
+    condition = found[0] if len(found) == 1 else "any(" + ", ".join(found) + ")"
+    return f"#[cfg({condition})]\n" if found else ""
 
 
 def front_of(text, at, form):
@@ -108,19 +120,19 @@ def import_of(visibility, path, names):
     return f"{visibility}use {path}::{{\n{rows}\n}};\n"
 
 
-def with_imports(text, is_apart, is_left_out):
-    """Returns the text with separate imports for the names for which `is_apart` holds, and without the imports that are left
-    out."""
+def with_imports(text, features_of, is_left_out):
+    """Returns the text with separate imports for the names that `features_of` returns features for, and without the imports that
+    are left out."""
     def parted(use):
         visibility, path, one, several = use.groups()
         names = [one] if one else re.findall(r"\w+", several)
-        left = [name for name in names if not is_left_out(path, name)]
-        own = [name for name in left if not is_apart(visibility, path, name)]
-        if own == names:
+        groups = {(): []}
+        for name in names:
+            if not is_left_out(path, name):
+                groups.setdefault(features_of(visibility, path, name), []).append(name)
+        if groups[()] == names:
             return use.group()
-        apart = [name for name in left if name not in own]
-        lines = [import_of(visibility, path, own)] if own else []
-        return "".join(lines + [ATTRIBUTE + import_of(visibility, path, apart)] if apart else lines)
+        return "".join(attribute_of(by) + import_of(visibility, path, part) for by, part in groups.items() if part)
     return USE.sub(parted, text)
 
 
@@ -133,8 +145,8 @@ class Uncalled:
 
     def __init__(self):
         self.entries = listed()
-        self.whole = {entry.file for entry in self.entries if entry.item == "*"}
-        self.apart = {(entry.file, entry.item) for entry in self.entries if not entry.is_left_out}
+        self.whole = {entry.file: entry.features for entry in self.entries if entry.item == "*"}
+        self.apart = {(entry.file, entry.item): entry.features for entry in self.entries if not entry.is_left_out}
         self.left_out = {(entry.file.split("/")[0], entry.item) for entry in self.entries if entry.is_left_out}
 
     def modules(self, names):
@@ -142,13 +154,7 @@ class Uncalled:
         by_feature = features()
         for unknown in by_feature.keys() - set(names):
             fail(f"no crate {unknown}")
-        lines = []
-        for name in names:
-            feature = [f'feature = "{it}"' for it in by_feature.get(name, [])]
-            if feature:
-                lines.append(f"#[cfg({feature[0] if len(feature) == 1 else 'any(' + ', '.join(feature) + ')'})]\n")
-            lines.append(f"pub mod {name};\n")
-        return "".join(lines)
+        return "".join(attribute_of(by_feature.get(name, [])) + f"pub mod {name};\n" for name in names)
 
     def is_left_out(self, path, name):
         """Whether the import is of an item that is left out, by its module or by its crate."""
@@ -163,30 +169,33 @@ class Uncalled:
                 text = without(text, entry)
             elif "{" in entry.item:
                 text = with_expectation(text, entry)
-        spans = sorted(span_of(text, entry) for entry in here if not entry.is_left_out and "{" not in entry.item)
-        apart = words_of("".join(text[start:end] for start, end in spans))
-        own = USE.sub("", text)
-        for start, end in spans:
+        spans = [(*span_of(text, entry), entry) for entry in here if not entry.is_left_out and "{" not in entry.item]
+        spans.sort(key=lambda span: span[:2])
+        own, users = USE.sub("", text), {}
+        for start, end, entry in spans:
             own = own.replace(text[start:end], "", 1)
+            for word in words_of(text[start:end]):
+                users.setdefault(word, {}).update(dict.fromkeys(entry.features))
         own = words_of(own)
 
-        def is_apart(visibility, path, item):
+        def features_of(visibility, path, item):
             file = path.removeprefix("crate::").replace("::", "/") + ".rs"
-            given_out = file in self.whole or (file, item) in self.apart
-            return given_out if visibility else item in apart and item not in own
+            if visibility:
+                return self.whole.get(file) or self.apart.get((file, item), ())
+            return () if item in own else tuple(users.get(item, ()))
 
-        for start, _ in reversed(spans):
+        for start, _, entry in reversed(spans):
             indent = re.match(" *", text[start:]).group()
-            text = text[:start] + indent + ATTRIBUTE + text[start:]
-        return with_imports(self.with_modules(name, text), is_apart, self.is_left_out)
+            text = text[:start] + indent + attribute_of(entry.features) + text[start:]
+        return with_imports(self.with_modules(name, text), features_of, self.is_left_out)
 
     def with_modules(self, name, text):
         """Returns the file with separate declarations of the modules that are listed as a whole."""
         folder = name.removesuffix("mod.rs")
-        for file in self.whole:
+        for file, by in self.whole.items():
             if name.endswith("/mod.rs") and file.startswith(folder):
                 module = file.removeprefix(folder).removesuffix(".rs")
-                text, count = re.subn(rf"^((?:pub )?mod {module};\n)", rf"{ATTRIBUTE}\1", text, flags=re.M)
+                text, count = re.subn(rf"^((?:pub )?mod {module};\n)", rf"{attribute_of(by)}\1", text, flags=re.M)
                 if not count:
                     fail(f"{name} has no module {module}")
         return text
@@ -200,4 +209,4 @@ class Uncalled:
 
     def above(self, files):
         """Changes the files above the core, which must not import an item that is left out."""
-        return {name: with_imports(text, lambda *_: False, self.is_left_out) for name, text in files.items()}
+        return {name: with_imports(text, lambda *_: (), self.is_left_out) for name, text in files.items()}

@@ -92,7 +92,9 @@ def built(name, way):
     shutil.rmtree(target, ignore_errors=True)
     before = resource.getrusage(resource.RUSAGE_CHILDREN).ru_utime
     command = ['cargo', 'build', '--offline', '--quiet', *words]
-    subprocess.run(command, cwd=program(name), check=True, env={**os.environ, **environment})
+    # Otherwise Cargo would compile this package incrementally, because it is in a folder, and the other libraries not.
+    environment = {**os.environ, 'CARGO_INCREMENTAL': '0', **environment}
+    subprocess.run(command, cwd=program(name), check=True, env=environment)
     spent = resource.getrusage(resource.RUSAGE_CHILDREN).ru_utime - before
     # The code of build scripts isn't counted.
     return spent, sum(map(code_of, glob.glob(os.path.join(target, profile, 'deps/*.rlib'))))

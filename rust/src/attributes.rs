@@ -64,10 +64,12 @@ impl Attrs {
     /// assert_eq!(attrs.entries().len(), 2);
     /// # Ok::<(), navyspindle::MacroError>(())
     /// ```
+    #[inline]
     pub fn parse(input: TokenStream) -> Result<Attrs, MacroError> {
         Ok(Attrs::of(Meta::parse_all(input)?, None))
     }
 
+    #[inline]
     pub(crate) fn of(entries: Vec<Meta>, place: Option<(Span, Span)>) -> Attrs {
         Attrs { entries, place }
     }
@@ -80,6 +82,7 @@ impl Attrs {
     /// assert_eq!(attrs.entries()[1].name(), "verbose");
     /// # Ok::<(), navyspindle::MacroError>(())
     /// ```
+    #[inline]
     #[must_use]
     pub fn entries(&self) -> &[Meta] {
         &self.entries
@@ -95,6 +98,7 @@ impl Attrs {
     ///     attrs.all("alias").map(|meta| meta.string()).collect()
     /// }
     /// ```
+    #[inline]
     pub fn all<'a>(&'a self, name: &'a str) -> impl Iterator<Item = &'a Meta> + Clone + 'a {
         self.entries.iter().filter(move |meta| meta.name() == name)
     }
@@ -113,6 +117,7 @@ impl Attrs {
     /// assert_eq!(attrs.get("b").unwrap_err().to_string(), "repeated name `b`");
     /// # Ok::<(), navyspindle::MacroError>(())
     /// ```
+    #[inline]
     pub fn get(&self, name: &str) -> Result<Option<&Meta>, MacroError> {
         let mut entries = self.entries.iter().filter(|meta| meta.name() == name);
         let first = entries.next();
@@ -147,6 +152,7 @@ impl Attrs {
     /// assert_eq!(error.to_string(), "unknown name `nme`");
     /// # Ok::<(), navyspindle::MacroError>(())
     /// ```
+    #[inline]
     pub fn check(&self, known: &[&str]) -> Result<(), MacroError> {
         let mut all: Option<MacroError> = None;
         for meta in &self.entries {
@@ -172,6 +178,7 @@ impl Attrs {
     /// assert_eq!(attrs.string("name")?.as_deref(), Some("a"));
     /// # Ok::<(), navyspindle::MacroError>(())
     /// ```
+    #[inline]
     pub fn string(&self, name: &str) -> Result<Option<String>, MacroError> {
         self.read(name, Meta::string)
     }
@@ -204,6 +211,7 @@ impl Attrs {
     /// assert_eq!((attrs.flag("verbose")?, attrs.flag("quiet")?), (true, false));
     /// # Ok::<(), navyspindle::MacroError>(())
     /// ```
+    #[inline]
     pub fn flag(&self, name: &str) -> Result<bool, MacroError> {
         self.get(name)?.map_or(Ok(false), Meta::flag)
     }
@@ -239,6 +247,7 @@ impl Attrs {
     /// assert_eq!(attrs.value("max")?.unwrap().into_iter().count(), 4);
     /// # Ok::<(), navyspindle::MacroError>(())
     /// ```
+    #[inline]
     pub fn value(&self, name: &str) -> Result<Option<TokenStream>, MacroError> {
         self.read(name, Meta::value)
     }
@@ -256,6 +265,7 @@ impl Attrs {
     /// assert_eq!(inner.number::<u8>("a")?, Some(1));
     /// # Ok::<(), navyspindle::MacroError>(())
     /// ```
+    #[inline]
     pub fn list(&self, name: &str) -> Result<Option<Attrs>, MacroError> {
         self.read(name, Meta::list)
     }
@@ -268,6 +278,7 @@ impl Attrs {
     /// assert_eq!(attrs.missing_error("name").to_string(), "missing `name`");
     /// # Ok::<(), navyspindle::MacroError>(())
     /// ```
+    #[inline]
     #[must_use]
     pub fn missing_error(&self, name: &str) -> MacroError {
         self.error(format_args!("missing `{name}`"))
@@ -292,6 +303,7 @@ impl<'a> IntoIterator for &'a Attrs {
     type Item = &'a Meta;
     type IntoIter = slice::Iter<'a, Meta>;
 
+    #[inline]
     fn into_iter(self) -> Self::IntoIter {
         self.entries.iter()
     }
@@ -301,6 +313,7 @@ impl IntoIterator for Attrs {
     type Item = Meta;
     type IntoIter = vec::IntoIter<Meta>;
 
+    #[inline]
     fn into_iter(self) -> Self::IntoIter {
         self.entries.into_iter()
     }

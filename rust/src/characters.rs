@@ -43,6 +43,7 @@ macro_rules! single_type {
             }
 
             /// Returns the offsets of the literal's parts. The closing apostrophe is the byte before the suffix.
+            #[inline]
             fn parts(&self) -> Body {
                 Body {
                     lo: Self::KIND.opener().len(),
@@ -54,6 +55,7 @@ macro_rules! single_type {
 
             /// Returns the text between the quotes, as written.
             #[cfg_attr(doc, doc = example!($name, $text, "assert_eq!(literal.body(), r\"\\n\");"))]
+            #[inline]
             #[must_use]
             pub fn body(&self) -> &str {
                 &self.text[self.body_range()]
@@ -61,6 +63,7 @@ macro_rules! single_type {
 
             /// Returns the byte range of the text between the quotes.
             #[cfg_attr(doc, doc = example!($name, $text, "assert_eq!(literal.body_range(), ", $range, ");"))]
+            #[inline]
             #[must_use]
             pub fn body_range(&self) -> Range<usize> {
                 let parts = self.parts();

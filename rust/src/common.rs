@@ -5,6 +5,7 @@ use alloc::string::String;
 use core::ops::Range;
 
 /// Returns the part of the text between the byte offsets `from` and `to`. A part of borrowed text is borrowed for as long.
+#[inline]
 pub(crate) fn part(text: Cow<'_, str>, from: usize, to: usize) -> Cow<'_, str> {
     match text {
         Cow::Borrowed(text) => Cow::Borrowed(&text[from..to]),
@@ -12,10 +13,12 @@ pub(crate) fn part(text: Cow<'_, str>, from: usize, to: usize) -> Cow<'_, str> {
     }
 }
 
+#[inline]
 pub(crate) fn shifted(range: Range<usize>, by: usize) -> Range<usize> {
     range.start + by..range.end + by
 }
 
+#[inline]
 pub(crate) fn owned(text: Cow<'_, str>) -> Cow<'static, str> {
     Cow::Owned(String::from(text))
 }
@@ -85,6 +88,7 @@ macro_rules! text_type {
                 "let owned: navyspindle::", stringify!($name), "<'static> = literal.into_owned();\n",
                 "assert_eq!(owned.text(), ", stringify!($text), ");"
             ))]
+            #[inline]
             #[must_use]
             pub fn into_owned(self) -> $name<'static> {
                 $name {
@@ -96,12 +100,14 @@ macro_rules! text_type {
 
         /// Prints the literal's text. Width and fill of the format are applied.
         impl core::fmt::Display for $name<'_> {
+            #[inline]
             fn fmt(&self, f: &mut core::fmt::Formatter<'_>) -> core::fmt::Result {
                 f.pad(&self.text)
             }
         }
 
         impl core::fmt::Debug for $name<'_> {
+            #[inline]
             fn fmt(&self, f: &mut core::fmt::Formatter<'_>) -> core::fmt::Result {
                 f.debug_tuple(stringify!($name)).field(&self.text).finish()
             }
@@ -109,6 +115,7 @@ macro_rules! text_type {
 
         /// Literals of one kind are equal if their texts are.
         impl PartialEq for $name<'_> {
+            #[inline]
             fn eq(&self, other: &Self) -> bool {
                 self.text == other.text
             }
@@ -139,6 +146,7 @@ macro_rules! text_type {
         }
 
         impl core::hash::Hash for $name<'_> {
+            #[inline]
             fn hash<H: core::hash::Hasher>(&self, state: &mut H) {
                 self.text.hash(state);
             }
@@ -189,6 +197,7 @@ macro_rules! literal_type {
 
             /// Returns the literal's suffix. If the literal's text is borrowed, so is the suffix.
             #[cfg_attr(doc, doc = $crate::common::example!($name, $text, "assert_eq!(literal.into_suffix(), ", stringify!($suffix), ");"))]
+            #[inline]
             #[must_use]
             pub fn into_suffix(self) -> alloc::borrow::Cow<'t, str> {
                 let end = self.text.len();
@@ -213,6 +222,7 @@ macro_rules! literal_type {
         impl TryFrom<alloc::string::String> for $name<'static> {
             type Error = $crate::ParseError;
 
+            #[inline]
             fn try_from(text: alloc::string::String) -> Result<Self, $crate::ParseError> {
                 match $crate::Lit::try_from(text)? {
                     $crate::Lit::$variant(literal) => Ok(literal),
@@ -225,6 +235,7 @@ macro_rules! literal_type {
         impl core::str::FromStr for $name<'static> {
             type Err = $crate::ParseError;
 
+            #[inline]
             fn from_str(text: &str) -> Result<Self, $crate::ParseError> {
                 match text.parse()? {
                     $crate::Lit::$variant(literal) => Ok(literal),
@@ -234,6 +245,7 @@ macro_rules! literal_type {
         }
 
         impl<'t> From<$name<'t>> for $crate::Lit<'t> {
+            #[inline]
             fn from(literal: $name<'t>) -> Self {
                 $crate::Lit::$variant(literal)
             }
@@ -243,6 +255,7 @@ macro_rules! literal_type {
         impl<'t> TryFrom<$crate::Lit<'t>> for $name<'t> {
             type Error = $crate::Lit<'t>;
 
+            #[inline]
             fn try_from(literal: $crate::Lit<'t>) -> Result<Self, $crate::Lit<'t>> {
                 match literal {
                     $crate::Lit::$variant(literal) => Ok(literal),

@@ -60,6 +60,7 @@ use alloc::vec::Vec;
 ///     assert_eq!((error.kind(), error.range()), (SyntaxErrorKind::Expected(Part::Name), range));
 /// }
 /// ```
+#[inline]
 pub fn parse_config(text: &str) -> Result<Vec<Entry<'_>>, SettingsSyntaxError> {
     let body = without_byte_order_mark(text);
     let front = text.len() - body.len();
@@ -72,6 +73,7 @@ pub fn parse_config(text: &str) -> Result<Vec<Entry<'_>>, SettingsSyntaxError> {
 }
 
 /// Returns the settings of a configuration text without a byte order mark.
+#[inline]
 fn entries_of(text: &str) -> Result<Vec<Entry<'_>>, SettingsSyntaxError> {
     let separators = Separators::CommasAndLines;
     if let Some(error) = first_error(text) {
@@ -112,6 +114,7 @@ impl<'t> Settings<'t> {
     /// assert_eq!(read.number::<u16>(PORT)?, Some(8080));
     /// # Ok::<(), navyspindle::SettingError>(())
     /// ```
+    #[inline]
     pub fn read_config(text: &'t str) -> Result<Self, SettingError> {
         Ok(Settings::of_entries(text, parse_config(text)?))
     }
@@ -132,6 +135,7 @@ impl<'t> Settings<'t> {
     /// assert_eq!(error.to_string(), "quote: expected a character at byte 8");
     /// # Ok::<(), navyspindle::SettingError>(())
     /// ```
+    #[inline]
     pub fn char(&self, key: Key) -> Result<Option<char>, SettingError> {
         self.value_of(key, |entry| match &entry.value {
             Lit::Char(literal) => without_suffix(key, entry, literal.value()),
@@ -154,6 +158,7 @@ impl<'t> Settings<'t> {
     /// assert!(Settings::read_config("end = 10")?.byte(END).is_err());
     /// # Ok::<(), navyspindle::SettingError>(())
     /// ```
+    #[inline]
     pub fn byte(&self, key: Key) -> Result<Option<u8>, SettingError> {
         self.value_of(key, |entry| match &entry.value {
             Lit::Byte(literal) => without_suffix(key, entry, literal.value()),
@@ -178,6 +183,7 @@ impl<'t> Settings<'t> {
     /// assert!(Settings::read_config(r#"magic = "PNG""#)?.byte_string(MAGIC).is_err());
     /// # Ok::<(), navyspindle::SettingError>(())
     /// ```
+    #[inline]
     pub fn byte_string(&self, key: Key) -> Result<Option<Cow<'_, [u8]>>, SettingError> {
         self.value_of(key, |entry| match &entry.value {
             Lit::ByteStr(literal) => without_suffix(key, entry, literal.value()),
@@ -201,6 +207,7 @@ impl<'t> Settings<'t> {
     /// assert!(Settings::read_config(r#"library = "lib.so""#)?.c_string(LIBRARY).is_err());
     /// # Ok::<(), navyspindle::SettingError>(())
     /// ```
+    #[inline]
     pub fn c_string(&self, key: Key) -> Result<Option<CString>, SettingError> {
         self.value_of(key, |entry| match &entry.value {
             Lit::CStr(literal) => without_suffix(key, entry, literal.c_string()),

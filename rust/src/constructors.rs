@@ -24,6 +24,7 @@ macro_rules! made {
             #[cfg_attr(doc, doc = concat!("let literal = ", stringify!($name), "::new(", stringify!($value), ");"))]
             #[cfg_attr(doc, doc = concat!("assert_eq!(literal.text(), ", stringify!($text), ");"))]
             /// ```
+            #[inline]
             #[must_use]
             pub fn new(value: $of) -> Self {
                 $name::try_from($write(value)).expect(WRITTEN)
@@ -61,6 +62,7 @@ impl LitBool<'static> {
     ///
     /// assert_eq!(LitBool::new(true).text(), "true");
     /// ```
+    #[inline]
     #[must_use]
     pub fn new(value: bool) -> Self {
         let word = if value { "true" } else { "false" };

@@ -34,6 +34,7 @@ pub(crate) fn text_of(text: &str, body: Body) -> String {
 }
 
 /// Returns the value of a byte string or a C string whose body has escapes.
+#[inline]
 pub(crate) fn bytes_of(kind: Kind, body: &str) -> Vec<u8> {
     written("", body, |body, out| bytes_into(kind, body, out))
 }

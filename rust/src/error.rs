@@ -26,6 +26,7 @@ use core::ops::Range;
 /// Returns the byte range of the token that begins at the byte offset `at`. For a quote or a comment that isn't closed, the range
 /// reaches to the text's end.
 #[cold]
+#[inline]
 pub(crate) fn range_at(text: &str, at: usize) -> Range<usize> {
     let token = Sources::resume(text, &text[at..]).next();
     at..token.map_or(text.len(), |token| token.hi)

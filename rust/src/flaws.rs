@@ -29,6 +29,7 @@ pub struct InvalidPiece {
 }
 
 impl InvalidPiece {
+    #[inline]
     fn of(bad: rl_flaws::InvalidPiece) -> InvalidPiece {
         InvalidPiece {
             kind: bad.flaw.kind,
@@ -45,6 +46,7 @@ impl InvalidPiece {
     ///
     /// assert_eq!(flaws("'ab'").next().unwrap().kind(), FlawKind::TwoCharacters);
     /// ```
+    #[inline]
     #[must_use]
     pub fn kind(&self) -> FlawKind {
         self.kind
@@ -60,6 +62,7 @@ impl InvalidPiece {
     /// let pieces: Vec<_> = flaws(text).map(|bad| &text[bad.range()]).collect();
     /// assert_eq!(pieces, [r"\xff", r"\u{12z"]);
     /// ```
+    #[inline]
     #[must_use]
     pub fn range(&self) -> Range<usize> {
         self.from..self.end
@@ -70,6 +73,7 @@ impl InvalidPiece {
     /// ```
     /// assert_eq!(navyspindle::flaws(r#""a\q""#).next().unwrap().offset(), 2);
     /// ```
+    #[inline]
     #[must_use]
     pub fn offset(&self) -> usize {
         self.from
@@ -83,6 +87,7 @@ impl InvalidPiece {
     /// let text = r#""\q""#;
     /// assert_eq!(flaws(text).next().unwrap().error(), Lit::parse(text).unwrap_err());
     /// ```
+    #[inline]
     #[must_use]
     pub fn error(&self) -> ParseError {
         self.error
@@ -118,6 +123,7 @@ enum Left<'t> {
 impl<'t> Flaws<'t> {
     /// Returns the flaws of a text that has no value as a literal. If the text doesn't begin as a quoted literal, the only flaw is
     /// the reason why Rust rejects it.
+    #[inline]
     pub(crate) fn of_unread(text: &'t str) -> Flaws<'t> {
         if rl_flaws::Pieces::of(text).is_some() {
             return flaws(text);
@@ -134,6 +140,7 @@ impl<'t> Flaws<'t> {
 impl Iterator for Flaws<'_> {
     type Item = InvalidPiece;
 
+    #[inline]
     fn next(&mut self) -> Option<InvalidPiece> {
         match &mut self.0 {
             Left::All(_, returned, flaws) => {
@@ -150,6 +157,7 @@ impl FusedIterator for Flaws<'_> {}
 
 /// The clone begins at the next flaw. Cloning walks over the flaws that were already returned.
 impl Clone for Flaws<'_> {
+    #[inline]
     fn clone(&self) -> Self {
         Flaws(match &self.0 {
             Left::All(text, returned, _) => {
@@ -191,6 +199,7 @@ impl fmt::Debug for Flaws<'_> {
 /// assert_eq!(kinds, [FlawKind::Surrogate, FlawKind::UnknownEscape, FlawKind::Unclosed]);
 /// assert_eq!(flaws("1_000_u32").next(), None);
 /// ```
+#[inline]
 pub fn flaws(text: &str) -> Flaws<'_> {
     Flaws(Left::All(
         text,
@@ -212,6 +221,7 @@ pub fn flaws(text: &str) -> Flaws<'_> {
 /// assert_eq!(guess_kind("1.5.2"), Some(Kind::Float));
 /// assert_eq!(guess_kind("word"), None);
 /// ```
+#[inline]
 #[must_use]
 pub fn guess_kind(text: &str) -> Option<Kind> {
     rl_flaws::guess_kind(text).map(Kind::of)
@@ -240,6 +250,7 @@ impl Piece<'_> {
     /// let ranges: Vec<_> = navyspindle::pieces(r#""a\q""#).unwrap().map(|piece| piece.range()).collect();
     /// assert_eq!(ranges, [1..2, 2..4]);
     /// ```
+    #[inline]
     #[must_use]
     pub fn range(&self) -> Range<usize> {
         match self {
@@ -271,6 +282,7 @@ pub struct Pieces<'t> {
 impl<'t> Iterator for Pieces<'t> {
     type Item = Piece<'t>;
 
+    #[inline]
     fn next(&mut self) -> Option<Piece<'t>> {
         self.returned += 1;
         match self.cursor.next()? {
@@ -288,6 +300,7 @@ impl FusedIterator for Pieces<'_> {}
 
 /// The clone begins at the next piece. Cloning walks over the pieces that were already returned.
 impl<'t> Clone for Pieces<'t> {
+    #[inline]
     fn clone(&self) -> Self {
         let mut clone: Pieces<'t> = pieces(self.text).expect("its pieces were asked for");
         for _ in 0..self.returned {
@@ -319,6 +332,7 @@ impl fmt::Debug for Pieces<'_> {
 /// assert!(matches!(&all[1], Piece::Bad(it) if it.kind() == FlawKind::UnknownEscape));
 /// assert!(matches!(&all[2], Piece::Good(it) if it.value == SegmentValue::Char('é')));
 /// ```
+#[inline]
 #[must_use]
 pub fn pieces(text: &str) -> Option<Pieces<'_>> {
     Some(Pieces {

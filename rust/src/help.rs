@@ -17,6 +17,7 @@ const STRING: &str = "a string has double quotes";
 
 /// Returns a hint for the error at the byte offset `at` of a text of settings.
 #[cold]
+#[inline]
 pub(crate) fn help_of(
     kind: SyntaxErrorKind,
     text: &str,
@@ -46,12 +47,14 @@ pub(crate) fn help_of(
 }
 
 /// Whether the line begins with `#` or `;`, as comments of other languages do. The error may be inside such a comment.
+#[inline]
 fn is_comment_line(before: &str, rest: &str) -> bool {
     let line = before.rsplit('\n').next().unwrap_or(before).trim_start();
     let first = if line.is_empty() { rest } else { line };
     first.starts_with(['#', ';'])
 }
 
+#[inline]
 fn of_name(rest: &str, separators: Separators) -> Option<&'static str> {
     match (rest.chars().next()?, separators) {
         ('[', Separators::CommasAndLines) => {
@@ -65,6 +68,7 @@ fn of_name(rest: &str, separators: Separators) -> Option<&'static str> {
     }
 }
 
+#[inline]
 fn of_equals(before: &str, rest: &str, separators: Separators) -> Option<&'static str> {
     let is_inside =
         before.ends_with(is_part_of_word) && after_first(rest).starts_with(is_part_of_word);
@@ -76,6 +80,7 @@ fn of_equals(before: &str, rest: &str, separators: Separators) -> Option<&'stati
     }
 }
 
+#[inline]
 fn of_literal(rest: &str) -> Option<&'static str> {
     match rest.chars().next()? {
         '[' => Some("there are no arrays"),
@@ -99,6 +104,7 @@ fn of_literal(rest: &str) -> Option<&'static str> {
     }
 }
 
+#[inline]
 fn of_comma(before: &str, rest: &str, separators: Separators) -> Option<&'static str> {
     let first = rest.chars().next()?;
     if first == '#' {
@@ -116,6 +122,7 @@ fn of_comma(before: &str, rest: &str, separators: Separators) -> Option<&'static
 }
 
 /// Returns the text after its first character.
+#[inline]
 fn after_first(text: &str) -> &str {
     let mut chars: Chars<'_> = text.chars();
     chars.next();
@@ -123,6 +130,7 @@ fn after_first(text: &str) -> &str {
 }
 
 /// Whether the character may be in a name.
+#[inline]
 fn is_part_of_word(c: char) -> bool {
     c.is_alphanumeric() || c == '_'
 }

@@ -39,6 +39,7 @@ pub enum Kind {
 
 #[cfg(feature = "flaws")]
 impl Kind {
+    #[inline]
     pub(crate) fn of(kind: rl_syntax::Kind) -> Kind {
         match kind {
             rl_syntax::Kind::Str => Kind::Str,
@@ -65,7 +66,7 @@ impl fmt::Display for Kind {
             Kind::Int => "integer literal",
             Kind::Float => "floating point literal",
             Kind::Bool => "boolean literal",
-            Kind::Verbatim => "text without a reading",
+            Kind::Verbatim => "text without a value",
         })
     }
 }

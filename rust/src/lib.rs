@@ -34,7 +34,7 @@
 //! | Write a value as a literal | [`write_str`], [`write_integer`], ..; [`LitStr::new`], [`LitInt::suffixed`], .. | `writers` |
 //! | Rewrite literals in a style | [`rewrite`], [`Style`]; with `sources` [`rewrite_source`](fn@rewrite_source) | `style` |
 //! | Read an attribute in a procedural macro | [`Attrs`], [`Meta`], [`MacroError`] | `proc-macro` |
-//! | Read literals in a procedural macro | [`next_literal_of`], [`next_literal`]; with `settings` [`MacroInput`] | `proc-macro` |
+//! | Read literals in a procedural macro | [`next_literal_of`], [`next_literal`], [`next_value`]; with `settings` [`MacroInput`] | `proc-macro` |
 //!
 //! Ranges and places are byte offsets. All features except `proc-macro` are on by default.
 //!
@@ -108,7 +108,7 @@ mod proc_macros;
 mod ranges;
 mod segments;
 #[cfg_attr(
-    feature = "rendered",
+    feature = "__rendered",
     allow(missing_docs, rustdoc::broken_intra_doc_links)
 )]
 // The translated sources re-export names that the package reaches by other paths. They also have parameters that only contracts
@@ -153,8 +153,8 @@ mod words;
 #[cfg(feature = "writers")]
 mod write;
 
-/// The translated core of the package, for the programs of this repository. Its names may change with each version.
-#[cfg(feature = "rendered")]
+/// Private: the translated core of the package, for the programs of the repository. Its names change in any version.
+#[cfg(feature = "__rendered")]
 #[doc(hidden)]
 pub mod rendered {
     pub use crate::proved::{
@@ -166,15 +166,15 @@ pub mod rendered {
 // The translated code refers to these crates by the paths that are imported here.
 #[cfg(feature = "sources")]
 use proved::rl_recovery;
-#[cfg(any(feature = "sources", feature = "settings"))]
-use proved::rl_settings;
 #[cfg(feature = "style")]
 use proved::rl_style;
 #[cfg(any(feature = "writers", feature = "style"))]
 use proved::rl_writing;
 #[cfg(feature = "flaws")]
 use proved::{rl_flaws, rl_types};
-use proved::{rl_lenient, rl_lexer, rl_strict, rl_syntax};
+use proved::{rl_lenient, rl_strict, rl_syntax};
+#[cfg(any(feature = "sources", feature = "settings"))]
+use proved::{rl_lexer, rl_settings};
 
 #[cfg(feature = "proc-macro")]
 pub use attributes::Attrs;
@@ -198,7 +198,7 @@ pub use macro_error::MacroError;
 #[cfg(all(feature = "proc-macro", feature = "settings"))]
 pub use macro_settings::{parse_macro_settings, MacroEntry, MacroInput};
 #[cfg(feature = "proc-macro")]
-pub use meta::Meta;
+pub use meta::{next_value, Meta};
 pub use numbers::{Base, LitFloat, LitInt, NumberType};
 pub use parse_error::{FlawKind, ParseError, ParseErrorKind};
 #[cfg(feature = "sources")]

@@ -181,6 +181,7 @@ impl<'t> Lit<'t> {
 
     /// Parses a text like [`Lit::parse`], by one call for all kinds of literals. The conversions from `String` and by `FromStr`
     /// share this function.
+    #[inline]
     fn parse_apart(text: Cow<'t, str>) -> Result<Lit<'t>, ParseError> {
         let reading = read(&text, LineEnds::Text, true).map_err(ParseError::of_flaw)?;
         Lit::read(text, reading)
@@ -212,6 +213,7 @@ impl<'t> Lit<'t> {
     /// # Ok::<(), ListError>(())
     /// ```
     #[cfg(any(feature = "sources", feature = "settings"))]
+    #[inline]
     pub fn check(&self) -> Result<(), ParseError> {
         match explain_value(self.text(), LineEnds::File, true) {
             None => Ok(()),
@@ -229,6 +231,7 @@ impl<'t> Lit<'t> {
     /// assert!(Lit::parse("1")?.segments().is_none());
     /// # Ok::<(), navyspindle::ParseError>(())
     /// ```
+    #[inline]
     #[must_use]
     pub fn segments(&self) -> Option<Segments<'_>> {
         match self {
@@ -250,6 +253,7 @@ impl<'t> Lit<'t> {
     /// assert_eq!(Lit::parse(r"'\n'")?.offset_map().unwrap().byte_range(0), 1..3);
     /// # Ok::<(), navyspindle::ParseError>(())
     /// ```
+    #[inline]
     #[must_use]
     pub fn offset_map(&self) -> Option<OffsetMap> {
         match self {
@@ -412,6 +416,7 @@ impl<'t> Lit<'t> {
     /// assert_eq!(Lit::parse("true")?.suffix_range(), Some(4..4));
     /// # Ok::<(), navyspindle::ParseError>(())
     /// ```
+    #[inline]
     #[must_use]
     pub fn suffix_range(&self) -> Option<Range<usize>> {
         match self {
@@ -436,6 +441,7 @@ impl<'t> Lit<'t> {
     /// assert_eq!(Lit::parse("1")?.body_range(), None);
     /// # Ok::<(), navyspindle::ParseError>(())
     /// ```
+    #[inline]
     #[must_use]
     pub fn body_range(&self) -> Option<Range<usize>> {
         match self {
@@ -456,6 +462,7 @@ impl<'t> Lit<'t> {
     /// assert_eq!(Lit::parse(r#"c"a\n""#)?.body(), Some(r"a\n"));
     /// # Ok::<(), navyspindle::ParseError>(())
     /// ```
+    #[inline]
     #[must_use]
     pub fn body(&self) -> Option<&str> {
         self.body_range().map(|range| &self.text()[range])
@@ -471,6 +478,7 @@ impl<'t> Lit<'t> {
     /// assert_eq!(Lit::parse(r#""a""#)?.hashes(), None);
     /// # Ok::<(), navyspindle::ParseError>(())
     /// ```
+    #[inline]
     #[must_use]
     pub fn hashes(&self) -> Option<usize> {
         match self {
@@ -491,6 +499,7 @@ impl<'t> Lit<'t> {
     /// # Ok::<(), navyspindle::ParseError>(())
     /// ```
     #[doc(alias = "is_raw_string")]
+    #[inline]
     #[must_use]
     pub fn is_raw(&self) -> bool {
         self.hashes().is_some()
@@ -504,6 +513,7 @@ impl<'t> Lit<'t> {
     /// assert_eq!(Lit::parse("'a'_s")?.into_suffix(), "_s");
     /// # Ok::<(), navyspindle::ParseError>(())
     /// ```
+    #[inline]
     #[must_use]
     pub fn into_suffix(self) -> Cow<'t, str> {
         each_kind!(self, literal => literal.into_suffix())
@@ -518,6 +528,7 @@ impl<'t> Lit<'t> {
     /// assert_eq!(owned.text(), "'a'");
     /// # Ok::<(), navyspindle::ParseError>(())
     /// ```
+    #[inline]
     #[must_use]
     pub fn into_owned(self) -> Lit<'static> {
         match self {
@@ -586,6 +597,7 @@ impl<'t> TryFrom<&'t str> for Lit<'t> {
 impl TryFrom<String> for Lit<'static> {
     type Error = ParseError;
 
+    #[inline]
     fn try_from(text: String) -> Result<Self, ParseError> {
         Lit::parse_apart(Cow::Owned(text))
     }
@@ -595,6 +607,7 @@ impl TryFrom<String> for Lit<'static> {
 impl FromStr for Lit<'static> {
     type Err = ParseError;
 
+    #[inline]
     fn from_str(text: &str) -> Result<Self, ParseError> {
         Lit::parse_apart(Cow::Borrowed(text)).map(Lit::into_owned)
     }

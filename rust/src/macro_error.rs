@@ -53,6 +53,7 @@ struct Message {
 
 impl Message {
     /// Returns the spans of the first and the last token that the error is about.
+    #[inline]
     fn spans(&self) -> (Span, Span) {
         match &self.place {
             Some(place) => place.spans(),
@@ -61,6 +62,7 @@ impl Message {
     }
 
     /// Returns a call of `compile_error!`. The compiler shows the error from the call's first token to its last.
+    #[inline]
     fn to_compile_error(&self) -> TokenStream {
         let (first, last) = self.spans();
         let path: TokenStream = "::core::compile_error!".parse().expect("tokens");
@@ -73,6 +75,7 @@ impl Message {
 }
 
 /// Returns the token tree with the span `span`.
+#[inline]
 pub(crate) fn spanned(mut tree: TokenTree, span: Span) -> TokenTree {
     tree.set_span(span);
     tree
@@ -107,6 +110,7 @@ impl MacroError {
         MacroError::of(&message, Some(Place::between(first, last)))
     }
 
+    #[inline]
     fn of(message: &dyn fmt::Display, place: Option<Place>) -> Self {
         let text = message.to_string();
         MacroError {
@@ -127,6 +131,7 @@ impl MacroError {
     ///     number.value::<u16>().map_err(|error| MacroError::from(error).at(span))
     /// }
     /// ```
+    #[inline]
     #[must_use]
     pub fn at(mut self, span: Span) -> Self {
         self.first.place = Some(Place::between(span, span));
@@ -150,6 +155,7 @@ impl MacroError {
     ///     all.map_or(Ok(()), Err)
     /// }
     /// ```
+    #[inline]
     pub fn combine(&mut self, other: MacroError) {
         self.others.push(other.first);
         self.others.extend(other.others);
@@ -164,6 +170,7 @@ impl MacroError {
     /// let error = MacroError::expected(Kind::Str, Kind::Byte, proc_macro::Span::call_site());
     /// assert_eq!(error.to_string(), "expected string literal, found byte literal");
     /// ```
+    #[inline]
     #[must_use]
     pub fn expected(expected: Kind, found: Kind, span: Span) -> Self {
         MacroError::new(Mismatch(expected, found), span)
@@ -176,6 +183,7 @@ impl MacroError {
     /// let error = navyspindle::MacroError::new("no name", proc_macro::Span::call_site());
     /// println!("{:?}", error.span());
     /// ```
+    #[inline]
     #[must_use]
     pub fn span(&self) -> Span {
         self.first.spans().0
@@ -189,6 +197,7 @@ impl MacroError {
     /// let error = navyspindle::MacroError::new("no name", proc_macro::Span::call_site());
     /// assert_eq!(error.to_compile_error().to_string(), r#":: core :: compile_error ! { "no name" }"#);
     /// ```
+    #[inline]
     #[must_use]
     pub fn to_compile_error(&self) -> TokenStream {
         let messages = core::iter::once(&self.first).chain(&self.others);
@@ -210,6 +219,7 @@ impl MacroError {
     ///     tokens.unwrap_or_else(MacroError::into_compile_error)
     /// }
     /// ```
+    #[inline]
     #[must_use]
     pub fn into_compile_error(self) -> TokenStream {
         self.to_compile_error()
@@ -253,6 +263,7 @@ macro_rules! from_errors {
     ($($(#[$doc:meta])* $name:ty: $error:ident => $message:expr,)*) => {$(
         $(#[$doc])*
         impl From<$name> for MacroError {
+            #[inline]
             fn from($error: $name) -> Self {
                 MacroError::of(&$message, None)
             }

@@ -26,6 +26,7 @@ struct Row {
 }
 
 impl Drop for Row {
+    #[inline]
     fn drop(&mut self) {
         if self.thread == thread::current().id() {
             // If the thread is ending, its table may no longer exist.
@@ -39,6 +40,7 @@ impl Drop for Row {
 pub(crate) struct Place(Arc<Row>);
 
 impl Place {
+    #[inline]
     pub(crate) fn between(first: Span, last: Span) -> Place {
         let at = TABLE.with(|table| {
             let mut table = table.borrow_mut();
@@ -58,6 +60,7 @@ impl Place {
     }
 
     /// Returns the first and the last span. On another thread than the macro's, both are the span of the macro's call.
+    #[inline]
     pub(crate) fn spans(&self) -> (Span, Span) {
         if self.0.thread == thread::current().id() {
             TABLE.with(|table| table.borrow().rows[self.0.at])

@@ -65,6 +65,7 @@ pub struct MacroInput {
 }
 
 impl MacroInput {
+    #[inline]
     fn push(&mut self, token: &str, span: Span) {
         let start = self.text.len();
         self.text.push_str(token);
@@ -73,11 +74,13 @@ impl MacroInput {
     }
 
     /// Appends a token and a space to the text.
+    #[inline]
     fn push_apart(&mut self, token: &str, span: Span) {
         self.push(token, span);
         self.text.push(' ');
     }
 
+    #[inline]
     fn push_group(&mut self, group: &Group) {
         let (open, close) = match group.delimiter() {
             Delimiter::Parenthesis => ("(", ")"),
@@ -91,6 +94,7 @@ impl MacroInput {
         self.push_apart(close, group.span_close());
     }
 
+    #[inline]
     fn push_all(&mut self, tokens: TokenStream) {
         for tree in tokens {
             match &tree {
@@ -110,6 +114,7 @@ impl MacroInput {
     /// let text = navyspindle::MacroInput::of("a = 1".parse().unwrap());
     /// assert_eq!(text.text(), "a = 1 ");
     /// ```
+    #[inline]
     #[must_use]
     pub fn of(input: TokenStream) -> Self {
         let mut text = MacroInput::default();
@@ -124,6 +129,7 @@ impl MacroInput {
     /// let text = navyspindle::MacroInput::of("'a' 1u8".parse().unwrap());
     /// assert_eq!(navyspindle::parse_list(text.text()).count(), 2);
     /// ```
+    #[inline]
     #[must_use]
     pub fn text(&self) -> &str {
         &self.text
@@ -141,6 +147,7 @@ impl MacroInput {
     /// assert_eq!(text.settings()?.entries().len(), 2);
     /// # Ok::<(), navyspindle::MacroError>(())
     /// ```
+    #[inline]
     pub fn settings(&self) -> Result<Settings<'_>, MacroError> {
         Settings::read(&self.text).map_err(|error| self.error(&error))
     }
@@ -156,6 +163,7 @@ impl MacroInput {
     /// assert_eq!(text.error(&error).to_string(), "a: expected a string");
     /// # Ok::<(), navyspindle::MacroError>(())
     /// ```
+    #[inline]
     #[must_use]
     pub fn error(&self, error: &SettingError) -> MacroError {
         let (first, last) = self.spans(error.range());
@@ -170,6 +178,7 @@ impl MacroInput {
     /// let text = navyspindle::MacroInput::of("a = -1".parse().unwrap());
     /// let (minus, number) = text.spans(4..7);
     /// ```
+    #[inline]
     #[must_use]
     pub fn spans(&self, bytes: Range<usize>) -> (Span, Span) {
         match touched(&self.places, &bytes) {
@@ -204,6 +213,7 @@ impl MacroInput {
 ///     Ok(None)
 /// }
 /// ```
+#[inline]
 pub fn parse_macro_settings(input: TokenStream) -> Result<Vec<MacroEntry>, MacroError> {
     let written = MacroInput::of(input);
     let error = |error: SettingsSyntaxError| written.error(&error.into());

@@ -88,6 +88,7 @@ impl Meta {
     ///     (meta.name() == "opt").then(|| meta.list()).transpose()
     /// }
     /// ```
+    #[inline]
     pub fn parse(input: TokenStream) -> Result<Meta, MacroError> {
         let mut trees = Trees::of(input);
         let meta = next_meta(&mut trees)?;
@@ -111,6 +112,7 @@ impl Meta {
     /// assert_eq!(names, ["a", "b", "c"]);
     /// # Ok::<(), navyspindle::MacroError>(())
     /// ```
+    #[inline]
     pub fn parse_all(input: TokenStream) -> Result<Vec<Meta>, MacroError> {
         let (mut trees, mut metas) = (Trees::of(input), Vec::new());
         while trees.peek().is_some() {
@@ -131,6 +133,7 @@ impl Meta {
     /// assert_eq!(navyspindle::Meta::parse("r#type = 1".parse().unwrap())?.name(), "type");
     /// # Ok::<(), navyspindle::MacroError>(())
     /// ```
+    #[inline]
     #[must_use]
     pub fn name(&self) -> &str {
         &self.name
@@ -146,6 +149,7 @@ impl Meta {
     ///     MacroError::new("use `rename`", meta.span())
     /// }
     /// ```
+    #[inline]
     #[must_use]
     pub fn span(&self) -> Span {
         self.first
@@ -198,6 +202,7 @@ impl Meta {
     /// assert_eq!(meta.unknown().to_string(), "unknown name `nme`");
     /// # Ok::<(), navyspindle::MacroError>(())
     /// ```
+    #[inline]
     #[must_use]
     pub fn unknown(&self) -> MacroError {
         self.error(format_args!("unknown name `{}`", self.name))
@@ -214,6 +219,7 @@ impl Meta {
     /// assert_eq!(literal("a = -1").unwrap().0.text(), "-1");
     /// assert!(literal("a = u8::MAX").is_none());
     /// ```
+    #[inline]
     #[must_use]
     pub fn literal(&self) -> Option<(Lit<'static>, Span)> {
         let placed = self.placed().ok()?;
@@ -255,6 +261,7 @@ impl Meta {
     /// assert_eq!(meta.string()?, "aA");
     /// # Ok::<(), navyspindle::MacroError>(())
     /// ```
+    #[inline]
     pub fn string(&self) -> Result<String, MacroError> {
         let (literal, span) = self.literal_of::<LitStr>()?;
         match literal.suffix() {
@@ -310,6 +317,7 @@ impl Meta {
     /// assert_eq!((flag("verbose")?, flag("verbose = false")?), (true, false));
     /// # Ok::<(), navyspindle::MacroError>(())
     /// ```
+    #[inline]
     pub fn flag(&self) -> Result<bool, MacroError> {
         match &self.form {
             Form::Flag => Ok(true),
@@ -331,6 +339,7 @@ impl Meta {
     /// assert_eq!(meta.value()?.into_iter().count(), 4);
     /// # Ok::<(), navyspindle::MacroError>(())
     /// ```
+    #[inline]
     pub fn value(&self) -> Result<TokenStream, MacroError> {
         Ok(self.value_trees()?.iter().cloned().collect())
     }
@@ -350,6 +359,7 @@ impl Meta {
     ///     Ok(next_literal_of(&mut meta.tokens()?.into_iter())?.0)
     /// }
     /// ```
+    #[inline]
     pub fn tokens(&self) -> Result<TokenStream, MacroError> {
         match &self.form {
             Form::List(group) => Ok(group.stream()),
@@ -370,11 +380,13 @@ impl Meta {
     /// assert_eq!(meta.list()?.number::<u8>("a")?, Some(1));
     /// # Ok::<(), navyspindle::MacroError>(())
     /// ```
+    #[inline]
     pub fn list(&self) -> Result<Attrs, MacroError> {
         let entries = Meta::parse_all(self.tokens()?)?;
         Ok(Attrs::of(entries, Some((self.first, self.last))))
     }
 
+    #[inline]
     fn value_trees(&self) -> Result<&[TokenTree], MacroError> {
         match &self.form {
             Form::Value(trees) => Ok(trees),
@@ -384,6 +396,7 @@ impl Meta {
     }
 
     /// Returns the entry's value if it is one literal, with its spans.
+    #[inline]
     fn placed(&self) -> Result<Placed, MacroError> {
         let mut trees = self.value_trees()?.iter().cloned();
         let placed = next_placed(&mut trees)?;
@@ -406,6 +419,7 @@ impl fmt::Debug for Meta {
     }
 }
 
+#[inline]
 fn mismatch(expected: Kind, found: &Lit<'_>, first: Span, last: Span) -> MacroError {
     MacroError::between(Mismatch(expected, found.kind()), first, last)
 }
@@ -418,6 +432,7 @@ struct Trees {
 }
 
 impl Trees {
+    #[inline]
     fn of(input: TokenStream) -> Trees {
         Trees {
             open: vec![input.into_iter().peekable()],
@@ -426,6 +441,7 @@ impl Trees {
     }
 
     /// Returns the innermost opened group that has trees left, after dropping the groups at their end.
+    #[inline]
     fn innermost(&mut self) -> Option<&mut Peekable<IntoIter>> {
         while self.open.last_mut()?.peek().is_none() {
             self.open.pop();
@@ -433,21 +449,25 @@ impl Trees {
         self.open.last_mut()
     }
 
+    #[inline]
     fn peek(&mut self) -> Option<&TokenTree> {
         self.innermost()?.peek()
     }
 
+    #[inline]
     fn next(&mut self) -> Option<TokenTree> {
         let tree = self.innermost()?.next()?;
         self.before = Some(tree.span());
         Some(tree)
     }
 
+    #[inline]
     fn begins_with_kind(&mut self, mark: char) -> bool {
         self.peek().is_some_and(|tree| is_mark(tree, mark))
     }
 
     /// Enters the groups without brackets that are next. `macro_rules!` passes a path on in such a group.
+    #[inline]
     fn open_groups(&mut self) {
         while let Some(TokenTree::Group(group)) = self.peek() {
             if group.delimiter() != Delimiter::None {
@@ -460,6 +480,7 @@ impl Trees {
     }
 
     /// Creates the error that the next tree, or the end of the input, isn't the expected `what`.
+    #[inline]
     fn expected(&mut self, what: &str) -> MacroError {
         match self.peek() {
             Some(tree) => MacroError::new(format_args!("expected {what}"), tree.span()),
@@ -474,11 +495,13 @@ impl Trees {
     }
 }
 
+#[inline]
 fn is_mark(tree: &TokenTree, mark: char) -> bool {
     matches!(tree, TokenTree::Punct(punct) if punct.as_char() == mark)
 }
 
 /// Consumes and returns the next entry.
+#[inline]
 fn next_meta(trees: &mut Trees) -> Result<Meta, MacroError> {
     let (name, first, last) = next_name(trees)?;
     let form = match trees.peek() {
@@ -489,7 +512,7 @@ fn next_meta(trees: &mut Trees) -> Result<Meta, MacroError> {
         }
         Some(tree) if is_mark(tree, '=') => {
             trees.next();
-            Form::Value(next_value(trees)?)
+            Form::Value(value_of_entry(trees)?)
         }
         _ => Form::Flag,
     };
@@ -502,6 +525,7 @@ fn next_meta(trees: &mut Trees) -> Result<Meta, MacroError> {
 }
 
 /// Consumes a path. Returns it as text, with its first and its last span.
+#[inline]
 fn next_name(trees: &mut Trees) -> Result<(String, Span, Span), MacroError> {
     trees.open_groups();
     let (mut name, mut first) = (String::new(), None);
@@ -528,15 +552,64 @@ fn next_name(trees: &mut Trees) -> Result<(String, Span, Span), MacroError> {
     }
 }
 
-/// Consumes the next value, which is all token trees up to the comma that ends it, and returns these trees.
-fn next_value(trees: &mut Trees) -> Result<Vec<TokenTree>, MacroError> {
-    let (mut value, mut end) = (Vec::new(), ValueEnd::default());
-    while let Some(tree) = trees.peek() {
-        if end.is_at(shape_of(tree)) {
-            break;
-        }
-        value.extend(trees.next());
+/// Consumes and returns the tokens before the next comma, such as an expression. The comma stays.
+///
+/// The tokens aren't parsed. A comma doesn't end the value in brackets of any kind, in `<..>` at the start of the value, after `::` or
+/// in the return type of a closure, or among the parameters of a closure.
+///
+/// # Errors
+///
+/// Returns an error if there is no token before the comma or the end.
+///
+/// ```no_run
+/// extern crate proc_macro;
+/// use navyspindle::{next_literal, next_value, Lit, MacroError};
+/// use proc_macro::{TokenStream, TokenTree};
+///
+/// /// Reads `"a": f(1, 2), "b": 3`.
+/// fn map(input: TokenStream) -> Result<Vec<(Lit<'static>, TokenStream)>, MacroError> {
+///     let (mut tokens, mut entries) = (input.into_iter().peekable(), Vec::new());
+///     while tokens.peek().is_some() {
+///         let (key, span) = next_literal(&mut tokens)?;
+///         match tokens.next() {
+///             Some(TokenTree::Punct(mark)) if mark.as_char() == ':' => {}
+///             _ => return Err(MacroError::new("expected `:` after the key", span)),
+///         }
+///         entries.push((key, next_value(&mut tokens)?));
+///         tokens.next(); // the comma
+///     }
+///     Ok(entries)
+/// }
+/// ```
+pub fn next_value(
+    tokens: &mut Peekable<impl Iterator<Item = TokenTree>>,
+) -> Result<TokenStream, MacroError> {
+    let value = before_comma(|end| tokens.next_if(|tree| !end.is_at(shape_of(tree))));
+    if !value.is_empty() {
+        return Ok(value.into_iter().collect());
     }
+    Err(match tokens.peek() {
+        Some(tree) => MacroError::new("expected a value", tree.span()),
+        None => MacroError::new(
+            "unexpected end of input, expected a value",
+            Span::call_site(),
+        ),
+    })
+}
+
+/// Returns the token trees before the comma that ends a value. `next` consumes and returns the next tree, unless it is that comma.
+fn before_comma(mut next: impl FnMut(&mut ValueEnd) -> Option<TokenTree>) -> Vec<TokenTree> {
+    let mut end = ValueEnd::default();
+    core::iter::from_fn(|| next(&mut end)).collect()
+}
+
+/// Consumes and returns the value of an entry: all token trees up to the comma that ends it.
+#[inline]
+fn value_of_entry(trees: &mut Trees) -> Result<Vec<TokenTree>, MacroError> {
+    let value = before_comma(|end| match end.is_at(shape_of(trees.peek()?)) {
+        true => None,
+        false => trees.next(),
+    });
     // A value that begins with `=` or `>` belongs to the token `==` or `=>`, which can't follow a name.
     match value.first() {
         Some(tree) if is_mark(tree, '=') || is_mark(tree, '>') => {
@@ -548,6 +621,7 @@ fn next_value(trees: &mut Trees) -> Result<Vec<TokenTree>, MacroError> {
 }
 
 /// Classifies a token tree for the search for the end of a value.
+#[inline]
 fn shape_of(tree: &TokenTree) -> Shape {
     match tree {
         TokenTree::Punct(punct) => Shape::Mark(punct.as_char()),

@@ -7,6 +7,7 @@ use alloc::format;
 use core::ops::Range;
 
 /// Returns the literal that was lexed, and its byte range in the text. If the literal has a minus, the range begins at the minus.
+#[inline]
 pub(crate) fn placed<'t>(text: &'t str, next: NextLiteral<'t>) -> (Range<usize>, Lit<'t>) {
     let token = next.token;
     let lo = next.minus_at.unwrap_or(token.lo);

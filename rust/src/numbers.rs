@@ -39,6 +39,7 @@ pub enum Base {
 }
 
 impl Base {
+    #[inline]
     fn of(radix: u32) -> Base {
         match radix {
             2 => Base::Binary,
@@ -53,6 +54,7 @@ impl Base {
     /// ```
     /// assert_eq!(navyspindle::Base::Octal.radix(), 8);
     /// ```
+    #[inline]
     #[must_use]
     pub fn radix(self) -> u32 {
         match self {
@@ -68,6 +70,7 @@ impl Base {
     /// ```
     /// assert_eq!(navyspindle::Base::Octal.prefix(), "0o");
     /// ```
+    #[inline]
     #[must_use]
     pub fn prefix(self) -> &'static str {
         match self {
@@ -107,6 +110,7 @@ macro_rules! number_types {
             /// ```
             /// assert_eq!(navyspindle::NumberType::Usize.as_str(), "usize");
             /// ```
+            #[inline]
             #[must_use]
             pub fn as_str(self) -> &'static str {
                 match self {
@@ -137,8 +141,9 @@ impl NumberType {
     /// ```
     /// assert!(navyspindle::NumberType::F32.is_float());
     /// ```
+    #[inline]
     #[must_use]
-    pub fn is_float(self) -> bool {
+    pub const fn is_float(self) -> bool {
         matches!(self, NumberType::F32 | NumberType::F64)
     }
 
@@ -147,6 +152,7 @@ impl NumberType {
     /// ```
     /// assert!(navyspindle::NumberType::Usize.is_unsigned());
     /// ```
+    #[inline]
     #[must_use]
     pub fn is_unsigned(self) -> bool {
         use NumberType::{Usize, U128, U16, U32, U64, U8};
@@ -175,6 +181,7 @@ macro_rules! number_type {
 
             /// Returns the number type that the suffix names, or `None` if there is no suffix or if it names no number type.
             #[cfg_attr(doc, doc = example!($name, $text, "assert_eq!(literal.type_suffix(), None);"))]
+            #[inline]
             #[must_use]
             pub fn type_suffix(&self) -> Option<NumberType> {
                 NumberType::named(self.suffix())
@@ -345,6 +352,7 @@ impl<'t> LitInt<'t> {
     /// assert_eq!(LitInt::parse("0b101")?.base(), Base::Binary);
     /// # Ok::<(), navyspindle::ParseError>(())
     /// ```
+    #[inline]
     #[must_use]
     pub fn base(&self) -> Base {
         integer_parts(&self.text).map_or(Base::Decimal, |parts| Base::of(parts.radix))
@@ -359,6 +367,7 @@ impl<'t> LitInt<'t> {
     /// # Ok::<(), navyspindle::ParseError>(())
     /// ```
     #[doc(alias = "raw_main_part")]
+    #[inline]
     #[must_use]
     pub fn digits(&self) -> &str {
         integer_parts(&self.text).map_or("", |parts| parts.digits)
@@ -371,6 +380,7 @@ impl<'t> LitInt<'t> {
     /// assert_eq!((literal.digits_range(), &literal.text()[literal.digits_range()]), (3..7, literal.digits()));
     /// # Ok::<(), navyspindle::ParseError>(())
     /// ```
+    #[inline]
     #[must_use]
     pub fn digits_range(&self) -> core::ops::Range<usize> {
         self.suffix_at - self.digits().len()..self.suffix_at
@@ -463,12 +473,14 @@ impl<'t> LitFloat<'t> {
     /// assert_eq!(LitFloat::parse("-1_0.5E+3f64")?.number_part(), "-1_0.5E+3");
     /// # Ok::<(), navyspindle::ParseError>(())
     /// ```
+    #[inline]
     #[must_use]
     pub fn number_part(&self) -> &str {
         &self.text[..self.suffix_at]
     }
 
     /// Returns the integer part, the fraction and the exponent of the float's text, as the proved code finds them.
+    #[inline]
     fn parts(&self) -> Option<FloatParts<'_>> {
         float_parts(&self.text)
     }
@@ -481,6 +493,7 @@ impl<'t> LitFloat<'t> {
     /// assert_eq!(LitFloat::parse("-1_0.5")?.integer_part(), "1_0");
     /// # Ok::<(), navyspindle::ParseError>(())
     /// ```
+    #[inline]
     #[must_use]
     pub fn integer_part(&self) -> &str {
         self.parts().map_or("", |parts| parts.integer)
@@ -496,6 +509,7 @@ impl<'t> LitFloat<'t> {
     /// assert_eq!(LitFloat::parse("1e3")?.fractional_part(), None);
     /// # Ok::<(), navyspindle::ParseError>(())
     /// ```
+    #[inline]
     #[must_use]
     pub fn fractional_part(&self) -> Option<&str> {
         self.parts()?.fraction
@@ -510,6 +524,7 @@ impl<'t> LitFloat<'t> {
     /// assert_eq!(LitFloat::parse("1.5")?.exponent_part(), None);
     /// # Ok::<(), navyspindle::ParseError>(())
     /// ```
+    #[inline]
     #[must_use]
     pub fn exponent_part(&self) -> Option<&str> {
         self.parts()?.exponent

@@ -47,6 +47,7 @@ pub enum ParseErrorKind {
 
 /// Whether the error is a flaw of this kind.
 impl PartialEq<FlawKind> for ParseErrorKind {
+    #[inline]
     fn eq(&self, other: &FlawKind) -> bool {
         *self == ParseErrorKind::Flaw(*other)
     }
@@ -88,6 +89,7 @@ pub struct ParseError {
 impl ParseError {
     /// Returns the reason why Rust has no value for the text, or `None` if it has one.
     #[cold]
+    #[inline]
     pub(crate) fn of(text: &str) -> Option<ParseError> {
         explain_value(text, LineEnds::Text, true).map(ParseError::of_flaw)
     }
@@ -105,6 +107,7 @@ impl ParseError {
     /// Returns the error for a text that `syn` doesn't read as an integer up to 128 bits. The text is a larger integer, or isn't an
     /// integer.
     #[cold]
+    #[inline]
     pub(crate) fn of_integer(literal: LitVerbatim<'_>) -> ParseError {
         let text = literal.text();
         match read_integer(text) {
@@ -118,6 +121,7 @@ impl ParseError {
     /// Returns the error for a literal that isn't of the kind `expected`. If Rust has no value for the literal, the error is the
     /// reason for that. Otherwise the error has both kinds.
     #[cold]
+    #[inline]
     pub(crate) fn of_kind(expected: Kind, literal: Lit<'_>) -> ParseError {
         let found = literal.kind();
         let other = ParseError {
@@ -139,6 +143,7 @@ impl ParseError {
     ///
     /// assert_eq!(Lit::parse("").unwrap_err().kind(), FlawKind::Empty);
     /// ```
+    #[inline]
     #[must_use]
     pub fn kind(&self) -> ParseErrorKind {
         self.kind
@@ -151,6 +156,7 @@ impl ParseError {
     ///
     /// assert_eq!(Lit::parse(r#""a\qb""#).unwrap_err().offset(), 3);
     /// ```
+    #[inline]
     #[must_use]
     pub fn offset(&self) -> usize {
         self.lo
@@ -166,6 +172,7 @@ impl ParseError {
     /// assert_eq!((error.range(), error.piece()), (103..104, 102..104));
     /// assert_eq!(error.to_string(), "unknown escape at byte 103");
     /// ```
+    #[inline]
     #[must_use]
     pub fn shifted(self, by: usize) -> Self {
         ParseError {
@@ -188,6 +195,7 @@ impl ParseError {
     /// assert_eq!(Lit::parse(r#""ab"#).unwrap_err().range(), 3..3);
     /// ```
     #[doc(alias = "span")]
+    #[inline]
     #[must_use]
     pub fn range(&self) -> Range<usize> {
         self.lo..self.hi
@@ -203,6 +211,7 @@ impl ParseError {
     ///
     /// assert_eq!(Lit::parse(r#""a\qb""#).unwrap_err().piece(), 2..4);
     /// ```
+    #[inline]
     #[must_use]
     pub fn piece(&self) -> Range<usize> {
         self.from..self.hi

@@ -21,6 +21,9 @@ impl<'t> Lit<'t> {
     /// [`Lit::Verbatim`]. A minus isn't part of the literal; see [`Lit::parse_prefix_signed`]. The time grows with the token, not
     /// with the text.
     ///
+    /// The token is read as [`Lit::of_text`] reads it, so `0b12` is a float. [`Lit::check`] applies Rust's grammar. For the reason
+    /// why the result is `None`, call [`Lit::parse`] with the text.
+    ///
     /// A parser reads literals among its own tokens like this:
     ///
     /// ```

@@ -11,6 +11,7 @@ use core::str::FromStr;
 use proc_macro::{Delimiter, Ident, Literal, Punct, Spacing, Span, TokenStream, TokenTree};
 
 /// Parses a text as a literal. An error is at `span`.
+#[inline]
 fn parsed(text: String, span: Span) -> Result<Lit<'static>, MacroError> {
     Lit::try_from(text).map_err(|error| MacroError::new(error.kind(), span))
 }
@@ -69,13 +70,7 @@ pub fn next_literal(
 pub fn next_literal_of<L: LitOfKind>(
     tokens: &mut impl Iterator<Item = TokenTree>,
 ) -> Result<(L, Span), MacroError> {
-    let placed = next_placed(tokens)?;
-    let (first, span) = (placed.first, placed.span);
-    let literal = L::try_from(placed.literal).map_err(|other| {
-        let found = other.kind();
-        MacroError::between(Mismatch(L::KIND, found), first, span)
-    });
-    Ok((literal?, span))
+    next_placed(tokens)?.of_kind()
 }
 
 mod sealed {
@@ -114,6 +109,7 @@ pub(crate) struct Placed {
 
 impl Placed {
     /// Creates a `Placed` for a literal without a minus.
+    #[inline]
     fn at(literal: Lit<'static>, span: Span) -> Placed {
         let first = span;
         Placed {
@@ -121,6 +117,27 @@ impl Placed {
             first,
             span,
         }
+    }
+
+    /// Returns the literal, which must be of one kind, and its span.
+    fn of_kind<L: LitOfKind>(self) -> Result<(L, Span), MacroError> {
+        let (first, span) = (self.first, self.span);
+        let literal = L::try_from(self.literal).map_err(|other| {
+            let found = other.kind();
+            MacroError::between(Mismatch(L::KIND, found), first, span)
+        });
+        Ok((literal?, span))
+    }
+}
+
+/// Returns the literal that consists of all tokens of a macro's input.
+#[inline]
+fn whole(input: TokenStream) -> Result<Placed, MacroError> {
+    let mut tokens = input.into_iter();
+    let placed = next_placed(&mut tokens)?;
+    match tokens.next() {
+        None => Ok(placed),
+        Some(tree) => Err(MacroError::new("unexpected token", tree.span())),
     }
 }
 
@@ -140,6 +157,7 @@ pub(crate) fn next_placed(
 }
 
 /// Returns the literal that consists of a minus, whose span is `minus`, and of the token tree after it.
+#[inline]
 fn negative(tree: Option<TokenTree>, minus: Span) -> Result<Placed, MacroError> {
     let tree = tree.ok_or_else(|| MacroError::new("expected literal", minus))?;
     let Placed { literal, span, .. } = literal_of(&tree)?;
@@ -158,6 +176,7 @@ fn negative(tree: Option<TokenTree>, minus: Span) -> Result<Placed, MacroError> 
 }
 
 /// Returns the literal that a token tree is, with its span. In a group without delimiters, the span is that of the literal's token.
+#[inline]
 fn literal_of(tree: &TokenTree) -> Result<Placed, MacroError> {
     let expected = || MacroError::new("expected literal", tree.span());
     match tree {
@@ -182,6 +201,7 @@ fn literal_of(tree: &TokenTree) -> Result<Placed, MacroError> {
 impl TryFrom<&Literal> for Lit<'static> {
     type Error = MacroError;
 
+    #[inline]
     fn try_from(literal: &Literal) -> Result<Self, MacroError> {
         parsed(literal.to_string(), literal.span())
     }
@@ -192,8 +212,29 @@ impl TryFrom<&Literal> for Lit<'static> {
 impl TryFrom<&TokenTree> for Lit<'static> {
     type Error = MacroError;
 
+    #[inline]
     fn try_from(tree: &TokenTree) -> Result<Self, MacroError> {
         literal_of(tree).map(|placed| placed.literal)
+    }
+}
+
+/// Returns the literal that is the whole input of a macro, as [`next_literal`] reads it. Another token after it is an error.
+///
+/// ```no_run
+/// extern crate proc_macro;
+/// use navyspindle::{LitStr, MacroError};
+///
+/// /// Reads the input `"a"`.
+/// fn path(input: proc_macro::TokenStream) -> Result<String, MacroError> {
+///     Ok(LitStr::try_from(input)?.into_value().into_owned())
+/// }
+/// ```
+impl TryFrom<TokenStream> for Lit<'static> {
+    type Error = MacroError;
+
+    #[inline]
+    fn try_from(input: TokenStream) -> Result<Self, MacroError> {
+        whole(input).map(|placed| placed.literal)
     }
 }
 
@@ -203,6 +244,7 @@ macro_rules! of_owned {
         impl TryFrom<$tree> for $name<'static> {
             type Error = MacroError;
 
+            #[inline]
             fn try_from(tree: $tree) -> Result<Self, MacroError> {
                 $name::try_from(&tree)
             }
@@ -219,6 +261,7 @@ macro_rules! of_tree {
         impl TryFrom<&$tree> for $name<'static> {
             type Error = MacroError;
 
+            #[inline]
             fn try_from(tree: &$tree) -> Result<Self, MacroError> {
                 match Lit::try_from(tree)? {
                     Lit::$variant(literal) => Ok(literal),
@@ -246,6 +289,17 @@ macro_rules! of_kinds {
 
         impl LitOfKind for $name<'static> {}
 
+        /// Returns the literal that is the whole input of a macro, as [`next_literal_of`] reads it. Another token after it is an
+        /// error.
+        impl TryFrom<TokenStream> for $name<'static> {
+            type Error = MacroError;
+
+            #[inline]
+            fn try_from(input: TokenStream) -> Result<Self, MacroError> {
+                whole(input)?.of_kind().map(|(literal, _)| literal)
+            }
+        }
+
         impl $name<'_> {
             /// Returns the literal as tokens with the span `span`. See [`Lit::to_token_stream`].
             ///
@@ -259,6 +313,7 @@ macro_rules! of_kinds {
             ///     literal.to_token_stream(proc_macro::Span::call_site())
             /// }
             /// ```
+            #[inline]
             pub fn to_token_stream(&self, span: Span) -> Result<TokenStream, MacroError> {
                 tokens_of(self.text(), span)
             }
@@ -283,11 +338,13 @@ impl Lit<'_> {
     /// assert_eq!(tokens.into_iter().count(), 2);
     /// # Ok::<(), navyspindle::MacroError>(())
     /// ```
+    #[inline]
     pub fn to_token_stream(&self, span: Span) -> Result<TokenStream, MacroError> {
         tokens_of(self.text(), span)
     }
 }
 
+#[inline]
 fn tokens_of(text: &str, span: Span) -> Result<TokenStream, MacroError> {
     // The compiler itself would report a text that isn't a literal, so the text is checked before.
     let literal = Lit::parse(text).map_err(|error| MacroError::new(error.kind(), span))?;

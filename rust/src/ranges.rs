@@ -8,6 +8,7 @@ use core::ops::Range;
 ///
 /// The first range begins at 0. Each other range begins at or after the end of the one before it. The time grows with the logarithm
 /// of the number of ranges.
+#[inline]
 pub(crate) fn touched<R: Borrow<Range<usize>>>(
     ranges: &[R],
     bytes: &Range<usize>,

@@ -37,6 +37,7 @@ impl Edit {
     /// assert_eq!(edit.range(), 2..5);
     /// # Ok::<(), navyspindle::ListError>(())
     /// ```
+    #[inline]
     pub fn range(&self) -> Range<usize> {
         self.range.clone()
     }
@@ -50,6 +51,7 @@ impl Edit {
     /// assert_eq!(edit.text(), "0xa");
     /// # Ok::<(), navyspindle::ListError>(())
     /// ```
+    #[inline]
     pub fn text(&self) -> &str {
         &self.text
     }
@@ -65,6 +67,7 @@ impl Edit {
     /// assert_eq!(edits[1].rules(), ["float_zero"]);
     /// # Ok::<(), navyspindle::ListError>(())
     /// ```
+    #[inline]
     pub fn rules(&self) -> &[&'static str] {
         &self.rules
     }
@@ -120,6 +123,7 @@ pub struct Edits<'t> {
 /// assert_eq!(rewrite_source("S { 10: 10, 11: t.10 }", style).apply()?, "S { 10: 1_0, 11: t.10 }");
 /// # Ok::<(), navyspindle::ListError>(())
 /// ```
+#[inline]
 pub fn rewrite_source(text: &str, style: Style) -> Edits<'_> {
     Edits {
         text,
@@ -144,6 +148,7 @@ impl<'t> Edits<'t> {
     /// assert_eq!(edits.skip_macros(true).apply()?, "f(0xa, vec![0xB], !(0xc))");
     /// # Ok::<(), navyspindle::ListError>(())
     /// ```
+    #[inline]
     pub fn skip_macros(mut self, skips: bool) -> Self {
         self.skips_macros = skips;
         self
@@ -163,6 +168,7 @@ impl<'t> Edits<'t> {
     /// assert!(rewrite_source("f(0xA, \"b)", style).apply().is_err());
     /// # Ok::<(), navyspindle::ListError>(())
     /// ```
+    #[inline]
     pub fn apply(self) -> Result<Cow<'t, str>, ListError> {
         let whole = self.text;
         let (mut text, mut at) = (String::new(), 0);
@@ -181,6 +187,7 @@ impl<'t> Edits<'t> {
 }
 
 /// Returns the names of the rules each of which alone changes the literal `text`. `before` is the source's text before the literal.
+#[inline]
 fn rules_after(before: &str, text: &str, style: Style) -> Vec<&'static str> {
     let (style, mut room) = (style.proved(), vec![0; 4 * text.len() + 1]);
     let mut is_of = |rule| matches!(changes(before, text, style.only(rule), &mut room), Ok(true));
@@ -192,6 +199,7 @@ fn rules_after(before: &str, text: &str, style: Style) -> Vec<&'static str> {
 }
 
 /// Returns the edit that rewrites a literal in the style, or `None` if the literal has the style already.
+#[inline]
 fn edit_of(style: Style, source: &str, literal: Restylable<'_>) -> Option<Edit> {
     let (before, old) = (&source[..literal.token.lo], literal.token.text);
     match rewrite_in_context(before, old, style) {
@@ -207,6 +215,7 @@ fn edit_of(style: Style, source: &str, literal: Restylable<'_>) -> Option<Edit> 
 impl Iterator for Edits<'_> {
     type Item = Result<Edit, ListError>;
 
+    #[inline]
     fn next(&mut self) -> Option<Self::Item> {
         while !self.is_done {
             let Some(literal) = self.literals.next() else {
@@ -230,6 +239,7 @@ impl FusedIterator for Edits<'_> {}
 
 /// The clone begins at the next edit. Cloning walks over the source before that edit.
 impl Clone for Edits<'_> {
+    #[inline]
     fn clone(&self) -> Self {
         let mut literals = Restylables::new(self.text);
         for _ in 0..self.passed {

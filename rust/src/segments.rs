@@ -54,6 +54,7 @@ pub struct Segment<'t> {
 
 impl<'t> Segment<'t> {
     /// Creates a segment. `value_offset` is the number of bytes of the value before the segment.
+    #[inline]
     pub(crate) fn of(segment: rl_lenient::Segment<'t>, value_offset: usize) -> Segment<'t> {
         let value_range = value_offset..value_offset + segment.value.len();
         let value = match segment.value {
@@ -93,6 +94,7 @@ pub struct Segments<'t> {
 
 impl<'t> Segments<'t> {
     /// Creates the iterator over the segments of a literal of kind `kind`. `parts` has the byte offsets of the literal's parts.
+    #[inline]
     pub(crate) fn of(kind: Kind, text: &'t str, parts: Body) -> Self {
         Segments {
             text,
@@ -107,6 +109,7 @@ impl<'t> Segments<'t> {
 impl<'t> Iterator for Segments<'t> {
     type Item = Segment<'t>;
 
+    #[inline]
     fn next(&mut self) -> Option<Segment<'t>> {
         let segment = Segment::of(self.cursor.next()?, self.value_offset);
         self.value_offset = segment.value_range.end;
@@ -118,6 +121,7 @@ impl FusedIterator for Segments<'_> {}
 
 /// The clone begins at the segment that the original iterator returns next.
 impl Clone for Segments<'_> {
+    #[inline]
     fn clone(&self) -> Self {
         let lo = self.cursor.at();
         let left = Body { lo, ..self.parts };
@@ -160,6 +164,7 @@ pub struct OffsetMap {
 }
 
 impl OffsetMap {
+    #[inline]
     pub(crate) fn of(mut segments: rl_lenient::Segments<'_>) -> OffsetMap {
         let (mut places, mut at) = (Vec::new(), 0);
         while let Some(segment) = segments.next() {
@@ -187,6 +192,7 @@ impl OffsetMap {
     /// assert_eq!((places.byte_range(0), places.byte_range(1), places.byte_range(2)), (1..2, 2..6, 6..7));
     /// # Ok::<(), navyspindle::ParseError>(())
     /// ```
+    #[inline]
     #[must_use]
     pub fn byte_range(&self, at: usize) -> Range<usize> {
         let (len, quote) = self.end;
@@ -215,6 +221,7 @@ impl OffsetMap {
     /// assert_eq!(&text[places.text_range(1..3)], r"\x41b");
     /// # Ok::<(), navyspindle::ParseError>(())
     /// ```
+    #[inline]
     #[must_use]
     pub fn text_range(&self, bytes: Range<usize>) -> Range<usize> {
         let lo = self.byte_range(bytes.start).start;
@@ -236,6 +243,7 @@ impl OffsetMap {
     /// assert_eq!((places.value_offset(1), places.value_offset(4), places.value_offset(6)), (0, 1, 2));
     /// # Ok::<(), navyspindle::ParseError>(())
     /// ```
+    #[inline]
     #[must_use]
     pub fn value_offset(&self, at: usize) -> usize {
         let after = self
@@ -250,6 +258,7 @@ impl OffsetMap {
 }
 
 /// Returns the byte offset in the value of the byte of the text at the offset `at`, by walking over the segments.
+#[inline]
 pub(crate) fn value_offset(mut segments: Segments<'_>, at: usize) -> usize {
     match segments.find(|segment| at < segment.range.end) {
         Some(Segment {
@@ -269,6 +278,7 @@ macro_rules! quoted_type {
     ($name:ident, $text:literal, $range:literal, $place:literal) => {
         impl $name<'_> {
             /// Returns the proved cursor over the literal's segments.
+            #[inline]
             pub(crate) fn cursor(&self) -> $crate::rl_lenient::Segments<'_> {
                 self.parts().segments_in(Self::KIND, &self.text)
             }
@@ -276,6 +286,7 @@ macro_rules! quoted_type {
             /// Returns the segments between the quotes, with their ranges in the literal's text. A segment is a sequence of plain
             /// characters, as long as possible, an escape, or an escaped line end.
             #[cfg_attr(doc, doc = $crate::common::example!($name, $text, "assert_eq!(literal.segments().next().unwrap().range, ", $range, ");"))]
+            #[inline]
             pub fn segments(&self) -> $crate::Segments<'_> {
                 $crate::Segments::of(Self::KIND, &self.text, self.parts())
             }
@@ -285,6 +296,7 @@ macro_rules! quoted_type {
             ///
             /// This method walks over the literal. For many lookups use [`offset_map`](Self::offset_map).
             #[cfg_attr(doc, doc = $crate::common::example!($name, $text, "assert_eq!(literal.text_offset(1), ", $place, ");"))]
+            #[inline]
             #[must_use]
             pub fn text_offset(&self, byte: usize) -> usize {
                 self.cursor().text_offset(byte)
@@ -297,6 +309,7 @@ macro_rules! quoted_type {
             ///
             /// This method walks over the literal. For many lookups use [`offset_map`](Self::offset_map).
             #[cfg_attr(doc, doc = $crate::common::example!($name, $text, "assert_eq!(literal.value_offset(literal.text_offset(1)), 1);"))]
+            #[inline]
             #[must_use]
             pub fn value_offset(&self, at: usize) -> usize {
                 $crate::segments::value_offset(self.segments(), at)
@@ -305,6 +318,7 @@ macro_rules! quoted_type {
             /// Returns the byte range of the literal's text that gives the byte range `bytes` of the value. If `bytes` begins or
             /// ends inside a character, the result may do so too.
             #[cfg_attr(doc, doc = $crate::common::example!($name, $text, "assert_eq!(literal.text_range(0..1), ", $range, ");"))]
+            #[inline]
             #[must_use]
             pub fn text_range(&self, bytes: core::ops::Range<usize>) -> core::ops::Range<usize> {
                 let (lo, hi) = $crate::rl_lenient::text_range(Self::KIND, &self.text, &self.parts(), bytes.start, bytes.end);
@@ -313,6 +327,7 @@ macro_rules! quoted_type {
 
             /// Returns a map from each byte of the value to its range in the literal's text.
             #[cfg_attr(doc, doc = $crate::common::example!($name, $text, "assert_eq!(literal.offset_map().text_range(0..1), ", $range, ");"))]
+            #[inline]
             #[must_use]
             pub fn offset_map(&self) -> $crate::OffsetMap {
                 $crate::OffsetMap::of(self.cursor())

@@ -39,6 +39,7 @@ impl Key {
     /// const HOST: Key = Key::new("host", "a string");
     /// assert_eq!((HOST.name, HOST.expected), ("host", "a string"));
     /// ```
+    #[inline]
     #[must_use]
     pub const fn new(name: &'static str, expected: &'static str) -> Self {
         Key { name, expected }
@@ -104,6 +105,7 @@ impl fmt::Display for SettingErrorKind {
 
 /// The source is the `ParseError` of an invalid literal, or the `ValueError` of a number of another type.
 impl core::error::Error for SettingErrorKind {
+    #[inline]
     fn source(&self) -> Option<&(dyn core::error::Error + 'static)> {
         match self {
             SettingErrorKind::Literal(_, error) => Some(error),
@@ -142,6 +144,7 @@ impl SettingError {
     /// assert_eq!(*error.kind(), SettingErrorKind::Unknown("prt".to_string()));
     /// # Ok::<(), navyspindle::SettingError>(())
     /// ```
+    #[inline]
     #[must_use]
     pub fn kind(&self) -> &SettingErrorKind {
         &self.kind
@@ -163,6 +166,7 @@ impl SettingError {
     /// # Ok::<(), navyspindle::SettingError>(())
     /// ```
     #[doc(alias = "span")]
+    #[inline]
     #[must_use]
     pub fn range(&self) -> Range<usize> {
         self.range.clone()
@@ -177,6 +181,7 @@ impl SettingError {
     /// assert_eq!(Settings::read("port = -1")?.number::<u16>(port).unwrap_err().offset(), 7);
     /// # Ok::<(), navyspindle::SettingError>(())
     /// ```
+    #[inline]
     #[must_use]
     pub fn offset(&self) -> usize {
         self.range.start
@@ -192,6 +197,7 @@ impl SettingError {
     /// assert_eq!(error.help(), Some("a name has no `-`: use `_`"));
     /// assert_eq!(error.to_string(), "expected `=` at byte 2: a name has no `-`: use `_`");
     /// ```
+    #[inline]
     #[must_use]
     pub fn help(&self) -> Option<&'static str> {
         self.help
@@ -209,6 +215,7 @@ impl SettingError {
     /// assert_eq!(error.shifted(100).range(), 100..103);
     /// # Ok::<(), navyspindle::SettingError>(())
     /// ```
+    #[inline]
     #[must_use]
     pub fn shifted(self, by: usize) -> Self {
         SettingError {
@@ -227,6 +234,7 @@ impl fmt::Display for SettingError {
 
 /// The source is the `ParseError` of an invalid literal, or the `ValueError` of a number of another type.
 impl core::error::Error for SettingError {
+    #[inline]
     fn source(&self) -> Option<&(dyn core::error::Error + 'static)> {
         self.kind.source()
     }
@@ -234,6 +242,7 @@ impl core::error::Error for SettingError {
 
 /// Converts the error to the kind `Repeated` for a repeated name, and to the kind `Syntax` otherwise.
 impl From<SettingsSyntaxError> for SettingError {
+    #[inline]
     fn from(error: SettingsSyntaxError) -> Self {
         let (kind, range, help) = (error.kind(), error.range(), error.help());
         let kind = match error.into_name() {
@@ -286,10 +295,12 @@ impl<'t> Settings<'t> {
     /// assert_eq!(*Settings::read("a = 1 a").unwrap_err().kind(), kind);
     /// # Ok::<(), navyspindle::SettingError>(())
     /// ```
+    #[inline]
     pub fn read(text: &'t str) -> Result<Self, SettingError> {
         Ok(Settings::of_entries(text, parse_settings(text)?))
     }
 
+    #[inline]
     pub(crate) fn of_entries(text: &'t str, entries: Vec<Entry<'t>>) -> Self {
         Settings { text, entries }
     }
@@ -302,6 +313,7 @@ impl<'t> Settings<'t> {
     /// assert_eq!(Settings::read("a = 1, b = 2")?.entries()[1].name, "b");
     /// # Ok::<(), navyspindle::SettingError>(())
     /// ```
+    #[inline]
     #[must_use]
     pub fn entries(&self) -> &[Entry<'t>] {
         &self.entries
@@ -317,6 +329,7 @@ impl<'t> Settings<'t> {
     /// assert!(read.get("b").is_none());
     /// # Ok::<(), navyspindle::SettingError>(())
     /// ```
+    #[inline]
     #[must_use]
     pub fn get(&self, name: &str) -> Option<&Entry<'t>> {
         self.entries.iter().find(|entry| entry.name == name)
@@ -336,6 +349,7 @@ impl<'t> Settings<'t> {
     /// assert_eq!(error.to_string(), "unknown name `prt` at byte 10");
     /// # Ok::<(), navyspindle::SettingError>(())
     /// ```
+    #[inline]
     pub fn check(&self, known: &[Key]) -> Result<(), SettingError> {
         self.unknown(known).next().map_or(Ok(()), Err)
     }
@@ -351,6 +365,7 @@ impl<'t> Settings<'t> {
     /// assert_eq!(errors, ["unknown name `prt` at byte 0", "unknown name `hst` at byte 19"]);
     /// # Ok::<(), navyspindle::SettingError>(())
     /// ```
+    #[inline]
     pub fn unknown<'s>(
         &'s self,
         known: &'s [Key],
@@ -380,6 +395,7 @@ impl<'t> Settings<'t> {
     /// assert_eq!(error.to_string(), "host: expected a string at byte 7");
     /// # Ok::<(), navyspindle::SettingError>(())
     /// ```
+    #[inline]
     pub fn string(&self, key: Key) -> Result<Option<Cow<'_, str>>, SettingError> {
         self.value_of(key, |entry| match &entry.value {
             Lit::Str(literal) => without_suffix(key, entry, literal.value()),
@@ -442,6 +458,7 @@ impl<'t> Settings<'t> {
     /// assert!(Settings::read("verbose = 1")?.bool(verbose).is_err());
     /// # Ok::<(), navyspindle::SettingError>(())
     /// ```
+    #[inline]
     pub fn bool(&self, key: Key) -> Result<Option<bool>, SettingError> {
         self.value_of(key, |entry| match &entry.value {
             Lit::Bool(literal) => Ok(literal.value()),
@@ -460,6 +477,7 @@ impl<'t> Settings<'t> {
     /// assert_eq!((error.kind(), error.range()), (&SettingErrorKind::Missing(host), 8..8));
     /// # Ok::<(), navyspindle::SettingError>(())
     /// ```
+    #[inline]
     #[must_use]
     pub fn missing_error(&self, key: Key) -> SettingError {
         let end = self.text.len();
@@ -472,6 +490,7 @@ impl<'t> Settings<'t> {
 
     /// Returns the result of `take` for the setting of `key`, or `None` if it isn't set. A value that Rust rejects is an error,
     /// without a call of `take`.
+    #[inline]
     pub(crate) fn value_of<'s, V>(
         &'s self,
         key: Key,
@@ -502,6 +521,7 @@ impl<'s, 't> IntoIterator for &'s Settings<'t> {
     type Item = &'s Entry<'t>;
     type IntoIter = slice::Iter<'s, Entry<'t>>;
 
+    #[inline]
     fn into_iter(self) -> Self::IntoIter {
         self.entries.iter()
     }
@@ -511,6 +531,7 @@ impl<'t> IntoIterator for Settings<'t> {
     type Item = Entry<'t>;
     type IntoIter = vec::IntoIter<Entry<'t>>;
 
+    #[inline]
     fn into_iter(self) -> Self::IntoIter {
         self.entries.into_iter()
     }
@@ -531,12 +552,14 @@ pub(crate) fn without_suffix<V>(
 }
 
 /// Creates the error that the entry's value is a literal of another kind than the expected one.
+#[inline]
 pub(crate) fn no_such(key: Key, entry: &Entry<'_>) -> (SettingErrorKind, Range<usize>) {
     (SettingErrorKind::Kind(key), entry.value_range.clone())
 }
 
 /// Converts a range of the entry's value to a range of the settings' text. If white space or a comment follows the value's minus,
 /// the literal's text differs from the settings' text, and the result is the range of the whole value.
+#[inline]
 fn range_in(entry: &Entry<'_>, bytes: Range<usize>) -> Range<usize> {
     let value = entry.value_range.clone();
     if value.len() == entry.value.text().len() {

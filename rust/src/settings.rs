@@ -59,6 +59,7 @@ pub struct SettingsSyntaxError {
 impl SettingsSyntaxError {
     /// Converts an error of the lexer. The range is that of the token at the error.
     #[cold]
+    #[inline]
     pub(crate) fn of_lexer(
         text: &str,
         error: LexError,
@@ -75,6 +76,7 @@ impl SettingsSyntaxError {
 
     /// Creates the error that the name `name` at the range `range` is repeated.
     #[cold]
+    #[inline]
     pub(crate) fn repeated(name: &str, range: Range<usize>) -> SettingsSyntaxError {
         SettingsSyntaxError {
             kind: SyntaxErrorKind::Repeated,
@@ -92,6 +94,7 @@ impl SettingsSyntaxError {
     /// assert_eq!(parse_settings("a = 1 b").unwrap_err().kind(), SyntaxErrorKind::Expected(Part::Comma));
     /// assert_eq!(parse_settings("a =").unwrap_err().kind(), SyntaxErrorKind::EndOfInput(Part::Literal));
     /// ```
+    #[inline]
     #[must_use]
     pub fn kind(&self) -> SyntaxErrorKind {
         self.kind
@@ -105,6 +108,7 @@ impl SettingsSyntaxError {
     /// assert_eq!(navyspindle::parse_settings("a = 'b").unwrap_err().range(), 4..6);
     /// ```
     #[doc(alias = "span")]
+    #[inline]
     #[must_use]
     pub fn range(&self) -> Range<usize> {
         self.range.clone()
@@ -115,6 +119,7 @@ impl SettingsSyntaxError {
     /// ```
     /// assert_eq!(navyspindle::parse_settings("a = 1 b").unwrap_err().offset(), 6);
     /// ```
+    #[inline]
     #[must_use]
     pub fn offset(&self) -> usize {
         self.range.start
@@ -127,6 +132,7 @@ impl SettingsSyntaxError {
     /// let error = navyspindle::parse_settings("a = 1 b").unwrap_err();
     /// assert_eq!(error.shifted(100).range(), 106..107);
     /// ```
+    #[inline]
     #[must_use]
     pub fn shifted(self, by: usize) -> Self {
         SettingsSyntaxError {
@@ -143,12 +149,14 @@ impl SettingsSyntaxError {
     /// assert_eq!(error.help(), Some("a comment begins with `//`"));
     /// assert_eq!(error.to_string(), "expected identifier at byte 0: a comment begins with `//`");
     /// ```
+    #[inline]
     #[must_use]
     pub fn help(&self) -> Option<&'static str> {
         self.help
     }
 
     /// Returns the repeated name, or `None` for an error of another kind.
+    #[inline]
     pub(crate) fn into_name(self) -> Option<String> {
         self.name
     }
@@ -168,6 +176,7 @@ impl fmt::Display for SettingsSyntaxError {
 impl core::error::Error for SettingsSyntaxError {}
 
 /// Writes the hint at the end of an error's message.
+#[inline]
 pub(crate) fn write_help(f: &mut fmt::Formatter<'_>, help: Option<&str>) -> fmt::Result {
     match help {
         Some(help) => write!(f, ": {help}"),
@@ -195,6 +204,7 @@ pub(crate) fn write_help(f: &mut fmt::Formatter<'_>, help: Option<&str>) -> fmt:
 /// assert_eq!(LineIndex::new(text).line_column(entries[1].value_range.start).to_string(), "2:8");
 /// # Ok::<(), navyspindle::SettingsSyntaxError>(())
 /// ```
+#[inline]
 pub fn parse_settings(text: &str) -> Result<Vec<Entry<'_>>, SettingsSyntaxError> {
     if let Some(error) = first_error(text) {
         let error = SettingsSyntaxError::of_lexer(text, error, Separators::Commas);
@@ -221,6 +231,7 @@ pub fn parse_settings(text: &str) -> Result<Vec<Entry<'_>>, SettingsSyntaxError>
 }
 
 /// Creates the entry with this name, name's range and value.
+#[inline]
 pub(crate) fn entry_of<'t>(
     text: &'t str,
     name: &'t str,
@@ -239,6 +250,7 @@ pub(crate) fn entry_of<'t>(
 /// Returns the error for a text that doesn't continue with a setting. If the next setting's name is one of `names`, the error is
 /// that it is repeated. Otherwise the error is `error`.
 #[cold]
+#[inline]
 pub(crate) fn rejected(
     names: &BTreeSet<&str>,
     name: Option<(&str, Range<usize>)>,

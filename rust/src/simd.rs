@@ -54,28 +54,38 @@ macro_rules! lane_types {
     };
 }
 
-// The target and the features of the package decide which implementation is used.
+// The target and the features of the package decide which implementation is used. `vectors` is only for whole sources and for the
+// programs.
+#[cfg(any(
+    test,
+    feature = "__rendered",
+    all(
+        any(feature = "sources", feature = "settings"),
+        not(any(debug_assertions, feature = "proc-macro"))
+    )
+))]
 #[allow(dead_code)]
 mod vectors;
 #[allow(dead_code)]
 mod words;
 
 #[cfg(all(
-    feature = "rendered",
+    feature = "__rendered",
     any(target_feature = "sse2", target_feature = "neon")
 ))]
 pub(crate) use vectors::Simd;
 #[cfg(not(all(
-    feature = "rendered",
+    feature = "__rendered",
     any(target_feature = "sse2", target_feature = "neon")
 )))]
 pub(crate) use words::Simd;
 
 /// The vectors for skipping through whole sources.
+#[cfg(any(feature = "sources", feature = "settings"))]
 pub(crate) mod wide {
     #[cfg(all(
         any(
-            feature = "rendered",
+            feature = "__rendered",
             not(any(debug_assertions, feature = "proc-macro"))
         ),
         any(target_feature = "sse2", target_feature = "neon")
@@ -83,7 +93,7 @@ pub(crate) mod wide {
     pub(crate) use super::vectors::u8x16;
     #[cfg(not(all(
         any(
-            feature = "rendered",
+            feature = "__rendered",
             not(any(debug_assertions, feature = "proc-macro"))
         ),
         any(target_feature = "sse2", target_feature = "neon")

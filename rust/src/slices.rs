@@ -5,7 +5,7 @@
 //! So the package uses the slice, and the programs of this repository use `chars`.
 
 /// Drops the first character with `chars`.
-#[cfg(any(test, feature = "rendered"))]
+#[cfg(any(test, feature = "__rendered"))]
 macro_rules! after_character {
     ($text:ident) => {{
         let mut characters = $text.chars();
@@ -15,16 +15,16 @@ macro_rules! after_character {
 }
 
 /// Drops the first byte with a slice.
-#[cfg(any(test, not(feature = "rendered")))]
+#[cfg(any(test, not(feature = "__rendered")))]
 macro_rules! after_byte {
     ($text:ident) => {
         &$text[1..]
     };
 }
 
-#[cfg(not(feature = "rendered"))]
+#[cfg(not(feature = "__rendered"))]
 pub(crate) use after_byte as after_first;
-#[cfg(feature = "rendered")]
+#[cfg(feature = "__rendered")]
 pub(crate) use after_character as after_first;
 
 #[cfg(test)]

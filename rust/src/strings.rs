@@ -172,6 +172,7 @@ impl<'t> LitStr<'t> {
     /// }
     /// assert_eq!(strings(r#"f("a", "\x41")"#), ["a", "A"]);
     /// ```
+    #[inline]
     #[must_use]
     pub fn into_value(self) -> Cow<'t, str> {
         if self.is_plain {
@@ -182,6 +183,7 @@ impl<'t> LitStr<'t> {
     }
 }
 
+#[inline]
 fn into_bytes(text: Cow<'_, str>) -> Cow<'_, [u8]> {
     match text {
         Cow::Borrowed(text) => Cow::Borrowed(text.as_bytes()),
@@ -209,6 +211,7 @@ macro_rules! byte_values {
             /// Returns the bytes that the literal represents. If the literal has no escapes and its own text is borrowed, the
             /// result is borrowed for as long.
             #[cfg_attr(doc, doc = example!($name, $text, "assert_eq!(*literal.into_value(), *", stringify!($value), ");"))]
+            #[inline]
             #[must_use]
             pub fn into_value(self) -> Cow<'t, [u8]> {
                 if self.is_plain {
@@ -240,6 +243,7 @@ impl LitCStr<'_> {
     /// assert_eq!(LitCStr::parse(r#"c"é""#)?.c_string().as_c_str(), c"é");
     /// # Ok::<(), navyspindle::ParseError>(())
     /// ```
+    #[inline]
     #[must_use]
     pub fn c_string(&self) -> CString {
         CString::new(self.value()).expect("a C string holds no 0")

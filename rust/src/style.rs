@@ -24,6 +24,7 @@ pub enum Case {
 }
 
 impl Case {
+    #[inline]
     fn proved(self) -> rl_style::Case {
         match self {
             Case::Lower => rl_style::Case::Lower,
@@ -50,6 +51,7 @@ pub enum Separator {
 }
 
 impl Separator {
+    #[inline]
     fn proved(self) -> rl_style::Separator {
         match self {
             Separator::Nothing => rl_style::Separator::Nothing,
@@ -92,6 +94,7 @@ impl DigitGroups {
     /// assert_eq!(rewrite("10_00", style)?, "10_00");
     /// # Ok::<(), navyspindle::ParseError>(())
     /// ```
+    #[inline]
     #[must_use]
     pub const fn new() -> Self {
         DigitGroups {
@@ -112,6 +115,7 @@ impl DigitGroups {
     /// assert_eq!(rewrite("0b1_00000000", style)?, "0b1_00000000");
     /// # Ok::<(), navyspindle::ParseError>(())
     /// ```
+    #[inline]
     #[must_use]
     pub const fn binary(self, size: usize) -> Self {
         DigitGroups {
@@ -129,6 +133,7 @@ impl DigitGroups {
     /// assert_eq!(rewrite("0o777777", style)?, "0o777_777");
     /// # Ok::<(), navyspindle::ParseError>(())
     /// ```
+    #[inline]
     #[must_use]
     pub const fn octal(self, size: usize) -> Self {
         DigitGroups {
@@ -146,6 +151,7 @@ impl DigitGroups {
     /// assert_eq!(rewrite("12345.67891e1000", style)?, "12_345.678_91e1000");
     /// # Ok::<(), navyspindle::ParseError>(())
     /// ```
+    #[inline]
     #[must_use]
     pub const fn decimal(self, size: usize) -> Self {
         DigitGroups {
@@ -163,6 +169,7 @@ impl DigitGroups {
     /// assert_eq!(rewrite("0xC0FFEE", style)?, "0xC0_FF_EE");
     /// # Ok::<(), navyspindle::ParseError>(())
     /// ```
+    #[inline]
     #[must_use]
     pub const fn hexadecimal(self, size: usize) -> Self {
         DigitGroups {
@@ -182,6 +189,7 @@ impl DigitGroups {
     /// assert_eq!(rewrite("10000.0001", style)?, "10_000.0001");
     /// # Ok::<(), navyspindle::ParseError>(())
     /// ```
+    #[inline]
     #[must_use]
     pub const fn min_digits(self, digits: usize) -> Self {
         DigitGroups {
@@ -190,6 +198,7 @@ impl DigitGroups {
         }
     }
 
+    #[inline]
     fn proved(self) -> rl_style::DigitGroups {
         rl_style::DigitGroups {
             binary: self.binary,
@@ -203,6 +212,7 @@ impl DigitGroups {
 
 /// Returns the groups of [`DigitGroups::new`].
 impl Default for DigitGroups {
+    #[inline]
     fn default() -> Self {
         DigitGroups::new()
     }
@@ -249,6 +259,7 @@ impl Style {
     /// assert_eq!(rewrite(r"'\x4a'", Style::new())?, r"'\x4a'");
     /// # Ok::<(), navyspindle::ParseError>(())
     /// ```
+    #[inline]
     #[must_use]
     pub const fn new() -> Self {
         Style {
@@ -280,6 +291,7 @@ impl Style {
     /// assert_eq!(rewrite("0xdead_beefu32", style)?, "0xDEAD_BEEFu32");
     /// # Ok::<(), navyspindle::ParseError>(())
     /// ```
+    #[inline]
     #[must_use]
     pub const fn hex_digits(self, case: Case) -> Self {
         Style {
@@ -302,6 +314,7 @@ impl Style {
     /// assert_eq!(rewrite("0_b1", style)?, "0_b1");
     /// # Ok::<(), navyspindle::ParseError>(())
     /// ```
+    #[inline]
     #[must_use]
     pub const fn drop_underscores(self, dropped: bool) -> Self {
         Style {
@@ -322,6 +335,7 @@ impl Style {
     /// assert_eq!(rewrite("0x07", style)?, "0x07");
     /// # Ok::<(), navyspindle::ParseError>(())
     /// ```
+    #[inline]
     #[must_use]
     pub const fn drop_leading_zeros(self, dropped: bool) -> Self {
         Style {
@@ -347,6 +361,7 @@ impl Style {
     /// assert_eq!(rewrite("1_", style)?, "1");
     /// # Ok::<(), navyspindle::ParseError>(())
     /// ```
+    #[inline]
     #[must_use]
     pub const fn suffix_separator(self, separator: Separator) -> Self {
         Style {
@@ -372,6 +387,7 @@ impl Style {
     /// assert_eq!(rewrite("0001000", style.drop_leading_zeros(true))?, "1_000");
     /// # Ok::<(), navyspindle::ParseError>(())
     /// ```
+    #[inline]
     #[must_use]
     pub const fn digit_groups(self, groups: DigitGroups) -> Self {
         Style {
@@ -391,6 +407,7 @@ impl Style {
     /// assert_eq!(rewrite("1e5", style)?, "1e5");
     /// # Ok::<(), navyspindle::ParseError>(())
     /// ```
+    #[inline]
     #[must_use]
     pub const fn float_zero(self, closed: bool) -> Self {
         Style {
@@ -407,6 +424,7 @@ impl Style {
     /// assert_eq!(rewrite("1E5", Style::new().exponent_letter(Case::Lower))?, "1e5");
     /// # Ok::<(), navyspindle::ParseError>(())
     /// ```
+    #[inline]
     #[must_use]
     pub const fn exponent_letter(self, case: Case) -> Self {
         Style {
@@ -423,6 +441,7 @@ impl Style {
     /// assert_eq!(rewrite("1e+5", Style::new().drop_exponent_plus(true))?, "1e5");
     /// # Ok::<(), navyspindle::ParseError>(())
     /// ```
+    #[inline]
     #[must_use]
     pub const fn drop_exponent_plus(self, dropped: bool) -> Self {
         Style {
@@ -440,6 +459,7 @@ impl Style {
     /// assert_eq!(rewrite(r#""\x1B\u{1F600}""#, style)?, r#""\x1b\u{1f600}""#);
     /// # Ok::<(), navyspindle::ParseError>(())
     /// ```
+    #[inline]
     #[must_use]
     pub const fn escape_digits(self, case: Case) -> Self {
         Style {
@@ -457,6 +477,7 @@ impl Style {
     /// assert_eq!(rewrite(r#""\u{00e9}\u{1_F600_}\u{00}""#, style)?, r#""\u{e9}\u{1F600}\u{0}""#);
     /// # Ok::<(), navyspindle::ParseError>(())
     /// ```
+    #[inline]
     #[must_use]
     pub const fn fewest_escape_digits(self, fewest: bool) -> Self {
         Style {
@@ -478,6 +499,7 @@ impl Style {
     /// assert_eq!(rewrite(r#""\x22\x27\x5c""#, style)?, r#""\"'\\""#);
     /// # Ok::<(), navyspindle::ParseError>(())
     /// ```
+    #[inline]
     #[must_use]
     pub const fn drop_ascii_escapes(self, dropped: bool) -> Self {
         Style {
@@ -498,6 +520,7 @@ impl Style {
     /// assert_eq!(rewrite(r#""\x001""#, style)?, r#""\x001""#);
     /// # Ok::<(), navyspindle::ParseError>(())
     /// ```
+    #[inline]
     #[must_use]
     pub const fn named_escapes(self, named: bool) -> Self {
         Style {
@@ -516,6 +539,7 @@ impl Style {
     /// assert_eq!(rewrite(r#"'\"'"#, style)?, r#"'"'"#);
     /// # Ok::<(), navyspindle::ParseError>(())
     /// ```
+    #[inline]
     #[must_use]
     pub const fn drop_quote_escapes(self, dropped: bool) -> Self {
         Style {
@@ -533,6 +557,7 @@ impl Style {
     /// assert_eq!(rewrite(r###"r##"a"##"###, style)?, r#"r"a""#);
     /// # Ok::<(), navyspindle::ParseError>(())
     /// ```
+    #[inline]
     #[must_use]
     pub const fn fewest_hashes(self, fewest: bool) -> Self {
         Style {
@@ -553,6 +578,7 @@ impl Style {
     /// assert_eq!(rewrite(r#"br"\d""#, style)?, r#"br"\d""#);
     /// # Ok::<(), navyspindle::ParseError>(())
     /// ```
+    #[inline]
     #[must_use]
     pub const fn drop_raw(self, dropped: bool) -> Self {
         Style {
@@ -577,6 +603,7 @@ impl Style {
     /// assert_eq!(rewrite("r\"\\d\u{feff}\"", style)?, r#""\\d\u{feff}""#);
     /// # Ok::<(), navyspindle::ParseError>(())
     /// ```
+    #[inline]
     #[must_use]
     pub const fn escape_invisible(self, escaped: bool) -> Self {
         Style {
@@ -585,6 +612,7 @@ impl Style {
         }
     }
 
+    #[inline]
     pub(crate) fn proved(self) -> rl_style::Style {
         rl_style::Style {
             hex_digits: self.hex_digits.map(Case::proved),
@@ -609,6 +637,7 @@ impl Style {
 
 /// Returns the style of [`Style::new`].
 impl Default for Style {
+    #[inline]
     fn default() -> Self {
         Style::new()
     }
@@ -638,6 +667,7 @@ impl Default for Style {
 /// assert_eq!(rewrite("0b102", style).unwrap_err().kind(), FlawKind::InvalidDigit);
 /// # Ok::<(), navyspindle::ParseError>(())
 /// ```
+#[inline]
 pub fn rewrite(text: &str, style: Style) -> Result<Cow<'_, str>, ParseError> {
     rewrite_in_context("", text, style)
 }
@@ -660,6 +690,7 @@ pub fn rewrite(text: &str, style: Style) -> Result<Cow<'_, str>, ParseError> {
 /// assert_eq!(rewrite_in_context("1.", r#"r"a""#, style)?, r#"r"a""#);
 /// # Ok::<(), navyspindle::ParseError>(())
 /// ```
+#[inline]
 pub fn rewrite_in_context<'t>(
     before: &str,
     text: &'t str,

@@ -79,15 +79,18 @@ fn word_of<V: Copy>(
 }
 
 /// Whether the setting is `true`. A setting that isn't set counts as `false`.
+#[inline]
 fn is_true(settings: &Settings<'_>, key: Key) -> Result<bool, SettingError> {
     Ok(settings.bool(key)?.unwrap_or(false))
 }
 
 /// Returns the setting's number, or 0 if it isn't set.
+#[inline]
 fn size_of(settings: &Settings<'_>, key: Key) -> Result<usize, SettingError> {
     Ok(settings.number(key)?.unwrap_or(0))
 }
 
+#[inline]
 fn groups_of(settings: &Settings<'_>) -> Result<DigitGroups, SettingError> {
     Ok(DigitGroups::new()
         .binary(size_of(settings, BINARY_GROUPS)?)
@@ -98,6 +101,7 @@ fn groups_of(settings: &Settings<'_>) -> Result<DigitGroups, SettingError> {
 }
 
 /// Returns the style with the rules whose settings are `true`.
+#[inline]
 fn truths_of(settings: &Settings<'_>) -> Result<Style, SettingError> {
     Ok(Style::new()
         .drop_underscores(is_true(settings, DROP_UNDERSCORES)?)
@@ -138,6 +142,7 @@ impl Style {
     /// assert_eq!(error.to_string(), r#"hex_digits: expected "lower" or "upper" at byte 13"#);
     /// # Ok::<(), navyspindle::SettingError>(())
     /// ```
+    #[inline]
     pub fn from_settings(settings: &Settings<'_>) -> Result<Self, SettingError> {
         settings.check(&KEYS)?;
         let mut style = truths_of(settings)?;

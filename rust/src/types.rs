@@ -44,6 +44,7 @@ impl Lit<'_> {
     /// assert_eq!(error("256"), None);
     /// assert_eq!(error("1e400"), Some(TypeError::OutOfRange));
     /// ```
+    #[inline]
     #[must_use]
     pub fn type_error(&self) -> Option<TypeError> {
         match self.text().strip_prefix('-') {
@@ -62,6 +63,7 @@ impl Lit<'_> {
     /// assert_eq!(literal.type_error_negated(), None);
     /// # Ok::<(), navyspindle::ListError>(())
     /// ```
+    #[inline]
     #[must_use]
     pub fn type_error_negated(&self) -> Option<TypeError> {
         let text = self.text();
@@ -71,6 +73,7 @@ impl Lit<'_> {
 
 /// Returns the reason why the literal `body`, which has no minus in its text, has no type. `is_negated` says that a minus is before
 /// it.
+#[inline]
 fn type_error_of(body: &str, is_negated: bool) -> Option<TypeError> {
     rl_types::type_error(body, &find(body)?, is_negated)
 }

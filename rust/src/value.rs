@@ -19,6 +19,7 @@ mod sealed {
         const TYPE: NumberType;
 
         /// Whether the value is a number. Infinities and NaN aren't.
+        #[inline]
         fn is_number(&self) -> bool {
             true
         }
@@ -85,6 +86,7 @@ macro_rules! floats {
         impl sealed::Typed for $name {
             const TYPE: NumberType = NumberType::$variant;
 
+            #[inline]
             fn is_number(&self) -> bool {
                 self.is_finite()
             }
@@ -111,12 +113,14 @@ macro_rules! integers {
             const SUFFIX: IntegerType = IntegerType::$variant;
 
             #[cfg(feature = "writers")]
+            #[inline]
             fn is_negative(&self) -> bool {
                 let is_negative: fn($name) -> bool = $is_negative;
                 is_negative(*self)
             }
 
             #[cfg(feature = "writers")]
+            #[inline]
             fn magnitude(&self) -> u128 {
                 $magnitude!(*self) as u128
             }
@@ -203,6 +207,7 @@ impl ValueError {
     /// let error = LitFloat::parse("1e400").unwrap().value::<f64>().unwrap_err();
     /// assert_eq!(error.kind(), ValueErrorKind::OutOfRange);
     /// ```
+    #[inline]
     #[must_use]
     pub fn kind(&self) -> ValueErrorKind {
         self.kind
@@ -216,6 +221,7 @@ impl ValueError {
     /// let error = LitInt::parse("-1").unwrap().value::<u8>().unwrap_err();
     /// assert_eq!(error.expected(), NumberType::U8);
     /// ```
+    #[inline]
     #[must_use]
     pub fn expected(&self) -> NumberType {
         self.wanted
@@ -227,6 +233,7 @@ impl ValueError {
     /// assert_eq!(navyspindle::LitInt::parse("10k").unwrap().value::<u8>().unwrap_err().range(), 2..3);
     /// ```
     #[doc(alias = "span")]
+    #[inline]
     #[must_use]
     pub fn range(&self) -> Range<usize> {
         self.range.clone()
@@ -237,6 +244,7 @@ impl ValueError {
     /// ```
     /// assert_eq!(navyspindle::LitInt::parse("10k").unwrap().value::<u8>().unwrap_err().offset(), 2);
     /// ```
+    #[inline]
     #[must_use]
     pub fn offset(&self) -> usize {
         self.range.start
@@ -249,6 +257,7 @@ impl ValueError {
     /// let error = navyspindle::LitInt::parse("10k").unwrap().value::<u8>().unwrap_err();
     /// assert_eq!(error.shifted(100).range(), 102..103);
     /// ```
+    #[inline]
     #[must_use]
     pub fn shifted(self, by: usize) -> Self {
         ValueError {
@@ -263,12 +272,14 @@ impl ValueError {
     /// let error = navyspindle::LitInt::parse("10k").unwrap().value::<u8>().unwrap_err();
     /// assert_eq!(error.message().to_string(), "suffix that isn't u8");
     /// ```
+    #[inline]
     #[must_use]
     pub fn message(&self) -> impl fmt::Display + '_ {
         Reason(self)
     }
 
     /// Writes the error's message without the byte offset.
+    #[inline]
     pub(crate) fn write_reason(&self, f: &mut fmt::Formatter<'_>) -> fmt::Result {
         let wanted = self.wanted;
         match self.kind {
@@ -350,7 +361,12 @@ impl LitInt<'_> {
     pub fn value<N: Number>(&self) -> Result<N, ValueError> {
         let (suffix, is_float) = (self.suffix(), N::TYPE.is_float());
         let suffix_at = self.suffix_range().start;
-        let is_decimal = self.base() == Base::Decimal;
+        // For an integer type the base isn't needed, and the code that finds it isn't compiled.
+        let is_decimal = if const { N::TYPE.is_float() } {
+            self.base() == Base::Decimal
+        } else {
+            true
+        };
         let found = if suffix.is_empty() && is_float {
             Err((ValueErrorKind::Form, 0..suffix_at))
         } else if !suffix.is_empty() && (suffix != N::TYPE.as_str() || is_float && !is_decimal) {
@@ -365,6 +381,7 @@ impl LitInt<'_> {
 #[cfg(feature = "settings")]
 impl LitInt<'_> {
     /// Returns the value, as [`LitInt::value`] does. If `N` is a float type, an integer without a suffix is accepted too.
+    #[inline]
     pub(crate) fn value_or_float<N: Number>(&self) -> Result<N, ValueError> {
         if N::TYPE.is_float() && self.suffix().is_empty() {
             return number_of(&self.base10_digits(), self.suffix_range().start)

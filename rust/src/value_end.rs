@@ -41,6 +41,7 @@ pub(crate) struct ValueEnd {
 }
 
 impl Default for ValueEnd {
+    #[inline]
     fn default() -> Self {
         ValueEnd {
             depth: 0,
@@ -53,6 +54,7 @@ impl Default for ValueEnd {
 impl ValueEnd {
     /// Whether the next token tree, whose class is `next`, is the comma that ends the value. Any other tree becomes part of the
     /// value.
+    #[inline]
     pub(crate) fn is_at(&mut self, next: Shape) -> bool {
         let is_inside = self.depth > 0 || self.closure == Closure::Parameters;
         if !is_inside && next == Shape::Mark(',') {
@@ -69,6 +71,7 @@ impl ValueEnd {
     }
 
     /// Whether a `<` as the next tree opens angle brackets.
+    #[inline]
     fn is_opening(&self) -> bool {
         let after_path = [Some(Shape::Mark(':')); 2];
         let is_type = self.depth > 0 || self.closure == Closure::Type;
@@ -76,10 +79,12 @@ impl ValueEnd {
     }
 
     /// Whether a `>` as the next tree closes angle brackets, and doesn't end `->`.
+    #[inline]
     fn is_closing(&self) -> bool {
         self.depth > 0 && self.before[1] != Some(Shape::Mark('-'))
     }
 
+    #[inline]
     fn closure_after(&self, next: Shape) -> Closure {
         match (self.closure, next) {
             (Closure::Possible, Shape::Mark('|')) => Closure::Parameters,

@@ -87,6 +87,7 @@ impl<'t> LitVerbatim<'t> {
     }
 
     /// Returns an empty suffix, since a verbatim text has none.
+    #[inline]
     pub(crate) fn into_suffix(self) -> Cow<'static, str> {
         Cow::Borrowed("")
     }
@@ -105,6 +106,7 @@ impl<'t> LitVerbatim<'t> {
     /// assert_eq!(error.range(), 2..3);
     /// # Ok::<(), navyspindle::ListError>(())
     /// ```
+    #[inline]
     #[must_use]
     pub fn explain(&self) -> Option<ParseError> {
         ParseError::of(&self.text)
@@ -121,6 +123,7 @@ impl LitVerbatim<'_> {
     /// let Lit::Verbatim(literal) = Lit::new(r"b'\q'") else { panic!() };
     /// assert_eq!(literal.guess_kind(), Some(Kind::Byte));
     /// ```
+    #[inline]
     #[must_use]
     pub fn guess_kind(&self) -> Option<Kind> {
         guess_kind(&self.text)
@@ -138,6 +141,7 @@ impl LitVerbatim<'_> {
     /// let kinds: Vec<_> = literal.flaws().map(|bad| bad.kind()).collect();
     /// assert_eq!(kinds, [FlawKind::UnknownEscape, FlawKind::Surrogate]);
     /// ```
+    #[inline]
     pub fn flaws(&self) -> Flaws<'_> {
         Flaws::of_unread(&self.text)
     }
@@ -152,6 +156,7 @@ impl LitVerbatim<'_> {
     /// let bad = literal.pieces().unwrap().filter(|it| matches!(it, Piece::Bad(_)));
     /// assert_eq!(bad.count(), 2);
     /// ```
+    #[inline]
     #[must_use]
     pub fn pieces(&self) -> Option<Pieces<'_>> {
         pieces(&self.text)

@@ -48,6 +48,7 @@ fn written(len: usize, write: impl FnOnce(&mut [u8]) -> usize) -> String {
 /// ```
 #[doc(alias = "escape_default")]
 #[doc(alias = "string")]
+#[inline]
 #[must_use]
 pub fn write_str(value: &str) -> String {
     written(value.len(), |out| write_str_into(value, out))
@@ -59,6 +60,7 @@ pub fn write_str(value: &str) -> String {
 /// assert_eq!(navyspindle::write_byte_str(b"a\n\xff"), r#"b"a\n\xFF""#);
 /// ```
 #[doc(alias = "byte_string")]
+#[inline]
 #[must_use]
 pub fn write_byte_str(value: &[u8]) -> String {
     written(value.len(), |out| {
@@ -72,6 +74,7 @@ pub fn write_byte_str(value: &[u8]) -> String {
 /// assert_eq!(navyspindle::write_c_str(c"a\n"), r#"c"a\n""#);
 /// ```
 #[doc(alias = "c_string")]
+#[inline]
 #[must_use]
 pub fn write_c_str(value: &CStr) -> String {
     let bytes = value.to_bytes();
@@ -84,6 +87,7 @@ pub fn write_c_str(value: &CStr) -> String {
 /// assert_eq!(navyspindle::write_byte(b'\''), r"b'\''");
 /// ```
 #[doc(alias = "byte_character")]
+#[inline]
 #[must_use]
 pub fn write_byte(value: u8) -> String {
     written(1, |out| write_bytes_into(Kind::Byte, &[value], out))
@@ -95,6 +99,7 @@ pub fn write_byte(value: u8) -> String {
 /// assert_eq!(navyspindle::write_char('\n'), r"'\n'");
 /// ```
 #[doc(alias = "character")]
+#[inline]
 #[must_use]
 pub fn write_char(value: char) -> String {
     written(1, |out| write_char_into(value, out))
@@ -105,6 +110,7 @@ pub fn write_char(value: char) -> String {
 /// ```
 /// assert_eq!(navyspindle::write_str_ascii("a\t\u{e9}\u{1F600}"), r#""a\t\u{e9}\u{1f600}""#);
 /// ```
+#[inline]
 #[must_use]
 pub fn write_str_ascii(value: &str) -> String {
     written(value.len(), |out| write_str_ascii_into(value, out))
@@ -115,12 +121,14 @@ pub fn write_str_ascii(value: &str) -> String {
 /// ```
 /// assert_eq!(navyspindle::write_char_ascii('é'), r"'\u{e9}'");
 /// ```
+#[inline]
 #[must_use]
 pub fn write_char_ascii(value: char) -> String {
     written_within(12, |out| write_char_ascii_into(value, out))
 }
 
 /// Returns the raw literal of kind `kind` with the text `text` between its quotes and `hashes` hashes.
+#[inline]
 fn raw(kind: Kind, text: &str, hashes: usize) -> String {
     let room = text.len().checked_add(2 * hashes + 4);
     written_within(room.expect("no text is that long"), |out| {
@@ -140,6 +148,7 @@ fn raw(kind: Kind, text: &str, hashes: usize) -> String {
 /// assert_eq!(write_raw_str("\"#").as_deref(), Some("r##\"\"#\"##"));
 /// assert_eq!(write_raw_str("\r\n"), None);
 /// ```
+#[inline]
 #[must_use]
 pub fn write_raw_str(value: &str) -> Option<String> {
     let hashes = raw_hashes(Kind::Str, value)?;
@@ -156,6 +165,7 @@ pub fn write_raw_str(value: &str) -> Option<String> {
 /// assert_eq!(write_raw_byte_str(b"a\\b").as_deref(), Some(r#"br"a\b""#));
 /// assert_eq!(write_raw_byte_str(b"\xff"), None);
 /// ```
+#[inline]
 #[must_use]
 pub fn write_raw_byte_str(value: &[u8]) -> Option<String> {
     let (text, hashes) = raw_form(Kind::ByteStr, value)?;
@@ -172,6 +182,7 @@ pub fn write_raw_byte_str(value: &[u8]) -> Option<String> {
 /// assert_eq!(write_raw_c_str(c"a\\b").as_deref(), Some(r#"cr"a\b""#));
 /// assert_eq!(write_raw_c_str(c"\xff"), None);
 /// ```
+#[inline]
 #[must_use]
 pub fn write_raw_c_str(value: &CStr) -> Option<String> {
     let (text, hashes) = raw_form(Kind::CStr, value.to_bytes())?;
@@ -205,6 +216,7 @@ impl IntegerStyle {
     ///
     /// assert_eq!(write_integer(-1_000, IntegerStyle::new()), "-1000");
     /// ```
+    #[inline]
     #[must_use]
     pub const fn new() -> Self {
         IntegerStyle {
@@ -223,6 +235,7 @@ impl IntegerStyle {
     ///
     /// assert_eq!(write_integer(10, IntegerStyle::new().base(Base::Binary)), "0b1010");
     /// ```
+    #[inline]
     #[must_use]
     pub const fn base(self, base: Base) -> Self {
         IntegerStyle { base, ..self }
@@ -237,6 +250,7 @@ impl IntegerStyle {
     /// assert_eq!(write_integer(255, style), "0xff");
     /// assert_eq!(write_integer(255, style.uppercase(true)), "0xFF");
     /// ```
+    #[inline]
     #[must_use]
     pub const fn uppercase(self, upper: bool) -> Self {
         IntegerStyle { upper, ..self }
@@ -249,6 +263,7 @@ impl IntegerStyle {
     ///
     /// assert_eq!(write_integer(1234567, IntegerStyle::new().group(3)), "1_234_567");
     /// ```
+    #[inline]
     #[must_use]
     pub const fn group(self, digits: usize) -> Self {
         IntegerStyle {
@@ -266,6 +281,7 @@ impl IntegerStyle {
     /// assert_eq!(write_integer(1000, style), "1000");
     /// assert_eq!(write_integer(10000, style), "10_000");
     /// ```
+    #[inline]
     #[must_use]
     pub const fn min_digits(self, digits: usize) -> Self {
         IntegerStyle {
@@ -281,11 +297,13 @@ impl IntegerStyle {
     ///
     /// assert_eq!(write_integer(10u8, IntegerStyle::new().suffixed(true)), "10u8");
     /// ```
+    #[inline]
     #[must_use]
     pub const fn suffixed(self, suffixed: bool) -> Self {
         IntegerStyle { suffixed, ..self }
     }
 
+    #[inline]
     fn proved(self) -> rl_writing::IntegerStyle {
         let base = match self.base {
             Base::Binary => rl_writing::Base::Binary,
@@ -304,6 +322,7 @@ impl IntegerStyle {
 
 /// Returns the style of [`IntegerStyle::new`].
 impl Default for IntegerStyle {
+    #[inline]
     fn default() -> Self {
         IntegerStyle::new()
     }

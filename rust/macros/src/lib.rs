@@ -6,8 +6,8 @@ mod places;
 mod written;
 
 use navyspindle::{
-    next_literal, next_literal_of, parse_macro_settings, write_str, Key, Lit, LitInt, LitStr,
-    MacroError, MacroInput,
+    next_literal, next_literal_of, next_value, parse_macro_settings, write_str, Key, Lit, LitInt,
+    LitStr, MacroError, MacroInput,
 };
 use proc_macro::{Punct, Spacing, Span, TokenStream, TokenTree};
 use std::iter::Peekable;
@@ -118,6 +118,44 @@ pub fn printed(input: TokenStream) -> TokenStream {
     tokens_of(&write_str(&tokens))
 }
 
+/// Returns an array with a pair of texts for each entry `LITERAL: VALUE` of the input, the value without spaces, or the error in the
+/// form of `strings_errors`.
+#[proc_macro]
+pub fn entries_of(input: TokenStream) -> TokenStream {
+    let pairs = |input: TokenStream| -> Result<String, MacroError> {
+        let (mut tokens, mut pairs) = (input.into_iter().peekable(), String::new());
+        while tokens.peek().is_some() {
+            let (key, _) = next_literal(&mut tokens)?;
+            tokens.next();
+            let value = next_value(&mut tokens)?.to_string().replace(' ', "");
+            pairs += &format!("({}, {}),", write_str(key.text()), write_str(&value));
+            take_comma(&mut tokens)?;
+        }
+        Ok(pairs)
+    };
+    match pairs(input) {
+        Ok(pairs) => tokens_of(&format!("[{pairs}]")),
+        Err(error) => shown_errors(error.to_compile_error()),
+    }
+}
+
+/// Returns the literal that is the whole input, or the error in the form of `strings_errors`.
+#[proc_macro]
+pub fn whole(input: TokenStream) -> TokenStream {
+    let tokens =
+        Lit::try_from(input).and_then(|literal| literal.to_token_stream(Span::call_site()));
+    tokens.unwrap_or_else(|error| shown_errors(error.to_compile_error()))
+}
+
+/// Returns a string literal with the value of the string that is the whole input, or the error in the form of `strings_errors`.
+#[proc_macro]
+pub fn whole_string(input: TokenStream) -> TokenStream {
+    match LitStr::try_from(input) {
+        Ok(literal) => tokens_of(&write_str(&literal.value())),
+        Err(error) => shown_errors(error.to_compile_error()),
+    }
+}
+
 /// Returns a string literal with the text that `MacroInput` makes of the input's tokens.
 #[proc_macro]
 pub fn text(input: TokenStream) -> TokenStream {
@@ -165,7 +203,12 @@ pub fn strings(input: TokenStream) -> TokenStream {
 /// the first and at the last token of the error.
 #[proc_macro]
 pub fn strings_errors(input: TokenStream) -> TokenStream {
-    let trees: Vec<TokenTree> = strings(input).into_iter().collect();
+    shown_errors(strings(input))
+}
+
+/// Returns the array of triples of `strings_errors` for these calls of `compile_error!`.
+fn shown_errors(errors: TokenStream) -> TokenStream {
+    let trees: Vec<TokenTree> = errors.into_iter().collect();
     let source = |tree: &TokenTree| write_str(&tree.span().source_text().expect("a source"));
     // A call `::core::compile_error!{..}` consists of eight token trees.
     let shown = trees.chunks(8).map(|call| match call {

@@ -4,7 +4,7 @@
 //! `navyspindle`. `rattle_std` replaces the parts of Rattle's std that the programs use, by Rust's std. There is no `unsafe`.
 #![forbid(unsafe_code)]
 
-#[cfg_attr(not(feature = "rendered"), allow(dead_code))]
+#[cfg_attr(not(feature = "__rendered"), allow(dead_code))]
 #[allow(unused_imports, unused_variables)]
 #[allow(clippy::style, clippy::complexity, clippy::pedantic)]
 #[rustfmt::skip]
@@ -15,14 +15,14 @@ use navyspindle::rendered::{
     rl_flaws, rl_lenient, rl_lexer, rl_settings, rl_strict, rl_style, rl_syntax, rl_types,
     rl_writing,
 };
-#[cfg(not(feature = "rendered"))]
+#[cfg(not(feature = "__rendered"))]
 use proved::{
     rl_attributes, rl_commands, rl_files, rl_fronts, rl_options, rl_output, rl_program, rl_quoted,
     rl_restyle, rl_sources, rl_tokens, rust_literals,
 };
 
 /// The libraries of the programs, for the tests.
-#[cfg(feature = "rendered")]
+#[cfg(feature = "__rendered")]
 pub use proved::{
     rl_attributes, rl_commands, rl_files, rl_fronts, rl_grammar, rl_options, rl_output, rl_program,
     rl_quoted, rl_restyle, rl_sources, rl_tokens, rust_literals,

@@ -4,6 +4,7 @@
 #[cfg(feature = "flaws")]
 pub mod rl_flaws;
 pub mod rl_lenient;
+#[cfg(any(feature = "sources", feature = "settings"))]
 pub mod rl_lexer;
 #[cfg(feature = "sources")]
 pub mod rl_recovery;

@@ -2,7 +2,21 @@
 
 mod runs;
 
-use runs::RUNS;
+use runs::STEPS;
+
+/// The table of classes of non-ASCII characters. The characters are divided into sequences of one class. Each number is the first
+/// character of a sequence, times four, plus its class.
+static RUNS: [u32; STEPS.len()] = sums(STEPS);
+
+/// Returns the sum of the numbers up to each number.
+const fn sums<const N: usize>(mut numbers: [u32; N]) -> [u32; N] {
+    let mut at = 1;
+    while at < N {
+        numbers[at] += numbers[at - 1];
+        at += 1;
+    }
+    numbers
+}
 
 /// The class of a character that can continue an identifier, but can't begin one.
 const CONTINUE: u32 = 1;

@@ -1,8 +1,9 @@
 //! Tests of literals that rustc passes to procedural macros.
 
 use navyspindle_macros::{
-    again, byte_errors, errors_of_tokens, hex_bytes, joined_slashes, literals, made_errors, named,
-    placed, printed, settings, slow_calls, strings, strings_errors, sum, sum_error, text, written,
+    again, byte_errors, entries_of, errors_of_tokens, hex_bytes, joined_slashes, literals,
+    made_errors, named, placed, printed, settings, slow_calls, strings, strings_errors, sum,
+    sum_error, text, whole, whole_string, written,
 };
 use std::ffi::CStr;
 use std::fmt::Debug;
@@ -56,7 +57,7 @@ fn large_floats() {
             "-340282366920938463463374607431768211456_f32"
         ]
     );
-    assert_eq!(found[0].0, "text without a reading");
+    assert_eq!(found[0].0, "text without a value");
     assert_eq!(
         again!(-340282366920938463463374607431768211456f64),
         -340282366920938463463374607431768211456f64
@@ -220,6 +221,46 @@ fn texts_that_are_no_tokens() {
             ("expected a digit after `-`", "here", 1),
         ]
     );
+}
+
+#[test]
+fn the_literal_that_is_the_whole_input() {
+    macro_rules! passed {
+        ($e:literal) => {
+            whole_string!($e)
+        };
+    }
+    assert_eq!((whole!(0x1F), whole!(-1.5), whole!(true)), (31, -1.5, true));
+    assert_eq!((whole_string!("a\x41"), passed!("b")), ("aA", "b"));
+    assert_eq!(whole!(1, 2), [("unexpected token", ",", ",")]);
+    let (second, first) = ("\"b\"", "expected string literal, found integer literal");
+    assert_eq!(
+        whole_string!("a" "b"),
+        [("unexpected token", second, second)]
+    );
+    assert_eq!(whole_string!(-1), [(first, "-", "1")]);
+    let [(message, ..)] = whole_string!();
+    assert_eq!(message, "unexpected end of input, expected literal");
+}
+
+#[test]
+fn values_end_at_a_comma() {
+    let found = entries_of!(
+        "a": f(1, 2) + [3, 4][0],
+        -1: Vec::<(u8, u8)>::new(),
+        'c': |a, b| a < b,
+        true: 1
+    );
+    let expected = [
+        ("\"a\"", "f(1,2)+[3,4][0]"),
+        ("-1", "Vec::<(u8,u8)>::new()"),
+        ("'c'", "|a,b|a<b"),
+        ("true", "1"),
+    ];
+    assert_eq!(found, expected);
+    assert_eq!(entries_of!(1: , 2: 3), [("expected a value", ",", ",")]);
+    let [(message, ..)] = entries_of!(1:);
+    assert_eq!(message, "unexpected end of input, expected a value");
 }
 
 #[test]

@@ -6,12 +6,14 @@ use crate::rl_strict::walk_units::split;
 use crate::rl_syntax::text::{begins_with, strip_byte};
 
 /// Whether the search for a closing quote ends at `c`: at a slash, or at an LF that a quote doesn't follow directly.
+#[inline]
 fn ends_search(c: char, following: &str) -> bool {
     c == '/' || (c == '\n' && !begins_with(following, '\''))
 }
 
 /// Returns the text after the character `c`, or `None` if the search for a closing quote ends there. A backslash skips the
 /// character after it too.
+#[inline]
 fn after_part(ends: LineEnds, c: char, following: &str) -> Option<&str> {
     if c == '\\' {
         let (_, more) = split(ends, following)?;
@@ -26,6 +28,7 @@ fn after_part(ends: LineEnds, c: char, following: &str) -> Option<&str> {
 
 /// Returns the text that begins at the next `'`, or `None` if a slash, an LF that a quote doesn't follow, or the text's end
 /// comes first.
+#[inline]
 fn next_quote(ends: LineEnds, text: &str) -> Option<&str> {
     let mut rest = text;
     while let Some((c, following)) = split(ends, rest) {
@@ -39,6 +42,7 @@ fn next_quote(ends: LineEnds, text: &str) -> Option<&str> {
 
 /// Returns the text that begins at the closing quote of a character or byte literal, or `None` if it isn't closed. `text` is
 /// the text after the opening quote. If it begins with two quotes, the second one is the closing quote.
+#[inline]
 pub fn closing_quote(ends: LineEnds, text: &str) -> Option<&str> {
     let Some(second) = strip_byte(text, b'\'') else {
         return next_quote(ends, text);

@@ -25,6 +25,7 @@ pub enum Left<'t> {
 }
 
 /// Returns the part of `text` to check first: the text after an opening delimiter, or all of the text.
+#[inline]
 fn whole(text: &str) -> Left<'_> {
     match open(text) {
         Some((opened, inside)) => Left::Inside(opened, inside),
@@ -33,12 +34,14 @@ fn whole(text: &str) -> Left<'_> {
 }
 
 /// Whether the kind is a character or a byte.
+#[inline]
 fn is_single(kind: Kind) -> bool {
     matches!(kind, Kind::Byte | Kind::Char)
 }
 
 /// Returns the part to check after a flaw in a character or byte literal: the text that begins at its closing quote, or nothing
 /// if no quote closes it. `inside` is the text after the opening quote.
+#[inline]
 fn left_in_single<'t>(ends: LineEnds, kind: Kind, inside: &'t str) -> Left<'t> {
     match closing_quote(ends, inside) {
         Some(closing) => Left::Closed(kind, closing),
@@ -48,6 +51,7 @@ fn left_in_single<'t>(ends: LineEnds, kind: Kind, inside: &'t str) -> Left<'t> {
 
 /// Returns the part of the text to check after a flaw of the kind `flaw`. `inside` is the text that the flaw was found in, and
 /// `piece` the text that begins at the flaw's piece.
+#[inline]
 fn left_after<'t>(
     ends: LineEnds,
     opened: Opened<'t>,
@@ -76,6 +80,7 @@ pub struct NextFlaw<'t> {
 }
 
 /// Returns the flaw of a text that doesn't begin as a quoted literal.
+#[inline]
 fn flaw_of_whole(ends: LineEnds, text: &str) -> NextFlaw<'_> {
     match read(text, ends, false) {
         Ok(_) => NextFlaw {
@@ -94,6 +99,7 @@ fn flaw_of_whole(ends: LineEnds, text: &str) -> NextFlaw<'_> {
 }
 
 /// Returns the next flaw inside a quoted literal, or after its closing quote.
+#[inline]
 pub fn next_flaw_inside<'t>(
     ends: LineEnds,
     len: usize,
@@ -120,6 +126,7 @@ pub fn next_flaw_inside<'t>(
 }
 
 /// Returns the flaw after a character or byte literal. `closing` is the text that begins with its closing quote.
+#[inline]
 fn judge_closed<'t>(ends: LineEnds, len: usize, kind: Kind, closing: &'t str) -> NextFlaw<'t> {
     let suffix = without_first(closing);
     match suffix_flaw(QuotedForm::Single, closing, suffix) {
@@ -139,6 +146,7 @@ fn judge_closed<'t>(ends: LineEnds, len: usize, kind: Kind, closing: &'t str) ->
 }
 
 /// Returns the next flaw in the part `left` of a text of `len` bytes.
+#[inline]
 pub fn next_flaw<'t>(ends: LineEnds, len: usize, left: Left<'t>) -> NextFlaw<'t> {
     match left {
         Left::Whole(text) => flaw_of_whole(ends, text),
@@ -167,6 +175,7 @@ pub struct Flaws<'t> {
 
 impl<'t> Flaws<'t> {
     /// Creates a cursor over the flaws of `text`. `ends` says whether CR LF is read as LF, as in a file.
+    #[inline]
     pub fn of(text: &'t str, ends: LineEnds) -> Flaws<'t> {
         Flaws {
             ends,
@@ -176,6 +185,7 @@ impl<'t> Flaws<'t> {
     }
 
     /// Returns the next flaw and its piece, or `None` if the rest of the text has no flaw.
+    #[inline]
     pub fn next(&mut self) -> Option<InvalidPiece> {
         let judged = next_flaw(self.ends, self.len, self.left);
         self.left = judged.left;

@@ -16,12 +16,14 @@ pub struct InvalidPiece {
 }
 
 /// Returns the byte offset of `rest`, which is the end of a text of `len` bytes.
+#[inline]
 fn rest_offset(len: usize, rest: &str) -> usize {
     len - rest.len()
 }
 
 /// Returns the byte offset after a flaw's piece. `piece` is the text that begins at the piece, and `hi` is the byte offset
 /// after the flaw.
+#[inline]
 fn end_of(ends: LineEnds, len: usize, quote: char, kind: FlawKind, piece: &str, hi: usize) -> usize {
     if is_flaw_of_unit(kind) {
         rest_offset(len, after_bad_piece(ends, quote, piece))
@@ -32,6 +34,7 @@ fn end_of(ends: LineEnds, len: usize, quote: char, kind: FlawKind, piece: &str, 
 
 /// Converts a flaw that was found inside a literal to byte offsets. The flaw's texts are ends of the input text, which has
 /// `len` bytes.
+#[inline]
 pub fn placed(ends: LineEnds, len: usize, quote: char, found: FlawAt<'_>) -> InvalidPiece {
     let hi = rest_offset(len, after_first(ends, found.rest));
     InvalidPiece {

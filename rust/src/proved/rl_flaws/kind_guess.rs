@@ -9,11 +9,13 @@ use crate::rl_syntax::Kind;
 use crate::rl_syntax::text::split_char;
 
 /// Whether the text continues a number as only a float does: with a dot, `e` or `E`.
+#[inline]
 fn begins_float(text: &str) -> bool {
     matches!(split_char(text), Some(('.' | 'e' | 'E', _)))
 }
 
 /// Returns the kind of a number, which begins with a digit: integer or float.
+#[inline]
 fn number_kind(digits: &str) -> Kind {
     let (radix, run) = split_radix(digits);
     if radix != 10 {
@@ -27,6 +29,7 @@ fn number_kind(digits: &str) -> Kind {
 }
 
 /// Returns the kind of the number that the text begins with, optionally after a minus, or `None` without a digit.
+#[inline]
 fn guess_number_kind(text: &str) -> Option<Kind> {
     let digits = after_minus(text);
     if begins_digit(digits) {
@@ -37,6 +40,7 @@ fn guess_number_kind(text: &str) -> Option<Kind> {
 }
 
 /// Returns the kind of literal that the text begins as, or `None` if it begins otherwise.
+#[inline]
 fn front_kind(text: &str) -> Option<Kind> {
     if let Some((opened, _)) = open(text) {
         return Some(opened.kind);
@@ -58,6 +62,7 @@ fn front_kind(text: &str) -> Option<Kind> {
 /// For a valid literal token, the result is the token's kind. A number is a float if a dot, `e` or `E` follows its decimal
 /// digits, and an integer otherwise. A raw string begins with its prefix, at most 255 hashes, and a quote. Nothing is
 /// allocated.
+#[inline]
 pub fn guess_kind(text: &str) -> Option<Kind> {
     front_kind(text)
 }

@@ -5,6 +5,7 @@ use crate::rl_strict::walk_units::split;
 use crate::rl_strict::{FlawKind, LineEnds};
 
 /// Returns the text after its first character, or an empty text. In a file a CR LF is one character.
+#[inline]
 pub fn after_first(ends: LineEnds, text: &str) -> &str {
     match split(ends, text) {
         Some((_, rest)) => rest,
@@ -14,6 +15,7 @@ pub fn after_first(ends: LineEnds, text: &str) -> &str {
 
 /// Returns the text after its first character. If that character is a backslash or the quote `quote`, the result is all of the
 /// text.
+#[inline]
 fn after_one(ends: LineEnds, quote: char, text: &str) -> &str {
     match split(ends, text) {
         Some((c, rest)) if c != '\\' && c != quote => rest,
@@ -22,6 +24,7 @@ fn after_one(ends: LineEnds, quote: char, text: &str) -> &str {
 }
 
 /// Returns the text after an invalid `\x` escape. `text` begins after `\x`.
+#[inline]
 fn after_hex(ends: LineEnds, quote: char, text: &str) -> &str {
     match split(ends, text) {
         Some((c, rest)) if c.is_ascii_hexdigit() => after_one(ends, quote, rest),
@@ -30,12 +33,14 @@ fn after_hex(ends: LineEnds, quote: char, text: &str) -> &str {
 }
 
 /// Whether the character may occur between the braces of `\u{..}`: a hexadecimal digit or an underscore.
+#[inline]
 fn is_code_part(c: char) -> bool {
     c.is_ascii_hexdigit() || c == '_'
 }
 
 /// Returns the text after an invalid `\u{..}` escape. `text` begins after the escape's first digit. Its digits and underscores
 /// are skipped, and then one character that isn't a backslash or the quote.
+#[inline]
 fn after_code_digits(ends: LineEnds, quote: char, text: &str) -> &str {
     let mut rest = text;
     while let Some((c, following)) = split(ends, rest) {
@@ -48,6 +53,7 @@ fn after_code_digits(ends: LineEnds, quote: char, text: &str) -> &str {
 }
 
 /// Returns the text after an invalid `\u{..}` escape. `text` begins after `\u{`.
+#[inline]
 fn after_brace(ends: LineEnds, quote: char, text: &str) -> &str {
     match split(ends, text) {
         Some((c, rest)) if c.is_ascii_hexdigit() => after_code_digits(ends, quote, rest),
@@ -56,6 +62,7 @@ fn after_brace(ends: LineEnds, quote: char, text: &str) -> &str {
 }
 
 /// Returns the text after an invalid `\u` escape. `text` begins after `\u`.
+#[inline]
 fn after_unicode(ends: LineEnds, quote: char, text: &str) -> &str {
     match split(ends, text) {
         Some(('{', rest)) => after_brace(ends, quote, rest),
@@ -64,6 +71,7 @@ fn after_unicode(ends: LineEnds, quote: char, text: &str) -> &str {
 }
 
 /// Returns the text after an invalid escape. `text` begins after the escape's backslash.
+#[inline]
 fn after_escape(ends: LineEnds, quote: char, text: &str) -> &str {
     match split(ends, text) {
         Some(('x', rest)) => after_hex(ends, quote, rest),
@@ -74,6 +82,7 @@ fn after_escape(ends: LineEnds, quote: char, text: &str) -> &str {
 }
 
 /// Returns the text after the invalid escape or character at its beginning, where parsing a string continues.
+#[inline]
 pub fn after_bad_piece(ends: LineEnds, quote: char, text: &str) -> &str {
     match split(ends, text) {
         Some(('\\', rest)) => after_escape(ends, quote, rest),
@@ -83,6 +92,7 @@ pub fn after_bad_piece(ends: LineEnds, quote: char, text: &str) -> &str {
 }
 
 /// Returns `true` if a flaw of this kind is an invalid character or an invalid escape between the quotes of a literal.
+#[inline]
 pub fn is_flaw_of_unit(kind: FlawKind) -> bool {
     matches!(
         kind,
@@ -103,6 +113,7 @@ pub fn is_flaw_of_unit(kind: FlawKind) -> bool {
 }
 
 /// Returns `true` if a flaw of this kind is after the closing quote of a literal.
+#[inline]
 pub fn is_flaw_after_quote(kind: FlawKind) -> bool {
     matches!(
         kind,

@@ -19,6 +19,7 @@ pub enum Piece<'t> {
 }
 
 /// Whether the form is a raw string.
+#[inline]
 fn is_raw(form: QuotedForm) -> bool {
     matches!(form, QuotedForm::Raw)
 }
@@ -41,6 +42,7 @@ pub struct Pieces<'t> {
 
 impl<'t> Pieces<'t> {
     /// Creates a cursor over the pieces of `text`, or returns `None` if `text` doesn't begin as a quoted literal.
+    #[inline]
     pub fn of(text: &'t str) -> Option<Pieces<'t>> {
         match open(text) {
             Some((opened, inside)) => {
@@ -60,6 +62,7 @@ impl<'t> Pieces<'t> {
     }
 
     /// Returns the next piece, or `None` at the end.
+    #[inline]
     pub fn next(&mut self) -> Option<Piece<'t>> {
         if !self.good.is_empty() {
             let lo = self.end - self.good.len();

@@ -16,6 +16,7 @@ pub struct Opened<'t> {
 }
 
 /// Returns the opening delimiter of the quoted literal that `text` begins with, and the text after it.
+#[inline]
 pub fn open(text: &str) -> Option<(Opened<'_>, &str)> {
     match split_opener(text) {
         Some((form, kind, inside)) => match form {
@@ -33,6 +34,7 @@ pub fn open(text: &str) -> Option<(Opened<'_>, &str)> {
 }
 
 /// Parses the text after the opening quote of a character or byte literal.
+#[inline]
 fn walk_unit(ends: LineEnds, kind: Kind, text: &str) -> QuotedContent<'_> {
     let stretch = walk_single(ends, kind, text);
     let closing = stretch.closing;
@@ -53,6 +55,7 @@ fn walk_unit(ends: LineEnds, kind: Kind, text: &str) -> QuotedContent<'_> {
 
 /// Parses a quoted literal whose opening delimiter is `opened`. `text` begins after that delimiter, or at a later character or
 /// escape inside the literal.
+#[inline]
 pub fn walk<'t>(ends: LineEnds, opened: Opened<'t>, text: &'t str) -> QuotedContent<'t> {
     match opened.form {
         QuotedForm::Cooked => walk_cooked(ends, opened.kind, text),

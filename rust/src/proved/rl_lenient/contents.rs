@@ -2,10 +2,10 @@
 //! Functions that decode quoted literals into a slice of the caller's, and functions that test whether a literal's body
 //! is its value, byte for byte.
 
-#[cfg(feature = "rendered")]
+#[cfg(feature = "__rendered")]
 use crate::rl_lenient::found::{find, find_float, found_in};
 use crate::rl_lenient::units::{Piece, split_plain, unit};
-#[cfg(feature = "rendered")]
+#[cfg(feature = "__rendered")]
 use crate::rl_lenient::units::piece_unit;
 use crate::rl_syntax::Kind;
 use crate::rl_syntax::slice_writer::{put, put_byte, put_char};
@@ -36,6 +36,7 @@ fn put_run(out: &mut [u8], at: usize, run: &str) -> usize {
 ///
 /// Decoding ends at the end of `text`, or at a character that isn't allowed or an invalid escape. A sequence of plain
 /// characters is copied at once.
+#[inline]
 pub fn decode_into(kind: Kind, text: &str, out: &mut [u8]) -> usize {
     let mut at = 0;
     let mut rest = text;
@@ -55,7 +56,8 @@ pub fn decode_into(kind: Kind, text: &str, out: &mut [u8]) -> usize {
 ///
 /// The body must contain an escape or a line end CR LF, and not be that of a raw literal. Any other body is the value
 /// itself, and its [`Body::plain`](crate::rl_lenient::Body::plain) is `true`. Nothing is allocated.
-#[cfg(feature = "rendered")]
+#[cfg(feature = "__rendered")]
+#[inline]
 pub fn str_into(body: &str, out: &mut [u8]) -> usize {
     decode_into(Kind::Str, body, out)
 }
@@ -65,12 +67,14 @@ pub fn str_into(body: &str, out: &mut [u8]) -> usize {
 ///
 /// The body must contain an escape or a line end CR LF, and not be that of a raw literal. Any other body is the value
 /// itself, and its [`Body::plain`](crate::rl_lenient::Body::plain) is `true`. Nothing is allocated.
+#[inline]
 pub fn bytes_into(kind: Kind, body: &str, out: &mut [u8]) -> usize {
     decode_into(kind, body, out)
 }
 
 /// Returns the number of the one character or byte between the quotes of a character or byte literal.
-#[cfg(feature = "rendered")]
+#[cfg(feature = "__rendered")]
+#[inline]
 fn body_unit(kind: Kind, body: &str) -> u32 {
     let Some((piece, _)) = unit(kind, body) else {
         unreachable!()
@@ -80,14 +84,16 @@ fn body_unit(kind: Kind, body: &str) -> u32 {
 
 /// Returns the value of the byte literal `text`. The text must be a byte literal: [`shape`](crate::rl_lenient::shape) returns the
 /// kind `Byte` for it.
-#[cfg(feature = "rendered")]
+#[cfg(feature = "__rendered")]
+#[inline]
 pub fn byte_of(text: &str) -> u8 {
     found_in(text).unit as u8
 }
 
 /// Returns the value of the character literal `text`. The text must be a character literal: [`shape`](crate::rl_lenient::shape)
 /// returns the kind `Char` for it.
-#[cfg(feature = "rendered")]
+#[cfg(feature = "__rendered")]
+#[inline]
 pub fn char_of(text: &str) -> char {
     match char::from_u32(found_in(text).unit) {
         Some(c) => c,
@@ -96,13 +102,15 @@ pub fn char_of(text: &str) -> char {
 }
 
 /// Returns the value of a byte literal, from the text between its quotes.
-#[cfg(feature = "rendered")]
+#[cfg(feature = "__rendered")]
+#[inline]
 pub fn byte_of_body(body: &str) -> u8 {
     body_unit(Kind::Byte, body) as u8
 }
 
 /// Returns the value of a character literal, from the text between its quotes.
-#[cfg(feature = "rendered")]
+#[cfg(feature = "__rendered")]
+#[inline]
 pub fn char_of_body(body: &str) -> char {
     match char::from_u32(body_unit(Kind::Char, body)) {
         Some(c) => c,
@@ -117,7 +125,8 @@ pub fn char_of_body(body: &str) -> char {
 /// within 128 bits has it if it is in base ten, and contains neither an underscore nor a needless leading zero. A float
 /// has it if it contains no underscore, no plus and no `E`. Whether a text is a float is decided by the rule for floats
 /// alone, even if the text is an integer too. Characters, bytes and booleans don't have the property.
-#[cfg(feature = "rendered")]
+#[cfg(feature = "__rendered")]
+#[inline]
 pub fn is_plain(kind: Kind, text: &str) -> bool {
     match kind {
         Kind::Float => float_is_plain(text),
@@ -126,7 +135,8 @@ pub fn is_plain(kind: Kind, text: &str) -> bool {
 }
 
 /// Whether the text is a literal of the kind, which isn't `Float`, and its body is its value, byte for byte.
-#[cfg(feature = "rendered")]
+#[cfg(feature = "__rendered")]
+#[inline]
 fn reads_plain(kind: Kind, text: &str) -> bool {
     match find(text) {
         Some(found) => found.body.plain && found.kind == kind,
@@ -136,7 +146,8 @@ fn reads_plain(kind: Kind, text: &str) -> bool {
 
 /// Whether the text is a float literal whose body is the digits of its value, byte for byte. The text may be an integer
 /// literal too.
-#[cfg(feature = "rendered")]
+#[cfg(feature = "__rendered")]
+#[inline]
 fn float_is_plain(text: &str) -> bool {
     match find_float(text) {
         Some(found) => found.body.plain,

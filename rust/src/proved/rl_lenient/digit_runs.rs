@@ -151,6 +151,7 @@ pub(crate) fn is_suffix(text: &str) -> bool {
 
 /// Whether the text after the digits of a decimal integer is an exponent, as `e5` or `e5f32`, so that the number is a
 /// float.
+#[inline]
 pub(crate) fn is_exponent_suffix(text: &str) -> bool {
     match split_char(text) {
         Some(('e' | 'E', rest)) => {

@@ -2,10 +2,11 @@
 //! The parse result of a text: the literal's kind, the byte offsets of its parts, and the value of an integer, `bool`,
 //! character or byte. A literal is split at these offsets, and isn't parsed again.
 
+#[cfg(any(feature = "sources", feature = "settings"))]
 use crate::rl_lenient::digit_runs::is_negative;
 use crate::rl_lenient::digits::{is_plain_float, is_plain_integer};
 use crate::rl_lenient::number_forms::{Number, read_number};
-#[cfg(feature = "rendered")]
+#[cfg(feature = "__rendered")]
 use crate::rl_lenient::number_forms::{float_suffix, read_integer};
 use crate::rl_lenient::quoted_forms::{
     QuotedForm, begins_character, find_bare_character, find_character, find_cooked, find_raw,
@@ -65,7 +66,7 @@ pub struct Found {
 ///
 /// The body of a quoted literal is the text between its quotes. The body of a number is the text before its suffix,
 /// with sign and prefix. The body of a `bool` is the whole text.
-#[cfg(feature = "rendered")]
+#[cfg(feature = "__rendered")]
 #[derive(Clone, Copy, PartialEq, Eq, Debug)]
 pub struct Parts<'t> {
     /// The kind of the literal.
@@ -78,7 +79,7 @@ pub struct Parts<'t> {
 
 impl Found {
     /// Returns the literal's body, as a slice of `text`. The text must be the one that was parsed.
-    #[cfg(feature = "rendered")]
+    #[cfg(feature = "__rendered")]
     #[inline(always)]
     pub fn body_in<'t>(&self, text: &'t str) -> &'t str {
         &text[self.body.lo..self.body.hi]
@@ -93,7 +94,7 @@ impl Found {
 
     /// Returns the literal's kind, body and suffix. Body and suffix are slices of `text`, which must be the text that
     /// was parsed.
-    #[cfg(feature = "rendered")]
+    #[cfg(feature = "__rendered")]
     #[inline(always)]
     pub(crate) fn parts<'t>(&self, text: &'t str) -> Parts<'t> {
         Parts {
@@ -131,7 +132,8 @@ fn float_found<'t>(text: &'t str, suffix: &'t str) -> Found {
 }
 
 /// Parses the text as an integer literal. Returns `None` if it isn't one, and `Some(None)` if it is one above 128 bits.
-#[cfg(feature = "rendered")]
+#[cfg(feature = "__rendered")]
+#[inline]
 pub fn find_int(text: &str) -> Option<Option<Found>> {
     let integer = read_integer(text)?;
     match integer.magnitude {
@@ -142,7 +144,8 @@ pub fn find_int(text: &str) -> Option<Option<Found>> {
 
 /// Parses the text as a float literal, even if it is an integer literal too. Returns `None` if it isn't a float
 /// literal.
-#[cfg(feature = "rendered")]
+#[cfg(feature = "__rendered")]
+#[inline]
 pub fn find_float(text: &str) -> Option<Found> {
     let suffix = float_suffix(text)?;
     Some(float_found(text, suffix))
@@ -150,7 +153,7 @@ pub fn find_float(text: &str) -> Option<Found> {
 
 /// Parses the text as a number: as an integer literal if it is one, and otherwise as a float literal. Returns `None` if
 /// it is neither, or an integer above 128 bits.
-#[inline(never)]
+#[inline]
 fn find_number(text: &str) -> Option<Found> {
     // Each arm returns by itself. A value that both arms make would be copied once more, padding included.
     match read_number(text)? {
@@ -163,6 +166,7 @@ fn find_number(text: &str) -> Option<Found> {
 
 /// Parses the text as a number that follows a minus. Returns `None` if the text isn't a number, or begins with a minus
 /// itself.
+#[cfg(any(feature = "sources", feature = "settings"))]
 #[inline(always)]
 pub(crate) fn find_unsigned(text: &str) -> Option<Found> {
     if is_negative(text) {
@@ -174,6 +178,8 @@ pub(crate) fn find_unsigned(text: &str) -> Option<Found> {
 /// Parses the literal that consists of a minus and `text`. Byte offsets in the result count from the minus.
 ///
 /// Returns `Some` exactly if a minus and the text are a literal. That literal is an integer or a float.
+#[cfg(any(feature = "sources", feature = "settings"))]
+#[inline]
 pub fn find_negative(text: &str) -> Option<Found> {
     let found = find_unsigned(text)?;
     Some(Found {
@@ -186,6 +192,7 @@ pub fn find_negative(text: &str) -> Option<Found> {
 }
 
 /// Parses the text as a boolean literal. Returns `None` if it is neither `true` nor `false`.
+#[inline]
 pub(crate) fn find_truth(text: &str) -> Option<Found> {
     let truth = bool_of(text)?;
     Some(Found {
@@ -198,7 +205,8 @@ pub(crate) fn find_truth(text: &str) -> Option<Found> {
 }
 
 /// Returns the parse result of the literal `text`. The text must be a literal.
-#[cfg(feature = "rendered")]
+#[cfg(feature = "__rendered")]
+#[inline]
 pub fn found_in(text: &str) -> Found {
     match find(text) {
         Some(found) => found,
@@ -226,7 +234,7 @@ pub fn find(text: &str) -> Option<Found> {
 }
 
 /// Parses the text as a quoted or boolean literal. The text must begin with neither a minus nor a decimal digit.
-#[inline(never)]
+#[inline]
 fn find_word_or_quoted(text: &str) -> Option<Found> {
     let Some((form, kind, inside)) = split_opener(text) else {
         return find_truth(text);
@@ -240,6 +248,7 @@ fn find_word_or_quoted(text: &str) -> Option<Found> {
 }
 
 /// Returns the value of the boolean literal `text`, or `None` if the text is neither `true` nor `false`.
+#[inline]
 pub fn bool_of(text: &str) -> Option<bool> {
     match text {
         "true" => Some(true),
@@ -249,6 +258,7 @@ pub fn bool_of(text: &str) -> Option<bool> {
 }
 
 /// Whether the first of the bytes is a minus or a decimal digit.
+#[inline]
 fn is_number_front(bytes: &[u8]) -> bool {
     !bytes.is_empty() && (bytes[0] == b'-' || bytes[0].is_ascii_digit())
 }
@@ -268,7 +278,8 @@ pub fn begins_number(text: &str) -> bool {
 /// The postcondition `strict_bytes` compares `syn`'s grammar with Rust's: take a text without CR. By `syn`'s grammar it
 /// is a byte literal, or a byte string literal that isn't raw, whose suffix is empty or an identifier, exactly if it is
 /// one by Rust's.
-#[cfg(feature = "rendered")]
+#[cfg(feature = "__rendered")]
+#[inline]
 pub fn shape(text: &str) -> Option<Parts<'_>> {
     let found = find(text)?;
     Some(found.parts(text))

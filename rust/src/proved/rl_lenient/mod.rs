@@ -9,34 +9,40 @@ pub mod contents;
 pub mod digit_runs;
 mod digits;
 pub mod found;
+#[cfg(any(feature = "sources", feature = "settings"))]
 mod next_literals;
 pub mod number_forms;
 mod numbers;
 pub mod quoted_forms;
 mod ranges;
 mod segments;
+#[cfg(feature = "sources")]
 mod source_literals;
 pub mod units;
-#[cfg(feature = "rendered")]
+#[cfg(feature = "__rendered")]
 mod values;
 
 pub use crate::rl_lenient::contents::bytes_into;
-#[cfg(feature = "rendered")]
+#[cfg(feature = "__rendered")]
 pub use crate::rl_lenient::contents::{
     byte_of, byte_of_body, char_of, char_of_body, is_plain, str_into,
 };
 pub use crate::rl_lenient::digits::{float_digits_into, is_plain_integer};
-pub use crate::rl_lenient::found::{Body, Found, bool_of, find, find_negative};
-#[cfg(feature = "rendered")]
+pub use crate::rl_lenient::found::{Body, Found, bool_of, find};
+#[cfg(feature = "__rendered")]
 pub use crate::rl_lenient::found::{Parts, find_float, find_int, shape};
+#[cfg(any(feature = "sources", feature = "settings"))]
+pub use crate::rl_lenient::found::find_negative;
+#[cfg(any(feature = "sources", feature = "settings"))]
 pub use crate::rl_lenient::next_literals::{
     ListStep, NextLiteral, Rejection, RejectionKind, list_step, next_literal,
 };
-#[cfg(feature = "rendered")]
+#[cfg(feature = "__rendered")]
 pub use crate::rl_lenient::number_forms::{float_shape, int_shape, shape_negative};
 pub use crate::rl_lenient::numbers::{FloatParts, IntegerParts, float_parts, integer_parts};
 pub use crate::rl_lenient::ranges::text_range;
 pub use crate::rl_lenient::segments::{Segment, SegmentValue, Segments, split_segment};
-#[cfg(feature = "rendered")]
+#[cfg(feature = "__rendered")]
 pub use crate::rl_lenient::segments::text_offset;
+#[cfg(feature = "sources")]
 pub use crate::rl_lenient::source_literals::{SourceStep, source_step};

@@ -5,7 +5,7 @@
 use crate::rl_lenient::digit_runs::{
     DigitRun, after_minus, begins_digit, is_exponent_suffix, is_suffix, read_digit_run, skip_digits,
 };
-#[cfg(feature = "rendered")]
+#[cfg(feature = "__rendered")]
 use crate::rl_lenient::found::{Parts, find_float, find_int, find_unsigned};
 use crate::rl_syntax::classes::{CharClass, skip_class};
 use crate::rl_syntax::text::{split_ascii, split_char};
@@ -81,6 +81,7 @@ pub(crate) fn integer_of(head: Head<'_>) -> Option<Integer<'_>> {
 }
 
 /// Parses the text as an integer literal. Returns `None` if it isn't one.
+#[inline]
 pub fn read_integer(text: &str) -> Option<Integer<'_>> {
     match read_head(text) {
         Some(head) => integer_of(head),
@@ -92,7 +93,8 @@ pub fn read_integer(text: &str) -> Option<Integer<'_>> {
 /// literal, and `Some(None)` if it is one above 128 bits.
 ///
 /// The body is the text before the suffix, with sign and prefix. Body and suffix are slices of the text.
-#[cfg(feature = "rendered")]
+#[cfg(feature = "__rendered")]
+#[inline]
 pub fn int_shape(text: &str) -> Option<Option<Parts<'_>>> {
     match find_int(text) {
         Some(Some(found)) => Some(Some(found.parts(text))),
@@ -147,6 +149,7 @@ fn tail_suffix(text: &str) -> Option<&str> {
 }
 
 /// Returns the suffix of the float literal `text`, or `None` if the text isn't a float literal.
+#[inline]
 pub(crate) fn float_suffix(text: &str) -> Option<&str> {
     let whole = after_minus(text);
     if !begins_digit(whole) {
@@ -172,7 +175,8 @@ pub(crate) fn head_suffix<'t>(text: &'t str, head: Head<'t>) -> Option<&'t str> 
 /// literal too.
 ///
 /// The body is the text before the suffix, with the sign. Body and suffix are slices of the text.
-#[cfg(feature = "rendered")]
+#[cfg(feature = "__rendered")]
+#[inline]
 pub fn float_shape(text: &str) -> Option<Parts<'_>> {
     let found = find_float(text)?;
     Some(found.parts(text))
@@ -200,7 +204,8 @@ pub(crate) fn read_number(text: &str) -> Option<Number<'_>> {
 ///
 /// Returns `Some` exactly if a minus and the text are a literal. That literal is an integer or a float. Body and suffix
 /// are slices of the text, without the minus.
-#[cfg(feature = "rendered")]
+#[cfg(feature = "__rendered")]
+#[inline]
 pub fn shape_negative(text: &str) -> Option<Parts<'_>> {
     let found = find_unsigned(text)?;
     Some(found.parts(text))

@@ -30,6 +30,7 @@ pub struct FloatParts<'t> {
 
 /// Returns the base and the digits of the integer literal `text`, or `None` if the text isn't an integer literal within
 /// 128 bits.
+#[inline]
 pub fn integer_parts(text: &str) -> Option<IntegerParts<'_>> {
     let found = find(text)?;
     if !matches!(found.kind, Kind::Int) {
@@ -41,6 +42,7 @@ pub fn integer_parts(text: &str) -> Option<IntegerParts<'_>> {
 }
 
 /// Splits the text after the decimal digits and underscores at its start.
+#[inline]
 fn split_digits(text: &str) -> (&str, &str) {
     let rest = skip_digits(text).rest;
     (before(text, rest), rest)
@@ -48,6 +50,7 @@ fn split_digits(text: &str) -> (&str, &str) {
 
 /// Returns the digits and underscores after the dot at the text's start, or `None` if it doesn't begin with a dot, and
 /// the text after them.
+#[inline]
 fn split_fraction(text: &str) -> (Option<&str>, &str) {
     match strip_byte(text, b'.') {
         Some(digits) => {
@@ -59,6 +62,7 @@ fn split_fraction(text: &str) -> (Option<&str>, &str) {
 }
 
 /// Returns the text of an exponent after its letter, or `None` if `text` is empty.
+#[inline]
 fn after_letter(text: &str) -> Option<&str> {
     match split_char(text) {
         Some((_, exponent)) => Some(exponent),
@@ -68,6 +72,7 @@ fn after_letter(text: &str) -> Option<&str> {
 
 /// Returns the parts of the float literal `text`, or `None` if the text isn't a float literal. A decimal integer with a
 /// float suffix, as `1f32`, is an integer literal.
+#[inline]
 pub fn float_parts(text: &str) -> Option<FloatParts<'_>> {
     let found = find(text)?;
     if !matches!(found.kind, Kind::Float) {

@@ -36,6 +36,7 @@ fn split_string_opener(kind: Kind, text: &str) -> Option<(QuotedForm, Kind, &str
 
 /// Returns the form and the kind of a literal with the prefix `b`, and the text after its quote or its `br`. `text`
 /// follows the `b`. Returns `None` if the text begins otherwise.
+#[inline]
 fn split_byte_opener(text: &str) -> Option<(QuotedForm, Kind, &str)> {
     match split_ascii(text) {
         Some((first, rest)) if first as char == Kind::Byte.quote() => {
@@ -65,7 +66,7 @@ pub fn split_opener(text: &str) -> Option<(QuotedForm, Kind, &str)> {
 
 /// Returns the text after the characters and escapes at its start that a string literal of the kind may contain. For
 /// `Str` the loop is compiled separately, with the kind as a constant.
-#[inline(never)]
+#[inline]
 pub fn skip_units(kind: Kind, text: &str) -> &str {
     match kind {
         Kind::Str => skip_units_of(Kind::Str, text),
@@ -86,11 +87,13 @@ fn skip_units_of(kind: Kind, text: &str) -> &str {
 }
 
 /// Splits the text at its last `"`, and returns the text before it and the text after it, or `None` if there is no `"`.
+#[inline]
 pub fn split_last_quote(text: &str) -> Option<(&str, &str)> {
     text.rsplit_once('"')
 }
 
 /// Whether the text contains the character NUL.
+#[inline]
 pub(crate) fn has_nul(text: &str) -> bool {
     text.as_bytes().contains(&b'\0')
 }
@@ -146,7 +149,7 @@ pub(crate) fn find_cooked(kind: Kind, text: &str, inside: &str) -> Option<Found>
 
 /// Parses `text` as a raw string literal of the kind, where `inside` is the text after its `r`. Returns the byte
 /// offsets of its parts, or `None` if it isn't one.
-#[inline(never)]
+#[inline]
 fn raw_places(kind: Kind, text: &str, inside: &str) -> Option<Body> {
     let rest = skip_hashes(inside);
     let hashes = before(inside, rest);
@@ -170,6 +173,7 @@ pub(crate) fn find_raw(kind: Kind, text: &str, inside: &str) -> Option<Found> {
 }
 
 /// Whether a raw string of the kind may contain each character of the text.
+#[inline]
 fn holds_all(kind: Kind, text: &str) -> bool {
     match kind {
         Kind::ByteStr => is_ascii(text),
@@ -214,7 +218,7 @@ pub(crate) fn find_bare_character(text: &str) -> Option<Found> {
 }
 
 /// Parses a text that begins with `'` as a character literal. Returns `None` if it isn't one.
-#[inline(never)]
+#[inline]
 pub(crate) fn find_character(text: &str) -> Option<Found> {
     find_single(Kind::Char, text, crate::slices::after_first!(text))
 }

@@ -12,6 +12,7 @@ use crate::rl_syntax::Kind;
 /// line end after the last byte isn't included.
 ///
 /// `body` contains the byte offsets of the literal's parts, as [`find`](crate::rl_lenient::find) returns them.
+#[inline]
 pub fn text_range(kind: Kind, text: &str, body: &Body, lo: usize, hi: usize) -> (usize, usize) {
     let first = body.segments_in(kind, text).text_offset(lo);
     if lo < hi {

@@ -2,7 +2,7 @@
 //! The segments of a quoted literal: the parts of the text between its quotes, each with its range and its value.
 
 use crate::rl_lenient::found::Body;
-#[cfg(feature = "rendered")]
+#[cfg(feature = "__rendered")]
 use crate::rl_lenient::found::find;
 use crate::rl_lenient::units::{Piece, is_plain, split_plain, unit};
 use crate::rl_syntax::Kind;
@@ -139,7 +139,8 @@ impl<'t> Segment<'t> {
 
 impl<'t> Segments<'t> {
     /// Returns the segments of the quoted literal `text`, or `None` if the text isn't a quoted literal.
-    #[cfg(feature = "rendered")]
+    #[cfg(feature = "__rendered")]
+    #[inline]
     pub fn of(text: &'t str) -> Option<Segments<'t>> {
         let found = find(text)?;
         if !is_quoted(found.kind) {
@@ -163,6 +164,7 @@ impl<'t> Segments<'t> {
 
     /// Returns the byte offset in the literal's text where the next segment begins, or that of the closing quote if no
     /// segment is left.
+    #[inline]
     pub fn at(&self) -> usize {
         self.end - self.rest.len()
     }
@@ -189,6 +191,7 @@ impl<'t> Segments<'t> {
     ///
     /// `at` counts from the start of the next segment's value. At the end of the value, and beyond it, the result is
     /// the offset of the closing quote.
+    #[inline]
     pub fn text_offset(self, at: usize) -> usize {
         let end = self.end;
         match self.giving(at) {
@@ -203,6 +206,7 @@ impl<'t> Segments<'t> {
     ///
     /// `at` counts from the start of the next segment's value. At the end of the value, and beyond it, the result is
     /// the offset of the closing quote.
+    #[inline]
     pub fn end_of(self, at: usize) -> usize {
         let end = self.end;
         match self.giving(at) {
@@ -223,14 +227,16 @@ impl<'t> Iterator for Segments<'t> {
 }
 
 /// Whether literals of the kind have quotes: strings, byte strings, C strings, bytes and characters.
-#[cfg(feature = "rendered")]
+#[cfg(feature = "__rendered")]
+#[inline]
 fn is_quoted(kind: Kind) -> bool {
     !matches!(kind, Kind::Int | Kind::Float | Kind::Bool)
 }
 
 /// Returns the byte offset in the quoted literal `text` that the byte `at` of its decoded value comes from, or `None`
 /// if the text isn't a quoted literal. [`Segments::text_offset`] describes the offset.
-#[cfg(feature = "rendered")]
+#[cfg(feature = "__rendered")]
+#[inline]
 pub fn text_offset(text: &str, at: usize) -> Option<usize> {
     Some(Segments::of(text)?.text_offset(at))
 }

@@ -87,7 +87,7 @@ impl<'t> Tokens<'t> {
 }
 
 /// Yields the tokens up to the end of the text or its first error. [`Tokens::error`] then returns that error.
-#[cfg(feature = "rendered")]
+#[cfg(feature = "__rendered")]
 impl<'t> Iterator for Tokens<'t> {
     type Item = Lexeme<'t>;
 

@@ -14,7 +14,7 @@ pub struct LexError {
 
 /// A kind of error of the lexer. Each variant's comment names the byte whose offset the error has. docs/ERRORS.md has
 /// an example text for each kind, and a remedy.
-#[cfg_attr(not(feature = "rendered"), expect(dead_code, reason = "Memory: the package's lists and sources take no memory to be cut"))]
+#[cfg_attr(not(feature = "__rendered"), expect(dead_code, reason = "Memory: the package's lists and sources take no memory to be cut"))]
 #[derive(Clone, Copy, PartialEq, Eq, Debug)]
 pub enum LexKind {
     /// A doc comment, closed or not. The error is at its first slash.

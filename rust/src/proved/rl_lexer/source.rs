@@ -11,7 +11,7 @@ use crate::rl_syntax::characters::is_start;
 use crate::rl_syntax::classes::{skip_white, skip_word};
 use crate::rl_syntax::lanes::{byte_before, is_word_byte, unlikely_len};
 use crate::rl_syntax::lines::split_line;
-#[cfg(feature = "rendered")]
+#[cfg(feature = "__rendered")]
 use crate::rl_syntax::lines::next_line;
 use crate::rl_syntax::text::{begins_with, split_ascii, split_char, strip_byte, without_first};
 
@@ -188,7 +188,7 @@ fn line_end(text: &str) -> &str {
 }
 
 /// Returns the text after its first LF, or `None` if it contains no LF.
-#[cfg(feature = "rendered")]
+#[cfg(feature = "__rendered")]
 pub(crate) fn after_first_line(text: &str) -> Option<&str> {
     next_line(text)
 }

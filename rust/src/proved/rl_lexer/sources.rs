@@ -6,7 +6,7 @@ use crate::rl_lexer::no_token::source_error_kind;
 use crate::rl_lexer::source::{
     SourceForm, first_source_token, is_literal, skip_unlikely, without_preamble,
 };
-#[cfg(feature = "rendered")]
+#[cfg(feature = "__rendered")]
 use crate::rl_lexer::source::after_first_line;
 use crate::rl_lexer::whitespace::skip;
 
@@ -115,14 +115,14 @@ impl<'t> Sources<'t> {
     ///
     /// After an error, lexing can resume with these lines: [`Sources::new`] lexes them. Its byte offsets then count
     /// from the start of the lines. Their offset in the source is the source's length without the length of the lines.
-    #[cfg(feature = "rendered")]
+    #[cfg(feature = "__rendered")]
     pub fn following_lines(&self) -> Option<&'t str> {
         after_first_line(self.rest)
     }
 }
 
 /// Yields the tokens up to the end of the source or its first error. [`Sources::error`] then returns that error.
-#[cfg(feature = "rendered")]
+#[cfg(feature = "__rendered")]
 impl<'t> Iterator for Sources<'t> {
     type Item = SourceToken<'t>;
 

@@ -78,6 +78,7 @@ fn take_part<'t>(
 }
 
 /// Consumes the next name: an identifier, and each dot and identifier after it. `end` is the length of the input text.
+#[inline]
 fn take_dotted_name<'t>(tokens: &mut Tokens<'t>, end: usize) -> Result<DottedName<'t>, SyntaxError> {
     let rest = tokens.rest();
     let first = take_name(tokens, end)?;
@@ -93,6 +94,7 @@ fn take_dotted_name<'t>(tokens: &mut Tokens<'t>, end: usize) -> Result<DottedNam
 }
 
 /// Whether the text contains an LF between the byte offset `lo` and the next token of `tokens`.
+#[inline]
 fn has_line_end(text: &str, lo: usize, tokens: &Tokens<'_>) -> bool {
     let start = text.len() - tokens.rest().len();
     match text.as_bytes()[..start].get(lo..) {
@@ -171,6 +173,7 @@ fn take_entry<'t>(tokens: &mut Tokens<'t>, text: &str) -> Result<NextEntry<'t>, 
 ///
 /// If [`first_error`](crate::rl_settings::first_error) returns `None` for the text, each group is closed. A caller removes a byte order mark
 /// at the text's start with [`crate::rl_lexer::without_byte_order_mark`].
+#[inline]
 pub fn entry_step<'t>(tokens: &mut Tokens<'t>, text: &str) -> EntryStep<'t> {
     if tokens.rest().is_empty() {
         return EntryStep::End;

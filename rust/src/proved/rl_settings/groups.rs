@@ -22,6 +22,7 @@ struct Groups {
 }
 
 /// Whether the delimiter `closer` closes a group that `opener` opens.
+#[inline]
 fn is_pair(opener: char, closer: char) -> bool {
     match opener {
         '(' => closer == ')',
@@ -33,6 +34,7 @@ fn is_pair(opener: char, closer: char) -> bool {
 
 impl Groups {
     /// Creates the state without open groups.
+    #[inline]
     fn new() -> Groups {
         Groups {
             groups: [Opened { opener: '(', at: 0 }; MAX_OPEN],
@@ -41,6 +43,7 @@ impl Groups {
     }
 
     /// Returns the innermost open group, or `None` if no group is open.
+    #[inline]
     fn innermost(&self) -> Option<Opened> {
         if self.start >= MAX_OPEN {
             return None;
@@ -49,6 +52,7 @@ impl Groups {
     }
 
     /// Opens a group inside the open ones. Returns `false`, and opens no group, if 128 groups are open already.
+    #[inline]
     fn open_group(&mut self, opener: char, at: usize) -> bool {
         if self.start == 0 {
             return false;
@@ -59,6 +63,7 @@ impl Groups {
     }
 
     /// Closes the innermost open group if `closer` is its closing delimiter, and returns whether it is.
+    #[inline]
     fn close_group(&mut self, closer: char) -> bool {
         if self.start >= MAX_OPEN {
             return false;
@@ -72,6 +77,7 @@ impl Groups {
 
     /// Updates the open groups for a token of the form `form` at the byte offset `at`. Returns the kind of error if the token
     /// is a delimiter that isn't allowed there.
+    #[inline]
     fn pass(&mut self, form: Form, at: usize) -> Option<LexKind> {
         let Form::Delimiter(c) = form else {
             return None;
@@ -90,6 +96,7 @@ impl Groups {
     }
 
     /// Returns the error for a text that ends while a group is open, or `None` if no group is open.
+    #[inline]
     fn error_at_end(&self) -> Option<LexError> {
         match self.innermost() {
             Some(group) => Some(LexError::new(LexKind::UnclosedGroup, group.at)),
@@ -103,6 +110,7 @@ impl Groups {
 /// The errors are those of the lexer, a group with a wrong closing delimiter, and a group inside 128 others. If all of these
 /// are absent and groups are open at the text's end, the error is the innermost of these groups. `lex` of `rl_tokens` returns
 /// the same error. Nothing is allocated.
+#[inline]
 pub fn first_error(text: &str) -> Option<LexError> {
     let mut tokens = Tokens::new(text);
     let mut groups = Groups::new();

@@ -4,12 +4,20 @@
 //! The crate also checks the groups of a text, and has the errors of texts of literals and texts of settings. Nothing is
 //! allocated.
 
+#[cfg(feature = "settings")]
 mod entries;
+#[cfg(feature = "settings")]
 mod groups;
+#[cfg(feature = "settings")]
 mod settings;
 mod syntax_error;
 
-pub use crate::rl_settings::entries::{DottedName, EntryRejection, EntryStep, NextEntry, entry_step};
+#[cfg(feature = "settings")]
+pub use crate::rl_settings::entries::{
+    DottedName, EntryRejection, EntryStep, NextEntry, entry_step,
+};
+#[cfg(feature = "settings")]
 pub use crate::rl_settings::groups::first_error;
+#[cfg(feature = "settings")]
 pub use crate::rl_settings::settings::{NextSetting, SettingRejection, SettingStep, settings_step};
 pub use crate::rl_settings::syntax_error::{Part, SyntaxError, SyntaxErrorKind, lexer_error, list_error};

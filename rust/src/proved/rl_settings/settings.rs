@@ -36,6 +36,7 @@ pub enum SettingStep<'t> {
 }
 
 /// Returns the number of open groups after a token of the form `form`, where `depth` groups were open before it.
+#[inline]
 fn depth_after(form: Form, depth: usize) -> usize {
     match form {
         Form::Delimiter('(' | '[' | '{') => depth + 1,
@@ -48,6 +49,7 @@ fn depth_after(form: Form, depth: usize) -> usize {
 /// cursor after this token.
 ///
 /// A group ends with its closing delimiter, or with the last token before an error of the lexer.
+#[inline]
 fn tree_end(form: Form, hi: usize, following: &Tokens<'_>) -> usize {
     let mut ahead = following.fork();
     let mut depth = depth_after(form, 0);
@@ -107,6 +109,7 @@ pub(crate) fn take_name<'t>(tokens: &mut Tokens<'t>, end: usize) -> Result<Lexem
 }
 
 /// Whether the form `form` is the punctuation character `mark`.
+#[inline]
 pub(crate) fn is_mark(form: Form, mark: char) -> bool {
     match form {
         Form::Mark(c) => c == mark,
@@ -195,6 +198,7 @@ fn take_setting<'t>(
 /// repeated names.
 ///
 /// If [`first_error`](crate::rl_settings::first_error) returns `None` for the text, each group is closed.
+#[inline]
 pub fn settings_step<'t>(tokens: &mut Tokens<'t>, end: usize) -> SettingStep<'t> {
     if tokens.rest().is_empty() {
         return SettingStep::End;

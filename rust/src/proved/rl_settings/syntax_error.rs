@@ -69,6 +69,7 @@ pub struct SyntaxError {
 
 impl Part {
     /// Returns the name of the part for messages, for example `identifier`.
+    #[inline]
     pub fn noun(self) -> &'static str {
         match self {
             Part::Name => "identifier",
@@ -79,6 +80,7 @@ impl Part {
     }
 
     /// Returns the error message for another token in the part's place, for example `expected identifier`.
+    #[inline]
     fn expected(self) -> &'static str {
         match self {
             Part::Name => "expected identifier",
@@ -89,6 +91,7 @@ impl Part {
     }
 
     /// Returns the error message for a text that ends before the part.
+    #[inline]
     fn ended(self) -> &'static str {
         match self {
             Part::Name => "unexpected end of input, expected identifier",
@@ -101,6 +104,7 @@ impl Part {
 
 impl SyntaxErrorKind {
     /// Returns the error message, for example `not a literal`.
+    #[inline]
     pub fn message(self) -> &'static str {
         match self {
             SyntaxErrorKind::NotALiteral => "not a literal",
@@ -123,6 +127,7 @@ impl SyntaxErrorKind {
 }
 
 /// Converts the kind of a lexer's error to a `SyntaxErrorKind`. `kind` isn't an allocation failure.
+#[inline]
 pub fn lexer_error(kind: LexKind) -> SyntaxErrorKind {
     match kind {
         LexKind::DocComment => SyntaxErrorKind::DocComment,
@@ -139,6 +144,7 @@ pub fn lexer_error(kind: LexKind) -> SyntaxErrorKind {
 }
 
 /// Converts the kind of an error in a list of literals. `rest` is the unread rest of the list's text.
+#[inline]
 pub fn list_error(kind: RejectionKind, rest: &str) -> SyntaxErrorKind {
     match kind {
         RejectionKind::Lex(kind) => lexer_error(kind),
@@ -152,6 +158,7 @@ pub fn list_error(kind: RejectionKind, rest: &str) -> SyntaxErrorKind {
 }
 
 impl fmt::Display for SyntaxErrorKind {
+    #[inline]
     fn fmt(&self, f: &mut fmt::Formatter<'_>) -> fmt::Result {
         f.pad(self.message())
     }

@@ -1,7 +1,7 @@
 // Rendered from crates/rl_strict/src/flaws.rt by tools/render, which erases contracts: change that file, and render anew.
 //! The kinds of flaws (errors in the text of a literal), and a flaw's byte range.
 
-#[cfg(feature = "rendered")]
+#[cfg(feature = "__rendered")]
 use crate::rl_syntax::Span;
 use crate::rl_syntax::text::split_char;
 use core::fmt;
@@ -82,6 +82,7 @@ impl FlawKind {
     /// Returns the kind's identifier for programs, for example `unknown-escape`.
     ///
     /// The identifier never changes, but [`message`](FlawKind::message) may.
+    #[inline]
     pub fn id(self) -> &'static str {
         match self {
             FlawKind::Empty => "empty",
@@ -240,14 +241,14 @@ impl Flaw {
     /// Returns the flaw's range `lo..hi` in the file, where `span` is the span of the literal's token.
     ///
     /// The offsets count from the span's first byte, and are limited to its end.
-    #[cfg(feature = "rendered")]
+    #[cfg(feature = "__rendered")]
     pub fn in_span(self, span: Span) -> Span {
         Span::new(span.file, place_in(span, self.lo), place_in(span, self.hi))
     }
 }
 
 /// Returns the byte offset `at` counted from the beginning of `span`, limited to the end of `span`.
-#[cfg(feature = "rendered")]
+#[cfg(feature = "__rendered")]
 fn place_in(span: Span, at: usize) -> usize {
     match span.lo.checked_add(at) {
         Some(place) if place < span.hi => place,

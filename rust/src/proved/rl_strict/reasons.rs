@@ -10,6 +10,7 @@ use crate::rl_strict::strict_reading::read;
 ///
 /// The flaw is the error that [`read`] returns. A minus is a token of its own, so the text of a negative number has a flaw. An
 /// integer above 128 bits is a token, and [`explain_value`] reports it. Nothing is allocated.
+#[inline]
 pub fn explain(text: &str) -> Option<Flaw> {
     match read(text, LineEnds::Text, false) {
         Ok(_) => None,
@@ -21,6 +22,7 @@ pub fn explain(text: &str) -> Option<Flaw> {
 ///
 /// The flaw is the error that [`read`] returns, or [`limit_flaw`](crate::rl_strict::limit_flaw) for an integer above 128 bits. A text that
 /// is a float because of its suffix ([`is_float_by_suffix`](crate::rl_strict::is_float_by_suffix)) has a value. Nothing is allocated.
+#[inline]
 pub fn explain_value(text: &str, ends: LineEnds, signed: bool) -> Option<Flaw> {
     match read(text, ends, signed) {
         Ok(reading) => limit_of(text, reading),

@@ -146,7 +146,7 @@ fn other_at(ends: LineEnds, text: &str) -> Result<Reading, FlawAt<'_>> {
 
 /// Parses a text that doesn't begin with a digit as a literal token. Each value of `ends` has its own compiled copy of the
 /// code.
-#[inline(never)]
+#[inline]
 fn read_rare(ends: LineEnds, text: &str) -> Result<Reading, FlawAt<'_>> {
     match ends {
         LineEnds::Text => other_at(LineEnds::Text, text),

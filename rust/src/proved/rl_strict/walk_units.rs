@@ -109,7 +109,7 @@ fn skip_text_units(kind: Kind, text: &str) -> &str {
 }
 
 /// Returns the text after the characters and escapes at its beginning, where the text is from a file.
-#[inline(never)]
+#[inline]
 fn skip_file_units(kind: Kind, text: &str) -> &str {
     skip_units_of(LineEnds::File, kind, text)
 }

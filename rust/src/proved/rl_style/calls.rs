@@ -62,6 +62,7 @@ fn is_keyword(word: &str) -> bool {
 }
 
 /// Returns `depth + 1`, or `depth` if it is the greatest `usize`.
+#[inline]
 fn deeper(depth: usize) -> usize {
     if depth < usize::MAX { depth + 1 } else { depth }
 }
@@ -88,6 +89,7 @@ fn after_mark(calls: Calls<'_>, mark: char) -> Calls<'_> {
 }
 
 /// Returns the position after the opening bracket `bracket`.
+#[inline]
 fn after_opener(calls: Calls<'_>, bracket: char) -> Calls<'_> {
     match calls {
         Calls::Inside(depth) => Calls::Inside(deeper(depth)),
@@ -98,6 +100,7 @@ fn after_opener(calls: Calls<'_>, bracket: char) -> Calls<'_> {
 }
 
 /// Returns the position after a closing bracket.
+#[inline]
 fn after_closer(calls: Calls<'_>) -> Calls<'_> {
     match calls {
         Calls::Inside(depth) if depth > 1 => Calls::Inside(depth - 1),

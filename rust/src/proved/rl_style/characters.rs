@@ -19,11 +19,13 @@ pub(crate) struct Manner {
 }
 
 /// Whether the text begins with a letter that may follow `0` in a base prefix: `x`, `o` or `b`.
+#[inline]
 pub(crate) fn begins_base_letter(text: &str) -> bool {
     matches!(split_char(text), Some(('x' | 'o' | 'b', _)))
 }
 
 /// Returns `c` in the given case if it is `e` or `E`, the letter of an exponent, and `c` unchanged otherwise.
+#[inline]
 fn exponent_letter(case: Option<Case>, c: char) -> char {
     match case {
         Some(Case::Lower) => match c {
@@ -40,6 +42,7 @@ fn exponent_letter(case: Option<Case>, c: char) -> char {
 
 /// Returns the new character for the character `c` of a number before its suffix, or `None` if `c` is dropped. `drops` is true
 /// if underscores are dropped, and `hex` if the number is hexadecimal.
+#[inline]
 fn number_character(style: Style, drops: bool, hex: bool, c: char) -> Option<char> {
     match c {
         '_' if drops => None,
@@ -51,6 +54,7 @@ fn number_character(style: Style, drops: bool, hex: bool, c: char) -> Option<cha
 
 /// Writes the new form of the character `c` of a number to `out` from the index `at` on. Returns the index after the written
 /// bytes.
+#[inline]
 pub(crate) fn put_character(out: &mut [u8], at: usize, manner: Manner, c: char) -> usize {
     match number_character(manner.style, manner.drops, manner.hex, c) {
         Some(written) => put_char(out, at, written),
@@ -59,6 +63,7 @@ pub(crate) fn put_character(out: &mut [u8], at: usize, manner: Manner, c: char) 
 }
 
 /// Writes the new form of a number's text to `out` from the index `at` on. Returns the index after the written bytes.
+#[inline]
 pub(crate) fn put_numeral(out: &mut [u8], at: usize, manner: Manner, numeral: &str) -> usize {
     let mut end = at;
     let mut rest = numeral;

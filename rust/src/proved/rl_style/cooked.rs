@@ -10,26 +10,31 @@ use crate::rl_syntax::slice_writer::{put_byte, put_char, put_text};
 use crate::rl_syntax::text::{before, split_char, strip_byte};
 
 /// Whether the character is a single or a double quote.
+#[inline]
 fn is_quote(c: char) -> bool {
     matches!(c, '\'' | '"')
 }
 
 /// Whether the character begins a numeric escape: `x` or `u`.
+#[inline]
 fn begins_number(c: char) -> bool {
     matches!(c, 'x' | 'u')
 }
 
 /// Whether the style drops the backslash before the quote `quote` in a literal of the kind `kind`.
+#[inline]
 fn loses_backslash(style: Style, kind: Kind, quote: char) -> bool {
     style.quote_escapes && quote != kind.quote()
 }
 
 /// Returns the number as a byte if it is below 128, and 128 otherwise.
+#[inline]
 fn ascii_or(code: u32) -> u8 {
     if code < 128 { code as u8 } else { 128 }
 }
 
 /// Returns the value of a character or escape if it is ASCII, and 128 otherwise.
+#[inline]
 fn ascii_of(kind: Kind, piece: Piece) -> u8 {
     match piece {
         Piece::Character(c) => ascii_or(c as u32),
@@ -39,11 +44,13 @@ fn ascii_of(kind: Kind, piece: Piece) -> u8 {
 }
 
 /// Returns `byte`, but 128 for a NUL if `zero` is false: this NUL may not be written as `\0`.
+#[inline]
 fn lettered(zero: bool, byte: u8) -> u8 {
     if zero || byte != 0 { byte } else { 128 }
 }
 
 /// Whether the character or escape at the beginning of the text represents a decimal digit.
+#[inline]
 fn represents_digit(kind: Kind, text: &str) -> bool {
     match unit(kind, text) {
         Some((piece, _)) => ascii_of(kind, piece).is_ascii_digit(),
@@ -52,16 +59,19 @@ fn represents_digit(kind: Kind, text: &str) -> bool {
 }
 
 /// Whether the style replaces a numeric escape of the character `byte` by the character itself.
+#[inline]
 fn is_visible(style: Style, byte: u8) -> bool {
     style.ascii_escapes && matches!(byte, b'!'..=b'~')
 }
 
 /// Whether the style replaces a numeric escape of the character `byte` by an escape with a letter: `\n`, `\r`, `\t` or `\0`.
+#[inline]
 fn has_letter(style: Style, byte: u8) -> bool {
     style.named_escapes && matches!(byte, b'\n' | b'\r' | b'\t' | 0)
 }
 
 /// Returns the letter of the escape for LF, CR, TAB or NUL: `n`, `r`, `t` or `0`.
+#[inline]
 fn letter_of(byte: u8) -> u8 {
     match byte {
         b'\n' => b'n',
@@ -72,6 +82,7 @@ fn letter_of(byte: u8) -> u8 {
 }
 
 /// Writes a backslash and the character `byte`. Returns the index after the written bytes.
+#[inline]
 pub(crate) fn put_pair(out: &mut [u8], at: usize, byte: u8) -> usize {
     let end = put_byte(out, at, b'\\');
     put_byte(out, end, byte)
@@ -79,6 +90,7 @@ pub(crate) fn put_pair(out: &mut [u8], at: usize, byte: u8) -> usize {
 
 /// Writes a visible ASCII character into a literal of the kind `kind`. The literal's closing quote and a backslash get a
 /// backslash before them.
+#[inline]
 fn put_visible(out: &mut [u8], at: usize, kind: Kind, byte: u8) -> usize {
     if byte as char == kind.quote() || byte == b'\\' {
         return put_pair(out, at, byte);
@@ -88,6 +100,7 @@ fn put_visible(out: &mut [u8], at: usize, kind: Kind, byte: u8) -> usize {
 
 /// Writes the new form of a numeric escape. `byte` is the escape's value if it is ASCII, and 128 otherwise. For a NUL that
 /// isn't written as `\0` it is 128 too.
+#[inline]
 fn put_number(out: &mut [u8], at: usize, kind: Kind, style: Style, unit: &str, byte: u8) -> usize {
     if is_visible(style, byte) {
         return put_visible(out, at, kind, byte);
@@ -100,6 +113,7 @@ fn put_number(out: &mut [u8], at: usize, kind: Kind, style: Style, unit: &str, b
 
 /// Writes the new form of an escape. `unit` is the text of the escape, `escape` this text without the backslash, and `byte` the
 /// escape's value if it is ASCII, or 128.
+#[inline]
 fn put_escape(
     out: &mut [u8],
     at: usize,
@@ -125,6 +139,7 @@ fn put_escape(
 }
 
 /// Writes the new form of an unescaped character or a CR LF.
+#[inline]
 fn put_plain(out: &mut [u8], at: usize, kind: Kind, style: Style, unit: &str, byte: u8) -> usize {
     match split_char(unit) {
         Some((c, rest)) => {
@@ -138,6 +153,7 @@ fn put_plain(out: &mut [u8], at: usize, kind: Kind, style: Style, unit: &str, by
 /// Writes the new form of one character or escape: at most four bytes for each byte of its text.
 ///
 /// `byte` is the value if it is ASCII, and 128 otherwise. For a NUL that isn't written as `\0` it is 128 too.
+#[inline]
 fn put_unit(out: &mut [u8], at: usize, kind: Kind, style: Style, unit: &str, byte: u8) -> usize {
     match strip_byte(unit, b'\\') {
         Some(escape) => put_escape(out, at, kind, style, unit, escape, byte),
@@ -146,6 +162,7 @@ fn put_unit(out: &mut [u8], at: usize, kind: Kind, style: Style, unit: &str, byt
 }
 
 /// Writes the new form of each character and escape of a literal's body.
+#[inline]
 fn put_units(out: &mut [u8], at: usize, kind: Kind, style: Style, inside: &str) -> usize {
     let mut end = at;
     let mut rest = inside;
@@ -158,6 +175,7 @@ fn put_units(out: &mut [u8], at: usize, kind: Kind, style: Style, inside: &str) 
 }
 
 /// Writes the new form of a quoted literal with escapes, whose body is `inside`.
+#[inline]
 pub(crate) fn write_cooked(
     text: &str,
     kind: Kind,

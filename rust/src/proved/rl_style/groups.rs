@@ -8,6 +8,7 @@ use crate::rl_syntax::text::split_char;
 use crate::rl_writing::{ends_group, group_size_for};
 
 /// Returns the number of digits in a group, for numbers of the base `base`.
+#[inline]
 fn base_group(groups: DigitGroups, base: u32) -> usize {
     match base {
         2 => groups.binary,
@@ -19,6 +20,7 @@ fn base_group(groups: DigitGroups, base: u32) -> usize {
 
 /// Returns the number of digits in a group, for a number of the base `base` with the suffix `suffix`. 0 means that the number's
 /// digit groups stay unchanged.
+#[inline]
 pub(crate) fn group_size(style: Style, base: u32, suffix: &str) -> usize {
     match style.digit_groups {
         Some(groups) if !begins_base_letter(suffix) => base_group(groups, base),
@@ -27,6 +29,7 @@ pub(crate) fn group_size(style: Style, base: u32, suffix: &str) -> usize {
 }
 
 /// Returns the smallest number of digits that the style divides into groups.
+#[inline]
 fn least_digits(style: Style) -> usize {
     match style.digit_groups {
         Some(groups) => groups.least,
@@ -36,6 +39,7 @@ fn least_digits(style: Style) -> usize {
 
 /// Whether an underscore follows a digit. `count` is the number of digits in the sequence, and `left` the number of digits
 /// after this one. Groups are counted from the first digit if `from_first` is true, and from the last one otherwise.
+#[inline]
 fn ends(from_first: bool, size: usize, count: usize, left: usize) -> bool {
     if from_first {
         left > 0 && ends_group(size, count - left)
@@ -45,6 +49,7 @@ fn ends(from_first: bool, size: usize, count: usize, left: usize) -> bool {
 }
 
 /// Returns the number of digits in a sequence of digits and underscores.
+#[inline]
 fn count_digits(run: &str) -> usize {
     let mut count = 0;
     let mut rest = run;
@@ -58,6 +63,7 @@ fn count_digits(run: &str) -> usize {
 }
 
 /// Writes the new form of a digit, and an underscore after it if `ends` is true: its group ends there.
+#[inline]
 fn put_digit(out: &mut [u8], at: usize, manner: Manner, digit: char, ends: bool) -> usize {
     let end = put_character(out, at, manner, digit);
     if ends {
@@ -68,6 +74,7 @@ fn put_digit(out: &mut [u8], at: usize, manner: Manner, digit: char, ends: bool)
 
 /// Writes a sequence of digits and underscores with its digits in groups. Underscores at its end are kept, unless the style
 /// drops them.
+#[inline]
 fn put_grouped(out: &mut [u8], at: usize, manner: Manner, from_first: bool, run: &str) -> usize {
     let count = count_digits(run);
     let size = group_size_for(manner.size, least_digits(manner.style), count);
@@ -87,6 +94,7 @@ fn put_grouped(out: &mut [u8], at: usize, manner: Manner, from_first: bool, run:
 }
 
 /// Writes the new form of a sequence of digits and underscores, with its digits in groups unless the group size is 0.
+#[inline]
 pub(crate) fn put_digit_run(
     out: &mut [u8],
     at: usize,

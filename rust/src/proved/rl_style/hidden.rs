@@ -9,12 +9,14 @@ use crate::rl_writing::{needs_escape, put_unicode};
 
 /// Whether the character must be written as a numeric escape: it is invisible, bidirectional or a control character other than
 /// LF, CR and TAB.
+#[inline]
 fn needs_number(c: char) -> bool {
     needs_escape(c) && !matches!(c, '\n' | '\r' | '\t')
 }
 
 /// Whether the text contains a character that must be written as a numeric escape: an invisible or bidirectional one, or a
 /// control character other than LF, CR and TAB.
+#[inline]
 pub(crate) fn holds_hidden(text: &str) -> bool {
     let mut rest = text;
     while let Some((c, after)) = split_char(rest) {
@@ -27,6 +29,7 @@ pub(crate) fn holds_hidden(text: &str) -> bool {
 }
 
 /// Returns the hexadecimal digit for a number below 16, in lower case.
+#[inline]
 fn lower_digit(digit: u32) -> u8 {
     let digit = digit as u8;
     if digit < 10 {
@@ -37,6 +40,7 @@ fn lower_digit(digit: u32) -> u8 {
 }
 
 /// Writes an ASCII character as `\x` and two lower-case digits.
+#[inline]
 fn put_two(out: &mut [u8], at: usize, c: char) -> usize {
     let number = c as u32;
     let end = put_byte(out, at, b'\\');
@@ -47,6 +51,7 @@ fn put_two(out: &mut [u8], at: usize, c: char) -> usize {
 
 /// Writes the numeric escape of a character: `\x` for ASCII, and otherwise `\u{..}` with the fewest digits. They are in lower
 /// case.
+#[inline]
 fn put_code(out: &mut [u8], at: usize, c: char) -> usize {
     if c < '\u{80}' {
         return put_two(out, at, c);
@@ -55,6 +60,7 @@ fn put_code(out: &mut [u8], at: usize, c: char) -> usize {
 }
 
 /// Writes the numeric escape of a character, with its digits as the style requires.
+#[inline]
 fn put_styled_code(out: &mut [u8], at: usize, style: Style, c: char) -> usize {
     let mut room = [0; 10];
     let end = put_code(&mut room, 0, c);
@@ -65,6 +71,7 @@ fn put_styled_code(out: &mut [u8], at: usize, style: Style, c: char) -> usize {
 }
 
 /// Writes the escape of an invisible or bidirectional character. NUL may be written as `\0` if `zero` is true.
+#[inline]
 fn put_hidden(out: &mut [u8], at: usize, style: Style, zero: bool, c: char) -> usize {
     if style.named_escapes && zero && c == '\0' {
         return put_text(out, at, "\\0");
@@ -74,6 +81,7 @@ fn put_hidden(out: &mut [u8], at: usize, style: Style, zero: bool, c: char) -> u
 
 /// Writes the new form of an unescaped character: at most four bytes for each of its own. NUL may be written as `\0` if `zero`
 /// is true.
+#[inline]
 pub(crate) fn put_itself(out: &mut [u8], at: usize, style: Style, zero: bool, c: char) -> usize {
     if style.hidden && needs_number(c) {
         return put_hidden(out, at, style, zero, c);

@@ -2,6 +2,7 @@
 //! Rewrites literals by a style, such as the case of hexadecimal digits. A rewritten literal has the kind, the value and the
 //! suffix of the old one, except that `1.` may become `1.0`. Nothing is allocated.
 
+#[cfg(feature = "sources")]
 mod calls;
 mod case;
 mod characters;
@@ -11,14 +12,20 @@ mod groups;
 mod hidden;
 mod numbers;
 mod raw;
+#[cfg(feature = "sources")]
 mod restylable;
 mod rewrite;
+#[cfg(any(feature = "sources", feature = "settings"))]
 mod rules;
 mod style;
+#[cfg(feature = "sources")]
 mod whole;
 
+#[cfg(feature = "sources")]
 pub use crate::rl_style::restylable::{Restylable, Restylables};
 pub use crate::rl_style::rewrite::rewrite_into;
+#[cfg(any(feature = "sources", feature = "settings"))]
 pub use crate::rl_style::rules::{Rule, all_rules, changes};
 pub use crate::rl_style::style::{Case, DigitGroups, Separator, Style};
+#[cfg(feature = "sources")]
 pub use crate::rl_style::whole::may_restyle;

@@ -11,11 +11,13 @@ use crate::rl_syntax::slice_writer::{put_byte, put_text};
 use crate::rl_syntax::text::{after_prefix, before, split_char};
 
 /// Whether the style drops the underscores of a number with this suffix.
+#[inline]
 fn drops_underscores(style: Style, suffix: &str) -> bool {
     style.underscores && !begins_base_letter(suffix)
 }
 
 /// Returns the text after the zeros and underscores at its beginning.
+#[inline]
 pub(crate) fn skip_padding(text: &str) -> &str {
     let mut rest = text;
     while let Some(('0' | '_', after)) = split_char(rest) {
@@ -25,6 +27,7 @@ pub(crate) fn skip_padding(text: &str) -> &str {
 }
 
 /// Returns the digits without leading zeros, or `0` if they are all zeros.
+#[inline]
 fn significant(digits: &str) -> &str {
     let rest = skip_padding(digits);
     match split_char(rest) {
@@ -34,11 +37,13 @@ fn significant(digits: &str) -> &str {
 }
 
 /// Whether the style drops the leading zeros of an integer with this base and this suffix.
+#[inline]
 fn drops_zeros(style: Style, base: u32, suffix: &str) -> bool {
     style.leading_zeros && base == 10 && !begins_base_letter(suffix)
 }
 
 /// Returns the digits `run` of an integer, without leading zeros if the style drops them.
+#[inline]
 fn kept_digits<'t>(style: Style, base: u32, suffix: &str, run: &'t str) -> &'t str {
     if drops_zeros(style, base, suffix) {
         significant(run)
@@ -48,6 +53,7 @@ fn kept_digits<'t>(style: Style, base: u32, suffix: &str, run: &'t str) -> &'t s
 }
 
 /// Returns the text without the underscores at its end.
+#[inline]
 fn trimmed(text: &str) -> &str {
     let mut rest = text;
     let mut tail = text;
@@ -61,6 +67,7 @@ fn trimmed(text: &str) -> &str {
 }
 
 /// Whether the style drops the underscores directly before a number's suffix.
+#[inline]
 fn trims(style: Style, suffix: &str) -> bool {
     match style.suffix_separator {
         None => false,
@@ -70,6 +77,7 @@ fn trims(style: Style, suffix: &str) -> bool {
 }
 
 /// Returns a number's text before its suffix, without the underscores at its end if the style drops them.
+#[inline]
 fn kept_run<'t>(style: Style, suffix: &str, numeral: &'t str) -> &'t str {
     if trims(style, suffix) {
         trimmed(numeral)
@@ -79,6 +87,7 @@ fn kept_run<'t>(style: Style, suffix: &str, numeral: &'t str) -> &'t str {
 }
 
 /// Whether the style writes an underscore before the number's suffix.
+#[inline]
 fn is_separated(style: Style, suffix: &str) -> bool {
     match style.suffix_separator {
         Some(Separator::Underscore) => split_char(suffix).is_some(),
@@ -87,6 +96,7 @@ fn is_separated(style: Style, suffix: &str) -> bool {
 }
 
 /// Writes a number's suffix, with an underscore before it if the style requires one.
+#[inline]
 fn put_suffix(out: &mut [u8], at: usize, style: Style, suffix: &str) -> usize {
     if is_separated(style, suffix) {
         let end = put_byte(out, at, b'_');
@@ -96,6 +106,7 @@ fn put_suffix(out: &mut [u8], at: usize, style: Style, suffix: &str) -> usize {
 }
 
 /// Returns the options by which a number of this base with this suffix is rewritten.
+#[inline]
 fn number_style(style: Style, base: u32, suffix: &str) -> Manner {
     Manner {
         style,
@@ -106,6 +117,7 @@ fn number_style(style: Style, base: u32, suffix: &str) -> Manner {
 }
 
 /// Writes the new form of an integer. `text` is its whole text, and `suffix` its end.
+#[inline]
 fn write_integer(text: &str, suffix: &str, style: Style, out: &mut [u8]) -> usize {
     let (base, digits) = split_radix(text);
     let whole = kept_run(style, suffix, before(digits, suffix));
@@ -116,6 +128,7 @@ fn write_integer(text: &str, suffix: &str, style: Style, out: &mut [u8]) -> usiz
 }
 
 /// Writes the zero after a float that ends with its dot, if the style requires one.
+#[inline]
 fn put_zero(out: &mut [u8], at: usize, style: Style) -> usize {
     if style.float_zero {
         return put_byte(out, at, b'0');
@@ -124,6 +137,7 @@ fn put_zero(out: &mut [u8], at: usize, style: Style) -> usize {
 }
 
 /// Writes the new form of the text after a float's dot.
+#[inline]
 fn put_after_dot(out: &mut [u8], at: usize, manner: Manner, fraction: &str) -> usize {
     match split_char(fraction) {
         Some(_) => {
@@ -136,6 +150,7 @@ fn put_after_dot(out: &mut [u8], at: usize, manner: Manner, fraction: &str) -> u
 }
 
 /// Writes the new form of the text after a float's whole part.
+#[inline]
 fn put_fraction(out: &mut [u8], at: usize, manner: Manner, rest: &str) -> usize {
     match after_prefix(".", rest) {
         Some(fraction) => {
@@ -147,6 +162,7 @@ fn put_fraction(out: &mut [u8], at: usize, manner: Manner, rest: &str) -> usize 
 }
 
 /// Writes the new form of a float. `text` is its whole text, and `suffix` its end.
+#[inline]
 fn write_float(text: &str, suffix: &str, style: Style, out: &mut [u8]) -> usize {
     let manner = number_style(style, 10, suffix);
     let numeral = kept_run(style, suffix, before(text, suffix));
@@ -157,6 +173,7 @@ fn write_float(text: &str, suffix: &str, style: Style, out: &mut [u8]) -> usize 
 }
 
 /// Writes the new form of a number. `text` is its text, and `number` its parse result.
+#[inline]
 pub(crate) fn write_number(text: &str, number: Number<'_>, style: Style, out: &mut [u8]) -> usize {
     match number {
         Number::Integer(_, suffix) => write_integer(text, suffix, style, out),

@@ -50,6 +50,7 @@ pub struct Restylables<'t> {
 }
 
 /// Returns the state after one more dot. `is_joined` is true if the dot directly follows the token before it.
+#[inline]
 fn one_more(last: Last, is_joined: bool) -> Last {
     match last {
         Last::Dot | Last::Dots if is_joined => Last::Dots,
@@ -58,6 +59,7 @@ fn one_more(last: Last, is_joined: bool) -> Last {
 }
 
 /// Returns the state after the token `token`, where `last` is the state before it. The token before it ends at `end`.
+#[inline]
 fn last_after(last: Last, end: usize, token: SourceToken<'_>) -> Last {
     match token.form {
         SourceForm::Token(Form::Mark('.')) => one_more(last, token.lo == end),
@@ -68,6 +70,7 @@ fn last_after(last: Last, end: usize, token: SourceToken<'_>) -> Last {
 }
 
 /// Whether the text begins with one colon. `::` is another token.
+#[inline]
 fn begins_one_colon(text: &str) -> bool {
     match strip_byte(text, b':') {
         Some(following) => !begins_with(following, ':'),
@@ -77,6 +80,7 @@ fn begins_one_colon(text: &str) -> bool {
 
 /// Whether a number is a field of a tuple. `last` is the token before it, and `rest` the text after it, without white space and
 /// comments at its beginning.
+#[inline]
 fn names_field(last: Last, rest: &str) -> bool {
     match last {
         Last::Dot => true,
@@ -86,12 +90,14 @@ fn names_field(last: Last, rest: &str) -> bool {
 }
 
 /// Whether the literal `token` may be a field of a tuple. `rest` is the text after it.
+#[inline]
 fn is_field(last: Last, token: SourceToken<'_>, rest: &str) -> bool {
     matches!(token.text.as_bytes(), [b'0'..=b'9', ..]) && names_field(last, rest)
 }
 
 impl<'t> Restylables<'t> {
     /// Creates a cursor over the literals of a source, from its start.
+    #[inline]
     pub fn new(text: &'t str) -> Restylables<'t> {
         Restylables {
             tokens: Sources::new(text),
@@ -103,6 +109,7 @@ impl<'t> Restylables<'t> {
 
     /// Returns the next literal: a literal token, valid or not, `true` or `false`. The result is `None` at the end of the
     /// source and at its first error, which [`Restylables::error`] returns.
+    #[inline]
     pub fn next(&mut self) -> Option<Restylable<'t>> {
         let (mut last, mut end, mut calls) = (self.last, self.end, self.calls);
         while let Some(token) = self.tokens.next() {
@@ -129,6 +136,7 @@ impl<'t> Restylables<'t> {
 
     /// Returns the error at the cursor's position: a quote or a comment that isn't closed. The result is `None` at the end of
     /// the source, and if the next token is valid.
+    #[inline]
     pub fn error(&self) -> Option<LexError> {
         self.tokens.error()
     }

@@ -14,6 +14,7 @@ use crate::rl_syntax::Kind;
 use crate::rl_syntax::slice_writer::put_text;
 
 /// Returns the byte offsets of the parts of a quoted literal, whose parse result is `reading`.
+#[inline]
 fn body_of(text: &str, form: QuotedForm, kind: Kind, reading: Reading) -> Body {
     match reading {
         Reading::Text(_, body) => body,
@@ -23,6 +24,7 @@ fn body_of(text: &str, form: QuotedForm, kind: Kind, reading: Reading) -> Body {
 }
 
 /// Writes the new form of a quoted literal. `front` is the text before it, and `reading` its parse result.
+#[inline]
 fn write_quoted(
     front: &str,
     text: &str,
@@ -42,6 +44,7 @@ fn write_quoted(
 }
 
 /// Writes the new form of a number. Returns the number of written bytes, or the flaw if the text isn't a number.
+#[inline]
 fn rewrite_number(text: &str, style: Style, out: &mut [u8]) -> Result<usize, Flaw> {
     match read_number(text) {
         Ok(number) => Ok(write_number(text, number, style, out)),
@@ -64,6 +67,7 @@ fn rewrite_number(text: &str, style: Style, out: &mut [u8]) -> Result<usize, Fla
 /// # Errors
 ///
 /// Returns the flaw of [`explain`](crate::rl_strict::explain) if `text` isn't a literal token.
+#[inline]
 pub fn rewrite_into(front: &str, text: &str, style: Style, out: &mut [u8]) -> Result<usize, Flaw> {
     if begins_digit(text) {
         return rewrite_number(text, style, out);

@@ -27,6 +27,7 @@ pub enum Rule {
 }
 
 /// Returns all rules, in the order of the fields of [`Style`].
+#[inline]
 pub fn all_rules() -> &'static [Rule] {
     &[
         Rule::HexDigits,
@@ -50,6 +51,7 @@ pub fn all_rules() -> &'static [Rule] {
 
 impl Rule {
     /// Returns the rule's name in configurations and in the package's setters, for example `drop_underscores`.
+    #[inline]
     pub fn name(self) -> &'static str {
         match self {
             Rule::HexDigits => "hex_digits",
@@ -74,6 +76,7 @@ impl Rule {
 
 impl Style {
     /// Returns a style that has only this rule of the style, and no other rule.
+    #[inline]
     pub fn only(self, rule: Rule) -> Style {
         let keep = Style::KEEP;
         match rule {
@@ -151,6 +154,7 @@ impl Style {
 /// # Errors
 ///
 /// Returns the flaw of [`explain`](crate::rl_strict::explain) if `text` isn't a literal token.
+#[inline]
 pub fn changes(front: &str, text: &str, style: Style, out: &mut [u8]) -> Result<bool, Flaw> {
     let len = rewrite_into(front, text, style, out)?;
     let is_same = &out[..len] == text.as_bytes();

@@ -8,6 +8,7 @@ use crate::rl_syntax::text::begins;
 ///
 /// The source must begin without `#!`, or with an attribute's `#![`. After another `#!`, a literal may hide or show the end of
 /// a comment, which determines whether the first line is an interpreter's line. A byte order mark at the start is ignored.
+#[inline]
 pub fn may_restyle(source: &str) -> bool {
     let text = without_byte_order_mark(source);
     !begins(text, "#!") || begins(text, "#![")

@@ -2,11 +2,14 @@
 //! Classes of characters, and functions that return the text after its leading characters of one class.
 
 use crate::rl_syntax::characters::{is_continue, is_white, is_xid_continue};
+#[cfg(any(feature = "sources", feature = "settings"))]
 use crate::rl_syntax::lanes::run_len;
-use crate::rl_syntax::text::{split_ascii, split_char, strip_byte};
+use crate::rl_syntax::text::{split_ascii, split_char};
+#[cfg(any(feature = "sources", feature = "settings"))]
+use crate::rl_syntax::text::strip_byte;
 
 /// A class of characters, such as identifier characters or white space.
-#[cfg_attr(not(feature = "rendered"), expect(dead_code, reason = "SuffixContinue, Unquoted, Ascii, NonNul: contracts alone speak of their runs"))]
+#[cfg_attr(not(feature = "__rendered"), expect(dead_code, reason = "SuffixContinue, Unquoted, Ascii, NonNul: contracts alone speak of their runs"))]
 #[derive(Clone, Copy)]
 pub enum CharClass {
     /// Characters that continue an identifier.
@@ -76,6 +79,7 @@ pub fn skip_hashes(text: &str) -> &str {
 }
 
 /// Returns the class of characters that `WORD` selects: identifier characters if `WORD` is `true`, else white space.
+#[cfg(any(feature = "sources", feature = "settings"))]
 #[inline(always)]
 fn run_class<const WORD: bool>() -> CharClass {
     if WORD {
@@ -88,6 +92,7 @@ fn run_class<const WORD: bool>() -> CharClass {
 /// Returns the text after its longest prefix of identifier characters, if `WORD` is `true`, or of white space.
 ///
 /// Sixteen bytes are tested at once, up to the first non-ASCII character.
+#[cfg(any(feature = "sources", feature = "settings"))]
 #[inline(always)]
 fn skip_run<const WORD: bool>(text: &str) -> &str {
     let rest = &text[run_len::<WORD>(text.as_bytes())..];
@@ -98,6 +103,7 @@ fn skip_run<const WORD: bool>(text: &str) -> &str {
 }
 
 /// Returns the text after the identifier characters at its start.
+#[cfg(any(feature = "sources", feature = "settings"))]
 #[inline(always)]
 pub fn skip_word(text: &str) -> &str {
     skip_run::<true>(text)
@@ -105,6 +111,7 @@ pub fn skip_word(text: &str) -> &str {
 
 /// Returns the text after the white space at its start. A text without leading white space, or with one leading space,
 /// is handled first, since most tokens follow no white space or one space.
+#[cfg(any(feature = "sources", feature = "settings"))]
 #[cfg_attr(debug_assertions, inline)]
 #[cfg_attr(not(debug_assertions), inline(always))]
 pub fn skip_white(text: &str) -> &str {
@@ -120,6 +127,7 @@ pub fn skip_white(text: &str) -> &str {
 }
 
 /// Whether the text begins with an ASCII character that isn't white space.
+#[cfg(any(feature = "sources", feature = "settings"))]
 #[inline(always)]
 fn begins_nonblank(text: &str) -> bool {
     match split_ascii(text) {
@@ -131,6 +139,7 @@ fn begins_nonblank(text: &str) -> bool {
 /// Returns the text after the white space at its start, sixteen bytes at a time.
 ///
 /// [`skip_white`] calls it for more white space than one space, and for non-ASCII text.
+#[cfg(any(feature = "sources", feature = "settings"))]
 #[inline(never)]
 fn skip_white_run(text: &str) -> &str {
     skip_run::<false>(text)

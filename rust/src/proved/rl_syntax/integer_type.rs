@@ -32,6 +32,7 @@ pub enum IntegerType {
 
 impl IntegerType {
     /// Returns the integer type that `suffix` names, or `None` for every other suffix.
+    #[inline]
     pub fn named(suffix: &str) -> Option<IntegerType> {
         match suffix {
             "u8" => Some(IntegerType::U8),
@@ -51,6 +52,7 @@ impl IntegerType {
     }
 
     /// Returns the type's name, as in a literal's suffix: `u8`.
+    #[inline]
     pub fn name(self) -> &'static str {
         match self {
             IntegerType::U8 => "u8",

@@ -75,7 +75,7 @@ impl Kind {
     }
 
     /// Returns the name of the kind in error messages, as `string literal`.
-    #[cfg(feature = "rendered")]
+    #[cfg(feature = "__rendered")]
     pub fn word(self) -> &'static str {
         match self {
             Kind::Str => "string literal",
@@ -90,7 +90,7 @@ impl Kind {
     }
 
     /// Returns the name of the kind in the `display` of its tokens: its [`word`](Kind::word), except for `C-string literal`.
-    #[cfg(feature = "rendered")]
+    #[cfg(feature = "__rendered")]
     pub fn shown(self) -> &'static str {
         match self {
             Kind::CStr => "C-string literal",
@@ -99,7 +99,7 @@ impl Kind {
     }
 
     /// Returns the name of the struct for literals of the kind, as `LitStr`. `Debug` prints this name.
-    #[cfg(feature = "rendered")]
+    #[cfg(feature = "__rendered")]
     pub fn struct_name(self) -> &'static str {
         match self {
             Kind::Str => "LitStr",

@@ -6,20 +6,27 @@
 pub mod characters;
 pub mod classes;
 pub mod ident;
+#[cfg(any(feature = "flaws", feature = "writers"))]
 mod integer_type;
 pub mod kind;
+#[cfg(any(feature = "sources", feature = "settings"))]
 pub mod lanes;
+#[cfg(any(feature = "sources", feature = "settings"))]
 pub mod lines;
 pub mod scan;
 pub mod slice_writer;
-#[cfg(feature = "rendered")]
+#[cfg(feature = "__rendered")]
 mod span;
 pub mod text;
+#[cfg(feature = "writers")]
 mod written_into;
+#[cfg(feature = "writers")]
 pub mod written_unit;
 
+#[cfg(any(feature = "flaws", feature = "writers"))]
 pub use crate::rl_syntax::integer_type::IntegerType;
 pub use crate::rl_syntax::kind::Kind;
-#[cfg(feature = "rendered")]
+#[cfg(feature = "__rendered")]
 pub use crate::rl_syntax::span::Span;
+#[cfg(feature = "writers")]
 pub use crate::rl_syntax::written_into::{write_bytes_into, write_char_into, write_str_into};

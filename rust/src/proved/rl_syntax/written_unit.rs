@@ -4,6 +4,7 @@
 use crate::rl_syntax::kind::Kind;
 
 /// Returns the escape of the quote that ends a literal of the kind: `\'` or `\"`.
+#[inline]
 fn escaped_closer(kind: Kind) -> &'static str {
     match kind {
         Kind::Byte | Kind::Char => "\\'",
@@ -29,11 +30,13 @@ fn named_escape(kind: Kind, c: char) -> Option<&'static str> {
 
 /// Whether the character or byte `c` is written by its number, as `\x7F`, unless it has a shorter escape: a character
 /// below U+0020, U+007F, and in literals of bytes every byte above 127.
+#[inline]
 fn is_written_as_number(kind: Kind, c: char) -> bool {
     c < ' ' || c == '\u{7f}' || ('\u{7f}' < c && !kind.holds_characters())
 }
 
 /// Returns the hexadecimal digit of the value `digit`, in upper case.
+#[inline]
 fn upper_digit(digit: u32) -> u8 {
     let digit = digit as u8;
     if digit < 10 {
@@ -44,6 +47,7 @@ fn upper_digit(digit: u32) -> u8 {
 }
 
 /// Writes the escape of the number `c`, as `\x7F`, to `room`, and returns it as a text.
+#[inline]
 fn number(c: u32, room: &mut [u8; 4]) -> &str {
     *room = [b'\\', b'x', upper_digit(c / 16), upper_digit(c % 16)];
     match core::str::from_utf8(room) {

@@ -28,6 +28,7 @@ enum Part {
 }
 
 /// Whether `byte` is in the class `part`.
+#[inline]
 fn has_part(part: Part, byte: u8) -> bool {
     match part {
         Part::Inline => matches!(byte, b'\t' | 11 | 12 | b'\r' | b' ' | b'('),
@@ -38,6 +39,7 @@ fn has_part(part: Part, byte: u8) -> bool {
 }
 
 /// Returns `bytes` without the bytes at its end that are in the class `part`.
+#[inline]
 fn trimmed(bytes: &[u8], part: Part) -> &[u8] {
     let mut left = bytes;
     while let [rest @ .., byte] = left {
@@ -50,6 +52,7 @@ fn trimmed(bytes: &[u8], part: Part) -> &[u8] {
 }
 
 /// Whether the last line of `bytes` contains two slashes next to each other, which may begin a comment.
+#[inline]
 fn holds_comment(bytes: &[u8]) -> bool {
     let mut left = bytes;
     while let [rest @ .., byte] = left {
@@ -68,6 +71,7 @@ fn holds_comment(bytes: &[u8]) -> bool {
 ///
 /// Returns `None` if a comment may hide the text: if a slash or a non-ASCII character precedes the removed part, or if a line
 /// begins in the removed part and the line before contains two slashes.
+#[inline]
 fn seen_before(before: &str) -> Option<&[u8]> {
     let bytes = before.as_bytes();
     let inline = trimmed(bytes, Part::Inline);
@@ -82,6 +86,7 @@ fn seen_before(before: &str) -> Option<&[u8]> {
 ///
 /// The minus may be separated from the literal by white space, comments and opening parentheses. The result is also `true` if a
 /// possible comment hides whether there is a minus.
+#[inline]
 pub fn may_be_negated(before: &str) -> bool {
     match seen_before(before) {
         Some(front) => matches!(front, [.., b'-']),
@@ -91,6 +96,7 @@ pub fn may_be_negated(before: &str) -> bool {
 
 /// Whether `bytes` ends with an identifier or a keyword that is neither a number nor a part of a literal, a lifetime or a raw
 /// identifier.
+#[inline]
 fn is_after_word(bytes: &[u8]) -> bool {
     let front = trimmed(bytes, Part::Word);
     let word = &bytes[front.len()..];
@@ -98,6 +104,7 @@ fn is_after_word(bytes: &[u8]) -> bool {
 }
 
 /// Whether `bytes` ends with hashes that don't close a raw string. `front` is the part of `bytes` before these hashes.
+#[inline]
 fn is_after_hashes(bytes: &[u8], front: &[u8]) -> bool {
     matches!(bytes, [.., b'#']) && !matches!(front, [.., b'"'])
 }
@@ -107,6 +114,7 @@ fn is_after_hashes(bytes: &[u8], front: &[u8]) -> bool {
 /// From 2021 on, an identifier directly before a quote is reserved, with or without hashes between them: `f"x"`, `c'a'` and
 /// `f#"x"#`. From 2024 on, hashes alone are too: `#"x"#`. The result is also `None` if the text before may be part of a number,
 /// of another literal, of a lifetime or of a raw identifier.
+#[inline]
 pub fn reserved_from(before: &str, literal: &str) -> Option<Edition> {
     let front = trimmed(before.as_bytes(), Part::Hash);
     match literal.as_bytes() {
@@ -118,6 +126,7 @@ pub fn reserved_from(before: &str, literal: &str) -> Option<Edition> {
 
 impl Edition {
     /// Returns the year of the edition, for example 2021.
+    #[inline]
     pub fn year(self) -> u16 {
         match self {
             Edition::E2015 => 2015,
@@ -128,6 +137,7 @@ impl Edition {
     }
 
     /// Returns `true` if this edition of Rust reserves the literal together with the text before it.
+    #[inline]
     pub fn reserves(self, before: &str, literal: &str) -> bool {
         match reserved_from(before, literal) {
             Some(from) => from.year() <= self.year(),

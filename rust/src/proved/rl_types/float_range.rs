@@ -18,11 +18,13 @@ const F64_DIGITS: &str =
      168444365510704342711559699508093042880177904174497792";
 
 /// Whether the character begins an exponent: `e` or `E`.
+#[inline]
 fn is_exponent_letter(c: char) -> bool {
     matches!(c, 'e' | 'E')
 }
 
 /// Splits a number's text at the letter of its exponent, and returns the text before the letter and the text after it.
+#[inline]
 fn split_letter(numeral: &str) -> (&str, &str) {
     let mut rest = numeral;
     while let Some((c, after)) = split_char(rest) {
@@ -35,6 +37,7 @@ fn split_letter(numeral: &str) -> (&str, &str) {
 }
 
 /// Returns the text after its first dot, or an empty text if it has no dot.
+#[inline]
 fn after_point(text: &str) -> &str {
     let mut rest = text;
     while let Some((c, after)) = split_char(rest) {
@@ -47,6 +50,7 @@ fn after_point(text: &str) -> &str {
 }
 
 /// Whether the text contains a minus.
+#[inline]
 fn has_minus(text: &str) -> bool {
     let mut rest = text;
     while let Some((c, after)) = split_char(rest) {
@@ -59,6 +63,7 @@ fn has_minus(text: &str) -> bool {
 }
 
 /// Returns the first ASCII digit in the text, and the text after this digit.
+#[inline]
 fn split_digit(text: &str) -> Option<(char, &str)> {
     let mut rest = text;
     while let Some((c, after)) = split_char(rest) {
@@ -71,6 +76,7 @@ fn split_digit(text: &str) -> Option<(char, &str)> {
 }
 
 /// Returns the text from its first nonzero digit on. Characters that aren't digits are skipped too.
+#[inline]
 fn skip_zeros(text: &str) -> &str {
     let mut rest = text;
     while let Some(('0', after)) = split_digit(rest) {
@@ -80,6 +86,7 @@ fn skip_zeros(text: &str) -> &str {
 }
 
 /// Returns the number of ASCII digits in the text.
+#[inline]
 fn count_digits(text: &str) -> usize {
     let mut count = 0;
     let mut rest = text;
@@ -92,6 +99,7 @@ fn count_digits(text: &str) -> usize {
 
 /// Returns the number that the decimal digits in the text represent. The number is exact if it is below `HUGE`; otherwise the
 /// result is at least `HUGE`.
+#[inline]
 fn capped_value(text: &str) -> u128 {
     let mut value = 0;
     let mut rest = text;
@@ -105,6 +113,7 @@ fn capped_value(text: &str) -> u128 {
 }
 
 /// Returns the first ASCII digit in the text and the text after it, or `'0'` and an empty text if there is no digit.
+#[inline]
 fn digit_or_zero(text: &str) -> (char, &str) {
     match split_digit(text) {
         Some(parts) => parts,
@@ -114,6 +123,7 @@ fn digit_or_zero(text: &str) -> (char, &str) {
 
 /// Whether the number with the digits `digits` is at least the one with the digits `bound`, where the first digit of each has
 /// the same power of ten.
+#[inline]
 fn is_not_below(digits: &str, bound: &str) -> bool {
     let mut left = digits;
     let mut rest = bound;
@@ -129,11 +139,13 @@ fn is_not_below(digits: &str, bound: &str) -> bool {
 }
 
 /// Returns `value` if `condition` is true, and 0 otherwise.
+#[inline]
 fn value_if(condition: bool, value: u128) -> u128 {
     if condition { value } else { 0 }
 }
 
 /// Whether the decimal number `numeral` is at least the integer that the digits `bound` represent.
+#[inline]
 fn reaches(bound: &str, numeral: &str) -> bool {
     let (significand, exponent) = split_letter(numeral);
     let digits = skip_zeros(significand);
@@ -156,6 +168,7 @@ fn reaches(bound: &str, numeral: &str) -> bool {
 }
 
 /// Whether the decimal number `numeral` rounds to infinity as the type `ty`. In an integer type the result is `false`.
+#[inline]
 pub(crate) fn is_infinite(ty: NumberType, numeral: &str) -> bool {
     match ty {
         NumberType::F32 => reaches(F32_DIGITS, numeral),

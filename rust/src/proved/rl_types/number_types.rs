@@ -12,6 +12,7 @@ pub enum NumberType {
 }
 
 /// Returns the number type that the suffix names, or `None` if it names none.
+#[inline]
 pub fn type_named(suffix: &str) -> Option<NumberType> {
     match suffix {
         "f32" => Some(NumberType::F32),
@@ -26,6 +27,7 @@ pub fn type_named(suffix: &str) -> Option<NumberType> {
 /// Returns the greatest integer that a literal of the integer type `ty` may be. `usize` and `isize` have 64 bits.
 ///
 /// If a minus precedes the literal (`negated`), a signed type allows an integer that is greater by one.
+#[inline]
 fn greatest_integer(ty: IntegerType, negated: bool) -> u128 {
     let more = if negated { 1 } else { 0 };
     match ty {
@@ -45,6 +47,7 @@ fn greatest_integer(ty: IntegerType, negated: bool) -> u128 {
 /// Returns the greatest integer that a literal of the type `ty` may be, or `None` for a float type.
 ///
 /// If a minus precedes the literal (`negated`), a signed type allows an integer that is greater by one.
+#[inline]
 pub fn max_integer(ty: NumberType, negated: bool) -> Option<u128> {
     match ty {
         NumberType::Integer(ty) => Some(greatest_integer(ty, negated)),

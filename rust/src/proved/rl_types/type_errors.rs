@@ -24,6 +24,7 @@ pub enum TypeError {
 
 impl TypeError {
     /// Returns the error message, for example `unknown suffix`.
+    #[inline]
     pub fn message(self) -> &'static str {
         match self {
             TypeError::QuotedSuffix => "only numbers have suffixes",
@@ -35,6 +36,7 @@ impl TypeError {
     }
 
     /// Returns the identifier of the error, for example `unknown-suffix`. It never changes.
+    #[inline]
     pub fn id(self) -> &'static str {
         match self {
             TypeError::QuotedSuffix => "quoted-suffix",
@@ -47,11 +49,13 @@ impl TypeError {
 }
 
 /// Whether the number's text begins with the prefix of a base: `0b`, `0o` or `0x`.
+#[inline]
 fn is_of_base(text: &str) -> bool {
     begins(text, "0b") || begins(text, "0o") || begins(text, "0x")
 }
 
 /// Whether the suffix begins with `f`, as a float's suffix does.
+#[inline]
 fn begins_float(suffix: &str) -> bool {
     matches!(suffix.as_bytes(), [b'f', ..])
 }
@@ -60,6 +64,7 @@ fn begins_float(suffix: &str) -> bool {
 const F32_INFINITE: u128 = 0xFFFF_FF80_0000_0000_0000_0000_0000_0000;
 
 /// Returns the error of a decimal integer whose suffix is the float type `ty` and that rounds to infinity in this type.
+#[inline]
 fn infinite_error(ty: NumberType, magnitude: u128, negated: bool) -> Option<TypeError> {
     match ty {
         NumberType::F32 => {
@@ -73,6 +78,7 @@ fn infinite_error(ty: NumberType, magnitude: u128, negated: bool) -> Option<Type
 }
 
 /// Returns the error of an integer that the number type `ty` can't represent.
+#[inline]
 fn range_error(ty: NumberType, magnitude: u128, negated: bool) -> Option<TypeError> {
     match max_integer(ty, negated) {
         Some(most) if magnitude > most => Some(TypeError::OutOfRange),
@@ -82,6 +88,7 @@ fn range_error(ty: NumberType, magnitude: u128, negated: bool) -> Option<TypeErr
 }
 
 /// Returns the error of an integer with the suffix `suffix` that Rust has no type for.
+#[inline]
 fn integer_error(text: &str, suffix: &str, magnitude: u128, negated: bool) -> Option<TypeError> {
     if is_of_base(text) && begins_float(suffix) {
         return Some(TypeError::BasedFloat);
@@ -93,6 +100,7 @@ fn integer_error(text: &str, suffix: &str, magnitude: u128, negated: bool) -> Op
 }
 
 /// Returns the type of a float with the suffix `suffix`: `f64` without a suffix, or `None` if the suffix is unknown.
+#[inline]
 fn type_of_float(suffix: &str) -> Option<NumberType> {
     if suffix.is_empty() {
         return Some(NumberType::F64);
@@ -101,6 +109,7 @@ fn type_of_float(suffix: &str) -> Option<NumberType> {
 }
 
 /// Returns the error of a float that rounds to infinity as the float type `ty`. `numeral` is its text without the suffix.
+#[inline]
 fn decimal_error(
     ty: NumberType,
     text: &str,
@@ -115,6 +124,7 @@ fn decimal_error(
 }
 
 /// Returns the error of a float that Rust has no type for. `numeral` is its text without the suffix.
+#[inline]
 fn float_error(text: &str, numeral: &str, suffix: &str, negated: bool) -> Option<TypeError> {
     let Some(ty) = type_of_float(suffix) else {
         return Some(TypeError::UnknownSuffix);
@@ -133,6 +143,7 @@ fn float_error(text: &str, numeral: &str, suffix: &str, negated: bool) -> Option
 ///
 /// `text` is the text of the literal, and `found` its parse result. If a minus may precede the literal, `negated` is true; then
 /// `128i8` is in range. Nothing is allocated.
+#[inline]
 pub fn type_error(text: &str, found: &Found, negated: bool) -> Option<TypeError> {
     let suffix = found.suffix_in(text);
     if matches!(found.kind, Kind::Float) {

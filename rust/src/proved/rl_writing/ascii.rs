@@ -2,13 +2,19 @@
 //! Functions that write string and character literals in ASCII, with `\u{..}` for each non-ASCII character.
 
 use crate::rl_writing::numerals::{put_grouped, put_reversed};
+#[cfg(feature = "writers")]
 use crate::rl_syntax::Kind;
-use crate::rl_syntax::slice_writer::{put, put_byte, put_text};
+use crate::rl_syntax::slice_writer::{put, put_byte};
+#[cfg(feature = "writers")]
+use crate::rl_syntax::slice_writer::put_text;
+#[cfg(feature = "writers")]
 use crate::rl_syntax::text::split_char;
+#[cfg(feature = "writers")]
 use crate::rl_syntax::written_unit::escape;
 
 /// Writes the escape `\u{..}` of the character `c` after the first `at` bytes of the slice `out`, and returns the
 /// offset after the escape. The character's number is in base 16, in lower case.
+#[inline]
 pub fn put_unicode(out: &mut [u8], at: usize, c: char) -> usize {
     let mut room = [0; 21];
     let count = put_reversed(u128::from(c), 16, false, &mut room);
@@ -19,6 +25,8 @@ pub fn put_unicode(out: &mut [u8], at: usize, c: char) -> usize {
 
 /// Writes the character `c` in ASCII, as in a literal of the kind, after the first `at` bytes of the slice `out`.
 /// Returns the offset after the written bytes.
+#[cfg(feature = "writers")]
+#[inline]
 fn put_ascii(out: &mut [u8], at: usize, kind: Kind, c: char) -> usize {
     if c >= '\u{80}' {
         return put_unicode(out, at, c);
@@ -33,6 +41,8 @@ fn put_ascii(out: &mut [u8], at: usize, kind: Kind, c: char) -> usize {
 ///
 /// The literal is that of `write_str_into` of `rl_syntax`, except that each non-ASCII character is written as `\u{..}`.
 /// It is at most four bytes long for each byte of `value`, plus two. `out` must have room for this length.
+#[cfg(feature = "writers")]
+#[inline]
 pub fn write_str_ascii_into(value: &str, out: &mut [u8]) -> usize {
     let mut at = put_text(out, 0, Kind::Str.opener());
     let mut rest = value;
@@ -45,6 +55,8 @@ pub fn write_str_ascii_into(value: &str, out: &mut [u8]) -> usize {
 
 /// Writes an ASCII character literal whose value is `value` to the start of `out`, and returns its length in bytes, at
 /// most twelve. `out` must have room for twelve.
+#[cfg(feature = "writers")]
+#[inline]
 pub fn write_char_ascii_into(value: char, out: &mut [u8]) -> usize {
     let at = put_text(out, 0, Kind::Char.opener());
     let at = put_ascii(out, at, Kind::Char, value);

@@ -16,6 +16,7 @@ pub enum Base {
 
 impl Base {
     /// Returns the base as a number: 2, 8, 10 or 16.
+    #[inline]
     pub fn radix(self) -> u8 {
         match self {
             Base::Binary => 2,
@@ -26,6 +27,7 @@ impl Base {
     }
 
     /// Returns the prefix of an integer literal in the base: `0b`, `0o`, `0x`, or an empty string for base ten.
+    #[inline]
     pub fn prefix(self) -> &'static str {
         match self {
             Base::Binary => "0b",

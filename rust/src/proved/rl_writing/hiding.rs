@@ -3,6 +3,7 @@
 
 /// Returns `true` if the character has no width or changes the direction of text. A text with this character isn't
 /// displayed as it is written.
+#[inline]
 pub fn is_invisible_or_bidi(c: char) -> bool {
     matches!(
         c,
@@ -27,6 +28,7 @@ pub fn is_invisible_or_bidi(c: char) -> bool {
 
 /// Returns `true` if the character is displayed as an escape: a control character, or an invisible or bidirectional
 /// one.
+#[inline]
 pub fn needs_escape(c: char) -> bool {
     c.is_control() || is_invisible_or_bidi(c)
 }

@@ -22,6 +22,7 @@ pub struct IntegerStyle {
 }
 
 /// Returns the name of the integer type as a suffix, or an empty string for `None`.
+#[inline]
 fn suffix_of(suffix: Option<IntegerType>) -> &'static str {
     match suffix {
         Some(name) => name.name(),
@@ -33,6 +34,7 @@ fn suffix_of(suffix: Option<IntegerType>) -> &'static str {
 /// length in bytes, at most 262. `out` must have room for 262.
 ///
 /// The literal has no sign. Its grammar is that of the Rust Reference, section Integer literals.
+#[inline]
 pub fn write_integer_into(
     value: u128,
     style: IntegerStyle,

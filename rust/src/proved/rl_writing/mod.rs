@@ -6,15 +6,23 @@
 //! allocated.
 
 mod ascii;
+#[cfg(feature = "writers")]
 mod base;
+#[cfg(feature = "style")]
 mod hiding;
+#[cfg(feature = "writers")]
 mod integers;
 mod numerals;
 mod raw_strings;
 
-pub use crate::rl_writing::ascii::{put_unicode, write_char_ascii_into, write_str_ascii_into};
+pub use crate::rl_writing::ascii::put_unicode;
+#[cfg(feature = "writers")]
+pub use crate::rl_writing::ascii::{write_char_ascii_into, write_str_ascii_into};
+#[cfg(feature = "writers")]
 pub use crate::rl_writing::base::Base;
+#[cfg(feature = "style")]
 pub use crate::rl_writing::hiding::{is_invisible_or_bidi, needs_escape};
+#[cfg(feature = "writers")]
 pub use crate::rl_writing::integers::{IntegerStyle, write_integer_into};
 pub use crate::rl_writing::numerals::{ends_group, group_size_for};
 pub use crate::rl_writing::raw_strings::{raw_form, raw_hashes, write_raw_into};

@@ -4,6 +4,7 @@
 use crate::rl_syntax::slice_writer::put_byte;
 
 /// Returns the digit of the value `value` as an ASCII byte. A letter is in upper case if `upper` is `true`.
+#[inline]
 fn digit(value: u8, upper: bool) -> u8 {
     if value < 10 {
         b'0' + value
@@ -16,6 +17,7 @@ fn digit(value: u8, upper: bool) -> u8 {
 
 /// Returns the quotient and the remainder of `number / by`. A number of 64 bits is divided as a `u64`, which takes a
 /// fraction of the time.
+#[inline]
 fn divided(number: u128, by: u8) -> (u128, u8) {
     match u64::try_from(number) {
         Ok(short) => {
@@ -31,6 +33,7 @@ fn divided(number: u128, by: u8) -> (u128, u8) {
 
 /// Writes the digits of `value` in the base `radix` to the start of `room`, the last digit first, and returns their
 /// number. The value must fit as many bits as `room` has bytes.
+#[inline]
 pub fn put_reversed(value: u128, radix: u8, upper: bool, room: &mut [u8]) -> usize {
     let mut left = value;
     let mut count = 0;
@@ -46,12 +49,14 @@ pub fn put_reversed(value: u128, radix: u8, upper: bool, room: &mut [u8]) -> usi
 
 /// Returns the size of the groups in which `count` digits are written: 0, which means no groups, if `count` is below
 /// `least`, and otherwise `group`.
+#[inline]
 pub fn group_size_for(group: usize, least: usize, count: usize) -> usize {
     if count < least { 0 } else { group }
 }
 
 /// Returns `true` if an underscore is written at a distance of `digits` digits from the end at which groups of `group`
 /// digits begin. If `digits` or `group` is 0, the result is `false`.
+#[inline]
 pub fn ends_group(group: usize, digits: usize) -> bool {
     group > 0 && digits > 0 && digits % group == 0
 }
@@ -59,6 +64,7 @@ pub fn ends_group(group: usize, digits: usize) -> bool {
 /// Writes digits after the first `at` bytes of the slice `out`, with an underscore between groups of `group` digits,
 /// and returns the offset after the written bytes. `digits` contains the last digit first. With `group` 0, no
 /// underscores are written.
+#[inline]
 pub fn put_grouped(out: &mut [u8], at: usize, digits: &[u8], group: usize) -> usize {
     let mut end = at;
     let mut left = digits.len();

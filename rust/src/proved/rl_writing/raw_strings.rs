@@ -6,6 +6,7 @@ use crate::rl_syntax::slice_writer::{put_byte, put_text};
 use crate::rl_syntax::text::split_char;
 
 /// Whether a raw string of the kind may contain the character `c`.
+#[inline]
 fn raw_may_contain(kind: Kind, c: char) -> bool {
     match kind {
         Kind::ByteStr => c != '\r' && c < '\u{80}',
@@ -17,6 +18,7 @@ fn raw_may_contain(kind: Kind, c: char) -> bool {
 /// Returns the number of hashes that a raw string needs so that it doesn't end after the character `c`: 1 after a
 /// quote, one more after each hash that follows a quote directly, and 0 after any other text. `opened` is the result
 /// for the character before `c`.
+#[inline]
 fn hashes_opened(opened: usize, c: char) -> usize {
     match c {
         '"' => 1,
@@ -31,6 +33,7 @@ fn hashes_opened(opened: usize, c: char) -> usize {
 /// Returns `None` if no raw string of the kind can contain the text: if it contains a CR, in a byte string a non-ASCII
 /// character, in a C string a NUL, or if it needs more than 255 hashes (the Rust Reference, sections Raw string
 /// literals, Raw byte string literals, Raw C string literals).
+#[inline]
 pub fn raw_hashes(kind: Kind, text: &str) -> Option<usize> {
     let mut needed: usize = 0;
     let mut opened = 0;
@@ -51,6 +54,7 @@ pub fn raw_hashes(kind: Kind, text: &str) -> Option<usize> {
 ///
 /// Returns `None` if no raw string has this value: the bytes aren't UTF-8, which every literal is, or `raw_hashes`
 /// returns `None` for them.
+#[inline]
 pub fn raw_form(kind: Kind, value: &[u8]) -> Option<(&str, usize)> {
     let Ok(text) = core::str::from_utf8(value) else {
         return None;
@@ -62,6 +66,7 @@ pub fn raw_form(kind: Kind, value: &[u8]) -> Option<(&str, usize)> {
 }
 
 /// Writes `hashes` hashes after the first `at` bytes of the slice `out`, and returns the offset after them.
+#[inline]
 fn put_hashes(out: &mut [u8], at: usize, hashes: usize) -> usize {
     let mut end = at;
     for _ in 0..hashes {
@@ -71,6 +76,7 @@ fn put_hashes(out: &mut [u8], at: usize, hashes: usize) -> usize {
 }
 
 /// Returns the prefix of a raw string of the kind, before its hashes: `r`, `br` or `cr`.
+#[inline]
 fn raw_opener(kind: Kind) -> &'static str {
     match kind {
         Kind::Str => "r",
@@ -85,6 +91,7 @@ fn raw_opener(kind: Kind) -> &'static str {
 ///
 /// Returns the literal's length in bytes: at most that of the text, plus twice the hashes, plus four. `out` must have
 /// room for this length.
+#[inline]
 pub fn write_raw_into(kind: Kind, hashes: usize, text: &str, out: &mut [u8]) -> usize {
     let at = put_text(out, 0, raw_opener(kind));
     let at = put_hashes(out, at, hashes);

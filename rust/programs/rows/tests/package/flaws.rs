@@ -131,7 +131,7 @@ fn check_kind(text: &str, proved: &Proved, expected: Kind, read: [Result<Lit, Pa
             (Err(error), None) => {
                 let found = match proved.kind() {
                     Some(kind) => kind.word(),
-                    None => "text without a reading",
+                    None => "text without a value",
                 };
                 let words = format!("expected {expected}, found {found}");
                 assert_eq!(error.kind().to_string(), words, "{text:?}");
