@@ -4,7 +4,7 @@
     tools/fixing.py PROGRAM        by hand; it prints a line for each case, in 15 s; the status is 1 if one fails
 
 PROGRAM is an `rl_scan` with `--fix`, which must rewrite `1E5` as `1e5` in its default style. A file keeps its permissions to read,
-write and run it, its owner and group if the system allows it, and the links to it. It doesn't keep other names (hard links), setuid
+write and run it, its owner and group, and the links to it. It doesn't keep other names (hard links), setuid
 and similar bits, and extended attributes. Cases that need root, a tmpfs, `strace` or `chattr` are reported as skipped if it is
 missing. No case tests a file that changes between the last check and the rename: that is the one gap.
 """
@@ -137,12 +137,33 @@ def the_owner_stays(folder):
     expect_run(run(path), 0)
     found = path.stat()
     expect((found.st_uid, found.st_gid, stat.S_IMODE(found.st_mode)) == (1234, 2345, 0o640), f"{found}")
-    # The owner is changed to another user, who may not give the file away.
+    return None
+
+
+@case
+def a_file_whose_owner_would_change(folder):
+    if not IS_ROOT:
+        return SKIPPED
     folder.chmod(0o777)
-    path = write(folder / "a.rs", mode=0o666)
+    # The program runs as a user who may write the files, and may not give them to another user or group.
+    for user, group in ((1234, 2345), (NOBODY, 2345), (1234, NOBODY)):
+        path = write(folder / "a.rs", mode=0o666)
+        os.chown(path, user, group)
+        expect_run(run(path, user=NOBODY, group=NOBODY), 2, "its owner or group would change")
+        expect((path.stat().st_uid, path.stat().st_gid) == (user, group), "another owner")
+        expect_files(folder, a_rs=OLD)
+    return None
+
+
+@case
+def a_file_that_the_user_may_not_write(folder):
+    if not IS_ROOT:
+        return SKIPPED
+    folder.chmod(0o777)
+    path = write(folder / "a.rs", mode=0o644)
     os.chown(path, 1234, 2345)
-    expect_run(run(path, user=NOBODY, group=NOBODY), 0)
-    expect((path.stat().st_uid, path.read_bytes()) == (NOBODY, NEW), "another owner, or other bytes")
+    expect_run(run(path, user=NOBODY, group=NOBODY), 2, "permission denied")
+    expect_files(folder, a_rs=OLD)
     return None
 
 

@@ -548,6 +548,8 @@ WRONG = [Wrong(*row) for row in [
      'a path is copied without asking for room'),
     ('rattle_std/fs.rs', "        if !has_room(NAME) {\n            return Some", "        if !has_room(0) {\n            return Some",
      'a name is copied without asking for room'),
+    ('rattle_std/fs.rs', "        self.0.append(append);", "        self.0.write(append).truncate(append);",
+     'a file that is opened at its end becomes empty'),
     ('rattle_std/env.rs', "            return Err(io::Error::of(io::ErrorKind::InvalidData));", "            continue;",
      'an argument that isn\'t UTF-8 is passed over'),
     ('rattle_std/os.rs', "                std::os::unix::fs::OpenOptionsExt::mode(&mut self.0, mode);\n", "                let _ = mode;\n",
