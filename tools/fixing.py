@@ -6,7 +6,8 @@
 PROGRAM is an `rl_scan` with `--fix`, which must rewrite `1E5` as `1e5` in its default style. A file keeps its permissions to read,
 write and run it, its owner and group, and the links to it. It doesn't keep other names (hard links), setuid
 and similar bits, and extended attributes. Cases that need root, a tmpfs, `strace` or `chattr` are reported as skipped if it is
-missing. No case tests a file that changes between the last check and the rename: that is the one gap.
+missing. No case tests a file that changes between the last check and the rename, which are two calls of the system: that is the one
+gap.
 """
 
 import os
@@ -326,6 +327,26 @@ def a_file_that_changed_meanwhile(folder):
     said = call.communicate(timeout=60)[1].decode()
     expect_run((call.returncode, said), 2, "changed since it was read")
     expect_files(folder, a_rs=b"let b = 2;\n")
+
+
+@case
+def a_file_that_changed_while_it_was_compared(folder):
+    # The file is opened to read it, to test whether it may be written, and to compare it. Each close after the first one waits.
+    path = folder / "a.rs"
+    before = strace("-P", path, "-e", "trace=close", "-e", "inject=close:delay_enter=2000000:when=2+")
+    if not before:
+        return SKIPPED
+    write(path)
+    call = subprocess.Popen([*before, PROGRAM, "--fix", path], stdout=subprocess.DEVNULL, stderr=subprocess.PIPE)
+    end = time.monotonic() + 20
+    while not any(each.stat().st_size == len(NEW) for each in folder.glob("a.rs.*")) and time.monotonic() < end:
+        time.sleep(0.01)
+    time.sleep(1)
+    path.write_bytes(b"let b = 1E6;\n")
+    said = call.communicate(timeout=60)[1].decode()
+    expect_run((call.returncode, said), 2, "changed since it was read")
+    expect_files(folder, a_rs=b"let b = 1E6;\n")
+    return None
 
 
 # The system calls of writing a file that are made to fail, each with its error.

@@ -101,12 +101,48 @@ struct Owner {
     group: u32,
 }
 
+/// The data of a file that differ after another program has replaced it or has written to it: its number in the file system, its
+/// length, and the time of its last change in seconds and nanoseconds.
+#[derive(Clone, Copy)]
+struct Stamp {
+    node: u64,
+    len: u64,
+    changed: i64,
+    nanos: i64,
+}
+
 /// Returns an error if the owner or the group of the new file differs from that of the old one.
 fn check_owner(old: Owner, made: Owner) -> Result<(), PathError> {
     if made == old {
         Ok(())
     } else {
         Err(PathError::OwnerChanges)
+    }
+}
+
+/// Returns an error if the data of a file have changed.
+fn check_stamp(before: Stamp, after: Stamp) -> Result<(), PathError> {
+    if after.node == before.node
+        && after.len == before.len
+        && after.changed == before.changed
+        && after.nanos == before.nanos
+    {
+        Ok(())
+    } else {
+        Err(PathError::Changed)
+    }
+}
+
+/// Returns the data by which a change of the file at `path` is detected.
+fn stamp_of<R: Files>(rt: &R, path: &str) -> Result<Stamp, PathError> {
+    match fs::metadata(rt, path) {
+        Ok(about) => Ok(Stamp {
+            node: about.ino(),
+            len: about.len(),
+            changed: about.ctime(),
+            nanos: about.ctime_nsec(),
+        }),
+        Err(e) => Err(error_of(e.kind())),
     }
 }
 
@@ -137,6 +173,8 @@ fn check_unchanged<A: Allocator, R: Files>(
 }
 
 /// Writes the new file and renames it to `path`, if the file at `path` still has the bytes `old`.
+///
+/// The file's number, length and time of change are compared directly before the rename, since another program may write to the file while its bytes are read.
 fn fill_and_rename<A: Allocator, R: Files>(
     rt: &R,
     alloc: A,
@@ -150,7 +188,9 @@ fn fill_and_rename<A: Allocator, R: Files>(
     if let Err(e) = fill(file, new, permissions) {
         return Err(write_error_of(e.kind()));
     }
+    let before = stamp_of(rt, path)?;
     check_unchanged(rt, alloc, path, old)?;
+    check_stamp(before, stamp_of(rt, path)?)?;
     match fs::rename(rt, beside, path) {
         Ok(()) => Ok(()),
         Err(e) => Err(write_error_of(e.kind())),
