@@ -5,9 +5,10 @@
                                         case, in 15 s; the status is 1 if one fails
 
 PROGRAM is an `rl_scan` with `--fix`, which must rewrite `1E5` as `1e5` in its default style. A file keeps its permissions to read,
-write and run it, its owner and group if the system allows it, and the links to it. It doesn't keep other names (hard links), setuid
+write and run it, its owner and group, and the links to it. It doesn't keep other names (hard links), setuid
 and similar bits, and extended attributes. Cases that need root, a tmpfs, `strace` or `chattr` are reported as skipped if it is
-missing. No case tests a file that changes between the last check and the rename: that is the one gap.
+missing. No case tests a file that changes between the last check and the rename, which are two calls of the system: that is the one
+gap.
 """
 
 import os
@@ -119,12 +120,25 @@ class Fixing(unittest.TestCase):
         self.fix(path)
         found = path.stat()
         self.assertEqual((found.st_uid, found.st_gid, stat.S_IMODE(found.st_mode)), (1234, 2345, 0o640))
-        # The owner is changed to another user, who may not give the file away.
+
+    @unittest.skipUnless(IS_ROOT, "not root")
+    def test_a_file_whose_owner_would_change(self):
         self.folder.chmod(0o777)
-        path = self.write(mode=0o666)
+        # The program runs as a user who may write the files, and may not give them to another user or group.
+        for user, group in ((1234, 2345), (NOBODY["user"], 2345), (1234, NOBODY["group"])):
+            path = self.write(mode=0o666)
+            os.chown(path, user, group)
+            self.fix(path, status=2, words="its owner or group would change", **NOBODY)
+            self.assertEqual((path.stat().st_uid, path.stat().st_gid), (user, group))
+            self.expect(a=OLD)
+
+    @unittest.skipUnless(IS_ROOT, "not root")
+    def test_a_file_that_the_user_may_not_write(self):
+        self.folder.chmod(0o777)
+        path = self.write(mode=0o644)
         os.chown(path, 1234, 2345)
-        self.fix(path, **NOBODY)
-        self.assertEqual((path.stat().st_uid, path.read_bytes()), (NOBODY["user"], NEW))
+        self.fix(path, status=2, words="permission denied", **NOBODY)
+        self.expect(a=OLD)
 
     def test_setuid_goes(self):
         path = self.write(mode=0o6755)
@@ -216,17 +230,28 @@ class Fixing(unittest.TestCase):
             self.assertTrue(0 in statuses <= {0, 2}, statuses)
             self.expect(a=LONG_NEW)
 
-    def test_a_file_that_changed_meanwhile(self):
-        before = self.strace("-e", "trace=fsync", "-e", "inject=fsync:delay_enter=2000000")
-        path = self.write()
+    def changed_before(self, before, seconds, path, text):
+        """Writes the text to the file while the program, which runs by the command `before`, waits `seconds` after it wrote the new
+        file. The program must leave the text alone."""
         call = subprocess.Popen([*before, PROGRAM, "--fix", path], stdout=subprocess.DEVNULL, stderr=subprocess.PIPE)
         end = time.monotonic() + 20
         while not any(each.stat().st_size == len(NEW) for each in self.folder.glob("a.rs.*")) and time.monotonic() < end:
             time.sleep(0.01)
-        path.write_bytes(b"let b = 2;\n")
+        time.sleep(seconds)
+        path.write_bytes(text)
         said = call.communicate(timeout=60)[1].decode()
         self.assertEqual((call.returncode, "changed since it was read" in said), (2, True), said)
-        self.expect(a=b"let b = 2;\n")
+        self.expect(a=text)
+
+    def test_a_file_that_changed_meanwhile(self):
+        before = self.strace("-e", "trace=fsync", "-e", "inject=fsync:delay_enter=2000000")
+        self.changed_before(before, 0, self.write(), b"let b = 2;\n")
+
+    def test_a_file_that_changed_while_it_was_compared(self):
+        # The file is opened to read it, to test whether it may be written, and to compare it. Each close after the first one waits.
+        path = self.write()
+        before = self.strace("-P", path, "-e", "trace=close", "-e", "inject=close:delay_enter=2000000:when=2+")
+        self.changed_before(before, 1, path, b"let b = 1E6;\n")
 
     def test_calls_that_fail(self):
         for fails in FAILING:

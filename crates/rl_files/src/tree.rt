@@ -34,6 +34,8 @@ pub enum PathError {
     ReadOnly,
     /// The program has no permission to write in the file's directory.
     DirectoryDenied,
+    /// The file would get another owner or group.
+    OwnerChanges,
     /// Reading failed for another reason.
     ReadFailed,
     /// Writing failed for another reason.
@@ -62,6 +64,7 @@ impl fmt::Display for PathError {
             PathError::NoRoom => write!(f, "no space left"),
             PathError::ReadOnly => write!(f, "read-only file system"),
             PathError::DirectoryDenied => write!(f, "no permission to write in its directory"),
+            PathError::OwnerChanges => write!(f, "its owner or group would change"),
             PathError::ReadFailed => write!(f, "read failed"),
             PathError::WriteFailed => write!(f, "write failed"),
         }

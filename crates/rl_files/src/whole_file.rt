@@ -1,7 +1,7 @@
 //! Replaces a file of the operating system as a whole. After any error, and however the program ends, it has its
 //! old or its new bytes.
 
-ghost use Rattle.std.specs.Prelude.{◌≡◌, IfOk, MatchResult, bit_and, string_bytes};
+ghost use Rattle.std.specs.Prelude.{◌≡◌, ◌≢◌, IfOk, MatchResult, bit_and, string_bytes};
 ghost use Rattle.std.specs.Fs.{permissions_mode, IsReadonly};
 ghost use Rattle.rl_files.specs.Replacements.{path_beside as beside};
 ghost use Rattle.rl_files.specs.SystemErrors.{write_error, create_error};
@@ -103,6 +103,74 @@ fn fill<F: Write + OpenFile>(
     file.sync_all()
 }
 
+/// The owner and the group of a file.
+#[derive(Clone, Copy, PartialEq, Eq)]
+struct Owner {
+    user: u32,
+    group: u32,
+}
+
+/// The data of a file that differ after another program has replaced it or has written to it: its number in the file system, its
+/// length, and the time of its last change in seconds and nanoseconds.
+#[derive(Clone, Copy)]
+struct Stamp {
+    node: u64,
+    len: u64,
+    changed: i64,
+    nanos: i64,
+}
+
+/// Returns an error if the owner or the group of the new file differs from that of the old one.
+fn check_owner(old: Owner, made: Owner) -> Result<(), PathError>
+    ensures { MatchResult result (λ _. made ≡ old)
+        (λ error. (error ≡ PathError.OwnerChanges) × (made ≢ old)) }
+{
+    if made == old {
+        Ok(())
+    } else {
+        Err(PathError::OwnerChanges)
+    }
+}
+
+/// Returns an error if the data of a file have changed.
+fn check_stamp(before: Stamp, after: Stamp) -> Result<(), PathError>
+    ensures { MatchResult result
+        (λ _. (after.node ≡ before.node) × (after.len ≡ before.len) × (after.changed ≡ before.changed)
+        × (after.nanos ≡ before.nanos))
+        (λ error. (error ≡ PathError.Changed) × (after ≢ before)) }
+{
+    if after.node == before.node
+        && after.len == before.len
+        && after.changed == before.changed
+        && after.nanos == before.nanos
+    {
+        Ok(())
+    } else {
+        Err(PathError::Changed)
+    }
+}
+
+/// Returns the data by which a change of the file at `path` is detected.
+fn stamp_of<R: Files>(rt: &R, path: &str) -> Result<Stamp, PathError> {
+    match fs::metadata(rt, path) {
+        Ok(about) => Ok(Stamp {
+            node: about.ino(),
+            len: about.len(),
+            changed: about.ctime(),
+            nanos: about.ctime_nsec(),
+        }),
+        Err(e) => Err(error_of(e.kind())),
+    }
+}
+
+/// Returns an error if the program may not write to the file at `path`. The file is opened, and stays as it is.
+fn check_writable<R: Files>(rt: &R, path: &str) -> Result<(), PathError> {
+    match OpenOptions::new().append(true).open(rt, path) {
+        Ok(_) => Ok(()),
+        Err(e) => Err(write_error_of(e.kind())),
+    }
+}
+
 /// Returns an error if the file at `path` doesn't have the bytes `old`.
 fn check_unchanged<A: Allocator, R: Files>(
     rt: &R,
@@ -122,6 +190,8 @@ fn check_unchanged<A: Allocator, R: Files>(
 }
 
 /// Writes the new file and renames it to `path`, if the file at `path` still has the bytes `old`.
+///
+/// The file's number, length and time of change are compared directly before the rename, since another program may write to the file while its bytes are read.
 fn fill_and_rename<A: Allocator, R: Files>(
     rt: &R,
     alloc: A,
@@ -135,7 +205,9 @@ fn fill_and_rename<A: Allocator, R: Files>(
     if let Err(e) = fill(file, new, permissions) {
         return Err(write_error_of(e.kind()));
     }
+    let before = stamp_of(rt, path)?;
     check_unchanged(rt, alloc, path, old)?;
+    check_stamp(before, stamp_of(rt, path)?)?;
     match fs::rename(rt, beside, path) {
         Ok(()) => Ok(()),
         Err(e) => Err(write_error_of(e.kind())),
@@ -164,21 +236,35 @@ fn metadata_of<R: Files>(rt: &R, path: &str) -> Result<Metadata, PathError> {
     }
 }
 
-/// Sets the group and the owner of a new file to those of the old one. Failures are ignored.
-fn keep_owner<R: Files>(rt: &R, path: &str, about: &Metadata) {
-    let _ = chown(rt, path, None, Some(about.gid()));
-    let _ = chown(rt, path, Some(about.uid()), None);
+/// Returns the owner and the group of a file.
+fn owner_of(about: &Metadata) -> Owner {
+    Owner {
+        user: about.uid(),
+        group: about.gid(),
+    }
+}
+
+/// Sets the group and the owner of a new file to those of the old one. Returns an error if they differ afterwards.
+fn keep_owner<R: Files>(rt: &R, path: &str, old: Owner) -> Result<(), PathError> {
+    let _ = chown(rt, path, None, Some(old.group));
+    let _ = chown(rt, path, Some(old.user), None);
+    match fs::metadata(rt, path) {
+        Ok(about) => check_owner(old, owner_of(&about)),
+        Err(e) => Err(error_of(e.kind())),
+    }
 }
 
 /// Replaces the file at `path` with the bytes `new`. `old` are the bytes of the file when it was read.
 ///
 /// The bytes are written to a new file in the same directory, which is then renamed to `path`. If `path` is a symbolic link, its
-/// target is replaced, and the link stays. The permission bits in `KEPT` stay. Owner and group stay if the system allows it. Other
-/// hard links of the file don't get the new bytes, and other metadata isn't kept.
+/// target is replaced, and the link stays. The permission bits in `KEPT`, the owner and the group stay. Other hard links of the file
+/// don't get the new bytes, and other metadata isn't kept.
 ///
 /// # Errors
 ///
-/// Returns the reason why the file can't be replaced. The file is unchanged then. The new file is removed, unless that fails too.
+/// Returns the reason why the file can't be replaced. It is `PermissionDenied` if the program may not write to the file, and
+/// `OwnerChanges` if the system doesn't allow that the new file gets the owner and the group of the old one. The file is unchanged
+/// then. The new file is removed, unless that fails too.
 pub(crate) fn replace_file<A: Allocator + Copy, R: Files + Alloc>(
     rt: &R,
     alloc: A,
@@ -193,18 +279,21 @@ pub(crate) fn replace_file<A: Allocator + Copy, R: Files + Alloc>(
     };
     let about = metadata_of(rt, real.as_str())?;
     let permissions = kept_permissions(about.permissions())?;
+    check_writable(rt, real.as_str())?;
     let (mut file, beside) = open_beside(rt, alloc, real.as_str())?;
-    keep_owner(rt, beside.as_str(), &about);
-    let done = fill_and_rename(
-        rt,
-        alloc,
-        &mut file,
-        beside.as_str(),
-        real.as_str(),
-        permissions,
-        old,
-        new,
-    );
+    let done = match keep_owner(rt, beside.as_str(), owner_of(&about)) {
+        Ok(()) => fill_and_rename(
+            rt,
+            alloc,
+            &mut file,
+            beside.as_str(),
+            real.as_str(),
+            permissions,
+            old,
+            new,
+        ),
+        Err(why) => Err(why),
+    };
     if done.is_err() {
         let _ = fs::remove_file(rt, beside.as_str());
     }

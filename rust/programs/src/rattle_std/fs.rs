@@ -99,6 +99,12 @@ impl OpenOptions {
         self
     }
 
+    /// Sets whether the file is opened for writing at its end. Nothing is written or created by opening it.
+    pub fn append(&mut self, append: bool) -> &mut OpenOptions {
+        self.0.append(append);
+        self
+    }
+
     /// Sets whether the call creates the file, and fails if the path already exists.
     pub fn create_new(&mut self, create_new: bool) -> &mut OpenOptions {
         self.0.create_new(create_new);

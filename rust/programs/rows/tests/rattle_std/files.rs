@@ -304,6 +304,26 @@ fn made(path: &str) -> String {
     told(options.open(&rt, path).map(|_| "made"))
 }
 
+/// Tests that opening a file at its end neither changes nor creates it.
+#[test]
+fn files_that_are_opened_at_their_end() {
+    let here = directory("end");
+    let path = path_in(&here, "old");
+    fs::write(&path, "ab").expect("the file can be written");
+    let rt = HostRuntime::new();
+    let open = |path: &str| OpenOptions::new().append(true).open(&rt, path);
+    assert_eq!(told(open(&path).map(|_| "opened")), "Ok(\"opened\")");
+    assert_eq!(fs::read(&path).expect("the file is there"), b"ab");
+    let Ok(mut file) = open(&path) else {
+        panic!("{path} opens")
+    };
+    assert_eq!(told(file.write(b"c")), "Ok(1)");
+    assert_eq!(fs::read(&path).expect("the file is there"), b"abc");
+    let new = path_in(&here, "new");
+    assert_eq!(told(open(&new).map(|_| "opened")), MISSING);
+    assert!(!Path::new(&new).exists());
+}
+
 #[test]
 fn files_that_are_made() {
     let here = directory("made");
