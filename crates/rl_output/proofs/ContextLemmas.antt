@@ -14,7 +14,7 @@ use Rattle.std.specs.Prelude.{encode_utf8}
 use Rattle.rl_output.specs.Spots.{IsPositionAt, first_position, next_position, position_after}
 use Rattle.rl_output.specs.declared.line_column.Position.{Position}
 use Rattle.rl_lexer.proofs.ErrorKinds.{char_len}
-use Rattle.rl_output.specs.Contexts.{IsBeforeInLine, has_end, carets, context_lines, ends_line, first_line, is_long, left_out, line_char, line_text, marked_line, marks_below, after_first_line, shown_line, shown_lines}
+use Rattle.rl_output.specs.Contexts.{IsBeforeInLine, has_end, carets, context_lines, ends_line, first_line, is_long, left_out, line_char, line_text, marked_line, after_first_line, shown_line, shown_lines}
 use Rattle.rl_output.proofs.Pieces.{back_utf8, four_parts, five_parts}
 
 -- The first line of the text has been read up to `rest`.
@@ -76,25 +76,6 @@ shown_all rest first new all is none =
     sym (append-nil new) ∙ ap (λ (z : List ℕ). new ++ line_text z) (sym none) ∙ is
 
 -- ---- carets
-
-pub no_caret : (text old new : List ℕ) → (length text == 0) ≡ true → new ≡ old ++ codes "^"
-    → new ≡ old ++ carets (chars text)
-no_caret [] old new none e = e ∙ ap (λ (z : List ℕ). old ++ carets z) (sym chars-nil)
-no_caret (b ∷ bs) old new none e = absurd (false≢true (sym (not_empty (length bs)) ∙ none))
-  where
-    not_empty : (n : ℕ) → (suc n == 0) ≡ false
-    not_empty n = search rules
-
-pub some_carets : (text old new : List ℕ) → (length text == 0) ≡ false → IsUtf8 text
-    → new ≡ old ++ marks_below 94 94 (chars text) → new ≡ old ++ carets (chars text)
-some_carets text old new some utf8 e = go (chars text) refl
-  where
-    go : (cs : List ℕ) → chars text ≡ cs → new ≡ old ++ carets (chars text)
-    go [] none =
-        let empty : text ≡ [] = sym (encodes-chars text utf8) ∙ ap encode_utf8_all none in
-        absurd (false≢true (sym some ∙ ap (λ (z : List ℕ). length z == 0) empty))
-    go (c ∷ cs) is = e ∙ ap (λ (z : List ℕ). old ++ marks_below 94 94 z) is
-        ∙ ap (λ (z : List ℕ). old ++ carets z) (sym is)
 
 -- The line where a range begins, with its carets, is appended in eight parts.
 pub eight_parts : (o a b d e f g h new p q r s t u v w : List ℕ) → a ≡ o ++ p → b ≡ a ++ q → d ≡ b ++ r → e ≡ d ++ s

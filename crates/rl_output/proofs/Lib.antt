@@ -5,6 +5,8 @@ pub mod ColorLemmas
 pub mod JsonStringLemmas
 pub mod GithubLemmas
 pub mod ContextLemmas
+pub mod RowLemmas
+pub mod WidthLemmas
 pub mod LastLines
 mod SpotLines
 pub mod ChoiceLemmas

@@ -1,12 +1,14 @@
 -- The line of a source where a range begins, carets below the range, and lines of context before and after it. Texts are lists of
 -- characters, or of bytes where this is stated.
-use Rattle.std.specs.Prelude.{◌≡◌, ◌⊎◌, ℕ, ◌≤◌, ◌==◌, nat_lt, Bool, false, ◌||◌, ◌&&◌, cond, List, [], ◌∷◌, ◌++◌, codes, encode_utf8_all, if◌then◌else◌, zero, suc}
+use Rattle.std.specs.Prelude.{◌≡◌, ◌⊎◌, ℕ, ◌≤◌, ◌==◌, nat_lt, Bool, false, ◌||◌, ◌&&◌, cond, List, [], ◌∷◌, ◌++◌, codes, encode_utf8_all, if◌then◌else◌, replicate, zero, suc}
 use Prim.Native.Char.{code}
+use Rattle.std.specs.Char.Escape.{escape_default}
 use Rattle.std.specs.List.{count_by, flat_map, list_any}
 use Rattle.rl_syntax.specs.Texts.{begins_char, byte_len}
-use Rattle.rl_files.specs.Visible.{visible_char}
+use Rattle.rl_files.specs.Visible.{needs_escape, visible_char}
 use Rattle.rl_lexer.specs.Sources.{without_byte_order_mark}
 use Rattle.rl_output.specs.Spots.{covered}
+use Rattle.rl_output.specs.Widths.{width}
 
 -- The line ends at `c`: it is an LF, or the CR of a CR LF. `after` is the text after `c`.
 abbrev pub ends_line : ℕ → List ℕ → Bool
@@ -37,18 +39,24 @@ line_char c = cond (c == code "\t") (c ∷ []) (visible_char c)
 abbrev pub line_text : List ℕ → List ℕ
 line_text text = flat_map line_char text
 
--- The text below a shown character of a line: `tab` for a tab, else `mark` once for each character that is shown, including those
--- of an escape.
+-- The text below a shown character of a line: `tab` for a tab, else `mark` once for each column that the character takes. A
+-- character that is shown as an escape takes a column for each character of the escape, which are ASCII.
 abbrev pub mark_below : ℕ → ℕ → ℕ → List ℕ
-mark_below mark tab c = cond (c == code "\t") (tab ∷ []) (flat_map (λ _. mark ∷ []) (visible_char c))
+mark_below mark tab c =
+    cond (c == code "\t") (tab ∷ [])
+    (cond (needs_escape c) (flat_map (λ _. mark ∷ []) (escape_default c)) (replicate (width c) mark))
 
 abbrev pub marks_below : ℕ → ℕ → List ℕ → List ℕ
 marks_below mark tab text = flat_map (mark_below mark tab) text
 
--- Carets below a shown part of a line, or one caret if that part is empty.
+-- The text, or one caret if it is empty.
+abbrev pub or_caret : List ℕ → List ℕ
+or_caret [] = codes "^"
+or_caret (c ∷ cs) = c ∷ cs
+
+-- Carets below a shown part of a line, or one caret if that part takes no column.
 abbrev pub carets : List ℕ → List ℕ
-carets [] = codes "^"
-carets (c ∷ cs) = marks_below (code "^") (code "^") (c ∷ cs)
+carets text = or_caret (marks_below (code "^") (code "^") text)
 
 -- The line is longer than 1,024 bytes.
 abbrev pub is_long : List ℕ → Bool

@@ -8,4 +8,7 @@ pub mod Paths
 pub mod Github
 pub mod Fronts
 pub mod ErrorIds
+pub mod Rows
+pub mod WidthRows
+pub mod Widths
 pub mod Contexts

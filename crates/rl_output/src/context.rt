@@ -1,14 +1,16 @@
 //! Shows the line of a source where a range begins, with carets below the range, and lines of context before and after it.
 
-ghost use Rattle.std.specs.Prelude.{◌≡◌, ◌++◌, ◌∷◌, [], codes, OnOk, string_bytes, encode_utf8_all};
+ghost use Rattle.std.specs.Prelude.{◌≡◌, ◌++◌, ◌∷◌, [], codes, OnOk, replicate, string_bytes, encode_utf8_all};
 ghost use Rattle.std.specs.Char.Escape.{escape_default};
 ghost use Rattle.std.specs.List.{flat_map};
 ghost use Rattle.std.specs.Str.{chars};
 ghost use Rattle.rl_syntax.specs.Texts.{IsTail};
 ghost use Rattle.rl_output.specs.Contexts.{ends_line as is_end, first_line as up_to_end, line_char, line_text, mark_below, marks_below, carets, context_lines, is_long as is_too_long, marked_line, after_first_line as text_after, shown_line, shown_lines};
+ghost use Rattle.rl_output.specs.Widths.{width};
 
 use crate::line_column::front_covered;
 use crate::member::push_ascii;
+use crate::width::width_of;
 use rl_files::{needs_escape, push_visible};
 use rl_syntax::text::{before, begins_with, split_char};
 use std::alloc::{AllocError, Allocator};
@@ -99,8 +101,25 @@ fn push_escape_marks<A: Allocator>(
     Ok(())
 }
 
-/// Appends the text below a shown character of a line: `tab` for a tab, else `mark` once for each character that is shown,
-/// including those of an escape.
+/// Appends `mark` once for each column that the character `c` takes.
+fn push_column_marks<A: Allocator>(
+    out: &mut String<A>,
+    c: char,
+    mark: char,
+) -> Result<(), AllocError>
+    ensures { OnOk result (string_bytes out.new
+        ≡ string_bytes out.old ++ encode_utf8_all (replicate (width c) mark)) }
+{
+    let mut left = width_of(c);
+    while left > 0 {
+        out.push(mark)?;
+        left -= 1;
+    }
+    Ok(())
+}
+
+/// Appends the text below a shown character of a line: `tab` for a tab, else `mark` once for each column that the character takes.
+/// A character that is shown as an escape takes a column for each character of the escape.
 fn push_mark<A: Allocator>(
     out: &mut String<A>,
     c: char,
@@ -117,11 +136,10 @@ fn push_mark<A: Allocator>(
     if needs_escape(c) {
         return push_escape_marks(out, c, mark);
     }
-    out.push(mark)?;
-    Ok(())
+    push_column_marks(out, c, mark)
 }
 
-/// Appends the text below a shown part of a line: `tab` for each tab, and `mark` for each other character that is shown.
+/// Appends the text below a shown part of a line: `tab` for each tab, and `mark` for each other column that the part takes.
 fn push_marks<A: Allocator>(
     out: &mut String<A>,
     text: &str,
@@ -137,15 +155,17 @@ fn push_marks<A: Allocator>(
     Ok(())
 }
 
-/// Appends carets below a shown part of a line, or one caret if that part is empty.
+/// Appends carets below a shown part of a line, or one caret if that part takes no column.
 fn push_carets<A: Allocator>(out: &mut String<A>, text: &str) -> Result<(), AllocError>
     ensures { OnOk result (chars (string_bytes out.new)
         ≡ chars (string_bytes out.old) ++ carets (chars text.now)) }
 {
-    if text.is_empty() {
-        return push_ascii(out, "^");
+    let before = out.len();
+    push_marks(out, text, '^', '^')?;
+    if out.len() > before {
+        return Ok(());
     }
-    push_marks(out, text, '^', '^')
+    push_ascii(out, "^")
 }
 
 /// Whether a line is longer than 1,024 bytes. `before` and `after` are its two parts.
@@ -267,9 +287,9 @@ fn push_whole_context<A: Allocator>(
 /// Appends the line of a source where a range begins, carets below the range, and the lines of context before and after.
 ///
 /// `lines` is the text from the first line of context up to the line where the range begins. `before` is that line before the
-/// range, `rest` the text from the range, and `bytes` the length of the range. The carets end at the end of the line. A tab before
-/// the range is also a tab in the line of carets. A message replaces a line of more than 1,024 bytes. If the range begins in such a
-/// line, only the message is appended.
+/// range, `rest` the text from the range, and `bytes` the length of the range. The carets end at the end of the line. A wide
+/// character has two carets, and a combining mark none. A tab before the range is also a tab in the line of carets. A message
+/// replaces a line of more than 1,024 bytes. If the range begins in such a line, only the message is appended.
 ///
 /// # Errors
 ///

@@ -14,6 +14,9 @@ mod line_column;
 mod member;
 mod path;
 mod place;
+mod rows;
+mod width;
+mod width_rows;
 
 pub use crate::choice::{Matching, Shown, Spelling, names};
 pub use crate::color::{Paint, push_error_word, push_painted};

@@ -132,6 +132,36 @@ fn context_of_what_is_bad() {
     );
 }
 
+/// Carets are below the columns below which rustc 1.95 has them, in each of these lines. The carets are rustc's, below its own copy
+/// of the line. A wide character has two carets or spaces, and a combining mark none. If a mark is alone, it has one caret.
+#[test]
+fn carets_below_wide_characters() {
+    let options = Options {
+        by_line: true,
+        context: Some(LINE),
+        ..bad(Form::Plain, None)
+    };
+    for (line, carets) in [
+        ("let a = \"\u{4f60}\u{597d}\\q\";", "              ^"),
+        ("let b = \"e\u{301}\\q\";", "           ^"),
+        ("let c = \"\u{1100}\u{1161}\u{11a8}\\q\";", "            ^"),
+        ("let d = \"\u{ff8a}\u{ff9d}\u{ff9e}\\q\";", "            ^"),
+        ("let e = \"\u{ff21}\u{ff22}\\q\";", "              ^"),
+        ("let f = \"\u{263a}\u{fe0f}\\q\";", "           ^"),
+        ("let g = \"\u{1f469}\u{1f3fd}\\q\";", "              ^"),
+        ("let h = \"\u{1780}\u{17d8}\\q\";", "              ^"),
+        ("let i = \"\u{2026}\u{3b1}\u{2460}\\q\";", "             ^"),
+        ("let j = \"\\\u{4f60}\u{597d}\";", "          ^^"),
+        ("let k = b\"\\\u{301}\";", "           ^"),
+        ("/* \u{4f60} */ 1u9", "         ^^^"),
+    ] {
+        let shown = printed(options, line);
+        let below = format!("\n    {line}\n    {carets}\n");
+        assert!(shown.ends_with(&below), "{line}: {shown}");
+        assert_eq!(shown.lines().count(), 3);
+    }
+}
+
 /// In a character or byte literal, the suffix `_` is an error in addition to another flaw. These are the seven errors of rustc
 /// 1.95, each at the byte that can't continue a literal. `'ab'` has no suffix.
 #[test]

@@ -4,6 +4,7 @@
 use crate::rattle_std::prelude::{String};
 use crate::rl_output::line_column::front_covered;
 use crate::rl_output::member::push_ascii;
+use crate::rl_output::width::width_of;
 use crate::rl_files::{needs_escape, push_visible};
 use crate::rl_syntax::text::{before, begins_with, split_char};
 use crate::rattle_std::alloc::{AllocError, Allocator};
@@ -79,8 +80,22 @@ fn push_escape_marks<A: Allocator>(
     Ok(())
 }
 
-/// Appends the text below a shown character of a line: `tab` for a tab, else `mark` once for each character that is shown,
-/// including those of an escape.
+/// Appends `mark` once for each column that the character `c` takes.
+fn push_column_marks<A: Allocator>(
+    out: &mut String<A>,
+    c: char,
+    mark: char,
+) -> Result<(), AllocError> {
+    let mut left = width_of(c);
+    while left > 0 {
+        out.push(mark)?;
+        left -= 1;
+    }
+    Ok(())
+}
+
+/// Appends the text below a shown character of a line: `tab` for a tab, else `mark` once for each column that the character takes.
+/// A character that is shown as an escape takes a column for each character of the escape.
 fn push_mark<A: Allocator>(
     out: &mut String<A>,
     c: char,
@@ -94,11 +109,10 @@ fn push_mark<A: Allocator>(
     if needs_escape(c) {
         return push_escape_marks(out, c, mark);
     }
-    out.push(mark)?;
-    Ok(())
+    push_column_marks(out, c, mark)
 }
 
-/// Appends the text below a shown part of a line: `tab` for each tab, and `mark` for each other character that is shown.
+/// Appends the text below a shown part of a line: `tab` for each tab, and `mark` for each other column that the part takes.
 fn push_marks<A: Allocator>(
     out: &mut String<A>,
     text: &str,
@@ -111,12 +125,14 @@ fn push_marks<A: Allocator>(
     Ok(())
 }
 
-/// Appends carets below a shown part of a line, or one caret if that part is empty.
+/// Appends carets below a shown part of a line, or one caret if that part takes no column.
 fn push_carets<A: Allocator>(out: &mut String<A>, text: &str) -> Result<(), AllocError> {
-    if text.is_empty() {
-        return push_ascii(out, "^");
+    let before = out.len();
+    push_marks(out, text, '^', '^')?;
+    if out.len() > before {
+        return Ok(());
     }
-    push_marks(out, text, '^', '^')
+    push_ascii(out, "^")
 }
 
 /// Whether a line is longer than 1,024 bytes. `before` and `after` are its two parts.
@@ -216,9 +232,9 @@ fn push_whole_context<A: Allocator>(
 /// Appends the line of a source where a range begins, carets below the range, and the lines of context before and after.
 ///
 /// `lines` is the text from the first line of context up to the line where the range begins. `before` is that line before the
-/// range, `rest` the text from the range, and `bytes` the length of the range. The carets end at the end of the line. A tab before
-/// the range is also a tab in the line of carets. A message replaces a line of more than 1,024 bytes. If the range begins in such a
-/// line, only the message is appended.
+/// range, `rest` the text from the range, and `bytes` the length of the range. The carets end at the end of the line. A wide
+/// character has two carets, and a combining mark none. A tab before the range is also a tab in the line of carets. A message
+/// replaces a line of more than 1,024 bytes. If the range begins in such a line, only the message is appended.
 ///
 /// # Errors
 ///

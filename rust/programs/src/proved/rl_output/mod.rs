@@ -14,6 +14,9 @@ mod line_column;
 mod member;
 mod path;
 mod place;
+mod rows;
+mod width;
+mod width_rows;
 
 pub use crate::rl_output::choice::{Matching, Shown, Spelling, names};
 pub use crate::rl_output::color::{Paint, push_error_word, push_painted};
