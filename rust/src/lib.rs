@@ -159,7 +159,7 @@ mod write;
 pub mod rendered {
     pub use crate::proved::{
         rl_flaws, rl_lenient, rl_lexer, rl_recovery, rl_settings, rl_strict, rl_style, rl_syntax,
-        rl_types, rl_writing,
+        rl_writing,
     };
 }
 
@@ -171,7 +171,7 @@ use proved::rl_style;
 #[cfg(any(feature = "writers", feature = "style"))]
 use proved::rl_writing;
 #[cfg(feature = "flaws")]
-use proved::{rl_flaws, rl_types};
+use proved::rl_flaws;
 use proved::{rl_lenient, rl_strict, rl_syntax};
 #[cfg(any(feature = "sources", feature = "settings"))]
 use proved::{rl_lexer, rl_settings};
@@ -217,7 +217,7 @@ pub use restyle::{rewrite_source, Edit, Edits};
 /// assert_eq!((error.id(), error.message()), ("out-of-range", "out of its type's range"));
 /// ```
 #[cfg(feature = "flaws")]
-pub use rl_types::TypeError;
+pub use rl_flaws::TypeError;
 pub use segments::{OffsetMap, Segment, SegmentValue, Segments};
 #[cfg(feature = "settings")]
 pub use setting::{Key, SettingError, SettingErrorKind, Settings};

@@ -11,4 +11,7 @@ pub mod FileCuts
 pub mod WholeLemmas
 pub mod FlawLaws
 pub mod PieceLemmas
+pub mod TypeLemmas
+pub mod Exclusions
+pub mod FloatLemmas
 pub mod Theorems

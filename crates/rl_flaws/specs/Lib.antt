@@ -7,4 +7,10 @@ pub mod Flawed
 pub mod Left
 pub mod Pieces
 pub mod PiecesLeft
+pub mod NumberTypes
+pub mod TypeErrors
+pub mod ErrorWords
+pub mod Before
+pub mod FloatRange
+pub mod Mirrors
 pub mod Laws

@@ -1,6 +1,6 @@
 //! Theorems about the definitions. Each function here does nothing: its contract states the theorem.
 
-ghost use Rattle.rl_flaws.specs.Laws.{ATextBeginsAsOneKind, ATokenBeginsAsItsKind, TheFirstFlawExplainsTheText, ATokenHasNoFlaw, TheRestHasOneNextFlaw};
+ghost use Rattle.rl_flaws.specs.Laws.{ATextBeginsAsOneKind, ATokenBeginsAsItsKind, TheFirstFlawExplainsTheText, ATokenHasNoFlaw, TheRestHasOneNextFlaw, ALiteralHasOneTypeError, AnErrorExcludesAType};
 
 /// A text begins as at most one kind of literal. So [`guess_kind`](crate::guess_kind) returns the only possible kind.
 pub fn a_text_begins_as_one_kind()
@@ -27,4 +27,14 @@ pub fn a_token_has_no_flaw()
 /// [`Flaws::next`](crate::Flaws::next) returns this flaw.
 pub fn the_rest_has_one_next_flaw()
     ensures { TheRestHasOneNextFlaw }
+{}
+
+/// Rust has no type for a literal for which [`type_error`](crate::type_error) returns an error.
+pub fn an_error_excludes_a_type()
+    ensures { AnErrorExcludesAType }
+{}
+
+/// At most one reason explains why Rust has no type for a literal: the one that [`type_error`](crate::type_error) returns.
+pub fn a_literal_has_one_type_error()
+    ensures { ALiteralHasOneTypeError }
 {}

@@ -17,7 +17,7 @@ use Rattle.rl_output.specs.declared.choice.Shown.{Shown}
 use Rattle.rl_output.specs.declared.choice.Spelling.{Spelling}
 use Rattle.rl_output.specs.declared.choice.Spelling.TheVariants.{Value}
 use Rattle.rl_output.specs.declared.choice.Shown.TheVariants as shown
-use Rattle.rl_types.specs.declared.before.Edition.{Edition as AnyEdition}
+use Rattle.rl_flaws.specs.declared.before.Edition.{Edition as AnyEdition}
 use Rattle.rl_options.specs.declared.flags.When.TheVariants.{Auto}
 use Rattle.rl_options.specs.declared.arguments.ParsedArguments.{ParsedArguments}
 use Rattle.rl_options.specs.Flags.{colored_form}

@@ -13,7 +13,7 @@ use Rattle.rl_output.specs.declared.choice.Spelling.TheVariants.{Source}
 use Rattle.rl_options.specs.declared.flags.Flag.{Flag}
 use Rattle.rl_options.specs.declared.flags.Flag.TheVariants.{Bad, Hidden, Only, Find, IgnoreCase, WholeWords, Text, Json, Format, Context, Before, After, Color, Bytes, Lines, NoStray, AnySuffix, Edition, AllDirectories, Extension, Exclude, FilesFrom, NoMessages, Count, FilesWithMatches, Nul, Quiet, Files, Stats, Fix, Check, Diff, Style, Macros, Help, Version, Paths}
 use Rattle.rl_options.specs.declared.flags.Format.{Format as AnyFormat}
-use Rattle.rl_types.specs.declared.before.Edition.{Edition as AnyEdition}
+use Rattle.rl_flaws.specs.declared.before.Edition.{Edition as AnyEdition}
 use Rattle.rl_options.specs.declared.flags.Operand.{Operand}
 use Rattle.rl_options.specs.declared.flags.Operand.TheVariants as takes
 use Rattle.rl_options.specs.declared.flags.Next.{Next}

@@ -1,10 +1,10 @@
 //! The command that the command-line arguments of `rl_scan` describe.
 
 use rl_files::Selection;
+use rl_flaws::Edition;
 use rl_output::{Form, Matching, Shown, Spelling};
 pub use rl_restyle::Macros;
 use rl_style::Style;
-use rl_types::Edition;
 
 /// The action of a call of `rl_scan`.
 #[derive(Clone, Copy)]

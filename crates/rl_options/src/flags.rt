@@ -4,7 +4,7 @@ ghost use Rattle.std.specs.Prelude.{◌≡◌, ◌≢◌, ◌++◌, ℕ, List, I
 ghost use Rattle.rl_restyle.specs.declared.edit.Macros.{Macros as AnyMacros};
 ghost use Rattle.rl_options.specs.declared.flags.Flag.{Flag};
 ghost use Rattle.rl_options.specs.declared.flags.Format.{Format as AnyFormat};
-ghost use Rattle.rl_types.specs.declared.before.Edition.{Edition as AnyEdition};
+ghost use Rattle.rl_flaws.specs.declared.before.Edition.{Edition as AnyEdition};
 ghost use Rattle.rl_options.specs.declared.flags.Operand.{Operand};
 ghost use Rattle.rl_options.specs.declared.flags.When.{When};
 ghost use Rattle.rl_options.specs.Flags.{IsCountWord, IsLetter, IsOptionWord, joined_word, taken_by as flag_before, color_word, macros_word, colored_form, recolored as with_colors, edition_word, format_word, formatted, has_other_mark as other_mark, is_more_than_extension, matches_nothing as is_useless};
@@ -13,8 +13,8 @@ ghost use Rattle.rl_options.specs.Words.{IsAllowed, GoesWithFind, GoesWithOption
 
 use crate::arguments::ArgumentError;
 use crate::command::{Action, Command, Macros, Output, PlaceForm, Restyling};
+use rl_flaws::Edition;
 use rl_output::{Form, Matching, Shown, Spelling};
-use rl_types::Edition;
 use std::alloc::Allocator;
 
 /// An option of `rl_scan`.

@@ -12,7 +12,7 @@ use Rattle.rl_sources.specs.declared.options.Options.{Options}
 use Rattle.rl_output.specs.declared.choice.Shown.TheVariants.{Bad}
 use Rattle.rl_style.specs.Recut.{begins_with_code}
 use Rattle.rl_style.specs.declared.style.Style.{Style}
-use Rattle.rl_types.specs.declared.before.Edition.{Edition}
+use Rattle.rl_flaws.specs.declared.before.Edition.{Edition}
 use Rattle.rl_scan.specs.declared.outcome.Outcome.{Outcome}
 use Rattle.rl_scan.specs.declared.outcome.Outcome.TheVariants as outcome
 

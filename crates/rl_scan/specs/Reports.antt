@@ -10,8 +10,8 @@ use Rattle.rl_files.specs.Walks.{path_error_message}
 use Rattle.rl_files.specs.declared.tree.PathError.{PathError}
 use Rattle.rl_files.specs.declared.tree.PathError.TheVariants.{NameNotUtf8}
 use Rattle.rl_lexer.specs.declared.lex_error.LexKind.{LexKind}
-use Rattle.rl_types.specs.declared.before.Edition.{Edition}
-use Rattle.rl_types.specs.declared.before.Edition.TheVariants.{E2021}
+use Rattle.rl_flaws.specs.declared.before.Edition.{Edition}
+use Rattle.rl_flaws.specs.declared.before.Edition.TheVariants.{E2021}
 use Rattle.rl_options.specs.declared.command.Command.{Command}
 use Rattle.rl_options.specs.declared.command.PlaceForm.{PlaceForm}
 use Rattle.rl_options.specs.declared.command.PlaceForm.TheVariants as form

@@ -24,7 +24,7 @@ use Rattle.rl_sources.specs.Findings.{FindsFlaw, IsFlawFinding, IsLimitFinding, 
 use Rattle.rl_output.specs.Spots.{bytes_before}
 use Rattle.rl_sources.specs.Prefixes.{reserved_prefix}
 use Rattle.rl_sources.specs.declared.finding.Wrong.TheVariants as wrong
-use Rattle.rl_types.specs.declared.type_errors.TypeError.{TypeError}
+use Rattle.rl_flaws.specs.declared.type_errors.TypeError.{TypeError}
 use Rattle.rl_sources.specs.Held.{IsCutAt}
 use Rattle.rl_sources.proofs.ReasonLemmas.{flaw_cut, has_place}
 use Rattle.rl_sources.specs.Places.{IsPlaceIn}

@@ -10,9 +10,9 @@ use Rattle.rl_lexer.specs.declared.sources.SourceToken.{SourceToken}
 use Rattle.rl_syntax.specs.Classes.{is_hash}
 use Rattle.rl_output.specs.Spots.{bytes_before}
 use Rattle.rl_output.proofs.Pieces.{back_utf8}
-use Rattle.rl_types.specs.Before.{reserving}
-use Rattle.rl_types.specs.declared.before.Edition.{Edition}
-use Rattle.rl_types.specs.declared.before.Edition.TheVariants.{E2015, E2018, E2021, E2024}
+use Rattle.rl_flaws.specs.Before.{reserving}
+use Rattle.rl_flaws.specs.declared.before.Edition.{Edition}
+use Rattle.rl_flaws.specs.declared.before.Edition.TheVariants.{E2015, E2018, E2021, E2024}
 use Rattle.rl_sources.specs.Prefixes.{back_from, before_prefix, front_up_to, is_of_prefix, prefix_start, reserved_prefix}
 use Rattle.rl_sources.specs.Steps.{BeginsRest}
 

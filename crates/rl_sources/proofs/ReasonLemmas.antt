@@ -24,9 +24,9 @@ use Rattle.rl_program.proofs.LineLemmas.{pushed}
 use Rattle.rl_strict.specs.FileTexts.{ExplainsInFile}
 use Rattle.rl_output.specs.ErrorIds.{error_id}
 use Rattle.rl_sources.specs.Held.{IsCutAt}
-use Rattle.rl_types.specs.ErrorWords.{type_error_id, type_error_message}
-use Rattle.rl_types.specs.declared.type_errors.TypeError.{TypeError}
-use Rattle.rl_types.specs.declared.type_errors.TypeError.TheVariants.{QuotedSuffix, UnknownSuffix, FloatSuffix, BasedFloat as BasedFloatSuffix, OutOfRange}
+use Rattle.rl_flaws.specs.ErrorWords.{type_error_id, type_error_message}
+use Rattle.rl_flaws.specs.declared.type_errors.TypeError.{TypeError}
+use Rattle.rl_flaws.specs.declared.type_errors.TypeError.TheVariants.{QuotedSuffix, UnknownSuffix, FloatSuffix, BasedFloat as BasedFloatSuffix, OutOfRange}
 use Rattle.rl_sources.specs.declared.finding.Finding.{Finding}
 use Rattle.rl_sources.specs.declared.finding.Reason.{Reason}
 use Rattle.rl_sources.specs.declared.finding.Reason.TheVariants as reason

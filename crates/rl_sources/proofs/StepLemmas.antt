@@ -36,12 +36,12 @@ use Rattle.rl_sources.specs.Scans.{IsPicked, IsPlacedLine, AreReasonLines, IsHel
 use Rattle.rl_sources.specs.Steps.{LooksForFlaws}
 use Rattle.rl_sources.specs.Findings.{FindsFlaw, FindsNoFlaw, HasFoundError, HasFoundType, IsBad, IsFoundIn, IsRight, IsWrong}
 use Rattle.rl_output.specs.Spots.{bytes_before}
-use Rattle.rl_types.specs.Before.{may_negate}
-use Rattle.rl_types.specs.TypeErrors.{HasType, HasTypeError}
+use Rattle.rl_flaws.specs.Before.{may_negate}
+use Rattle.rl_flaws.specs.TypeErrors.{HasType, HasTypeError}
 use Rattle.rl_sources.specs.declared.finding.Wrong.{Wrong}
 use Rattle.rl_sources.specs.declared.finding.Wrong.TheVariants as wrong
-use Rattle.rl_types.specs.declared.type_errors.TypeError.{TypeError}
-use Rattle.rl_types.proofs.Exclusions.{no_both}
+use Rattle.rl_flaws.specs.declared.type_errors.TypeError.{TypeError}
+use Rattle.rl_flaws.proofs.Exclusions.{no_both}
 use Rattle.rl_strict.specs.Limits.{IsFloatBySuffix}
 use Rattle.rl_strict.proofs.FileStrings.{signed_same}
 use Rattle.rl_strict.proofs.LimitLemmas.{read_within}

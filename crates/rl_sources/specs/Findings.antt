@@ -6,9 +6,9 @@ use Rattle.rl_lenient.specs.Founds.{IsFound, suffix_in}
 use Rattle.rl_lenient.specs.declared.found.Found.{Found}
 use Rattle.rl_strict.specs.Limits.{IsFloatBySuffix}
 use Rattle.rl_strict.specs.StrictShapes.{IsToken}
-use Rattle.rl_types.specs.Before.{may_negate, reserved}
-use Rattle.rl_types.specs.TypeErrors.{HasTypeError, HasType}
-use Rattle.rl_types.specs.declared.type_errors.TypeError.{TypeError}
+use Rattle.rl_flaws.specs.Before.{may_negate, reserved}
+use Rattle.rl_flaws.specs.TypeErrors.{HasTypeError, HasType}
+use Rattle.rl_flaws.specs.declared.type_errors.TypeError.{TypeError}
 use Rattle.rl_sources.specs.declared.options.Options.{Options}
 use Rattle.rl_sources.specs.declared.finding.Wrong.{Wrong}
 use Rattle.rl_sources.specs.declared.finding.Wrong.TheVariants as wrong
@@ -20,7 +20,7 @@ use Rattle.rl_strict.specs.LineEnds.{lf_text}
 use Rattle.rl_flaws.specs.BadPieces.{is_flaw_of_unit}
 use Rattle.rl_flaws.specs.Flawed.{FlawsState, GivesFlaw}
 use Rattle.rl_flaws.specs.declared.invalid_piece.InvalidPiece.{InvalidPiece}
-use Rattle.rl_types.specs.ErrorWords.{type_error_id, type_error_message}
+use Rattle.rl_flaws.specs.ErrorWords.{type_error_id, type_error_message}
 use Rattle.rl_sources.specs.declared.finding.Finding.{Finding}
 use Rattle.rl_sources.specs.declared.finding.Reason.{Reason}
 use Rattle.rl_sources.specs.declared.finding.Reason.TheVariants as reason

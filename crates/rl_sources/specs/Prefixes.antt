@@ -2,9 +2,9 @@
 use Rattle.std.specs.Prelude.{◌==◌, ℕ, Bool, cond, ◌||◌, List, [], ◌∷◌, drop, length, reverse, Option, Some}
 use Rattle.std.specs.Char.{is_ascii_alphanumeric}
 use Rattle.rl_syntax.specs.Classes.{is_hash}
-use Rattle.rl_types.specs.Before.{reserving}
-use Rattle.rl_types.specs.declared.before.Edition.{Edition}
-use Rattle.rl_types.specs.declared.before.Edition.TheVariants.{E2021}
+use Rattle.rl_flaws.specs.Before.{reserving}
+use Rattle.rl_flaws.specs.declared.before.Edition.{Edition}
+use Rattle.rl_flaws.specs.declared.before.Edition.TheVariants.{E2021}
 
 -- The byte may be part of a reserved prefix's word: an ASCII letter or digit, or `_`.
 abbrev pub is_of_prefix : ℕ → Bool

@@ -46,7 +46,7 @@ use Rattle.rl_sources.specs.declared.finding.Reason.{Reason}
 use Rattle.rl_sources.specs.declared.finding.Reason.TheVariants as reason
 use Rattle.rl_sources.specs.declared.finding.Wrong.TheVariants as wrong
 use Rattle.rl_sources.specs.Prefixes.{reserved_prefix}
-use Rattle.rl_types.specs.declared.type_errors.TypeError.{TypeError}
+use Rattle.rl_flaws.specs.declared.type_errors.TypeError.{TypeError}
 use Rattle.rl_lenient.specs.declared.found.Found.{Found}
 use Rattle.std.specs.Str.{chars}
 use Rattle.rl_files.specs.Globs.{borrowed_texts}

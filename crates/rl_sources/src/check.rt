@@ -9,11 +9,11 @@ ghost use Rattle.rl_sources.specs.Steps.{LooksForFlaws};
 
 use crate::finding::Wrong;
 use crate::options::Options;
+use rl_flaws::{TypeError, may_be_negated, type_error};
 use rl_lenient::Found;
 use rl_output::Shown;
 use rl_strict::{Flaw, LineEnds, explain_value, read};
 use rl_syntax::Kind;
-use rl_types::{TypeError, may_be_negated, type_error};
 
 /// Whether literals are checked for errors: if `options` request the reasons of errors, or only invalid literals.
 fn looks_for_flaws(options: &Options<'_>) -> bool

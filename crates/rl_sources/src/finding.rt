@@ -3,8 +3,8 @@
 ghost use Rattle.std.specs.Prelude.{◌≡◌};
 ghost use Rattle.rl_sources.specs.Findings.{reason_id, reason_message};
 
+use rl_flaws::TypeError;
 use rl_strict::{Flaw, FlawKind};
-use rl_types::TypeError;
 
 /// The reason why a literal is invalid.
 #[derive(Clone, Copy)]

@@ -16,10 +16,9 @@ use crate::literal::Literal;
 use crate::options::Options;
 use crate::prefix::with_prefix;
 use crate::reason::push_finding;
-use rl_flaws::{Flaws, InvalidPiece, is_flaw_of_unit};
+use rl_flaws::{Flaws, InvalidPiece, TypeError, is_flaw_of_unit};
 use rl_output::Places;
 use rl_strict::{Flaw, FlawKind, LineEnds};
-use rl_types::TypeError;
 use std::alloc::{AllocError, Allocator};
 
 /// Returns the finding of a flaw in the literal `text`. The displayed text is the invalid escape or character, or the whole literal

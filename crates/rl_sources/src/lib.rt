@@ -23,7 +23,7 @@ pub use crate::place::displayed_place;
 pub use crate::reason::push_source_error;
 pub use crate::scan_error::ScanError;
 pub use crate::scanner::scan;
+pub use rl_flaws::Edition;
 pub use rl_output::{
     Context, Form, Matching, Paint, Place, Shown, Spelling, is_json, names, push_painted,
 };
-pub use rl_types::Edition;

@@ -3,8 +3,8 @@
 ghost use Rattle.std.specs.Prelude.{◌≡◌};
 ghost use Rattle.rl_sources.specs.Options.{ends_at_strays as strays_end, finds_strays as strays_found};
 
+use rl_flaws::Edition;
 use rl_output::{Context, Form, Matching, Shown, Spelling};
-use rl_types::Edition;
 
 /// The options of a scan, which lists the literals of a source.
 #[derive(Clone, Copy)]
@@ -43,7 +43,7 @@ pub struct Options<'a> {
 impl Default for Options<'_> {
     ghost use Rattle.std.specs.Prelude.{◌≡◌, [], None, false};
     ghost use Rattle.rl_output.specs.declared.form.Form.TheVariants.{Plain};
-    ghost use Rattle.rl_types.specs.declared.before.Edition.TheVariants.{E2021};
+    ghost use Rattle.rl_flaws.specs.declared.before.Edition.TheVariants.{E2021};
     ghost use Rattle.rl_output.specs.declared.choice.Shown.TheVariants.{All};
     ghost use Rattle.rl_output.specs.declared.choice.Spelling.TheVariants.{Value};
 

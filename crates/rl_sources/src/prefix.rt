@@ -7,9 +7,9 @@ ghost use Rattle.rl_output.specs.Spots.{bytes_before};
 ghost use Rattle.rl_sources.specs.Prefixes.{front_up_to, is_of_prefix, prefix_start, reserved_prefix};
 ghost use Rattle.rl_sources.specs.Steps.{BeginsRest};
 
+use rl_flaws::{Edition, reserved_from};
 use rl_output::Places;
 use rl_tokens::SourceToken;
-use rl_types::{Edition, reserved_from};
 
 /// Returns the bytes without the `#` characters at their end.
 fn before_hashes(bytes: &[u8]) -> &[u8]

@@ -12,8 +12,7 @@ mod proved;
 pub mod rattle_std;
 
 use navyspindle::rendered::{
-    rl_flaws, rl_lenient, rl_lexer, rl_settings, rl_strict, rl_style, rl_syntax, rl_types,
-    rl_writing,
+    rl_flaws, rl_lenient, rl_lexer, rl_settings, rl_strict, rl_style, rl_syntax, rl_writing,
 };
 #[cfg(not(feature = "__rendered"))]
 use proved::{

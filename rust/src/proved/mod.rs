@@ -14,7 +14,5 @@ pub mod rl_strict;
 #[cfg(feature = "style")]
 pub mod rl_style;
 pub mod rl_syntax;
-#[cfg(feature = "flaws")]
-pub mod rl_types;
 #[cfg(any(feature = "writers", feature = "style"))]
 pub mod rl_writing;

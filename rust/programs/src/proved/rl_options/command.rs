@@ -2,10 +2,10 @@
 //! The command that the command-line arguments of `rl_scan` describe.
 
 use crate::rl_files::Selection;
+use crate::rl_flaws::Edition;
 use crate::rl_output::{Form, Matching, Shown, Spelling};
 pub use crate::rl_restyle::Macros;
 use crate::rl_style::Style;
-use crate::rl_types::Edition;
 
 /// The action of a call of `rl_scan`.
 #[derive(Clone, Copy)]

@@ -3,8 +3,8 @@
 
 use crate::rl_options::arguments::ArgumentError;
 use crate::rl_options::command::{Action, Command, Macros, Output, PlaceForm, Restyling};
+use crate::rl_flaws::Edition;
 use crate::rl_output::{Form, Matching, Shown, Spelling};
-use crate::rl_types::Edition;
 use crate::rattle_std::alloc::Allocator;
 
 /// An option of `rl_scan`.

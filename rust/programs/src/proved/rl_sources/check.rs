@@ -3,11 +3,11 @@
 
 use crate::rl_sources::finding::Wrong;
 use crate::rl_sources::options::Options;
+use crate::rl_flaws::{TypeError, may_be_negated, type_error};
 use crate::rl_lenient::Found;
 use crate::rl_output::Shown;
 use crate::rl_strict::{Flaw, LineEnds, explain_value, read};
 use crate::rl_syntax::Kind;
-use crate::rl_types::{TypeError, may_be_negated, type_error};
 
 /// Whether literals are checked for errors: if `options` request the reasons of errors, or only invalid literals.
 fn looks_for_flaws(options: &Options<'_>) -> bool {

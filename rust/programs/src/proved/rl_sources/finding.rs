@@ -1,8 +1,8 @@
 // Rendered from crates/rl_sources/src/finding.rt by tools/render, which erases contracts: change that file, and render anew.
 //! The errors of literals in a Rust source, and their byte ranges.
 
+use crate::rl_flaws::TypeError;
 use crate::rl_strict::{Flaw, FlawKind};
-use crate::rl_types::TypeError;
 
 /// The reason why a literal is invalid.
 #[derive(Clone, Copy)]

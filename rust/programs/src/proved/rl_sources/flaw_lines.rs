@@ -7,10 +7,9 @@ use crate::rl_sources::literal::Literal;
 use crate::rl_sources::options::Options;
 use crate::rl_sources::prefix::with_prefix;
 use crate::rl_sources::reason::push_finding;
-use crate::rl_flaws::{Flaws, InvalidPiece, is_flaw_of_unit};
+use crate::rl_flaws::{Flaws, InvalidPiece, TypeError, is_flaw_of_unit};
 use crate::rl_output::Places;
 use crate::rl_strict::{Flaw, FlawKind, LineEnds};
-use crate::rl_types::TypeError;
 use crate::rattle_std::alloc::{AllocError, Allocator};
 
 /// Returns the finding of a flaw in the literal `text`. The displayed text is the invalid escape or character, or the whole literal

@@ -23,7 +23,7 @@ pub use crate::rl_sources::place::displayed_place;
 pub use crate::rl_sources::reason::push_source_error;
 pub use crate::rl_sources::scan_error::ScanError;
 pub use crate::rl_sources::scanner::scan;
+pub use crate::rl_flaws::Edition;
 pub use crate::rl_output::{
     Context, Form, Matching, Paint, Place, Shown, Spelling, is_json, names, push_painted,
 };
-pub use crate::rl_types::Edition;

@@ -1,8 +1,8 @@
 // Rendered from crates/rl_sources/src/options.rt by tools/render, which erases contracts: change that file, and render anew.
 //! The options of a scan, which lists the literals of a source.
 
+use crate::rl_flaws::Edition;
 use crate::rl_output::{Context, Form, Matching, Shown, Spelling};
-use crate::rl_types::Edition;
 
 /// The options of a scan, which lists the literals of a source.
 #[derive(Clone, Copy)]

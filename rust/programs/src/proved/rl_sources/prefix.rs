@@ -1,9 +1,9 @@
 // Rendered from crates/rl_sources/src/prefix.rt by tools/render, which erases contracts: change that file, and render anew.
 //! The reserved prefix of a literal: a word or hashes right before it that the edition reserves.
 
+use crate::rl_flaws::{Edition, reserved_from};
 use crate::rl_output::Places;
 use crate::rl_tokens::SourceToken;
-use crate::rl_types::{Edition, reserved_from};
 
 /// Returns the bytes without the `#` characters at their end.
 fn before_hashes(bytes: &[u8]) -> &[u8] {

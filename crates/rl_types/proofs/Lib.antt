@@ -1,4 +1,0 @@
-pub mod TypeLemmas
-pub mod Exclusions
-pub mod FloatLemmas
-pub mod Theorems

@@ -1,5 +1,0 @@
-use Rattle.rl_types.proofs.Theorems.{a_literal_has_one_type_error}
-use Rattle.rl_types.proofs.laws.a_literal_has_one_type_error.Goals as goal
-
-pub returns : goal.returns
-returns c = a_literal_has_one_type_error
