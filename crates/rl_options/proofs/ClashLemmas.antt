@@ -1,6 +1,6 @@
 -- Lemmas about the first error of options that contradict each other.
 use Rattle.rl_syntax.proofs.Common.{Bool, List, [], false, true, inl, inr, ◌++◌, ◌∷◌, ◌≡◌}
-use Rattle.rl_options.specs.declared.arguments.ArgumentError.{ArgumentError}
+use Rattle.rl_options.specs.declared.argument_error.ArgumentError.{ArgumentError}
 use Rattle.rl_options.specs.Wishes.{Wishes}
 use Rattle.rl_options.specs.Clashes.{IsFirstClash, PrintTogether, RestyleTogether, printing_clashes, restyling_clashes}
 

@@ -9,7 +9,7 @@ use Rattle.rl_options.specs.declared.flags.Operand.{Operand}
 use Rattle.rl_options.specs.declared.flags.Operand.TheVariants as takes
 use Rattle.rl_options.specs.declared.flags.Next.{Next}
 use Rattle.rl_options.specs.declared.flags.Next.TheVariants as next
-use Rattle.rl_options.specs.declared.arguments.ArgumentError.{ArgumentError}
+use Rattle.rl_options.specs.declared.argument_error.ArgumentError.{ArgumentError}
 use Rattle.rl_options.specs.Flags.{IsLetter, taken_by}
 use Rattle.rl_options.specs.Wishes.{Wishes}
 use Rattle.rl_options.specs.Words.{AreLetters, AreRejectedLetters, IsAdded, IsRejectedFlag, IsRejectedJoined, IsTaken, LastLetter, LaterLetter, Letter, LetterAndText, GoesWithOptions, NamesLetter, NoLetters, RejectedLetter, RejectedText, StrangeLetter, next_after}

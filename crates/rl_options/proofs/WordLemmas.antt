@@ -6,7 +6,7 @@ use Rattle.std.specs.Str.Pattern.{FindsTextPrefix}
 use Rattle.rl_options.specs.declared.flags.Next.{Next}
 use Rattle.rl_options.specs.declared.flags.Operand.{Operand}
 use Rattle.rl_options.specs.declared.flags.Operand.TheVariants.{Kinds, Text, Color, Extension, Pattern, List as Names, Edition, Format, Around, Before, After, Style, Macros}
-use Rattle.rl_options.specs.declared.arguments.ArgumentError.{ArgumentError}
+use Rattle.rl_options.specs.declared.argument_error.ArgumentError.{ArgumentError}
 use Rattle.rl_options.specs.Flags.{IsCountWord, joined_word}
 use Rattle.rl_options.specs.Wishes.{Wishes}
 use Rattle.rl_options.specs.Words.{IsStep, AreSteps, AskForWishes, AskSoFar, Asks, CannotAsk, IsRejectedWord, AreRejected}

@@ -12,8 +12,8 @@ use Rattle.rl_output.specs.Forms.{has_extents}
 use Rattle.rl_output.specs.declared.form.Form.{Form}
 use Rattle.rl_output.specs.declared.choice.Spelling.{Spelling}
 use Rattle.rl_output.specs.declared.choice.Spelling.TheVariants.{Value, Source}
-use Rattle.rl_options.specs.declared.arguments.ArgumentError.{ArgumentError}
-use Rattle.rl_options.specs.declared.arguments.ArgumentError.TheVariants.{TextlessKinds, ObjectsOfPaths, StatsOfPaths, RestylesAlone, SumsOfCheck, StyleAlone, MacrosAlone, SuffixAlone, EditionAlone}
+use Rattle.rl_options.specs.declared.argument_error.ArgumentError.{ArgumentError}
+use Rattle.rl_options.specs.declared.argument_error.ArgumentError.TheVariants.{TextlessKinds, ObjectsOfPaths, StatsOfPaths, RestylesAlone, SumsOfCheck, StyleAlone, MacrosAlone, SuffixAlone, EditionAlone}
 use Rattle.rl_output.specs.Choices.{Names, words_of}
 use Rattle.rl_options.specs.Wishes.{AllWanted, BadWanted, HiddenWanted, OnlyWanted, Wanted, Wishes}
 

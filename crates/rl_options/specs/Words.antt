@@ -19,8 +19,8 @@ use Rattle.rl_options.specs.declared.flags.Operand.TheVariants as takes
 use Rattle.rl_options.specs.declared.flags.Next.{Next}
 use Rattle.rl_options.specs.declared.flags.Next.TheVariants as next
 use Rattle.rl_options.specs.declared.flags.When.{When}
-use Rattle.rl_options.specs.declared.arguments.ArgumentError.{ArgumentError}
-use Rattle.rl_options.specs.declared.arguments.ArgumentError.TheVariants.{Memory, UnknownOption, UnknownLetter, NoValue, UnknownKind, NoKinds, TwoChoices, NoText, EmptyText, BadAndFind, TextlessKinds, ObjectsOfPaths, StatsOfPaths, TwoRestylings, RestylesAlone, SumsOfCheck, StyleAlone, MacrosAlone, SuffixAlone, EditionAlone, NoStyle, NoMacros, UnknownMacros, NoColor, UnknownColor, NoExtension, NoPattern, EmptyPattern, OtherPattern, UselessPattern, UnknownExtension, NoList, NoEdition, UnknownEdition, NoFormat, UnknownFormat, NoCount, UnknownCount}
+use Rattle.rl_options.specs.declared.argument_error.ArgumentError.{ArgumentError}
+use Rattle.rl_options.specs.declared.argument_error.ArgumentError.TheVariants.{Memory, UnknownOption, UnknownLetter, NoValue, UnknownKind, NoKinds, TwoChoices, NoText, EmptyText, BadAndFind, TextlessKinds, ObjectsOfPaths, StatsOfPaths, TwoRestylings, RestylesAlone, SumsOfCheck, StyleAlone, MacrosAlone, SuffixAlone, EditionAlone, NoStyle, NoMacros, UnknownMacros, NoColor, UnknownColor, NoExtension, NoPattern, EmptyPattern, OtherPattern, UselessPattern, UnknownExtension, NoList, NoEdition, UnknownEdition, NoFormat, UnknownFormat, NoCount, UnknownCount}
 use Rattle.rl_options.specs.Meant.{IsMeant, option_part}
 use Rattle.rl_options.specs.Flags.{AreKindWords, IsCountWord, IsLetter, IsOptionWord, IsSide, IsUnknownKind, color_word, colored_form, edition_word, format_word, formatted, has_other_mark, is_more_than_extension, matches_nothing, is_path_word, joined_word, macros_word, recolored, taken_by}
 use Rattle.rl_options.specs.Wishes.{AllWanted, BadWanted, HiddenWanted, OnlyWanted, Wishes, first_wishes}

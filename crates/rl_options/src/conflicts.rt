@@ -4,7 +4,7 @@ ghost use Rattle.std.specs.Prelude.{◌≡◌, ◌↔◌, ℕ, List, [], IfNone,
 ghost use Rattle.rl_options.specs.Wishes.{wanted_of, wishes_of};
 ghost use Rattle.rl_options.specs.Clashes.{GoTogether, HasTextKind, IsFirstClash, JudgeTogether, MayHold, PrintTogether, RestyleTogether, asks_context as asks, lists_files as lists, picks_literals as picks, says_printed, has_needless_edition as needless_edition, has_needless_macros as needless_macros, has_needless_style as needless_style, has_needless_suffix as needless_suffix, wants_bad as bad_wanted, has_no_sums as no_sums, restyles_and_prints as with_printing, restyles_and_sums as with_sums, spells_lines as spells, prints_no_objects as no_objects, sums_lines as sums, printing_clashes, restyling_clashes, judging_clashes, clashes};
 
-use crate::arguments::ArgumentError;
+use crate::argument_error::ArgumentError;
 use crate::command::{Action, Command, Output, Restyling};
 use rl_output::{Shown, Spelling, has_extents, names};
 use std::alloc::Allocator;

@@ -11,7 +11,7 @@ ghost use Rattle.rl_options.specs.Flags.{IsCountWord, IsLetter, IsOptionWord, jo
 ghost use Rattle.rl_options.specs.Wishes.{wishes_of};
 ghost use Rattle.rl_options.specs.Words.{IsAllowed, GoesWithFind, GoesWithOptions, RestylesOnce, IsRejectedFlag, with_flag as flagged, next_after as follows};
 
-use crate::arguments::ArgumentError;
+use crate::argument_error::ArgumentError;
 use crate::command::{Action, Command, Macros, Output, PlaceForm, Restyling};
 use rl_flaws::Edition;
 use rl_output::{Form, Matching, Shown, Spelling};

@@ -2,6 +2,7 @@
 //! paths or contain the rules of a style.
 #![tactic(auto)]
 
+mod argument_error;
 mod arguments;
 mod command;
 mod conflicts;
@@ -12,7 +13,8 @@ mod rules;
 mod suggestion;
 mod visible;
 
-pub use crate::arguments::{ArgumentError, ParsedArguments, parse_arguments};
+pub use crate::argument_error::ArgumentError;
+pub use crate::arguments::{ParsedArguments, parse_arguments};
 pub use crate::command::{Action, Command, Console, Macros, Output, PlaceForm, Restyling};
 pub use crate::conflicts::{asks_context, lists_files};
 pub use crate::help::{HELP, VERSION};

@@ -15,7 +15,7 @@ use Rattle.rl_options.specs.declared.command.Action.{Action}
 use Rattle.rl_options.specs.declared.command.Action.TheVariants.{Scan, Help, Version, Files}
 use Rattle.rl_options.specs.declared.command.Command.{Command}
 use Rattle.rl_options.specs.declared.command.Console.{Console}
-use Rattle.rl_options.specs.declared.arguments.ArgumentError.{ArgumentError}
+use Rattle.rl_options.specs.declared.argument_error.ArgumentError.{ArgumentError}
 use Rattle.rl_scan.specs.declared.exit.CallError.{CallError}
 use Rattle.rl_scan.specs.declared.exit.CallError.TheVariants.{NoArguments, Word, Walk, List as NoList, Style as NoStyle, NoFile, Write}
 use Rattle.rl_style.specs.declared.style.Style.{Style}

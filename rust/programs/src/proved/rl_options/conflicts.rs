@@ -1,7 +1,7 @@
 // Rendered from crates/rl_options/src/conflicts.rt by tools/render, which erases contracts: change that file, and render anew.
 //! Finds options of a command line that contradict each other.
 
-use crate::rl_options::arguments::ArgumentError;
+use crate::rl_options::argument_error::ArgumentError;
 use crate::rl_options::command::{Action, Command, Output, Restyling};
 use crate::rl_output::{Shown, Spelling, has_extents, names};
 use crate::rattle_std::alloc::Allocator;

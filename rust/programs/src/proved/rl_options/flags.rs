@@ -1,7 +1,7 @@
 // Rendered from crates/rl_options/src/flags.rt by tools/render, which erases contracts: change that file, and render anew.
 //! The options of the program `rl_scan`, and their values.
 
-use crate::rl_options::arguments::ArgumentError;
+use crate::rl_options::argument_error::ArgumentError;
 use crate::rl_options::command::{Action, Command, Macros, Output, PlaceForm, Restyling};
 use crate::rl_flaws::Edition;
 use crate::rl_output::{Form, Matching, Shown, Spelling};

@@ -2,6 +2,7 @@
 //! The command line of `rl_scan`, which prints the literals of Rust sources. Parses its arguments, and reads the files that list
 //! paths or contain the rules of a style.
 
+mod argument_error;
 mod arguments;
 mod command;
 mod conflicts;
@@ -12,7 +13,8 @@ mod rules;
 mod suggestion;
 mod visible;
 
-pub use crate::rl_options::arguments::{ArgumentError, ParsedArguments, parse_arguments};
+pub use crate::rl_options::argument_error::ArgumentError;
+pub use crate::rl_options::arguments::{ParsedArguments, parse_arguments};
 pub use crate::rl_options::command::{Action, Command, Console, Macros, Output, PlaceForm, Restyling};
 pub use crate::rl_options::conflicts::{asks_context, lists_files};
 pub use crate::rl_options::help::{HELP, VERSION};

@@ -1,0 +1,232 @@
+//! The errors in the command-line arguments of the program `rl_scan`.
+
+use std::alloc::{AllocError, Allocator, Global};
+use std::fmt;
+
+/// An error in the command-line arguments of `rl_scan`.
+#[derive(Drop)]
+pub enum ArgumentError<A: Allocator = Global> {
+    /// An allocation failed.
+    Memory,
+    /// The option is unknown. The fields are the argument, and the option that was likely meant.
+    UnknownOption(String<A>, Option<&'static str>),
+    /// A letter in a group of short options is unknown, as `x` in `-ix`. The fields are `-` and the letter, the whole argument, and
+    /// the option that was likely meant.
+    UnknownLetter(String<A>, String<A>, Option<&'static str>),
+    /// The argument gives a value to an option that has no value, as `--bad=1`. The field is the option.
+    NoValue(String<A>),
+    /// `--only` names an unknown kind of literal.
+    UnknownKind(String<A>),
+    /// `--only` is the last argument, without its list of kinds.
+    NoKinds,
+    /// `--bad`, `--invisible` and `--only` are combined or repeated.
+    TwoChoices,
+    /// `--find` or `-e` is the last argument, without its text.
+    NoText,
+    /// The text of `--find` is empty.
+    EmptyText,
+    /// `--find` is combined with `--bad` or `--invisible`.
+    BadAndFind,
+    /// `--find` is combined with an `--only` list that names only kinds whose values contain no text, as numbers.
+    TextlessKinds,
+    /// JSON objects or GitHub annotations are requested, but the output is paths or counts and not lines.
+    ObjectsOfPaths,
+    /// `--stats` is combined with `--files`, which lists files and reads none.
+    StatsOfPaths,
+    /// `--fix`, `--check` and `--diff` are combined or repeated.
+    TwoRestylings,
+    /// `--fix`, `--check` or `--diff` is combined with an option that selects other output.
+    RestylesAlone,
+    /// `--fix` or `--diff` is combined with an option that prints counts or paths. Only `--check` allows these options.
+    SumsOfCheck,
+    /// `--style` is used without `--fix`, `--check` or `--diff`.
+    StyleAlone,
+    /// `--macros` is used without `--fix`, `--check` or `--diff`.
+    MacrosAlone,
+    /// `--any-suffix` is used without `--bad`.
+    SuffixAlone,
+    /// `--edition` is used without `--bad`, `--fix`, `--check` or `--diff`.
+    EditionAlone,
+    /// `--style` is the last argument, without its value.
+    NoStyle,
+    /// `--macros` is the last argument, without its value.
+    NoMacros,
+    /// The value of `--macros` is unknown.
+    UnknownMacros(String<A>),
+    /// `--color` is the last argument, without its value.
+    NoColor,
+    /// The value of `--color` is unknown.
+    UnknownColor(String<A>),
+    /// `--extension` is the last argument, without its value.
+    NoExtension,
+    /// `--exclude` is the last argument, without its value.
+    NoPattern,
+    /// The pattern of `--exclude` is empty.
+    EmptyPattern,
+    /// The pattern of `--exclude` contains a character that gitignore files interpret in another way: `[`, `\`, or `!` at its
+    /// start.
+    OtherPattern(String<A>),
+    /// The pattern of `--exclude` matches no path below a directory, as `./src`.
+    UselessPattern(String<A>),
+    /// The value of `--extension` isn't a file extension: it contains a comma, `*` or `/`.
+    UnknownExtension(String<A>),
+    /// `--files-from` is the last argument, without its value.
+    NoList,
+    /// `--edition` is the last argument, without its value.
+    NoEdition,
+    /// The value of `--edition` is unknown.
+    UnknownEdition(String<A>),
+    /// `--format` is the last argument, without its value.
+    NoFormat,
+    /// The value of `--format` is unknown.
+    UnknownFormat(String<A>),
+    /// `--context`, `--before-context` or `--after-context` is the last argument, without its value.
+    NoCount,
+    /// The value of `--context`, `--before-context` or `--after-context` isn't a number of lines.
+    UnknownCount(String<A>),
+}
+
+impl<A: Allocator> From<AllocError> for ArgumentError<A> {
+    ghost use Rattle.std.specs.Prelude.{◌≡◌};
+    ghost use Rattle.rl_options.specs.declared.argument_error.ArgumentError.TheVariants.{Memory};
+
+    ghost from_gives = { λ rejected error. error ≡ Memory };
+
+    fn from(_: AllocError) -> Self {
+        Self::Memory
+    }
+}
+
+impl<A: Allocator> fmt::Display for ArgumentError<A> {
+    ghost use Rattle.std.specs.Prelude.{Some};
+    ghost use Rattle.rl_options.specs.Words.{word_message};
+
+    ghost output = { λ error. Some (word_message error) };
+
+    fn fmt<W: fmt::Write>(&self, f: &mut fmt::Formatter<W>) -> fmt::Result {
+        match self {
+            ArgumentError::Memory => write!(f, "out of memory"),
+            ArgumentError::UnknownOption(word, None) => {
+                write!(
+                    f,
+                    "unknown option '{word}': rl_scan --help lists all options"
+                )
+            }
+            ArgumentError::UnknownOption(word, Some(meant)) => {
+                write!(f, "unknown option '{word}': did you mean '{meant}'?")
+            }
+            ArgumentError::UnknownLetter(letter, word, None) => write!(
+                f,
+                "unknown option '{letter}' in '{word}': rl_scan --help lists all options"
+            ),
+            ArgumentError::UnknownLetter(letter, word, Some(meant)) => write!(
+                f,
+                "unknown option '{letter}' in '{word}': did you mean '{meant}'?"
+            ),
+            ArgumentError::NoValue(option) => write!(f, "{option} takes no value"),
+            ArgumentError::UnknownKind(word) => write!(
+                f,
+                "unknown kind '{word}': expected Str, ByteStr, CStr, Byte, Char, Int, Float, Bool or Verbatim"
+            ),
+            ArgumentError::NoKinds => write!(f, "--only needs a value, such as --only Str,ByteStr"),
+            ArgumentError::TwoChoices => write!(
+                f,
+                "--bad, --invisible and --only can't be combined or repeated"
+            ),
+            ArgumentError::NoText => write!(f, "-e, --find needs a value, such as --find TODO"),
+            ArgumentError::EmptyText => write!(f, "the text of -e, --find is empty"),
+            ArgumentError::BadAndFind => write!(
+                f,
+                "--bad and --invisible can't be used with -e, --find"
+            ),
+            ArgumentError::TextlessKinds => write!(
+                f,
+                "-e, --find searches only Str, ByteStr, CStr, Byte and Char, and --only has none of these kinds"
+            ),
+            ArgumentError::ObjectsOfPaths => write!(
+                f,
+                "--json and --format json, github can't be used with -c, --count, -l, --files-with-matches, --files"
+            ),
+            ArgumentError::StatsOfPaths => {
+                write!(f, "--stats can't be used with --files, which reads none")
+            }
+            ArgumentError::TwoRestylings => {
+                write!(f, "--fix, --check and --diff can't be combined or repeated")
+            }
+            ArgumentError::RestylesAlone => write!(
+                f,
+                "--fix, --check and --diff can't be used with --bad, --invisible, --only, -e, --find, --files, --text, --json, --format, -C, -B, -A, --stats"
+            ),
+            ArgumentError::SumsOfCheck => write!(
+                f,
+                "-c, --count, -l, --files-with-matches can't be used with --fix or --diff"
+            ),
+            ArgumentError::StyleAlone => { write!(f, "--style needs --fix, --check or --diff") }
+            ArgumentError::MacrosAlone => { write!(f, "--macros needs --fix, --check or --diff") }
+            ArgumentError::SuffixAlone => write!(f, "--any-suffix needs --bad"),
+            ArgumentError::EditionAlone => {
+                write!(f, "--edition needs --bad, --fix, --check or --diff")
+            }
+            ArgumentError::NoStyle => write!(f, "--style needs a value, such as --style style.txt"),
+            ArgumentError::NoMacros => write!(f, "--macros needs a value: skip or all"),
+            ArgumentError::UnknownMacros(word) => {
+                write!(
+                    f,
+                    "unknown value '{word}' of --macros: expected skip or all"
+                )
+            }
+            ArgumentError::NoColor => write!(f, "--color needs a value: auto, always or never"),
+            ArgumentError::UnknownColor(word) => {
+                write!(
+                    f,
+                    "unknown value '{word}' of --color: expected auto, always or never"
+                )
+            }
+            ArgumentError::NoExtension => write!(
+                f,
+                "--extension needs a value, such as --extension rs.in"
+            ),
+            ArgumentError::NoPattern => {
+                write!(f, "--exclude needs a value, such as --exclude tests/ui")
+            }
+            ArgumentError::EmptyPattern => write!(f, "the pattern of --exclude is empty"),
+            ArgumentError::OtherPattern(word) => write!(
+                f,
+                "invalid pattern '{word}': --exclude supports *, ?, ** and /, but not [, \\ or ! at the start"
+            ),
+            ArgumentError::UselessPattern(word) => write!(
+                f,
+                "the pattern '{word}' of --exclude matches nothing: it is relative to a PATH, such as src or /src"
+            ),
+            ArgumentError::UnknownExtension(word) => write!(
+                f,
+                "invalid extension '{word}': expected one extension, such as rs.in"
+            ),
+            ArgumentError::NoList => write!(
+                f,
+                "--files-from needs a value, such as --files-from list"
+            ),
+            ArgumentError::NoEdition => {
+                write!(f, "--edition needs a value: 2015, 2018, 2021 or 2024")
+            }
+            ArgumentError::UnknownEdition(word) => write!(
+                f,
+                "unknown edition '{word}': expected 2015, 2018, 2021 or 2024"
+            ),
+            ArgumentError::NoFormat => write!(f, "--format needs a value: text, json or github"),
+            ArgumentError::UnknownFormat(word) => {
+                write!(f, "unknown format '{word}': expected text, json or github")
+            }
+            ArgumentError::NoCount => write!(
+                f,
+                "-C, -B and -A need a number of lines, such as --context 2"
+            ),
+            ArgumentError::UnknownCount(word) => {
+                write!(
+                    f,
+                    "invalid number of lines '{word}': expected a number, such as 2"
+                )
+            }
+        }
+    }
+}
