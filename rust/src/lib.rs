@@ -164,14 +164,14 @@ pub mod rendered {
 }
 
 // The translated code refers to these crates by the paths that are imported here.
+#[cfg(feature = "flaws")]
+use proved::rl_flaws;
 #[cfg(feature = "sources")]
 use proved::rl_recovery;
 #[cfg(feature = "style")]
 use proved::rl_style;
 #[cfg(any(feature = "writers", feature = "style"))]
 use proved::rl_writing;
-#[cfg(feature = "flaws")]
-use proved::rl_flaws;
 use proved::{rl_lenient, rl_strict, rl_syntax};
 #[cfg(any(feature = "sources", feature = "settings"))]
 use proved::{rl_lexer, rl_settings};

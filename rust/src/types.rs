@@ -1,8 +1,8 @@
 //! The check whether Rust has a type for a literal.
 
 use crate::lit::Lit;
-use crate::rl_lenient::find;
 use crate::rl_flaws::{self, TypeError};
+use crate::rl_lenient::find;
 use core::fmt;
 use core::hash::{Hash, Hasher};
 use core::mem::discriminant;
