@@ -5,7 +5,7 @@ use Rattle.std.proofs.lemmas.Str.{IsAscii-append}
 use Rattle.rl_files.specs.Visible.{visible}
 use Rattle.rl_files.specs.Walks.{path_error_message}
 use Rattle.rl_files.specs.declared.tree.PathError.{PathError}
-use Rattle.rl_files.specs.declared.tree.PathError.TheVariants.{NotFound, PermissionDenied, IsADirectory, NotADirectory, PathTooLong, NameNotUtf8, NotUtf8, TooLong, OutOfMemory, NotAFile, Changed, NoRoom, ReadOnly, DirectoryDenied, ReadFailed, WriteFailed}
+use Rattle.rl_files.specs.declared.tree.PathError.TheVariants.{NotFound, PermissionDenied, IsADirectory, NotADirectory, PathTooLong, NameNotUtf8, NotUtf8, TooLong, OutOfMemory, NotAFile, Changed, NoRoom, ReadOnly, DirectoryDenied, OwnerChanges, ReadFailed, WriteFailed}
 use Rattle.rl_lexer.specs.declared.lex_error.LexKind.{LexKind}
 use Rattle.rl_program.proofs.LineLemmas.{pushed}
 use Rattle.rl_output.specs.declared.context.Context.{Context}
@@ -38,6 +38,7 @@ message_ascii Changed = low_text (path_error_message Changed) refl
 message_ascii NoRoom = low_text (path_error_message NoRoom) refl
 message_ascii ReadOnly = low_text (path_error_message ReadOnly) refl
 message_ascii DirectoryDenied = low_text (path_error_message DirectoryDenied) refl
+message_ascii OwnerChanges = low_text (path_error_message OwnerChanges) refl
 message_ascii ReadFailed = low_text (path_error_message ReadFailed) refl
 message_ascii WriteFailed = low_text (path_error_message WriteFailed) refl
 
