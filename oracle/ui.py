@@ -28,8 +28,9 @@ LIFETIME = re.compile(r'(character literal may only contain one codepoint|empty 
 HEAD = re.compile(r'(?:error(?:\[E\d+\])?|warning(?=: underscore literal suffix)): (.*)')
 TYPED_FLOAT = re.compile('0[xob][0-9A-Fa-f_]*f(?:32|64)')
 AT = re.compile(r' *--> \$DIR/(\S+?):(\d+):(\d+)')
-# Messages of rustc 1.63 that are about more kinds of errors than those of later versions.
-OLDER = [('unicode escape', 'NoUnicode'), ('invalid character in numeric', 'HexEscapeOutOfRange')]
+# Messages of rustc 1.63 that have other words, or are about more kinds of errors, than those of later versions.
+OLDER = [('unicode escape', 'NoUnicode'), ('invalid character in numeric', 'HexEscapeOutOfRange'), ('non-ASCII character in byte', 'NotAscii'),
+         ('raw byte string must be ASCII', 'NotAscii')]
 
 Theirs = collections.namedtuple('Theirs', 'message line column end')
 Ours = collections.namedtuple('Ours', 'id begin end lo')
@@ -74,7 +75,7 @@ def scanned(program, path):
     # Types and reserved prefixes are compared with rustc itself by bad.py.
     for it in frame.scanned(program, data, '--bad', '--any-suffix', '--edition', '2018', '-'):
         place = it['line'], it['column']
-        if it['id'].startswith('unclosed'):
+        if 'text' not in it:
             end = place
             continue
         # The literal that begins before the position. It ends before the next one begins.
