@@ -8,6 +8,7 @@ that is rejected for another reason than a literal, and a file without a page, h
 """
 import bisect
 import collections
+import functools
 import math
 import os
 import re
@@ -59,9 +60,15 @@ def errors_in(page, name):
     return found
 
 
+@functools.cache
+def pages_in(folder):
+    """Returns the names of the pages of rustc's output in a folder."""
+    return [name for name in os.listdir(folder) if name.endswith('.stderr')]
+
+
 def errors_of(folder, name):
     """Returns rustc's errors in a file, from all pages beside it. There may be one page for each edition."""
-    pages = [it for it in os.listdir(folder) if re.fullmatch(re.escape(name[:-3]) + r'(\.\S+)?\.stderr', it)]
+    pages = [it for it in pages_in(folder) if it.startswith(name[:-2])]
     return {it for page in pages for it in errors_in(text_of(f'{folder}/{page}'), name)}
 
 
