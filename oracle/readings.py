@@ -10,8 +10,8 @@ By its command, a result is compared with that of
     read                            proc_macro2's lexer and that code (oracle/reader)
     strict, spans, attr             rustc's own lexer (the macros of oracle/rustc)
 
-The first five are the default. Other options: frame.py. `--rl-rows` may name the package's example `lines`. With `--count 1000` the
-default takes some five minutes, since most families always use all of their texts. `--families` leaves some out.
+The first five are the default. Other options: frame.py. `--rl-rows` may name the package's example `lines`. A million
+comparisons take 20 to 60 s, and with rustc three minutes. Most families always use all of their texts. `--families` leaves some out.
 """
 import functools
 import os

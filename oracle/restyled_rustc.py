@@ -2,7 +2,7 @@
 """Compares the tokens of texts before and after the package rewrites literals, by rustc's own lexer.
 
     oracle/restyled_rustc.py FOLDER.. ..                                    a quarter of an hour for 48,000 files
-    oracle/restyled_rustc.py [--fixed N] [--random N] [--minutes M] ..      some 30 s for 2,000 texts; hours for all fixed ones
+    oracle/restyled_rustc.py [--fixed N] [--random N] [--minutes M] ..      some 10 s for 12,000 texts; ten minutes for all fixed ones
 
 With FOLDERs, every Rust file below them is rewritten in two styles that have all rules, with digits in lower and in upper case. The
 tokens must be the same except for literals. Each pair of literals that differ must have the same kind, value and suffix by the

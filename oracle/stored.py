@@ -1,7 +1,7 @@
 #!/usr/bin/env python3
 """Compares stored results with those of other programs: of `syn`'s own parsing code and of models.
 
-    oracle/stored.py PATH [FILE..] ..      some 20 s
+    oracle/stored.py PATH [FILE..] ..      a minute and a half
 
 1. The stored results of rl_rows for its plain rows `cut` and `long`, in crates/rl_rows/stdin and stdout. A row `cut` is a text that is
    cut off at each of its characters. A row `long` is a piece of text, repeated many times. PATH is a program with `syn`'s code

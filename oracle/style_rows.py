@@ -1,7 +1,7 @@
 #!/usr/bin/env python3
 """Compares the package's `rewrite` and `rewrite_in_context` with the model, on many literals.
 
-    oracle/style_rows.py [--pairs N] [--jobs J] [--minutes M] ..      some 20 s for 100,000 pairs, on each of two processors
+    oracle/style_rows.py [--pairs N] [--jobs J] [--minutes M] ..      some 15 s for 100,000 pairs on one processor
     oracle/style_rows.py --write N ..                                 writes rust/tests/style.txt, some 10 s
 
 A pair is a text and a style with one rule or several rules. The texts are all short ones over small alphabets, every character of
