@@ -1,17 +1,21 @@
 #!/usr/bin/env python3
-"""Compares the literals that `rl_scan --bad` reports with those that rustc rejects. The literals are generated, or come from files.
+"""Compares the literals that `rl_scan --bad` reports with those that rustc rejects, and the text directly before literals.
 
-    oracle/bad.py [PATH..] ..      some 20 s for the 3,000 generated literals; minutes for a large tree of files
+    oracle/bad.py [PATH..] [--count N] ..      a minute for 3,000 generated literals; minutes for a large tree of files
 
-The generated literals are valid and invalid: escapes, bases, exponents, suffixes, values. With a PATH, the literals of its files
-are compared too. Each literal is in a line of its own, as `let _ = LITERAL;`. rl_scan may miss a literal that rustc rejects
-(docs/DIFFERENCES.md). The status is 1 if rl_scan reports a literal that rustc accepts (`false:`). An integer without a suffix may
-be out of range for the type that rustc infers. This error isn't counted. For other options see frame.py.
+1. Literals, valid and invalid: escapes, bases, exponents, suffixes, values. They are generated, and with a PATH those of its files
+   are compared too. Each is in a line of its own, as `let _ = LITERAL;`. An integer without a suffix may be out of range for the
+   type that rustc infers. This error isn't counted.
+2. In each edition, different texts (identifiers, numbers, other literals, lifetimes, punctuation, hashes, white space, comments)
+   before strings and characters. Each is in a macro call of its own, so that rustc checks only the tokens. In edition 2021, also
+   the least number of a signed type after minuses, parentheses and comments, each in a statement.
+
+rl_scan may miss a text that rustc rejects (docs/DIFFERENCES.md). The missed ones are printed and counted as explained. If rl_scan
+reports a text that rustc accepts, this is a difference. For other options see frame.py.
 """
-import json
+import bisect
+import itertools
 import random
-import subprocess
-import sys
 
 import frame
 import rustc
@@ -25,9 +29,10 @@ NUMBERS = ['0', '1', '12', '1_000', '0x1F', '0xff', '0b11', '0b12', '0o17', '0o1
            '340282366920938463463374607431768211456', '1e400', '0x1.5', '1_', '0_', '2.0_']
 SUFFIXES = ['', 'u8', 'i8', 'u16', 'i16', 'u32', 'i32', 'u64', 'i64', 'u128', 'i128', 'usize', 'isize', 'f32', 'f64', 'f16', 'f128', 'u9',
             'x', 'foo', '_', 'f', 'i', 'u', 'u08', 'U8', '_u8', 'f32_', 'é', 'u8u8']
-BITS = {'u8': 8, 'i8': 8, 'u16': 16, 'i16': 16, 'u32': 32, 'i32': 32, 'u64': 64, 'i64': 64, 'u128': 128, 'i128': 128, 'usize': 64,
-        'isize': 64}
+BITS = {f'{sign}{size}': 64 if size == 'size' else size for size in (8, 16, 32, 64, 128, 'size') for sign in 'ui'}
 
+
+# ---- literals
 
 def number_near(source, bits):
     """Returns a number near the least or the greatest value of a type with this number of bits."""
@@ -60,23 +65,10 @@ def literal(source):
     return number_near(source, BITS[suffix]) + suffix
 
 
-def scanned(program, texts, *words):
-    """Returns the output of rl_scan for a source with each text in a line of its own."""
-    source = ''.join(text + ' ;\n' for text in texts).encode()
-    out = subprocess.run([program, '--json', *words, '-'], input=source, capture_output=True, check=False).stdout.decode()
-    return [json.loads(line) for line in out.splitlines()]
-
-
-def whole_literals(program, texts):
-    """Returns the texts that are one literal token each, as rl_scan lexes them."""
-    lines = {text: scanned(program, [text]) for text in texts}
-    return [text for text in lines if len(lines[text]) == 1 and lines[text][0].get('text') == text]
-
-
 def literals_of(program, paths):
     """Returns the texts of all literals in the files at these paths, except `true` and `false`."""
-    out = subprocess.run([program, '--json', *paths], capture_output=True, check=False).stdout.decode() if paths else ''
-    return [text for text in (json.loads(line)['text'] for line in out.splitlines()) if text not in ('true', 'false')]
+    found = (line['text'] for line in frame.scanned(program, b'', *paths)) if paths else ()
+    return [text for text in found if text not in ('true', 'false')]
 
 
 def errors_in(texts):
@@ -86,15 +78,74 @@ def errors_in(texts):
     return [[it for it in errors if it[2] != inferred or text.endswith('i32')] for text, errors in zip(texts, found)]
 
 
-def main():
-    asked = frame.arguments(__doc__, 'paths*', ours=['rl_scan'], count=3000)
-    source = random.Random(asked.seed)
-    texts = whole_literals(asked.rl_scan, [literal(source) for _ in range(asked.count)])
-    texts = list(dict.fromkeys(texts + literals_of(asked.rl_scan, asked.paths)))
-    ours = {line['text'] for line in scanned(asked.rl_scan, texts, '--bad') if 'text' in line}
+# ---- the text before a literal
+
+EDITIONS = ['2015', '2018', '2021', '2024']
+HEADS = ['', 'a', 'f', 'c', 'r', 'br', 'b', '_', '1', '1u8', '0x1f', '1.5', '1.5f', 'x.1f', 'x.f', "'a ", 'r#a', 'r#b ', '"a"', '"a"f',
+         "'a'", "'a'f", 'r#"a"#', 'r#"a"#f', 'r"a"', "b'a'", "b'a'f", 'é', 'aé', 'éa', 'a-', '!', '=', 'a1', '1a', '1_a', '1._a', '1e5',
+         '1.e', '$', 'k ', 'f ', '/**/', 'f/**/', '//\n', 'f//\n', '1e5f', 'a\u200e', '\u200ea', '\u200e1', 'A9_', 'f(', 'f\t', '1.0e+5f',
+         '0b1', '0o7f', 'true', 'self', 'x#', 'r#a#', "'a#"]
+HASHES = ['', '#', '##', '###']
+LITERALS = ['"x"', "'x'", '"x"#', '"x"f']
+# With a quote or hashes after them, these prefixes begin a different literal.
+JOINED = ('r', 'br', 'b', 'c')
+NEGATED = ['{}', '-{}', '- {}', '-({})', '-( ( {} ) )', '-/* c */{}', '- // c\n{}', '-\n{}', '-\n/* c */\n{}', '!{}', '({})', '[{}][0]',
+           '1 + {}', '1 +\n{}', '{{ {} }}', '-{{ {} }}', 'f({})', 'f(\n{}\n)', 'f(-1i8, {})', '1i8 // c\n + {}', '1i8 /* - */ * {}',
+           '-\t({})', '- (// c\n({}))', '{{ /* c */ {} }}', '-\u200e{}', '{{ // c\n{} }}']
+LEAST = ['128i8', '0x80_i8', '32768i16', '2147483648i32', '9223372036854775808i64', '129i8']
+FRONT = 'macro_rules! m { ($($t:tt)*) => {} }\nfn f<T>(_: T) {}\nfn main() {\n'
+
+
+def cases(edition):
+    """Returns the texts for an edition."""
+    for head, hashes, text in itertools.product(HEADS, HASHES, LITERALS):
+        if head.endswith('"f') and not hashes or head in JOINED and (text[0] == '"' or head != 'c'):
+            continue
+        closer = ')' if head.endswith('(') else ''
+        yield f'm!{{ {head}{hashes}{text} \n{closer}}}\n'
+    for form, number in itertools.product(NEGATED, LEAST if edition == '2021' else ()):
+        yield f'let _ = {form.format(number)} ;\n'
+
+
+def reported(program, edition, texts):
+    """Returns the texts for which rl_scan reports an error. In a macro call any suffix is allowed."""
+    ends = list(itertools.accumulate((len(text.encode()) for text in texts), initial=len(FRONT)))[1:]
+    found = set()
+    for words, begin in (['--any-suffix'], 'm!'), ([], 'let'):
+        lines = frame.scanned(program, (FRONT + ''.join(texts) + '}\n').encode(), '--bad', '--edition', edition, *words, '-')
+        hits = {texts[bisect.bisect_right(ends, line['lo'])] for line in lines}
+        found |= {text for text in hits if text.startswith(begin)}
+    return found
+
+
+# ---- both
+
+def judge(report, name, texts, ours, theirs):
+    """Compares the texts that rl_scan reports with those that rustc rejects."""
+    for text in texts:
+        known = 'rustc rejects it, and rl_scan misses it' if text in theirs else None
+        if known and text not in ours:
+            print(f'missed: {name} {text!r}')
+        report.judge(name, text.encode(), text in theirs, text in ours, known)
+        report.agreeing[name, 'rejected by both'] += text in theirs and text in ours
+
+
+def compare(asked, report):
+    source, program = random.Random(asked.seed), asked.rl_scan
+    made = dict.fromkeys(literal(source) for _ in range(asked.count))
+    # Only texts that rl_scan lexes as one token are compared.
+    made = [text for text in made if [it.get('text') for it in frame.scanned(program, f'{text} ;\n'.encode(), '-')] == [text]]
+    texts = list(dict.fromkeys(made + literals_of(program, asked.paths)))
+    source = ''.join(text + ' ;\n' for text in texts).encode()
+    ours = {line['text'] for line in frame.scanned(program, source, '--bad', '-') if 'text' in line}
     theirs = {text for chunk in frame.batches(texts, CHUNK) for text in rustc.rejected(chunk, errors_in)}
-    return 1 if frame.both_ways(ours, theirs, 'literals', len(texts)) else 0
+    judge(report, 'literals', texts, ours, theirs)
+    for edition in EDITIONS:
+        texts = list(dict.fromkeys(cases(edition)))
+        theirs = rustc.rejected(texts, lambda left: rustc.placed(left, '', '', FRONT, '}\n', edition, primary=False)[0])
+        judge(report, f'before, {edition}', texts, reported(program, edition, texts), theirs)
+    return report.compared
 
 
 if __name__ == '__main__':
-    sys.exit(main())
+    frame.run(compare, __doc__, 'paths*', ours=['rl_scan'], count=3000)

@@ -11,10 +11,9 @@ backslash as the missing digit (docs/DIFFERENCES.md).
 """
 import os
 import random
-import re
-import sys
 
 import frame
+import listed
 import rustc
 
 TABLE = os.path.join(frame.TOP, 'rust/tests/every_flaw.txt')
@@ -68,33 +67,22 @@ def literal(source, opener):
     return opener + ''.join(pieces) + '"' + '#' * opener.count('#')
 
 
-def is_kept(text):
-    """Whether the text has no CR that rustc drops: rustc treats CR LF as a line end, and drops a CR in the white space after an
-    escaped line end."""
-    return '\r\n' not in text and not re.search(r'\\\n[ \t\n]*\r', text)
-
-
-def named(literals):
-    """Returns rustc's errors for each literal: the byte range in the literal that rustc marks, and the message."""
-    found, _ = rustc.placed(literals, 'skip!(', ');\n', FRONT)
-    assert all(high <= len(text.encode()) for text, errors in zip(literals, found) for _, high, _ in errors)
-    return [sorted({(low, high, message.split('`')[0].strip()) for low, high, message in errors}) for errors in found]
-
-
-def main():
-    asked = frame.arguments(__doc__, count=320)
+def write(asked, _):
     source = random.Random(asked.seed)
     openers = list(KINDS) + ['"', '"', 'b"', 'c"']
     made = {literal(source, openers[at % len(openers)]) for at in range(asked.count)}
     made |= {single(source, "b'" if at % 2 else "'") for at in range(asked.count // 2)}
-    literals = sorted(it for it in made if is_kept(it))
-    answers = named(literals)
+    # rustc treats CR LF as a line end, and drops a CR in the white space after an escaped line end.
+    literals = sorted(it for it in made if '\r\n' not in it and not listed.strict_listed(it))
+    found, _ = rustc.placed(literals, 'skip!(', ');\n', FRONT)
     with open(TABLE, 'w', encoding='utf-8') as table:
-        for text, errors in zip(literals, answers):
-            table.write('\t'.join([text.encode().hex()] + [f'{low}..{high} {message}' for low, high, message in errors]) + '\n')
-    print(f'{len(literals)} literals, {sum(map(len, answers))} errors')
-    return 0
+        for text, errors in zip(literals, found):
+            assert all(high <= len(text.encode()) for _, high, _ in errors)
+            errors = sorted({(low, high, message.split('`')[0].strip()) for low, high, message in errors})
+            table.write('\t'.join([text.encode().hex(), *(f'{low}..{high} {message}' for low, high, message in errors)]) + '\n')
+    print(f'{sum(map(len, found))} errors')
+    return len(literals)
 
 
 if __name__ == '__main__':
-    sys.exit(main())
+    frame.run(write, __doc__, what='literals', count=320)

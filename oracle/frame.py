@@ -2,19 +2,19 @@
 differences.
 
 A comparison is a file beside this one. It generates texts from a seed, runs a program of this repository and another program or the
-model on them, and reports each difference. Every comparison takes `--seed S`, `--count N` (generated texts), `--show N`
-(differences printed), `--save FILE` (appends each difference as a JSON line) and `--row` (prints the line for oracle/compared.tsv).
-The programs of this repository are rl_rows, rl_tool and rl_scan as Cargo builds them. With `--proved` they are
+model on them, and reports each difference. Every comparison takes `--seed S`, `--show N` (differences printed), `--save FILE`
+(appends each difference as a JSON line) and `--row` (prints the end of a line for oracle/compared.tsv). Most take `--count N`
+(generated texts). The programs of this repository are rl_rows, rl_tool and rl_scan as Cargo builds them. With `--proved` they are
 crates/NAME/out/NAME. `--rl-scan PROGRAM` and similar options name others. The status is 0 if every difference is explained.
 """
 import argparse
 import collections
-import itertools
 import json
 import os
 import struct
 import subprocess
 import sys
+import time
 
 TOP = os.path.dirname(os.path.dirname(os.path.abspath(__file__)))
 HERE = os.path.join(TOP, 'oracle')
@@ -28,15 +28,14 @@ BATCH = 200_000
 POINTED = ('read', 'spans', 'attr', 'source')
 
 
-def arguments(words, *places, ours=(), count=None, **options):
-    """Parses the arguments of a comparison. A place is the name of a positional argument, with `*` or `+` after it for several
-    values. An option has its default. `words` is the text of --help, and `ours` names the programs of this repository that it
-    runs."""
+def arguments(words, *places, ours=(), **options):
+    """Parses the arguments of a comparison. A place is the name of a positional argument, with `?`, `*` or `+` after it if it is
+    optional or has several values. An option has its default. `words` is the text of --help, and `ours` names the programs of this
+    repository that the comparison runs."""
     parser = argparse.ArgumentParser(description=words, formatter_class=argparse.RawDescriptionHelpFormatter)
     for place in places:
-        parser.add_argument(place.rstrip('*+'), nargs=place[-1] if place[-1] in '*+' else None)
-    common = {'seed': 1, 'show': 20, 'save': '', 'row': False}
-    for name, default in {**({"count": count} if count else {}), **common, **options}.items():
+        parser.add_argument(place.rstrip('?*+'), nargs=place[-1] if place[-1] in '?*+' else None)
+    for name, default in {'seed': 1, 'show': 20, 'save': '', 'row': False, **options}.items():
         how = {'action': 'store_true'} if default is False else {'type': type(default), 'default': default}
         parser.add_argument(f'--{name.replace("_", "-")}', **how)
     for name in ours:
@@ -49,19 +48,20 @@ def arguments(words, *places, ours=(), count=None, **options):
     return asked
 
 
+def run(compare, words, *places, what='texts', **options):
+    """Runs a comparison as a script. `compare` gets the arguments and the report, and returns the number of texts, whose name is
+    `what`."""
+    asked = arguments(words, *places, **options)
+    report = Report(asked)
+    sys.exit(report.end(compare(asked, report), what))
+
+
 def helper(name, *words):
     """Builds the package in the folder of this name beside this file with Cargo. Returns the folder of the built files."""
     target = os.path.join(HERE, name, 'target')
     command = ['cargo', 'build', '--quiet', '--release', '--offline', '--target-dir', target, *words]
     subprocess.run(command, cwd=os.path.join(HERE, name), env={**os.environ, 'RUSTC_BOOTSTRAP': '1'}, check=True)
     return os.path.join(target, 'release')
-
-
-def example(name):
-    """Builds an example of the package with Cargo. Returns its path."""
-    folder = os.path.join(TOP, 'rust')
-    subprocess.run(['cargo', 'build', '--quiet', '--release', '--offline', '--example', name], cwd=folder, check=True)
-    return os.path.join(folder, 'target/release/examples', name)
 
 
 def output_of(command, data=b''):
@@ -72,20 +72,12 @@ def output_of(command, data=b''):
     return ended.stdout
 
 
-def with_lengths(texts):
-    """Returns the texts as bytes, each after its length: four bytes, the lowest first."""
-    return b''.join(struct.pack('<I', len(text)) + text for text in texts)
-
-
 def up_to_points(lines):
     """Splits lines into results that end with a line with a full stop, or are one line about a text that isn't UTF-8."""
     answers, begin = [], 0
     for at, line in enumerate(lines):
-        if line == b'.':
-            answers.append(b'\n'.join(lines[begin:at]))
-            begin = at + 1
-        elif line == b'error: input is not UTF-8':
-            answers.append(line)
+        if line in (b'.', b'error: input is not UTF-8'):
+            answers.append(b'\n'.join(lines[begin:at]) if line == b'.' else line)
             begin = at + 1
     return answers
 
@@ -101,7 +93,18 @@ def answers_of(command, data, texts, is_pointed=False):
 
 def of_rows(program, word, texts):
     """Returns the results of rl_rows, or of another program with the same input, for a command."""
-    return answers_of([program], b''.join(b'%s %s\n' % (word.encode(), it.hex().encode()) for it in texts), texts, word in POINTED)
+    return answers_of([program], ''.join(f'{word} {it.hex()}\n' for it in texts).encode(), texts, word in POINTED)
+
+
+def scanned(program, data, *words):
+    """Returns the objects that rl_scan prints with `--json` and these arguments, with the data as its input."""
+    out = subprocess.run([program, '--json', *words], input=data, capture_output=True, check=False).stdout
+    return [json.loads(line) for line in out.splitlines()]
+
+
+def with_lengths(texts):
+    """Returns the texts as bytes, each after its length: four bytes, the lowest first."""
+    return b''.join(struct.pack('<I', len(text)) + text for text in texts)
 
 
 def by_length(command, texts, is_pointed=False):
@@ -109,10 +112,16 @@ def by_length(command, texts, is_pointed=False):
     return answers_of(command, with_lengths(texts), texts, is_pointed)
 
 
-def batches(texts, count=BATCH):
-    """Divides the texts into batches of `count` texts."""
-    texts = iter(texts)
-    while batch := list(itertools.islice(texts, count)):
+def batches(texts, count=BATCH, size=sys.maxsize):
+    """Divides the texts into batches of at most `count` texts. A batch ends with the text that reaches `size` characters or bytes."""
+    batch, room = [], size
+    for text in texts:
+        batch.append(text)
+        room -= len(text)
+        if len(batch) == count or room <= 0:
+            yield batch
+            batch, room = [], size
+    if batch:
         yield batch
 
 
@@ -128,7 +137,7 @@ class Report:
     differences."""
 
     def __init__(self, asked):
-        self.asked, self.compared, self.unexplained = asked, 0, 0
+        self.asked, self.compared, self.unexplained, self.begun = asked, 0, 0, time.time()
         self.agreeing, self.listed = collections.Counter(), collections.Counter()
 
     def differs(self, name, data, theirs, ours):
@@ -141,34 +150,28 @@ class Report:
             with open(self.asked.save, 'a', encoding='utf-8') as file:
                 file.write(json.dumps({'name': name, 'input': data.hex(), 'theirs': theirs.hex(), 'ours': ours.hex()}) + '\n')
 
-    def end(self, count, what='texts', counts=True):
-        """Prints the numbers, and returns the exit status."""
-        for (name, kind), number in sorted(self.agreeing.items()) if counts else ():
-            print(f'{name}: {number} agree as {kind}')
-        for (name, why), number in sorted(self.listed.items()) if counts else ():
-            print(f'{name}: {number} differ: {why}')
+    def judge(self, name, data, theirs, ours, known=None):
+        """Counts a pair of results: as equal, as a difference with the reason `known`, or as an unexplained difference."""
+        self.compared += 1
+        if theirs == ours:
+            self.agreeing[name, 'the same'] += 1
+        elif known:
+            self.listed[name, known] += 1
+        else:
+            self.differs(name, data, *(it if isinstance(it, bytes) else str(it).encode() for it in (theirs, ours)))
+
+    def end(self, count, what='texts'):
+        """Prints the numbers. With `--row`, prints the end of a line for oracle/compared.tsv: the texts, the numbers, the minutes, the
+        date, and the last commit that changed the code. Returns the exit status."""
+        for word, counts in ('agree as', self.agreeing), ('differ:', self.listed):
+            for (name, kind), number in sorted(counts.items()):
+                print(f'{name}: {number} {word} {kind}')
         print(f'{count} {what}, {self.compared} comparisons, {self.listed.total()} explained, {self.unexplained} unexplained')
-        self.print_row(f'{count} {what}')
-        return 1 if self.unexplained else 0
-
-    def print_row(self, texts):
-        """Prints the line for oracle/compared.tsv: the command, the texts, the numbers and the commit."""
         if self.asked.row:
-            commit = subprocess.run(['git', 'rev-parse', '--short=9', 'HEAD'], cwd=TOP, capture_output=True, text=True, check=True).stdout
-            command = ' '.join([os.path.relpath(sys.argv[0], TOP), *sys.argv[1:]])
-            print(command, f'{texts} (seed {self.asked.seed})', self.compared, self.unexplained, commit.strip(), sep='\t')
-
-
-def both_ways(ours, theirs, what, of_what, prefix=''):
-    """Prints the texts that only our program rejects (`false:`), those that only the other rejects (`missed:`), and their numbers.
-    Returns the number of the former."""
-    for word, found in ('false', ours - theirs), ('missed', theirs - ours):
-        for text in sorted(found):
-            print(f'{word}: {prefix and prefix + " "}{text!r}')
-    head = f'{prefix}: ' if prefix else ''
-    print(f'{head}{of_what} {what}, {len(theirs)} rejected by rustc, {len(ours & theirs)} of them reported, '
-          f'{len(ours - theirs)} false, {len(theirs - ours)} missed', flush=True)
-    return len(ours - theirs)
+            code = ['git', '-C', TOP, 'log', '-1', '--abbrev=9', '--format=%h', '--', 'crates', 'rust/src', 'rust/programs/src']
+            row = f'{count} {what} (seed {self.asked.seed})', self.compared, self.unexplained, f'{(time.time() - self.begun) / 60:.1f}'
+            print(*row, time.strftime('%Y-%m-%d', time.gmtime()), output_of(code).decode().strip(), sep='\t')
+        return 1 if self.unexplained else 0
 
 
 def sources_below(folders, endings=('.rs', '.rt')):

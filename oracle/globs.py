@@ -12,7 +12,6 @@ Such globs are counted separately.
 import os
 import random
 import subprocess
-import sys
 import tempfile
 
 import frame
@@ -52,8 +51,8 @@ def is_odd(glob):
     return any('**' in part and part != '**' for part in glob.split('/'))
 
 
-def compare(asked, report, globs, folder):
-    """Compares the globs on the files of a folder. Returns the files that git leaves out for each glob."""
+def compare_on(asked, report, globs, folder):
+    """Compares the globs on the files of a folder."""
     every = lines(['git', 'ls-files', '-z', '--others'], folder)
     for glob in globs:
         git = lines(['git', 'ls-files', '-z', '--others', f'--exclude={glob}'], folder)
@@ -61,25 +60,19 @@ def compare(asked, report, globs, folder):
         report.agreeing['globs', 'rejected'] += ours is None
         ours = every if ours is None else ours
         report.agreeing['globs', 'leaving something out'] += git != every
-        report.compared += 1
-        if git != ours and is_odd(glob):
-            report.listed['globs', 'two asterisks in a longer part of a path'] += 1
-        elif git != ours:
-            report.differs('globs', glob.encode(), b'\n'.join(sorted(git)[:9]), b'\n'.join(sorted(ours)[:9]))
-        yield len(every - git)
+        report.judge('globs', glob.encode(), sorted(git), sorted(ours), 'two asterisks in a longer part of a path' if is_odd(glob) else None)
 
 
-def main():
-    asked = frame.arguments(__doc__, ours=['rl_scan'], count=2000)
-    dice, report, left = random.Random(asked.seed), frame.Report(asked), 0
+def compare(asked, report):
+    dice = random.Random(asked.seed)
     while report.compared < asked.count:
         with tempfile.TemporaryDirectory() as folder:
             subprocess.run(['git', 'init', '--quiet', folder], check=True)
             grow(folder, dice)
-            left += sum(compare(asked, report, {''.join(dice.choice(PIECES) for _ in range(dice.randrange(1, 6))) for _ in range(GLOBS)}, folder))
-    print(f'{left} files left out')
-    return report.end(report.compared, 'globs')
+            globs = dict.fromkeys(''.join(dice.choice(PIECES) for _ in range(dice.randrange(1, 6))) for _ in range(GLOBS))
+            compare_on(asked, report, globs, folder)
+    return report.compared
 
 
 if __name__ == '__main__':
-    sys.exit(main())
+    frame.run(compare, __doc__, what='globs', ours=['rl_scan'], count=2000)

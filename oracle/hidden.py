@@ -11,7 +11,6 @@ character that only a newer table than perl's has is reported as a difference. F
 """
 import functools
 import subprocess
-import sys
 import unicodedata
 
 import frame
@@ -51,18 +50,14 @@ def found_by(program, every):
     return {places[int(place.split('..')[0])]: words for place, words in found}
 
 
-def main():
-    asked = frame.arguments(__doc__, ours=['rl_scan'])
-    report = frame.Report(asked)
+def compare(asked, report):
     every, turning = [chr(code) for code in (*range(0xd800), *range(0xe000, 0x110000))], codes(TURNING)
     wanted = {character: line_of(character, turning) for character in hiding()}
     found = found_by(asked.rl_scan, every)
-    report.compared = len(every)
-    for it in sorted(wanted.keys() | found.keys()):
-        if wanted.get(it) != found.get(it):
-            report.differs('hidden', it.encode(), str(wanted.get(it)).encode(), str(found.get(it)).encode())
-    return report.end(len(every), 'characters')
+    for it in every:
+        report.judge('hidden', it.encode(), wanted.get(it), found.get(it))
+    return len(every)
 
 
 if __name__ == '__main__':
-    sys.exit(main())
+    frame.run(compare, __doc__, what='characters', ours=['rl_scan'])

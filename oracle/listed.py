@@ -56,19 +56,20 @@ def parts_of(line):
     return kind, rest[:end], '' if suffix == '-' else unescaped(suffix[1:-1]).decode() if suffix.startswith('"') else suffix
 
 
-def value_line(text, line):
-    """Returns the expected result of `value`: the text between the quotes, if it is the value in syn's line."""
-    if line == b'NotText' or is_big(line) or line.startswith(b'Byte') and is_loose(text):
+def value_line(data, line, is_package):
+    """Returns the expected result of `value`: the text between the quotes or the number, if it is the value in syn's line. The package
+    also borrows a float with underscores before its suffix, as `1.5` of `1.5_f32`."""
+    text = data.decode()
+    if not line.startswith((b'Str', b'ByteStr', b'CStr', b'Int', b'Float')) or is_big(line) or line.startswith(b'Byte') and is_loose(text):
         return b'None'
     kind, value, suffix = parts_of(line)
     body = text[:len(text) - len(suffix)] if suffix else text
-    if kind in ('Str', 'ByteStr', 'CStr'):
-        opener = re.match('[bc]?(r?)(#*)"', body)
-        body, value = body[opener.end():len(body) - len(opener[2]) - 1].encode(), unescaped(value[value.index('"') + 1:-1])
-    elif kind in ('Int', 'Float'):
+    if kind in ('Int', 'Float'):
+        body = body.rstrip('_') if is_package and kind == 'Float' else body
         body, value = body.encode(), value.encode()
     else:
-        return b'None'
+        opener = re.match('[bc]?(r?)(#*)"', body)
+        body, value = body[opener.end():len(body) - len(opener[2]) - 1].encode(), unescaped(value[value.index('"') + 1:-1])
     return byte_string(body) if body == value else b'None'
 
 
@@ -268,15 +269,6 @@ def listed(command, data, their, our):
     return known or (NEWER if newer(text) else None)
 
 
-def agree(command, data, their, our):
-    """Whether the results agree, or the difference is allowed. If a lexer rejects a text, our program may reject it for any
-    reason."""
-    if command == 'text' and their.startswith(b'Byte') and is_loose(data.decode()):
-        return False
-    rejected = (b'unlexed',) if command in OF_RUSTC else (b'rejected', b'unlexed')
-    return their == our or their in rejected and our.startswith(b'error at ')
-
-
 def kind_of(command, their, our):
     """Classifies a result for the statistics."""
     if command in ('read', 'spans', 'attr'):
@@ -285,13 +277,17 @@ def kind_of(command, their, our):
         return 'rejections' if our.startswith(b'error at ') else 'lists'
     if command == 'value':
         return 'none' if our == b'None' else 'borrowed'
-    return 'places' if command == 'skip' else our.split(b' ')[0].decode()
+    return 'places' if command == 'skip' else our.split(b' ', 1)[0].decode()
 
 
 def compare(report, command, texts, theirs, ours):
-    """Compares the results of two programs for the texts, for one command."""
+    """Compares the results of two programs for the texts, for one command. If a lexer rejects a text, our program may reject it for
+    any reason."""
+    rejected = (b'unlexed',) if command in OF_RUSTC else (b'rejected', b'unlexed')
     for data, their, our in zip(texts, theirs, ours):
-        if agree(command, data, their, our):
+        # A byte literal that rustc rejects must be `Verbatim` here, so equal results are a difference.
+        is_byte = command == 'text' and their.startswith(b'Byte') and is_loose(data.decode())
+        if not is_byte and (their == our or their in rejected and our.startswith(b'error at ')):
             report.agreeing[command, kind_of(command, their, our)] += 1
         elif known := listed(command, data, their, our):
             report.listed[command, known] += 1

@@ -1,7 +1,7 @@
 #!/usr/bin/env python3
-"""Compares the package's map from the bytes of a quoted literal's value to its text with the model's lenient grammar.
+"""Compares the package's map from the bytes of a quoted literal's value to its text with the model's lenient grammar and with rustc.
 
-    oracle/places.py [FOLDER..] [--count N] [--lines PROGRAM] ..      some 2 s for 10,000 texts
+    oracle/places.py [FOLDER..] [--count N] [--formats N] [--lines PROGRAM] ..      some 2 s for 10,000 texts and 3,000 format strings
 
 The texts are generated, or are the literals of the Rust sources below the FOLDERs. The package's results are printed by the example
 `lines` of rust/, which Cargo builds, for the command `places`. A result is a JSON object in one line, whose `segments` and `places`
@@ -13,17 +13,25 @@ are null if the text isn't quoted:
              the literal's value is bytes; ["N", 0] for a segment without a value
   places     for each byte of the value (characters in UTF-8) the range [lo, hi] of the text that gives it: in plain
              text the byte, otherwise the whole segment; and at the end the position of the closing quote, twice
+
+Each format string has one unmatched brace, which rustc marks, also after escapes. Its position must be the package's position of this
+brace. If a string contains an escaped line end, rustc often marks the whole literal. These strings are counted separately.
 """
 import itertools
 import json
+import os
 import random
-import sys
+import re
+import subprocess
 
 import frame
+import rustc
 import texts
 from model.flaws import COOKED
 from model.literals import CHARACTERS, OPENERS, RAW_KINDS, RAW_OPENERS, Unit, quoted
 
+
+# ---- the model
 
 def opened(it):
     """Returns the text before the body of a quoted literal, and the body's characters and escapes."""
@@ -73,6 +81,10 @@ NAMES = ['\\n', '\\r', '\\t', '\\\\', "\\'", '\\"']
 LINES = ['\r\n', '\n', '\\\n', '\\\r', '\\\n  \t', '\\\r\n\r \n', '\\\n\\\n']
 PLAINS = ['a', 'bc', ' ', '{', '}', "'", '#', '\t', '(1', ')', ', ', '"', 'x' * 17, 'y' * 64]
 WIDE = ['\u00e9', '\u20ac', '\U0001f600', '\u00a0', '\u00df' * 9]
+# The pieces of format strings.
+PIECES = ['a', 'é', '語', '😀', '\\n', '\\t', '\\\\', '\\"', "\\'", '\\0', '\\x41', '\\x7f', '\\u{e9}', '\\u{1F600}', '\\u{4_1}',
+          '\\\n   ', '\\\n\t\n  ', '\n', '{{', '}}', ' ', 'x']
+RAW_PIECES = ['a', 'é', '\\n', '語', '😀', '{{', '"x', '\n']
 
 
 def body(source, kind):
@@ -97,36 +109,48 @@ def literal(source):
     return opener + body(source, kind).replace('"', source.choice(('', '\\"'))) + '"' + suffix
 
 
-def generated(seed, count):
-    """Generates texts of all kinds, most of them literals, and some of the texts with which literals are compared."""
-    source = random.Random(seed)
-    for at in range(count):
-        family = at % 10
-        if family < 8:
-            yield literal(source)
-        elif family == 8:
-            yield texts.random_quoted(source)
-        else:
-            yield texts.random_raw(source)
+def format_string(source):
+    """Returns a literal with one unmatched brace."""
+    some = lambda pieces, most: ''.join(source.choice(pieces) for _ in range(source.randint(0, most)))
+    if source.random() < .15:
+        return 'r##"%s{!}"##' % some(RAW_PIECES, 6)
+    return '"%s%s%s"' % (some(PIECES, 8), source.choice(('}', '{!}')), some(['a', '\\n', 'é'], 2))
 
+
+# ---- the comparisons
 
 def answers_of(program, every):
     """Returns the lines that the example `lines` prints for the command `places`. Without a program, Cargo builds the example."""
-    program = program or frame.example('lines')
-    return frame.output_of([program], ''.join(f'places {text.encode().hex()}\n' for text in every).encode()).splitlines()
+    if not program:
+        folder, program = os.path.join(frame.TOP, 'rust'), os.path.join(frame.TOP, 'rust/target/release/examples/lines')
+        subprocess.run(['cargo', 'build', '--quiet', '--release', '--offline', '--example', 'lines'], cwd=folder, check=True)
+    return list(map(json.loads, frame.of_rows(program, 'places', [text.encode() for text in every])))
 
 
-def main():
-    asked = frame.arguments(__doc__, 'folders*', count=300_000, lines='')
-    every = [*generated(asked.seed, asked.count), *texts.literals_of(asked.folders)]
-    report = frame.Report(asked)
-    for text, line in itertools.zip_longest(every, answers_of(asked.lines, every)):
-        wanted = answer(text or '')
-        report.compared += 1
-        if text is None or line is None or json.loads(line) != wanted:
-            report.differs('places', (text or '').encode(), json.dumps(wanted).encode(), line or b'')
-    return report.end(len(every))
+def compare_rustc(report, literals, answers):
+    """Compares the positions of unmatched braces with rustc's."""
+    found, _ = rustc.placed(literals, '    let _ = format!(', ');\n', 'fn main() {\n', '}\n')
+    form = {'T': bytes.fromhex, 'C': lambda code: chr(code).encode(), 'N': lambda _: b''}
+    for text, errors, its in zip(literals, found, answers):
+        value, named = b''.join(form[kind](value) for _, _, kind, value in its['segments']), errors and errors[0][:2]
+        brace = re.match(rb'(?:[^{}]|\{\{|\}\})*', value).end()
+        # For an opening brace, rustc marks the position after it, where the text doesn't fit.
+        wanted = [place[0] for place in its['places'][brace:brace + 2]]
+        known = 'rustc marks the whole literal' if named == (0, len(text.encode())) else None
+        report.judge('format strings', text.encode(), True, bool(named) and named[0] in wanted or (named, wanted), known)
+
+
+def compare(asked, report):
+    source = random.Random(asked.seed)
+    made = [texts.random_quoted, texts.random_raw]
+    every = [(made[at % 10 - 8] if at % 10 >= 8 else literal)(source) for at in range(asked.count)] + texts.literals_of(asked.folders)
+    formats = [format_string(source) for _ in range(asked.formats)]
+    answers = answers_of(asked.lines, every + formats)
+    for text, its in zip(every, answers):
+        report.judge('places', text.encode(), answer(text), its)
+    compare_rustc(report, formats, itertools.islice(answers, len(every), None))
+    return len(every) + len(formats)
 
 
 if __name__ == '__main__':
-    sys.exit(main())
+    frame.run(compare, __doc__, 'folders*', count=300_000, formats=9_000, lines='')

@@ -13,7 +13,6 @@ import collections
 import itertools
 import os
 import re
-import sys
 
 import frame
 import listed
@@ -89,6 +88,8 @@ def cut_before(text, flaw):
 def rustc_reason(text, flaw, error):
     """Returns the relation of rustc's first error in the text, or of its missing error, to our flaw, or None if the two contradict
     each other."""
+    if flaw is None:
+        return None if error else 'none: a token'
     begin, end, message = error or (None, None, '')
     head, kind = short(message), flaw.kind
     says_same = kind in kinds(message) or OTHER_TOKEN.match(message) and kind in (*CUT, *NO_LITERAL, 'BasedFloat', 'TwoCharacters')
@@ -121,45 +122,17 @@ def rustc_reason(text, flaw, error):
     return None
 
 
-def way_of_rustc(text, line, errors):
-    """Compares rustc's errors of a text with the line that this project prints for it. Returns the reason why both agree, our kind of
-    flaw, and rustc's message. Returns None if rustc and the line contradict each other."""
-    error = min(errors) if errors else None
-    if line == b'None':
-        return ('none: a token', '', '') if error is None else None
-    flaw = flaw_of(line)
-    reason = rustc_reason(text, flaw, error)
-    return reason and (reason, flaw.kind, short(error[2]) if error else '')
-
-
-def print_ways(name, ways):
-    """Prints how often each reason occurs, and below it the kinds and messages."""
-    counts = collections.Counter()
-    for (reason, _, _), number in ways.items():
-        counts[reason] += number
-    for reason, count in sorted(counts.items()):
-        print('%s: %7d %s' % (name, count, reason))
-        for (_, kind, words), number in sorted((way, number) for way, number in ways.items() if way[0] == reason):
-            print('    %7d %s%s' % (number, kind, ': ' + words if words else ''))
-
-
-def compare_rustc(report, alone, answers):
-    """Compares our flaws with rustc's first errors. Texts that leave nothing open are lexed together, and `alone` of the others
-    separately."""
+def first_errors(alone, answers):
+    """Returns texts with rustc's first error in each, or None. Texts that leave nothing open are lexed together, and `alone` of the
+    others separately."""
     # rustc treats CR LF as LF, and accepts no NUL and no byte order mark in a token.
     chosen = [text for text in answers if not re.search('\r\n|\0|\ufeff', text) and not listed.newer(text)]
     closed = {text: None for text in chosen if leaves_nothing_open(text)}
     others = [text for text in chosen if text not in closed]
-    others, ways = others[::max(1, len(others) // max(1, alone))], collections.Counter()
+    others = others[::max(1, len(others) // max(1, alone))]
+    print(f'rustc: {len(others)} texts alone', flush=True)
     for chunk in [*frame.batches(closed, RUSTC_TEXTS), *([text] for text in others)]:
-        for text, errors in zip(chunk, rustc_errors(chunk)):
-            if way := way_of_rustc(text, answers[text], errors):
-                ways[way] += 1
-            else:
-                error = min(errors) if errors else (0, 0, 'no error')
-                report.differs('rustc: ' + error[2], text.encode(), b'%d..%d' % error[:2], answers[text])
-    print_ways('rustc', ways)
-    print('rustc: %d texts, %d of them alone' % (ways.total(), len(others)))
+        yield from ((text, min(errors, default=None)) for text, errors in zip(chunk, rustc_errors(chunk)))
 
 
 # ---- litrs
@@ -185,7 +158,7 @@ TAKEN = {'CarriageReturn': 'a CR', 'EmptyBraces': 'no digits between the braces'
 
 def litrs_reason(text, flaw, line):
     """Returns the relation of litrs' result to our flaw, or None."""
-    their, _, place = line.partition(' ')
+    their, _, place = line.decode().partition(' ')
     if their == 'panic':
         return 'panics'
     if text.startswith(('c"', 'cr"', 'cr#')):
@@ -212,18 +185,21 @@ def litrs_reason(text, flaw, line):
     return None
 
 
-def compare_litrs(report, answers):
-    """Compares our flaws with the errors of litrs."""
-    program, ways = os.path.join(frame.helper('litrs'), 'litrs-kinds'), collections.Counter()
-    for text, line in zip(answers, frame.by_length([program], [text.encode() for text in answers])):
+def relate(report, name, pairs, answers, reason_of, words_of):
+    """Compares another program's errors of texts with our flaws, and prints how often each reason occurs, with the kinds and
+    messages."""
+    ways = collections.Counter()
+    for text, error in pairs:
         flaw = None if answers[text] == b'None' else flaw_of(answers[text])
-        reason = litrs_reason(text, flaw, line.decode())
-        if reason:
-            ways[reason, flaw.kind if flaw else 'a token', line.decode().split(' ')[0]] += 1
+        if reason := reason_of(text, flaw, error):
+            ways[reason, flaw.kind if flaw else 'a token', words_of(error)] += 1
         else:
-            report.differs('litrs', text.encode(), line, answers[text])
-    print_ways('litrs', ways)
-    print('litrs: %d texts' % len(answers))
+            report.differs(name, text.encode(), str(error).encode(), answers[text])
+    for reason in sorted({reason for reason, _, _ in ways}):
+        here = sorted((kind, words, number) for (its, kind, words), number in ways.items() if its == reason)
+        print('%s: %7d %s' % (name, sum(number for _, _, number in here), reason))
+        print(*('    %7d %s%s' % (number, kind, ': ' + words if words else '') for kind, words, number in here), sep='\n')
+    print(f'{name}: {ways.total()} texts', flush=True)
 
 
 # ---- the model
@@ -235,13 +211,7 @@ def compare_model(asked, report, answers, data):
         models = [line_of(text) for text in texts]
         lines = models if asked.model else frame.of_rows(asked.rl_rows, command, data)
         for text, it, model, line in zip(texts, data, models, lines):
-            if model == line:
-                report.agreeing[command, line.split(b' ')[0].decode()] += 1
-            elif listed.newer(text):
-                report.listed[command, listed.NEWER] += 1
-            else:
-                report.differs('model, ' + command, it, model, line)
-        report.compared += len(texts)
+            report.judge(command, it, model, line, listed.NEWER if model != line and listed.newer(text) else None)
         if command == 'explain':
             answers.update(zip(texts, lines))
 
@@ -258,29 +228,20 @@ def stored_texts():
                 continue
 
 
-def fresh_batches(asked):
-    """Returns the texts of the families in batches, each text once."""
-    seen, chosen = set(), families.families(asked.seed, asked.count)
-    for name in asked.families.split(','):
-        count = len(seen)
-        for batch in frame.batches(chosen[name]()):
-            yield frame.fresh(batch, seen)
-        print(f'family {name}: {len(seen) - count} texts', flush=True)
-
-
-def main():
-    asked = frame.arguments(__doc__, ours=['rl_rows'], count=500_000, families='worked,cuts,edits,random', alone=2_000,
-                            rustc=False, litrs=False, model=False)
-    report, answers, rows = frame.Report(asked), {}, frame.fresh(list(stored_texts()), set())
+def compare(asked, report):
+    answers, rows = {}, frame.fresh(list(stored_texts()), set())
     print(f'stored: {len(rows)} texts')
-    for data in itertools.chain([rows], fresh_batches(asked)):
+    for _, data in itertools.chain([('', rows)], families.fresh_batches(asked, asked.families.split(','))):
         compare_model(asked, report, answers, data)
     if asked.rustc:
-        compare_rustc(report, asked.alone, answers)
+        errors = first_errors(asked.alone, answers)
+        relate(report, 'rustc', errors, answers, rustc_reason, lambda error: short(error[2]) if error else '')
     if asked.litrs:
-        compare_litrs(report, answers)
-    return report.end(len(answers))
+        lines = frame.by_length([os.path.join(frame.helper('litrs'), 'litrs-kinds')], [text.encode() for text in answers])
+        relate(report, 'litrs', zip(answers, lines), answers, litrs_reason, lambda line: line.decode().split(' ')[0])
+    return len(answers)
 
 
 if __name__ == '__main__':
-    sys.exit(main())
+    frame.run(compare, __doc__, ours=['rl_rows'], count=500_000, families='worked,cuts,edits,random', alone=2_000, rustc=False, litrs=False,
+              model=False)

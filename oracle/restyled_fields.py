@@ -13,6 +13,7 @@ import re
 import subprocess
 import sys
 import tempfile
+from pathlib import Path
 
 import frame
 import rustc
@@ -92,44 +93,25 @@ def value(it, depth):
     it.write(VALUES[it.chance.choice([*VALUES] if depth else ['number', 'path', 'field', 'word'])], depth)
 
 
+def fields(it, head, names, inside, tail, depth=0):
+    """Appends a value or a pattern of a struct, with words inside each of the fields with these names."""
+    it.write(head + ' {')
+    for name in dict.fromkeys(names):
+        it.attributes()
+        it.write(f'={name} : {inside} ,', depth)
+    it.write(tail + ' }')
+
+
 def row(it, depth):
     """Appends a `Row` with some of its fields."""
-    names = set()
-    it.write('Row {')
-    for _ in range(it.chance.randrange(4)):
-        name = str(it.chance.choice([9, 10, 11, 100, it.chance.randrange(FIELDS)]))
-        if name not in names:
-            names.add(name)
-            it.attributes()
-            it.write(f'={name} :')
-            value(it, depth)
-            it.put(',')
-    it.write('.. r }')
+    names = [str(it.chance.choice([9, 10, 11, 100, it.chance.randrange(FIELDS)])) for _ in range(it.chance.randrange(4))]
+    fields(it, 'Row', names, 'VALUE', '.. r', depth + 1)
 
 
-def pair(it):
-    """Appends a `Pair`, with a row for each of its two fields."""
-    it.write('Pair {')
-    for name in it.chance.sample(['10', '11', '3'], 2):
-        it.attributes()
-        it.write(f'={name} : ROW1 ,')
-    it.write('.. p }')
-
-
-def byte_pattern(it):
-    """Appends a pattern of a `u8`."""
-    way = it.chance.randrange(5)
-    it.write(['#10 | #11', '#10 ..= #200', f'x{len(it.old)} @ #17', '_', '_'][way])
-
-
-def row_pattern(it, is_open):
-    """Appends a pattern of a `Row`. An open pattern may fail to match."""
+def row_pattern(it, inside):
+    """Appends a pattern of a `Row`."""
     names = it.chance.sample(['9', '10', '11', '99', '100', str(it.chance.randrange(12, 99))], it.chance.randrange(4))
-    it.write('Row {')
-    for name in names:
-        it.attributes()
-        it.write(f'={name} : {"BYTE_PATTERN" if is_open else "_"} ,')
-    it.write('.. }')
+    fields(it, 'Row', names, inside, '..')
 
 
 FUNCTIONS = {
@@ -137,9 +119,11 @@ FUNCTIONS = {
     'NUMBER': lambda it, _: it.number(str(it.chance.choice([0, 7, 10, 99, 128, 255]))),
     'PATH': lambda it, _: it.put(it.chance.choice(['::core::primitive::u8::MAX', 'u8::MIN', 'core::primitive::u8::MAX'])),
     'FIELD': lambda it, _: it.field(str(it.chance.choice([0, 9, 10, 11, it.chance.randrange(FIELDS)]))),
-    'ROW1': lambda it, _: row(it, 1), 'ROW2': lambda it, _: row(it, 2), 'PAIR': lambda it, _: pair(it),
-    'ROW_PATTERN': lambda it, _: row_pattern(it, False), 'OPEN_PATTERN': lambda it, _: row_pattern(it, True),
-    'BYTE_PATTERN': lambda it, _: byte_pattern(it)}
+    'ROW1': lambda it, _: row(it, 1), 'ROW2': lambda it, _: row(it, 2),
+    'PAIR': lambda it, _: fields(it, 'Pair', it.chance.sample(['10', '11', '3'], 2), 'ROW1', '.. p'),
+    # An open pattern may fail to match.
+    'ROW_PATTERN': lambda it, _: row_pattern(it, '_'), 'OPEN_PATTERN': lambda it, _: row_pattern(it, 'BYTE_PATTERN'),
+    'BYTE_PATTERN': lambda it, _: it.write(it.chance.choice(['#10 | #11', '#10 ..= #200', f'x{len(it.old)} @ #17', '_', '_']))}
 
 
 def made(chance):
@@ -155,16 +139,14 @@ def made(chance):
 
 def tried(program, it, room):
     """Returns a description of the error for a source, or an empty text if there is none."""
-    path, style = f'{room}/source.rs', f'{room}/style'
+    path, style = Path(room, 'source.rs'), Path(room, 'style')
     old, new = ''.join(it.old), ''.join(it.new)
-    for name, text in ((path, old), (style, STYLE)):
-        with open(name, 'w', encoding='utf-8') as file:
-            file.write(text)
+    path.write_text(old)
+    style.write_text(STYLE)
     if found := rustc.errors(old.encode()):
         sys.exit(f'rustc rejects what was made:\n{old}\n{found}')
     ended = subprocess.run([program, '--fix', '--style', style, path], capture_output=True, text=True, check=False)
-    with open(path, encoding='utf-8') as file:
-        written = file.read()
+    written = path.read_text()
     if ended.returncode or ended.stderr:
         return f'{program} ends with {ended.returncode}: {ended.stderr}'
     if found := rustc.errors(written.encode()):
@@ -173,19 +155,16 @@ def tried(program, it, room):
     return '' if written == new else next((f'{one!r}, not {other!r}' for one, other in pairs if one != other), 'longer or shorter')
 
 
-def main():
-    asked = frame.arguments(__doc__, ours=['rl_scan'], count=200)
-    chance, report = random.Random(asked.seed), frame.Report(asked)
+def compare(asked, report):
+    chance = random.Random(asked.seed)
     with tempfile.TemporaryDirectory() as room:
-        for at in range(asked.count):
+        for _ in range(asked.count):
             it = made(chance)
             report.agreeing['fields', 'names of two digits or more'] += it.fields
             report.agreeing['fields', 'other such numbers'] += it.others
-            report.compared += 1
-            if found := tried(asked.rl_scan, it, room):
-                report.differs(f'source {at}', ''.join(it.old).encode(), b'', found.encode())
-    return report.end(asked.count, 'sources')
+            report.judge('sources', ''.join(it.old).encode(), '', tried(asked.rl_scan, it, room))
+    return asked.count
 
 
 if __name__ == '__main__':
-    sys.exit(main())
+    frame.run(compare, __doc__, what='sources', ours=['rl_scan'], count=200)

@@ -1,50 +1,41 @@
 #!/usr/bin/env python3
-"""Compares the output of rl_scan for whole Rust sources with rustc's own lexer, with the model and with `syn`'s own parsing code.
+"""Compares the output of rl_scan for Rust sources with rustc's own lexer, with the model and with `syn`'s own parsing code.
 
-    oracle/sources.py PATH FOLDER.. [--jobs N] [--model] ..      half an hour for 300 MB of sources
+    oracle/sources.py PATH FOLDER.. [--jobs N] [--model] ..       half an hour for 300 MB of sources
+    oracle/sources.py PATH --count N [--size N] [--model] ..      a minute with `--count 1000 --size 10000`
 
-A process of rl_scan reads each file below the FOLDERs, also with options. Then each literal of these files is read by rl_rows, by
-`syn`'s code with the commands text, int, float and value, and by rustc with strict. PATH is a program with `syn`'s code, and rustc
-runs the macros of oracle/rustc (docs/COMPARISON.md). With --model the model's results are compared with rustc's. Other options:
-frame.py.
+With FOLDERs, a process of rl_scan reads each file below them, also with options. Then each literal of these files is read by rl_rows,
+by `syn`'s code with the commands text, int, float and value, and by rustc with strict. Without a FOLDER the sources are generated
+(source_texts.py): hostile ones of N bytes, small ones cut off at each byte, first lines for interpreters, and random sequences of
+pieces. PATH is a program with `syn`'s code, and rustc runs the macros of oracle/rustc (docs/COMPARISON.md). With --model the
+model's results are compared with rustc's. Other options: frame.py.
 
 The result for a source is a list of lines on either side: the lines of its literals, and last the line of an error, if there is
 one.
 """
+import collections
 import concurrent.futures
 import functools
+import itertools
 import re
 import subprocess
-import sys
 import unicodedata
 
 import frame
 import listed
 import rustc
+import source_texts
 from model.sources import after_front, cut_source
 from readings import syn
 
 NOT_TEXT = b'error: input is not UTF-8'
-# The number of bytes of sources, and the number of texts, that are processed at a time.
-AT_ONCE, COUNT = 4_000_000, 20_000
+# The number of texts, and the number of bytes of sources, that are processed at a time.
+AT_ONCE = (20_000, 4_000_000)
 PLACED = re.compile(rb'(\d+)\.\.(\d+) (.*)', re.S)
 # Options with which rl_scan is run, in addition to a run that prints all lines.
 WORDS = (('--lines',), ('--lines', '--no-stray', '--only', 'int,FLOAT,Verbatim'), ('--only', 'verbatim'))
 # The edition for sources with prefixes that later editions reserve.
 OLDER = '2018'
-
-
-def batches(sources):
-    """Divides the sources into batches of a number of bytes or texts."""
-    batch, size = [], 0
-    for source in sources:
-        batch.append(source)
-        size += len(source)
-        if size > AT_ONCE or len(batch) == COUNT:
-            yield batch
-            batch, size = [], 0
-    if batch:
-        yield batch
 
 
 def text_of(data):
@@ -62,33 +53,20 @@ class Model:
         self.path, self.known = path, {}
 
     def cuts(self, datas):
-        """Returns how each source is lexed, or None for a source that isn't UTF-8."""
-        texts = [text_of(data) for data in datas]
-        return [None if text is None else cut_source(text) for text in texts]
-
-    def learn(self, cuts):
-        """Asks syn's code about literals that weren't asked before."""
-        if len(self.known) > 2_000_000:
-            self.known = {}
-        new = list({token.text: None for cut in cuts if cut for token in cut.literals() if token.text not in self.known})
+        """Returns how each source is lexed, or None for a source that isn't UTF-8. Asks syn's code about new literals."""
+        cuts = [None if text is None else cut_source(text) for text in map(text_of, datas)]
+        new = dict.fromkeys(token.text for cut in cuts if cut for token in cut.literals() if token.text not in self.known)
         self.known.update({text: listed.verbatim(text) for text in new if listed.is_long_past(text)})
         asked = [text for text in new if text not in self.known]
         self.known.update(zip(asked, syn(self.path, 'text', [text.encode() for text in asked]) if asked else []))
+        return cuts
 
     def lines(self, cut):
         """Returns the lines of a source."""
         if cut is None:
             return [NOT_TEXT]
         out = [b'%d..%d %s' % (token.lo, token.hi, listed.visible(self.known[token.text])) for token in cut.literals()]
-        if cut.error:
-            out.append(b'error at %d..%d: %s' % (cut.error.at, cut.error.at, cut.error.kind.encode()))
-        return out
-
-    def answers(self, datas):
-        """Returns the lines of each source."""
-        cuts = self.cuts(datas)
-        self.learn(cuts)
-        return [self.lines(cut) for cut in cuts]
+        return out + [b'error at %d..%d: %s' % (it.at, it.at, it.kind.encode()) for it in [cut.error] if it]
 
 
 class Theirs:
@@ -158,11 +136,10 @@ def line_places(data, lines):
 
 def under(words, data, lines, cut):
     """Returns the expected output of rl_scan with these options, from its output without options."""
-    if '--no-stray' in words and cut:
-        stray = next((token for token in cut.tokens if token.form == 'stray'), None)
-        if stray:
-            lines = [line for line in lines if PLACED.fullmatch(line) and int(PLACED.fullmatch(line)[1]) < stray.lo]
-            lines.append(b'error at %d..%d: stray character' % (stray.lo, stray.lo))
+    stray = next((token for token in cut.tokens if token.form == 'stray'), None) if cut and '--no-stray' in words else None
+    if stray:
+        lines = [line for line in lines if PLACED.fullmatch(line) and int(PLACED.fullmatch(line)[1]) < stray.lo]
+        lines.append(b'error at %d..%d: stray character' % (stray.lo, stray.lo))
     if '--only' in words:
         kinds = words[words.index('--only') + 1].lower().split(',')
         lines = [line for line in lines if not line[:1].isdigit() or line.split(b' ')[1].decode().lower() in kinds]
@@ -172,7 +149,7 @@ def under(words, data, lines, cut):
 def all_listed(data, their, our):
     """Returns the differences of docs/DIFFERENCES.md between the lines, each with the number of its lines, or None if some line has
     no such difference, or has another position."""
-    found = {}
+    found = collections.Counter()
     if len(their) != len(our):
         return None
     for t, o in zip(their, our):
@@ -186,23 +163,20 @@ def all_listed(data, their, our):
         known = listed.listed('text', text, told[3], plain if ours[3] == listed.visible(plain) else ours[3])
         if not known:
             return None
-        found[known] = found.get(known, 0) + 1
+        found[known] += 1
     return found
-
-
-def is_symbol_in_word(text):
-    """Whether a symbol is directly before an identifier, since rustc lexes it as a part of the identifier."""
-    return any(unicodedata.category(c) == 'So' and word.isidentifier() for c, word in zip(text, text[1:]))
 
 
 def cut_listed(data, edition, their, our):
     """Returns the row of docs/DIFFERENCES.md for a source that rustc accepts and lexes differently, or None."""
+    text = data.decode()
     apart = next((PLACED.fullmatch(o) for t, o in zip(their + [b''], our) if t != o), None)
     if apart and data.startswith(b"'r#", int(apart[1])):
         return 'a raw lifetime right before a quote: a literal here'
-    if edition == OLDER and re.search('c(?:"|r#*")', data.decode()):
+    if edition == OLDER and re.search('c(?:"|r#*")', text):
         return 'edition %s, in which c"a" are two tokens' % edition
-    if is_symbol_in_word(data.decode()):
+    # rustc lexes a symbol directly before an identifier as a part of the identifier.
+    if any(unicodedata.category(c) == 'So' and word.isidentifier() for c, word in zip(text, text[1:])):
         return 'a symbol that rustc takes into a word: a stray character here'
     return None
 
@@ -214,83 +188,38 @@ def told_words(words):
     return re.sub(r'(start of token|escape|delimitation|found|literal|emoji|digit): .*', r'\1', words)
 
 
-class Count:
-    """The counts of sources and lines, by the result of their comparison."""
-
-    def __init__(self, report):
-        self.report, self.rows, self.sources, self.lines = report, {}, 0, 0
-
-    def add(self, side, words, sources, lines):
-        """Counts sources, and lines of them, with this result."""
-        before = self.rows.get((side, words), (0, 0))
-        self.rows[side, words] = before[0] + sources, before[1] + lines
-
-    def differs(self, side, name, data, their, our):
-        at = next((at for at, (t, o) in enumerate(zip(their + [b''], our + [b''])) if t != o), min(len(their), len(our)))
-        shown = data if len(data) < 300 else data[:0]
-        placed = PLACED.match(their[at]) if at < len(their) else None
-        near = data[max(0, int(placed[1]) - 60):int(placed[2]) + 60] if placed and not shown else shown
-        self.report.differs('%s, %s' % (side, name), near, b'\n'.join(their[at:at + 2]), b'\n'.join(our[at:at + 2]))
-
-    def print(self):
-        for side in dict.fromkeys(side for side, _ in self.rows):
-            here = sorted(((words, row) for (at, words), row in self.rows.items() if at == side), key=lambda it: -it[1][0])
-            for words, (sources, lines) in here:
-                print('%s: %d sources, %d lines: %s' % (side, sources, lines, words))
-        print('%d sources, %d lines, %d unexplained' % (self.sources, self.lines, self.report.unexplained), flush=True)
-
-
-def judge_model(count, name, data, wanted, our):
-    """Compares a result with that of the model, which has other tables of characters."""
-    lines = sum(line[:1].isdigit() for line in our)
-    count.sources, count.lines = count.sources + 1, count.lines + lines
-    if wanted == our:
-        ending = our[-1].partition(b': ')[2].decode() if our and not our[-1][:1].isdigit() else 'no error'
-        return count.add('model', 'the same lines, and ' + ending, 1, lines)
-    found = all_listed(data, wanted, our)
-    if found is None and listed.newer(data.decode(errors='replace')):
-        return count.add('model', listed.NEWER, 1, lines)
-    if found is None:
-        return count.differs('model', name, data, wanted, our)
-    count.add('model', 'the same lines, but for those below', 1, lines - sum(found.values()))
-    for words, number in found.items():
-        count.add('model', words, 0, number)
-
-
-def judge_rustc(count, name, data, told, our, is_model=False):
-    """Compares a result with rustc's. If it is the model's result, characters newer than the model's tables may be classified
-    differently."""
-    their, words = told
-    if their is None:
-        return count.add('rustc', 'rejected: ' + told_words(words), 1, 0)
-    found = all_listed(data, their, our)
-    if found is None:
-        known = cut_listed(data, words, their, our)
-        if is_model and listed.newer(data.decode()):
-            known = listed.NEWER
-        if known:
-            return count.add('rustc', known, 1, len(their))
-        return count.differs('rustc', name, data, their, our)
-    count.add('rustc', 'edition %s, the same lines%s' % (words, ', but for those below' if found else ''), 1, len(their) - sum(found.values()))
-    for words, number in found.items():
-        count.add('rustc', words, 0, number)
-
-
 class Sides:
-    """The three sides of the comparison. `names` returns the name of a source for reports."""
+    """The three sides of the comparison, and the report. The report counts sources that agree, and lines that differ."""
 
     def __init__(self, asked, report, older):
-        self.asked, self.model, self.rustc, self.count = asked, Model(asked.path), Theirs(older), Count(report)
+        self.asked, self.report, self.model, self.rustc = asked, report, Model(asked.path), Theirs(older)
+        self.sources = 0
+
+    def judge(self, side, name, data, their, our, known, by_line=True):
+        """Counts a source whose lines are the same, or differ by listed differences: by those of lines, with `by_line`, or as a whole
+        by the one that `known` returns. Reports any other source."""
+        found = all_listed(data, their, our) if by_line and their != our else None
+        if their == our or found:
+            ending = our[-1].partition(b': ')[2].decode() if our and our[-1].startswith(b'error') else 'no error'
+            self.report.agreeing[side, f'the same lines{" except those below" if found else ""}, {ending}'] += 1
+        elif whole := known():
+            found = {whole: 1}
+        else:
+            at = next((at for at, (t, o) in enumerate(zip(their + [b''], our + [b''])) if t != o), min(len(their), len(our)))
+            placed = PLACED.match(their[at]) if at < len(their) else None
+            near = data if len(data) < 300 else data[max(0, int(placed[1]) - 60):int(placed[2]) + 60] if placed else b''
+            self.report.differs(f'{side}, {name}', near, b'\n'.join(their[at:at + 2]), b'\n'.join(our[at:at + 2]))
+        self.report.listed.update({(side, words): number for words, number in (found or {}).items()})
 
     def scanned(self, datas, *words):
         """Returns the results of rl_scan, with a process for each source."""
         with concurrent.futures.ThreadPoolExecutor(self.asked.jobs) as pool:
             return list(pool.map(functools.partial(scanned, self.asked.rl_scan, words), datas))
 
-    def ours(self, datas, each):
+    def ours(self, datas, cuts, each):
         """Returns the results of rl_scan, of rl_rows, or of the model."""
         if self.asked.model:
-            return self.model.answers(datas)
+            return list(map(self.model.lines, cuts))
         if each:
             return self.scanned(datas)
         return [answer.split(b'\n') if answer else [] for answer in frame.of_rows(self.asked.rl_rows, 'source', datas)]
@@ -298,51 +227,72 @@ class Sides:
     def compare(self, datas, names, each=False, rustc=True):
         """Compares the results for these sources, with a process of rl_scan for each, or in bulk."""
         cuts = self.model.cuts(datas)
-        self.model.learn(cuts)
-        our = self.ours(datas, each)
+        our = self.ours(datas, cuts, each)
+        newer = lambda data, applies=True: listed.NEWER if applies and listed.newer(data.decode(errors='replace')) else None
         for name, data, cut, answer in zip(names, datas, cuts, our):
-            judge_model(self.count, name, data, self.model.lines(cut), answer)
-        if each and not self.asked.model:
-            for words in WORDS:
-                self.compare_words(words, datas, names, cuts, our)
-        if rustc:
-            for name, data, told, answer in zip(names, datas, self.rustc.answers(datas), our):
-                judge_rustc(self.count, name, data, told, answer, self.asked.model)
-
-    def compare_words(self, words, datas, names, cuts, our):
-        """Compares the output of rl_scan with these options with its output without options."""
-        side = 'rl_scan ' + ' '.join(words)
-        for name, data, cut, answer, lines in zip(names, datas, cuts, our, self.scanned(datas, *words)):
-            wanted = under(words, data, answer, cut)
-            if wanted == lines:
-                self.count.add(side, 'as without these words', 1, len(lines))
-            elif '--no-stray' in words and listed.newer(data.decode(errors='replace')):
-                self.count.add(side, listed.NEWER, 1, len(lines))
+            self.sources, self.report.compared = self.sources + 1, self.report.compared + sum(line[:1].isdigit() for line in answer)
+            self.judge('model', name, data, self.model.lines(cut), answer, lambda: newer(data))
+        for words in WORDS if each and not self.asked.model else ():
+            side, wide = 'rl_scan ' + ' '.join(words), '--no-stray' in words
+            for name, data, cut, answer, lines in zip(names, datas, cuts, our, self.scanned(datas, *words)):
+                self.judge(side, name, data, under(words, data, answer, cut), lines, lambda: newer(data, wide), by_line=False)
+        for name, data, (their, edition), answer in zip(names, datas, self.rustc.answers(datas) if rustc else (), our):
+            if their is None:
+                self.report.agreeing['rustc', 'rejected: ' + told_words(edition)] += 1
             else:
-                self.count.differs(side, name, data, wanted, lines)
+                known = lambda: newer(data, self.asked.model) or cut_listed(data, edition, their, answer)
+                self.judge('rustc, edition ' + edition, name, data, their, answer, known)
+
+    def compare_front(self, text):
+        """Compares a first line, which rustc may treat as a line for an interpreter. An attribute in the first line would remove the
+        crate and with it the macro, so that there is no result."""
+        is_line = front_of(text.encode()) > len('\ufeff'.encode()) * text.startswith('\ufeff')
+        first = text.partition('\n')[0] if is_line else text
+        told = self.rustc.lexer.expanded((first + '\nanswers::judged!(lexes);').encode(), [b'1'])[0]
+        known = 'white space that the Reference has not' if any(c in text for c in listed.OTHER_WHITE) else None
+        self.report.judge('fronts', text.encode(), told == b'true\n', is_line, known)
 
 
 def compare_files(asked, report):
-    """Compares the results for every source below the folders. Returns their literals, each once."""
+    """Compares the results for every source below the folders, and for their literals, each once."""
     found = frame.contents(frame.sources_below(asked.folders))
     print('%d different files, %d bytes' % (len(found), sum(map(len, found))), flush=True)
     sides = Sides(asked, report, len(found))
-    for batch in batches(found):
+    for batch in frame.batches(found, *AT_ONCE):
         sides.compare(batch, [found[data] for data in batch], each=True)
-    sides.count.print()
-    return [text.encode() for text in sides.model.known], sides.rustc.lexer
+    literals = [] if asked.model else [text.encode() for text in sides.model.known]
+    print('%d files, %d lines; %d different literals' % (sides.sources, report.compared, len(literals)), flush=True)
+    for batch, command in itertools.product(frame.batches(literals), ('text', 'int', 'float', 'value', 'strict')):
+        theirs = sides.rustc.lexer.answers(command, batch) if command == 'strict' else syn(asked.path, command, batch)
+        listed.compare(report, command, batch, theirs, frame.of_rows(asked.rl_rows, command, batch))
+    return sides.sources
 
 
-def main():
-    asked = frame.arguments(__doc__, 'path', 'folders+', ours=['rl_rows', 'rl_scan'], jobs=2, model=False)
-    report = frame.Report(asked)
-    literals, lexer = compare_files(asked, report)
-    for batch in frame.batches([] if asked.model else literals):
-        for command in ('text', 'int', 'float', 'value', 'strict'):
-            theirs = lexer.answers(command, batch) if command == 'strict' else syn(asked.path, command, batch)
-            listed.compare(report, command, batch, theirs, frame.of_rows(asked.rl_rows, command, batch))
-    return report.end(len(literals), 'literals')
+def compare_generated(asked, report):
+    """Compares the results for generated sources."""
+    sides, rows = Sides(asked, report, 200), dict(source_texts.long_rows(asked.size))
+    for name, text in rows.items():
+        sides.compare([text.encode()], [name], each=True, rustc=False)
+    cuts = list(dict.fromkeys(source_texts.cuts()))
+    print(f'{len(rows)} long rows, {len(cuts)} cuts', flush=True)
+    sides.compare(cuts, map(str, range(len(cuts))))
+    sides.compare(cuts[::7], map(str, range(0, len(cuts), 7)), each=True, rustc=False)
+    for text in dict.fromkeys(front.replace('[a]', '[cfg(any())]') for front in source_texts.FRONTS):
+        if text.lstrip('\ufeff').startswith('#!'):
+            sides.compare_front(text)
+    seen = set()
+    for batch in frame.batches(source_texts.soups(asked.seed, asked.count), *AT_ONCE):
+        fresh = frame.fresh(batch, seen)
+        sides.model.known.clear()
+        sides.compare(fresh, itertools.repeat(''))
+    print(f'{len(seen)} soups', flush=True)
+    return sides.sources
+
+
+def compare(asked, report):
+    return compare_files(asked, report) if asked.folders else compare_generated(asked, report)
 
 
 if __name__ == '__main__':
-    sys.exit(main())
+    frame.run(compare, __doc__, 'path', 'folders*', what='sources', ours=['rl_rows', 'rl_scan'], count=500_000, size=1_000_000, jobs=2,
+              model=False)

@@ -1,20 +1,29 @@
 #!/usr/bin/env python3
-"""Generates literals and styles for the comparisons of rewriting, and writes the rows with which rust/tests/style.rs tests the
-package, by the model.
+"""Compares the package's `rewrite` and `rewrite_in_context` with the model, on many literals.
 
-    oracle/style_rows.py [--count N] [--seed S]    writes rust/tests/style.txt, in a second
+    oracle/style_rows.py [--pairs N] [--jobs J] [--minutes M] ..      some 15 s for 100,000 pairs on one processor
+    oracle/style_rows.py --write N ..                                 writes rust/tests/style.txt, some 10 s
+
+A pair is a text and a style with one rule or several rules. The texts are all short ones over small alphabets, every character of
+Unicode by itself and as an escape, and longer random ones, until N pairs have a literal. The package and the model must return the
+same text, or both must reject it. The package must leave its own result unchanged (oracle/restyled). After M minutes no more pairs
+are run.
 
 A row has a style as letters (model/style.py), the text before the literal, the literal, and the rewritten literal. The three texts
-are in hexadecimal. `-` is an empty style or text, `=` is an unchanged literal, and `!` is written if the text isn't a literal.
+are in hexadecimal. `-` is an empty style or text, `=` is an unchanged literal, and `!` is written if the text isn't a literal. With
+--write, the model writes the rows of N short texts and as many long ones, with which rust/tests/style.rs tests the package.
 """
+import array
+import concurrent.futures
+import functools
 import itertools
 import os
 import random
-import sys
+import time
 
 import frame
-from model.literals import OPENERS, RAW_OPENERS, literal
-from model.style import rewrite
+from model import style as model
+from model.literals import OPENERS, RAW_OPENERS
 
 HEX = '0123456789abcdefABCDEF'
 ROWS = os.path.join(frame.TOP, 'rust/tests/style.txt')
@@ -25,8 +34,13 @@ PIECES = ['a', ' ', '\n', "'", '"', "\\'", '\\"', '\\\\', '\\n', '\\0', '\\x41',
           '{', '\t', '\x00', '\x1b', '\x7f', '\x0c', '\x80', '\u200d', '\ufe0f', '\U000e0041']
 RAW_PIECES = ['"', '"#', '#', 'a', '\\', '\n', '"##', ' ', 'é', '"#"', '\u202e', '\x1b', '\t', '\0']
 FRONTS = ['', '', '', '#', '.', '1.', '.#', '#.', '# ', '. ', 'é', 'a', '(', '\n']
-NUMBERS = ['019_.eE+-xaF', '01_.eE+-']
+# Rules of one group exclude each other.
+GROUPS = (*'uzfcanpqhri', 'xX', 'sS', 'gG', 'eE', 'dD')
+# The number of texts that share a set of styles, the number of styles in a set, and the number of rows that are run at a time.
+TEXTS, STYLES, AT_ONCE = 250, 3, 60_000
 
+
+# ---- the texts and styles
 
 def words(letters, lengths):
     """Returns the words of these lengths over the letters."""
@@ -35,19 +49,21 @@ def words(letters, lengths):
 
 
 def short_texts():
-    """Returns short texts over small alphabets."""
-    yield from words(NUMBERS[0], range(1, 5))
-    yield from words(NUMBERS[1], [5])
-    for prefix in ('0x', '0b', '0o', '0'):
-        yield from (prefix + word for word in words('01aAF_eg', range(4)))
+    """Returns all short texts over small alphabets, each once."""
+    for front in '019':
+        yield from (front + word for word in words('019_.eE+-xaF', range(5)))
+    for front in '01':
+        yield from (front + word for word in words('01_.eE+-', (5, 6)))
+    for prefix in ('0x', '0b', '0o'):
+        yield from (prefix + word for word in words('01aAF_eg', range(6)))
     for opener in OPENERS.values():
-        for piece in PIECES:
-            yield from (opener + piece + opener[-1] + suffix for suffix in SUFFIXES)
-        yield from (opener + ''.join(pair) + opener[-1] for pair in itertools.product(PIECES, repeat=2))
-    for opener in RAW_OPENERS.values():
-        for hashes in ('', '#', '##', '###'):
-            for inside in words(['"', '#', 'a', '\\', '\u200b', '\x1b'], range(4)):
-                yield opener + hashes + '"' + inside + '"' + hashes
+        for inside in words(PIECES, range(1, 2 if opener[-1] == "'" else 3)):
+            yield from (opener + inside + opener[-1] + suffix for suffix in SUFFIXES)
+        if opener[-1] == '"':
+            yield from (opener + inside + opener[-1] for inside in words(PIECES, [3]))
+    for opener, count in itertools.product(RAW_OPENERS.values(), range(5)):
+        hashes = '#' * count
+        yield from (f'{opener}{hashes}"{inside}"{hashes}' for inside in words(['"', '#', 'a', '\\', '\u200b', '\x1b'], range(6)))
 
 
 def long_texts(dice, count):
@@ -73,36 +89,107 @@ def long_texts(dice, count):
             yield dice.choice(list(RAW_OPENERS.values())) + hashes + '"' + inside + '"' + hashes + suffix
 
 
-def styles():
-    """Returns all styles."""
-    for x, s, g, e, d in itertools.product(*(['', low, low.upper()] for low in 'xsged')):
-        for letters in itertools.product(*(['', letter] for letter in 'uzfcanpqhri')):
-            yield x + s + g + e + d + ''.join(letters)
+def characters(dice):
+    """Returns every character by itself in one literal, and as an escape in two literals."""
+    for code in itertools.chain(range(0xd800), range(0xe000, 0x110000)):
+        opener = dice.choice(['"', 'c"', "'"])
+        yield opener + chr(code) + opener[-1]
+        digits = '%x' % code
+        yield '"\\u{%s}"' % dice.choice([digits, digits.upper(), digits.zfill(6), digits + '_'])
+        yield "'\\u{%s}'" % dice.choice([digits, digits.upper(), digits.zfill(6), digits[:1] + '_' + digits[1:]])
+
+
+def style(dice):
+    """Returns a style with one rule, or with several."""
+    if dice.random() < .25:
+        return dice.choice(model.RULES)
+    return ''.join(dice.choice(group) for group in GROUPS if dice.random() < .6) or '-'
+
+
+def rows(texts, dice, count):
+    """Returns rows of the texts, each with a number of styles and a text before it."""
+    for batch in frame.batches(texts, TEXTS):
+        fronts = [dice.choice(FRONTS) for _ in batch]
+        for letters in (style(dice) for _ in range(count)):
+            yield from ((letters, front, text) for front, text in zip(fronts, batch))
+
+
+def every_row(share, jobs, dice):
+    """Returns the rows of a share, without an end."""
+    part = lambda texts: itertools.islice(texts, share, None, jobs)
+    yield from rows(part(short_texts()), dice, STYLES)
+    # Each share goes through the characters in the same order.
+    yield from rows(part(characters(random.Random(0))), dice, 1)
+    while True:
+        yield from rows(long_texts(dice, TEXTS), dice, STYLES)
+
+
+# ---- the results
+
+def said_of(row):
+    """Returns the model's result for a row."""
+    letters, front, text = row
+    new = model.rewrite(letters, text, front)
+    return '!' if new is None else '=' if new == text else new.encode().hex()
+
+
+def line_of(letters, front, text):
+    """Returns the line of a row, up to its result."""
+    return f'{letters} {front.encode().hex() or "-"} {text.encode().hex() or "-"}'
+
+
+def answers_of(program, rows):
+    """Returns the package's results for the rows."""
+    return frame.output_of([program], ''.join(line_of(*row) + '\n' for row in rows).encode()).decode().split('\n')[:-1]
+
+
+def compared(program, share, jobs, pairs, seed, end):
+    """Compares the rows of a share. Returns the number of rows with literals, the number of changed literals, the number of
+    rejected ones, the hashes of the literals, and the first rows that differ."""
+    # The same characters and escapes are rewritten many times, so their results are cached.
+    model.unit = functools.lru_cache(1 << 16)(model.unit)
+    found, hashes, wrong = [0, 0, 0], array.array('q'), []
+    source = every_row(share, jobs, random.Random(f'{seed} {share}'))
+    while found[0] < pairs and len(wrong) < 20 and time.time() < end:
+        asked = list(itertools.islice(source, AT_ONCE))
+        said, wanted = answers_of(program, asked), [said_of(row) for row in asked]
+        wrong += [(*row, one, other) for row, one, other in zip(asked, said, wanted, strict=True) if one != other]
+        rejected = wanted.count('!')
+        literals = len(asked) - rejected
+        found = [old + new for old, new in zip(found, (literals, literals - wanted.count('='), rejected))]
+        hashes.extend(hash(row[2]) for row, word in zip(asked, wanted) if word != '!')
+    return found, hashes, wrong
 
 
 def write_rows(dice, count):
     """Writes rows of `count` short texts and as many long ones."""
-    every = list(styles())
-    texts = dice.sample(sorted(set(short_texts())), count) + list(long_texts(dice, count))
+    texts = dict.fromkeys([*dice.sample(sorted(set(short_texts())), count), *long_texts(dice, count)])
+    every = [(style(dice), dice.choice(FRONTS), text) for text in texts]
     # Of the words over the letters of numbers, few are literals, so only some of the others are kept.
-    kept = [text for text in dict.fromkeys(texts) if literal(text) or dice.random() < .2]
-    lines = []
-    for text in kept:
-        style, front = dice.choice(every), dice.choice(FRONTS)
-        written = rewrite(style, text, front)
-        shown = '!' if written is None else '=' if written == text else written.encode().hex()
-        lines.append(f'{style or "-"} {front.encode().hex() or "-"} {text.encode().hex()} {shown}\n')
+    kept = [(row, said) for row, said in zip(every, map(said_of, every)) if said != '!' or dice.random() < .2]
     with open(ROWS, 'w', encoding='utf-8') as file:
-        file.writelines(lines)
-    ends = [line.split()[3] for line in lines]
-    print(f'{len(lines)} rows: {ends.count("!")} are no literal, {ends.count("=")} stay')
-    return 0
+        file.writelines(f'{line_of(*row)} {said}\n' for row, said in kept)
+    return len(kept)
 
 
-def main():
-    asked = frame.arguments(__doc__, count=3000)
-    return write_rows(random.Random(asked.seed), asked.count)
+def compare(asked, report):
+    if asked.write:
+        return write_rows(random.Random(asked.seed), asked.write)
+    hashes, program = array.array('q'), f'{frame.helper("restyled")}/restyle'
+    share = functools.partial(compared, program, jobs=asked.jobs, pairs=-(-asked.pairs // asked.jobs), seed=asked.seed,
+                              end=time.time() + 60 * asked.minutes)
+    with concurrent.futures.ProcessPoolExecutor(asked.jobs) as pool:
+        shares = list(pool.map(share, range(asked.jobs)))
+    for found, some, differs in shares:
+        hashes.extend(some)
+        report.compared += found[0]
+        report.agreeing['pairs', 'changed literals'] += found[1]
+        report.agreeing['pairs', 'texts that are no literal, which are not counted'] += found[2]
+        for letters, front, text, one, other in differs:
+            report.differs(f'{letters} after {front!r}', text.encode(), other.encode(), one.encode())
+    # The number of different hashes, in parts that need less memory.
+    return sum(len({it for it in hashes if it & 15 == low}) for low in range(16))
 
 
 if __name__ == '__main__':
-    sys.exit(main())
+    frame.run(compare, __doc__, what='literals', pairs=10_000_000, jobs=2, minutes=10_000.0, write=0)

@@ -47,10 +47,6 @@ WORKED = [
 ]
 
 
-def hexes(low, high, pad):
-    return [form % n for n in (low, low + 1, high - 1, high) for form in ('%x', '%X', '%0' + str(pad) + 'x')]
-
-
 # A piece for every row of the table of escapes, and pieces that are just out of its range.
 POINTS = ['0', '1', '7f', '7F', '80', 'ff', '100', '7ff', '800', 'D7FF', 'd800', 'DfFf', 'E000', 'FFFF', '10000', '10FFFF', '110000', 'FFFFFF', '0000000', '000041', '4_1', '4__', '_4', 'g', '']
 PIECES = ['\\n', '\\r', '\\t', '\\\\', "\\'", '\\"', '\\0', '\\x00', '\\x41', '\\x7f', '\\x80', '\\xFf', '\\x4', '\\xg0', '\\x0g', '\\', '\\a', '\\u', '\\u{', '\\u{41', '\\x',
@@ -130,7 +126,8 @@ MAKERS = [random_integer, random_integer, random_float, random_float, random_quo
 
 def cuts():
     for text in WORKED:
-        for at in range(len(text) + 1):
+        # Three texts repeat one piece. All their ends would be two thirds of these texts, with most of rustc's errors.
+        for at in range(0, len(text) + 1, 1 if len(text) < 1000 else 61):
             yield text[:at]
             yield text[at:]
 
@@ -248,11 +245,23 @@ def families(seed, count):
     }
 
 
+FAMILIES = list(families(0, 0))
 # The commands for which a family is meaningful, if not all.
 ABOUT = {
     'trivia': ['skip', 'read', 'spans'], 'characters': ['text', 'skip', 'read', 'strict'], 'lists': ['read', 'spans'], 'attributes': ['attr'], 'printed': ['spans', 'read'],
     'short': ['text', 'int', 'float', 'skip', 'value', 'read', 'strict'], 'framed': ['text', 'int', 'float', 'skip', 'value', 'read', 'strict'],
 }
+
+
+def fresh_batches(asked, names):
+    """Returns the texts of these families in batches, as bytes, each text once, and each batch with the family's name. Prints the
+    number of texts of each family."""
+    seen, chosen = set(), families(asked.seed, asked.count)
+    for name in names:
+        before = len(seen)
+        for batch in frame.batches(chosen[name]()):
+            yield name, frame.fresh(batch, seen)
+        print(f'family {name}: {len(seen) - before} texts', flush=True)
 
 
 def literals_of(folders):

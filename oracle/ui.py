@@ -8,21 +8,19 @@ that is rejected for another reason than a literal, and a file without a page, h
 """
 import bisect
 import collections
+import functools
 import math
 import os
 import re
-import subprocess
-import sys
 
 import frame
-from pages.words import words
 from rustc import kinds
 
 # Errors of rustc after which it lexes no more tokens. rl_scan ends with an error there too.
 UNCLOSED = re.compile(r'unterminated (double quote( byte)?|character|byte|raw|block)')
-# Errors of rustc in a token of its grammar: which suffixes a type has, whether the number is in range, and where a suffix may be.
-# `0b1f64` is one of them.
-TYPES = re.compile(r'invalid (suffix|width|base prefix)|literal out of range|suffixes on|suffixed literals')
+# Errors of rustc in a token that `--any-suffix` allows: which suffixes a type has, whether the number is in range, and where a suffix
+# may be. `0b1f64` is one of them.
+TYPES = re.compile(r'invalid (suffix|width|base prefix)|literal out of range|integer literal is too large|suffixes on|suffixed literals')
 # Texts that are lexed as more tokens here: a number with a base and a dot, more hashes after a raw string, hashes without a quote.
 CUT = re.compile(r'(binary|octal|hexadecimal) float literal is not supported|too many `#` when terminating raw string|found invalid character; only')
 # A quote before no character or several characters is a lifetime or an open quote here, and the quote after them is left open.
@@ -31,23 +29,22 @@ LIFETIME = re.compile(r'(character literal may only contain one codepoint|empty 
 HEAD = re.compile(r'(?:error(?:\[E\d+\])?|warning(?=: underscore literal suffix)): (.*)')
 TYPED_FLOAT = re.compile('0[xob][0-9A-Fa-f_]*f(?:32|64)')
 AT = re.compile(r' *--> \$DIR/(\S+?):(\d+):(\d+)')
-# Messages of rustc 1.63 that are about more kinds of errors than those of later versions.
-OLDER = [('unicode escape', 'NoUnicode'), ('invalid character in numeric', 'HexEscapeOutOfRange')]
-# Our messages about a literal, before the piece.
-WORDS = words()
-MESSAGES = sorted(WORDS.values(), key=len, reverse=True)
-LITERAL = re.compile(r'(\d+):(\d+) [A-Z]\w+ .*')
-FLAW = re.compile(r'(\d+):(\d+) error: (.*)')
-LEFT_OPEN = re.compile("unclosed|.* isn't closed")
+# Messages of rustc 1.63 that have other words, or are about more kinds of errors, than those of later versions.
+OLDER = [('unicode escape', 'NoUnicode'), ('invalid character in numeric', 'HexEscapeOutOfRange'), ('non-ASCII character in byte', 'NotAscii'),
+         ('raw byte string must be ASCII', 'NotAscii')]
 
 Theirs = collections.namedtuple('Theirs', 'message line column end')
-Ours = collections.namedtuple('Ours', 'message begin end lo')
+Ours = collections.namedtuple('Ours', 'id begin end lo')
 
 
 def text_of(path):
     """Returns the text of a file."""
     with open(path, encoding='utf-8', errors='replace', newline='\n') as file:
         return file.read()
+
+
+# The identifier that rl_scan prints for each kind of flaw.
+IDS = dict(re.findall(r'FlawKind::(\w+) => "([a-z-]+)"', text_of(f'{frame.TOP}/crates/rl_strict/src/flaws.rt').partition('fn id(')[2]))
 
 
 def errors_in(page, name):
@@ -63,49 +60,47 @@ def errors_in(page, name):
     return found
 
 
+@functools.cache
+def pages_in(folder):
+    """Returns the names of the pages of rustc's output in a folder."""
+    return [name for name in os.listdir(folder) if name.endswith('.stderr')]
+
+
 def errors_of(folder, name):
     """Returns rustc's errors in a file, from all pages beside it. There may be one page for each edition."""
-    stem = re.escape(name[:-3])
-    pages = [it for it in os.listdir(folder) if re.fullmatch(stem + r'(\.\S+)?\.stderr', it)]
+    pages = [it for it in pages_in(folder) if it.startswith(name[:-2])]
     return {it for page in pages for it in errors_in(text_of(f'{folder}/{page}'), name)}
 
 
 def scanned(program, path):
     """Returns the bad literals that rl_scan reports in a file, and the position of the error that ends its lexing, if there is
     one."""
-    literals = [tuple(map(int, LITERAL.fullmatch(row).groups())) for row in lines_of(program, path)]
+    with open(path, 'rb') as file:
+        data = file.read()
+    literals = [(it['line'], it['column']) for it in frame.scanned(program, data, '-') if 'kind' in it]
     found, end = [], None
-    # Types and reserved prefixes are compared with rustc itself by bad.py and before.py.
-    for row in lines_of(program, path, '--bad', '--any-suffix', '--edition', '2018'):
-        line, column, told = FLAW.fullmatch(row).groups()
-        place = int(line), int(column)
-        if LEFT_OPEN.match(told):
+    # Types and reserved prefixes are compared with rustc itself by bad.py.
+    for it in frame.scanned(program, data, '--bad', '--any-suffix', '--edition', '2018', '-'):
+        place = it['line'], it['column']
+        if 'text' not in it:
             end = place
             continue
-        message = next((it for it in MESSAGES if told == it or told.startswith(it + ': ')), told)
         # The literal that begins before the position. It ends before the next one begins.
         at = bisect.bisect(literals, place) - 1
-        found.append(Ours(message, literals[at], (literals + [(math.inf, 0)])[at + 1], place))
+        found.append(Ours(it['id'], literals[at], (literals + [(math.inf, 0)])[at + 1], place))
     return found, end
 
 
-def lines_of(program, path, *words):
-    """Returns the lines that rl_scan prints for a file with these options."""
-    with open(path, 'rb') as source:
-        ended = subprocess.run([program, '--lines', *words], stdin=source, capture_output=True)
-    return ended.stdout.decode().split('\n')[:-1]
-
-
-def words_of(their):
-    """Returns our messages for an error of rustc, or none if it is about something else."""
-    return [WORDS[kind] for kind in [*kinds(their.message), *(kind for words, kind in OLDER if words in their.message)]]
+def ids_of(their):
+    """Returns our identifiers for an error of rustc, or none if it is about something else."""
+    return [IDS[kind] for kind in [*kinds(their.message), *(kind for words, kind in OLDER if words in their.message)]]
 
 
 def agrees(their, our):
     """Whether both errors are the same: our position is in the text that rustc underlines, or at its end, or both begin with the
     literal."""
     inside = our.lo[0] == their.line and their.column <= our.lo[1] <= their.end
-    return our.message in words_of(their) and (inside or our.begin == (their.line, their.column))
+    return our.id in ids_of(their) and (inside or our.begin == (their.line, their.column))
 
 
 def is_inside(their, our):
@@ -127,15 +122,13 @@ def is_of_types(their, rows):
 
 def of_theirs(their, ours, end, rows):
     """Classifies an error of rustc by the matching output of rl_scan."""
-    if any(agrees(their, our) for our in ours):
-        return 'the same error'
-    if end and end == open_at(their):
+    if any(agrees(their, our) for our in ours) or end and end == open_at(their):
         return 'the same error'
     if is_of_types(their, rows):
         return 'a rule of types, not of tokens'
     if CUT.match(their.message):
         return 'what is more than one token here'
-    if not words_of(their) and not UNCLOSED.match(their.message):
+    if not ids_of(their) and not UNCLOSED.match(their.message):
         return 'nothing of ours'
     if any(is_inside(their, our) and our.lo < (their.line, their.column) for our in ours):
         return 'a later error of the same literal'
@@ -146,7 +139,7 @@ def of_ours(our, theirs):
     """Classifies a bad literal of rl_scan by the matching errors of rustc."""
     if any(agrees(their, our) for their in theirs):
         return 'the same error'
-    return 'another error of the same literal' if any(words_of(it) and is_inside(it, our) for it in theirs) else None
+    return 'another error of the same literal' if any(ids_of(it) and is_inside(it, our) for it in theirs) else None
 
 
 def of_end(end, theirs):
@@ -166,25 +159,18 @@ def compare_file(program, report, folder, name):
     answers += [('rl_scan', it, of_ours(it, theirs)) for it in ours]
     answers += [('the end of rl_scan', it, of_end(it, theirs)) for it in [end] if it]
     for whose, error, answer in answers:
-        if answer == 'nothing of ours':
-            continue
-        report.compared += 1
-        if answer is None:
-            report.differs(whose, path.encode(), repr(sorted(theirs)).encode(), repr(error).encode())
-        else:
-            (report.agreeing if answer == 'the same error' else report.listed)[whose, answer] += 1
+        if answer == 'the same error':
+            report.judge(whose, b'', error, error)
+        elif answer != 'nothing of ours':
+            report.judge(whose, path.encode(), sorted(theirs), error, answer)
 
 
-def main():
-    asked = frame.arguments(__doc__, 'folder', ours=['rl_scan'])
-    report, count = frame.Report(asked), 0
-    for folder, folders, names in os.walk(asked.folder):
-        folders.sort()
-        for name in sorted(it for it in names if it.endswith('.rs')):
-            compare_file(asked.rl_scan, report, folder, name)
-            count += 1
-    return report.end(count, 'sources')
+def compare(asked, report):
+    paths = sorted((folder, name) for folder, _, names in os.walk(asked.folder) for name in names if name.endswith('.rs'))
+    for folder, name in paths:
+        compare_file(asked.rl_scan, report, folder, name)
+    return len(paths)
 
 
 if __name__ == '__main__':
-    sys.exit(main())
+    frame.run(compare, __doc__, 'folder', what='sources', ours=['rl_scan'])

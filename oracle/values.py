@@ -7,7 +7,6 @@ The literals are the first N texts of texts.py that are tokens. Other options: f
 """
 import os
 import subprocess
-import sys
 import tempfile
 
 import frame
@@ -54,9 +53,8 @@ def strict_texts(asked):
     return list(seen)
 
 
-def main():
-    asked = frame.arguments(__doc__, ours=['rl_rows'], count=500_000, literals=30_000)
-    report, data = frame.Report(asked), strict_texts(asked)
+def compare(asked, report):
+    data = strict_texts(asked)
     lines = [line.decode() for line in frame.of_rows(asked.rl_rows, 'text', data)]
     tests = [(at, test_of(text.decode(), line)) for at, (text, line) in enumerate(zip(data, lines))]
     tests = [it for it in tests if it[1]]
@@ -66,8 +64,8 @@ def main():
     report.agreeing.update(('values', lines[at].split(' ')[0]) for at, _ in tests)
     report.listed['values', WITHOUT] = len(data) - len(tests)
     report.compared = len(tests)
-    return report.end(len(data))
+    return len(data)
 
 
 if __name__ == '__main__':
-    sys.exit(main())
+    frame.run(compare, __doc__, what='literals', ours=['rl_rows'], count=500_000, literals=30_000)

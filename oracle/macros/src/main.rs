@@ -24,9 +24,7 @@ impl Literals {
             match token {
                 TokenTree::Group(group) => self.all_of(group.stream()),
                 TokenTree::Literal(literal) => self.0.push((literal.span(), true)),
-                TokenTree::Ident(word) if word == "true" || word == "false" => {
-                    self.0.push((word.span(), true))
-                }
+                TokenTree::Ident(word) if word == "true" || word == "false" => self.0.push((word.span(), true)),
                 _ => {}
             }
         }
@@ -57,39 +55,20 @@ struct Counts {
     different: usize,
 }
 
-/// Returns the byte offset at which a span begins.
-fn place_of(lines: &[(usize, &str)], span: Span) -> usize {
-    let (begin, line) = lines[span.start().line - 1];
-    begin
-        + line
-            .chars()
-            .take(span.start().column)
-            .map(char::len_utf8)
-            .sum::<usize>()
-}
-
 /// Compares the literals of a file that `syn` accepts.
 fn compare(path: &str, text: &str, file: &syn::File, counts: &mut Counts) {
-    let mut begin = 0;
-    let mut lines = Vec::new();
-    for line in text.split('\n') {
-        lines.push((begin, line));
-        begin += line.len() + 1;
-    }
+    let begins: Vec<_> = std::iter::once(0).chain(text.match_indices('\n').map(|(at, _)| at + 1)).collect();
     let mut cursor = Restylables::new(text);
-    let mut found = BTreeMap::new();
-    while let Some(literal) = cursor.next() {
-        found.insert(literal.token.lo, literal.in_macro);
-    }
+    let found: BTreeMap<_, _> = std::iter::from_fn(|| cursor.next().map(|it| (it.token.lo, it.in_macro))).collect();
     let mut literals = Literals::default();
     literals.visit_file(file);
     for (span, inside) in literals.0 {
-        let mut at = place_of(&lines, span);
-        let rest = &text[at..];
-        if rest.starts_with("//") || rest.starts_with("/*") {
+        let begin = begins[span.start().line - 1];
+        let mut at = begin + text[begin..].chars().take(span.start().column).map(char::len_utf8).sum::<usize>();
+        if text[at..].starts_with("//") || text[at..].starts_with("/*") {
             continue;
         }
-        if let Some(digits) = rest.strip_prefix('-') {
+        if let Some(digits) = text[at..].strip_prefix('-') {
             at = text.len() - digits.trim_start().len();
         }
         if found.get(&at) == Some(&inside) {
@@ -114,13 +93,7 @@ fn run() -> bool {
             _ => counts.skipped += 1,
         }
     }
-    let Counts {
-        files,
-        skipped,
-        same,
-        inside,
-        different,
-    } = counts;
+    let Counts { files, skipped, same, inside, different } = counts;
     println!("{files} files, {skipped} skipped; {same} literals alike, {inside} of them inside, {different} different");
     different == 0 && files > 0
 }

@@ -1,21 +1,20 @@
-//! Rewrites literals or whole files in styles that are encoded as letters (`rust/tests/letters`). Each line of standard input is a
-//! row or a path.
+//! Rewrites literals or whole sources in styles that are encoded as letters (`rust/tests/letters`).
 //!
-//! `restyle` rewrites literals. Its input is rows `STYLE FRONT TEXT` of `oracle/style_rows.py`. For each row it prints the
-//! rewritten text in hexadecimal, with FRONT as the text before it: `=` if it is unchanged, `!` if it isn't a literal, `?` if
-//! `is_token` disagrees, `~` if rewriting the result changes it again.
+//! `restyle` reads rows `STYLE FRONT TEXT` of `oracle/style_rows.py`, one in each line. For each row it prints the rewritten text in
+//! hexadecimal, with FRONT as the text before it: `=` if it is unchanged, `!` if it isn't a literal, `?` if `is_token` disagrees,
+//! `~` if rewriting the result changes it again.
 //!
-//! `restyle STYLE FOLDER` rewrites the files at these paths, and writes the results to the folder. For each file that changes it
-//! prints the file's path, a tab, and the new file's path.
+//! `restyle STYLE` reads sources and writes the rewritten ones, each after its length (four bytes, the lowest first).
 
 #[path = "../../../rust/tests/letters/mod.rs"]
 mod letters;
+#[path = "../../texts.rs"]
+mod texts;
 
 use letters::{decoded, style_of};
-use navyspindle::{is_token, rewrite_source, rewrite, rewrite_in_context, ParseError, Style};
+use navyspindle::{is_token, rewrite, rewrite_in_context, rewrite_source, ParseError, Style};
 use std::borrow::Cow;
-use std::io::{stdin, stdout, BufWriter, Write};
-use std::{env, fs};
+use std::io::{self, BufWriter, Read, Write};
 
 fn written<'t>(front: &str, text: &'t str, style: Style) -> Result<Cow<'t, str>, ParseError> {
     match front {
@@ -38,26 +37,20 @@ fn row(front: &str, text: &str, style: Style) -> String {
     }
 }
 
-/// Returns the output line for a path, or `None` if the style doesn't change the file.
-fn file(path: &str, style: Style, new: String) -> Option<String> {
-    let text = fs::read_to_string(path).ok()?;
-    let Ok(Cow::Owned(written)) = rewrite_source(&text, style).apply() else { return None };
-    fs::write(&new, written).expect("room for the files");
-    Some(format!("{path}\t{new}"))
-}
-
-fn main() {
-    let words: Vec<String> = env::args().skip(1).collect();
-    let mut out = BufWriter::new(stdout().lock());
-    for (at, line) in stdin().lines().map(|line| line.expect("a line")).enumerate() {
-        let line = match (&words[..], &line.split(' ').collect::<Vec<_>>()[..]) {
-            ([letters, folder], _) => file(&line, style_of(letters), format!("{folder}/{at}.rs")),
-            (_, [letters, front, text]) => Some(row(&decoded(front), &decoded(text), style_of(letters))),
-            _ => panic!("three words, not {line}"),
-        };
-        if let Some(line) = line {
-            writeln!(out, "{line}").expect("a reader");
+fn main() -> io::Result<()> {
+    let (mut data, mut out) = (Vec::new(), BufWriter::new(io::stdout().lock()));
+    io::stdin().read_to_end(&mut data)?;
+    if let Some(letters) = std::env::args().nth(1) {
+        for text in texts::split(&data) {
+            let new = rewrite_source(text, style_of(&letters)).apply().unwrap_or(Cow::Borrowed(text));
+            out.write_all(&(new.len() as u32).to_le_bytes())?;
+            out.write_all(new.as_bytes())?;
         }
+        return out.flush();
     }
-    out.flush().expect("a reader");
+    for line in std::str::from_utf8(&data).expect("rows").lines() {
+        let [letters, front, text] = line.split(' ').collect::<Vec<_>>()[..] else { panic!("three words, not {line}") };
+        writeln!(out, "{}", row(&decoded(front), &decoded(text), style_of(letters)))?;
+    }
+    out.flush()
 }

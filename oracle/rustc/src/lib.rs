@@ -6,15 +6,13 @@
 //! syn's own parsing code parses each literal. The code that goes through the token trees is written here.
 #![feature(proc_macro_span)]
 
-mod attributes;
-mod literals;
+mod lists;
+#[path = "../../texts.rs"]
 mod texts;
 mod trees;
-mod whole;
 
-use crate::texts::Rejection;
-use crate::trees::{Cut, lexes};
-use proc_macro::{Group, TokenStream, TokenTree};
+use crate::trees::{Cut, Rejection, is_token, lexes};
+use proc_macro::{TokenStream, TokenTree};
 use std::io::{BufWriter, Write};
 use std::panic::catch_unwind;
 use std::sync::LazyLock;
@@ -25,40 +23,38 @@ fn said(name: &str) -> String {
     env::var(name).unwrap_or_else(|_| panic!("the variable {name}"))
 }
 
+/// Returns the texts.
+fn given() -> Vec<&'static str> {
+    static DATA: LazyLock<Vec<u8>> = LazyLock::new(|| fs::read(said("ANSWERS_TEXTS")).expect("texts"));
+    texts::split(&DATA).collect()
+}
+
 /// Writes the result of each text.
-fn write_answers(answers: impl Iterator<Item = String>) {
+fn write_answers(answers: impl Iterator<Item = String>) -> TokenStream {
     let file = fs::File::create(said("ANSWERS_OUT")).expect("a file for the answers");
     let mut out = BufWriter::new(file);
     for answer in answers {
         out.write_all(answer.as_bytes()).expect("room for the answers");
     }
     out.flush().expect("room for the answers");
+    TokenStream::new()
 }
 
 /// `judged!(strict)` writes for each text whether it is one literal token without an error, including `true` and `false`.
 /// `judged!(lexes)` writes whether a text can be divided into token trees without an error. A result is a line `true` or `false`.
 #[proc_macro]
 pub fn judged(command: TokenStream) -> TokenStream {
-    let judge = match command.to_string().as_str() {
-        "strict" => literals::is_token,
-        _ => lexes,
-    };
-    let data = fs::read(said("ANSWERS_TEXTS")).expect("texts");
+    let judge: fn(&str) -> bool = if command.to_string() == "strict" { is_token } else { lexes };
     panic::set_hook(Box::new(|_| {}));
     // An error that stops rustc's lexer at once, such as a quote that isn't closed, is a panic here.
-    write_answers(texts::split(&data).map(|text| {
-        let holds = catch_unwind(|| judge(text)).unwrap_or(false);
-        format!("{holds}\n")
-    }));
-    TokenStream::new()
+    write_answers(given().into_iter().map(|text| format!("{}\n", catch_unwind(|| judge(text)).unwrap_or(false))))
 }
 
 /// `tried!(N)` lexes the text with this number, so that rustc reports the text's errors at the line of the call. If the text can't
 /// be lexed, an error is always reported there.
 #[proc_macro]
 pub fn tried(number: TokenStream) -> TokenStream {
-    static DATA: LazyLock<Vec<u8>> = LazyLock::new(|| fs::read(said("ANSWERS_TEXTS")).expect("texts"));
-    static TEXTS: LazyLock<Vec<&str>> = LazyLock::new(|| texts::split(&DATA).collect());
+    static TEXTS: LazyLock<Vec<&str>> = LazyLock::new(given);
     let number: usize = number.to_string().parse().expect("a number");
     panic::set_hook(Box::new(|_| {}));
     if catch_unwind(|| lexes(TEXTS[number])).unwrap_or(false) {
@@ -69,38 +65,32 @@ pub fn tried(number: TokenStream) -> TokenStream {
 }
 
 /// Writes the lines that the function returns for each group's text, and a line with a full stop after each text.
-fn write_groups(groups: TokenStream, lines: impl Fn(&str, Group) -> Result<String, Rejection>) {
-    let data = fs::read(said("ANSWERS_TEXTS")).expect("texts");
-    let texts = texts::split(&data);
-    write_answers(texts.zip(groups).map(|(text, tree)| match tree {
-        TokenTree::Group(group) => texts::pointed(lines(text, group)),
-        _ => panic!("a text outside braces"),
-    }));
-}
-
-/// Writes the lines that the function returns for each text that can be lexed.
-fn write_lines(groups: TokenStream, lines: fn(&Cut<'_>) -> Result<String, Rejection>) {
-    write_groups(groups, |text, group| Cut::of(text, group).and_then(|cut| lines(&cut)));
+fn write_groups(groups: TokenStream, lines: fn(&Cut<'_>) -> Result<String, Rejection>) -> TokenStream {
+    write_answers(given().into_iter().zip(groups).map(|(text, tree)| {
+        let TokenTree::Group(group) = tree else { panic!("a text outside braces") };
+        match lines(&Cut::of(text, group)) {
+            Ok(lines) => format!("{lines}.\n"),
+            Err(Rejection::Unlexed) => "unlexed\n.\n".to_string(),
+            Err(Rejection::At(lo, hi, message)) => format!("error at {lo}..{hi}: {message}\n.\n"),
+        }
+    }))
 }
 
 /// `spans!({text} {text} ..)` gets the same texts as the file. It writes the lines of each text's literals: kind, byte range and
 /// text.
 #[proc_macro]
 pub fn spans(groups: TokenStream) -> TokenStream {
-    write_lines(groups, literals::spans);
-    TokenStream::new()
+    write_groups(groups, lists::spans)
 }
 
 /// `attr!({text} {text} ..)` gets the same texts as the file. It writes the lines of each text's attributes.
 #[proc_macro]
 pub fn attr(groups: TokenStream) -> TokenStream {
-    write_lines(groups, attributes::lines);
-    TokenStream::new()
+    write_groups(groups, lists::attributes)
 }
 
 /// `sources!({text} {text} ..)` gets the same texts as the file. It writes the lines of each text's literals.
 #[proc_macro]
 pub fn sources(groups: TokenStream) -> TokenStream {
-    write_groups(groups, whole::lines);
-    TokenStream::new()
+    write_groups(groups, trees::all_literals)
 }

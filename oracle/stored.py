@@ -1,14 +1,20 @@
 #!/usr/bin/env python3
-"""Compares the stored results of rl_rows for its plain rows `cut` and `long` with the model and with `syn`'s own parsing code.
+"""Compares stored results with those of other programs: of `syn`'s own parsing code and of models.
 
-    oracle/hostile.py PATH ..      some 20 s
+    oracle/stored.py PATH [FILE..] ..      a minute and a half
 
-A row `cut` is a text that is cut off at each of its characters. A row `long` is a piece of text, repeated many times. The rows are
-in crates/rl_rows/stdin, and the results in stdout there. PATH is a program with `syn`'s code (docs/COMPARISON.md), for the results
-of `Lit::new`. The model has the results of `skip`, `lex`, `read_all` and `is_token`. Other options: frame.py.
+1. The stored results of rl_rows for its plain rows `cut` and `long`, in crates/rl_rows/stdin and stdout. A row `cut` is a text that is
+   cut off at each of its characters. A row `long` is a piece of text, repeated many times. PATH is a program with `syn`'s code
+   (docs/COMPARISON.md), for the results of `Lit::new`. The model has the results of `skip`, `lex`, `read_all` and `is_token`.
+2. The calls of rl_tool in the FILEs, by default in oracle/sample.jsonl, which has results of `syn` and of an independent model. A call
+   is a JSON line with id, args, input and stdout in hexadecimal, stderr and status.
+
+Other options: frame.py.
 """
+import collections
+import json
 import os
-import sys
+import subprocess
 
 import frame
 import listed
@@ -80,12 +86,12 @@ class Readings:
     def literals(self, trees):
         """Returns the texts and positions of the literals in the trees, and the position of the first tree that doesn't begin a
         literal."""
-        found, trees = [], list(trees)
+        found, trees = [], collections.deque(trees)
         while trees:
-            form, text, lo, hi = trees.pop(0)
+            form, text, lo, hi = trees.popleft()
             if form == 'mark' and text == '-' and trees and trees[0][0] == 'literal' \
                     and self.of(['-' + trees[0][1]])[0].startswith(('Int ', 'Float ')):
-                _, number, _, hi = trees.pop(0)
+                _, number, _, hi = trees.popleft()
                 text += number
             elif form != 'literal' and text not in ('true', 'false'):
                 return found, (lo, hi)
@@ -127,27 +133,41 @@ def texts_of(row):
     return [''.join(piece * int(count) for count, _, piece in (part.partition(' ') for part in rest.split('\t')))]
 
 
-def stored_lines(name):
-    """Returns the lines of a file of rl_rows."""
-    with open(os.path.join(frame.TOP, 'crates/rl_rows', name), encoding='utf-8', errors='replace', newline='\n') as file:
+def lines_of(path):
+    """Returns the lines of a file of this repository, or at another path."""
+    with open(os.path.join(frame.TOP, path), encoding='utf-8', errors='replace', newline='\n') as file:
         return file.read().split('\n')
 
 
-def main():
-    asked = frame.arguments(__doc__, 'path')
-    report, readings, stored = frame.Report(asked), Readings(asked.path), stored_lines('stdout')
-    rows = [row.removeprefix('plain ') for row in stored_lines('stdin') if row.startswith(('plain cut', 'plain long'))]
+def compare_rows(asked, report):
+    """Compares the stored results for the rows."""
+    readings, stored = Readings(asked.path), lines_of('crates/rl_rows/stdout')
+    rows = [row.removeprefix('plain ') for row in lines_of('crates/rl_rows/stdin') if row.startswith(('plain cut', 'plain long'))]
     at = stored.index(rows[0])
     for row in rows:
         texts = texts_of(row)
         readings.of(texts)
         for wanted in [row, *(answer(readings, text) for text in texts)]:
-            report.compared += 1
-            if stored[at] != wanted:
-                report.differs('rows', row.encode(), wanted.encode(), stored[at].encode())
+            report.judge('rows', row.encode(), wanted, stored[at])
             at += 1
-    return report.end(len(rows), 'rows')
+    return len(rows)
+
+
+def compare_calls(asked, report):
+    """Compares rl_tool's results with the stored ones."""
+    files = map(os.path.abspath, asked.files) if asked.files else ['oracle/sample.jsonl']
+    cases = [json.loads(line) for file in files for line in lines_of(file) if line]
+    for case in cases:
+        data = bytes.fromhex(case['input'])
+        ended = subprocess.run([asked.rl_tool, *case['args']], input=data, capture_output=True, check=False)
+        wanted = case['status'], bytes.fromhex(case['stdout']), case['stderr'].encode()
+        report.judge('calls', data, wanted, (ended.returncode, ended.stdout, ended.stderr))
+    return len(cases)
+
+
+def compare(asked, report):
+    return compare_rows(asked, report) + compare_calls(asked, report)
 
 
 if __name__ == '__main__':
-    sys.exit(main())
+    frame.run(compare, __doc__, 'path', 'files*', what='rows and calls', ours=['rl_tool'])
