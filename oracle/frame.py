@@ -96,6 +96,14 @@ def of_rows(program, word, texts):
     return answers_of([program], ''.join(f'{word} {it.hex()}\n' for it in texts).encode(), texts, word in POINTED)
 
 
+def text_of(data):
+    """Returns the text, or None if it isn't UTF-8."""
+    try:
+        return data.decode()
+    except UnicodeDecodeError:
+        return None
+
+
 def scanned(program, data, *words):
     """Returns the objects that rl_scan prints with `--json` and these arguments, with the data as its input."""
     out = subprocess.run([program, '--json', *words], input=data, capture_output=True, check=False).stdout

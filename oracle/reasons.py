@@ -4,7 +4,7 @@ rustc and litrs.
 
     oracle/reasons.py [--families worked,cuts,..] [--rustc] [--litrs] [--alone N] ..    a minute for 1,000 random texts, with --rustc ten
 
-The texts are those of oracle/sample.jsonl and of the rows of rl_rows, and generated ones. With --rustc, rustc lexes many texts in
+The texts are those of oracle/stored.rs and of the rows of rl_rows, and generated ones. With --rustc, rustc lexes many texts in
 one source if they leave no quote, comment or group open, and N of the others each alone; --alone sets N. --litrs uses oracle/litrs.
 Tables then show the relation of rustc's or litrs' errors to ours. With --model the model's results are compared with rustc's and
 litrs' instead. Other options: frame.py.
@@ -23,7 +23,6 @@ from rustc import CUT, EARLIER, kinds, short
 
 # The commands, and the model's function that returns the line for each.
 COMMANDS = {'explain': flaws.line, 'explain-value': flaws.value_line}
-STORED = ('oracle/sample.jsonl', 'crates/rl_rows/stdin')
 Flaw = collections.namedtuple('Flaw', 'kind begin low high')
 # A text with one of these flaws doesn't begin a literal. So rustc lexes its start as an identifier, punctuation or a comment, and
 # continues.
@@ -217,15 +216,11 @@ def compare_model(asked, report, answers, data):
 
 
 def stored_texts():
-    """Returns the texts that stored rows contain as hexadecimal digits."""
-    for path in STORED:
-        with open(os.path.join(frame.TOP, path), 'rb') as file:
-            words = re.findall(rb'(?<![0-9a-f])(?:[0-9a-f]{2})+(?![0-9a-f])', file.read())
-        for word in words:
-            try:
-                yield bytes.fromhex(word.decode()).decode()
-            except UnicodeDecodeError:
-                continue
+    """Returns the texts with stored results, and those that the rows of rl_rows contain as hexadecimal digits."""
+    yield from (text for pairs in families.STORED.values() for text, _ in pairs)
+    with open(os.path.join(frame.TOP, 'crates/rl_rows/stdin'), 'rb') as file:
+        words = re.findall(rb'(?<![0-9a-f])(?:[0-9a-f]{2})+(?![0-9a-f])', file.read())
+    yield from (text for word in words if (text := frame.text_of(bytes.fromhex(word.decode()))) is not None)
 
 
 def compare(asked, report):

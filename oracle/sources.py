@@ -38,14 +38,6 @@ WORDS = (('--lines',), ('--lines', '--no-stray', '--only', 'int,FLOAT,Verbatim')
 OLDER = '2018'
 
 
-def text_of(data):
-    """Returns the text, or None if it isn't UTF-8."""
-    try:
-        return data.decode()
-    except UnicodeDecodeError:
-        return None
-
-
 class Model:
     """The model's results: how it lexes a source, and for each literal's text the line of `syn`'s parsing code."""
 
@@ -54,7 +46,7 @@ class Model:
 
     def cuts(self, datas):
         """Returns how each source is lexed, or None for a source that isn't UTF-8. Asks syn's code about new literals."""
-        cuts = [None if text is None else cut_source(text) for text in map(text_of, datas)]
+        cuts = [None if text is None else cut_source(text) for text in map(frame.text_of, datas)]
         new = dict.fromkeys(token.text for cut in cuts if cut for token in cut.literals() if token.text not in self.known)
         self.known.update({text: listed.verbatim(text) for text in new if listed.is_long_past(text)})
         asked = [text for text in new if text not in self.known]
@@ -80,7 +72,7 @@ class Theirs:
     def answers(self, datas):
         """Returns, for each source, its lines and the edition that accepted it, or None and the start of rustc's first message."""
         answers = [(None, 'not UTF-8')] * len(datas)
-        asked = [at for at, data in enumerate(datas) if text_of(data) is not None]
+        asked = [at for at, data in enumerate(datas) if frame.text_of(data) is not None]
         fronts = {at: front_of(datas[at]) for at in asked}
         told = self.lexer.literals([datas[at][fronts[at]:] for at in asked])
         for at, (lines, words) in zip(asked, told):
