@@ -24,7 +24,7 @@ import programs  # noqa: E402
 
 # The number of texts that a program receives at a time.
 BATCH = 200_000
-# The commands of rl_rows and of oracle/reader whose result is several lines, ended by a line with a full stop.
+# The commands of rl_rows and of reader (oracle/rustc) whose result is several lines, ended by a line with a full stop.
 POINTED = ('read', 'spans', 'attr', 'source')
 
 

@@ -19,6 +19,7 @@ import listed
 import rustc
 import texts as families
 from model import flaws
+from model.sources import cut_source
 from rustc import CUT, EARLIER, kinds, short
 
 # The commands, and the model's function that returns the line for each.
@@ -44,20 +45,16 @@ UNCLOSED = re.compile('unterminated (double quote|character literal|byte constan
 # After these messages, rustc reports no error in the following text.
 STOPS = re.compile('unterminated (?!unicode)|found invalid character|too many `#` symbols|.*delimiter|expected item')
 LIFETIME = re.compile("'(?:r#)?[A-Za-z_\u00e9]")
-# A token of rustc's lexer, in a sketch, that leaves nothing open. Delimiters and the start of a block comment aren't included.
-TOKEN = re.compile(r"""//[^\n]*+|(?:[bc]?"(?:[^"\\]|\\.)*+"|(?:br|cr|r)(?P<h>\#{0,255})"(?:(?!"(?P=h)).)*+"(?P=h)|b'(?:[^\\]'|(?:[^'\\/\n]|\n(?=')|\\.)*+')
-|'[^\\]'|'(?:[^'\\/\nA-Za-z0-9_\u00e9]|\\.)(?:[^'\\/\n]|\n(?=')|\\.)*+'|'(?:r\#)?[0-9A-Za-z_\u00e9]AFTER*+'?+)(?:WORD)?+|''(?!')|[0-9]AFTER*+
-|(?!(?:r|br|cr)["\#]|b['"]|c")(?:r\#(?=[A-Za-z_\u00e9]))?WORD|[^'"\\(){}\[\]/0-9A-Za-z_\u00e9]|/(?![/*])"""
-                   .replace('WORD', flaws.WORD + '+').replace('AFTER*+', flaws.AFTER + '+'), re.S | re.X)
+# Tokens that leave something open; and words after which a hash without a quote ends rustc's lexer.
+ENDING, RAW = ('(', ')', '[', ']', '{', '}', '\\'), ('r', 'br', 'cr')
 RUSTC_TEXTS = 400
 
 
 def leaves_nothing_open(text):
     """Whether rustc's lexer continues after the text, so that other texts can follow it in one source."""
-    drawn, at = flaws.sketch(text), 0
-    while at < len(drawn) and (token := TOKEN.match(drawn, at)):
-        at = token.end()
-    return at == len(drawn)
+    cut = cut_source('\n' + text)
+    raw = any(one.text in RAW and other.text == '#' and one.hi == other.lo for one, other in zip(cut.tokens, cut.tokens[1:]))
+    return not (cut.error or raw or re.search('r#{256}', text) or any(token.text in ENDING for token in cut.tokens))
 
 
 def rustc_errors(texts):
