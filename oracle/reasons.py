@@ -6,8 +6,7 @@ rustc and litrs.
 
 The texts are those of oracle/stored.rs and of the rows of rl_rows, and generated ones. With --rustc, rustc lexes many texts in
 one source if they leave no quote, comment or group open, and N of the others each alone; --alone sets N. --litrs uses oracle/litrs.
-Tables then show the relation of rustc's or litrs' errors to ours. With --model the model's results are compared with rustc's and
-litrs' instead. Other options: frame.py.
+Tables then show the relation of rustc's or litrs' errors to ours. Other options: frame.py.
 """
 import collections
 import itertools
@@ -205,7 +204,7 @@ def compare_model(asked, report, answers, data):
     texts = [text.decode() for text in data]
     for command, line_of in COMMANDS.items():
         models = [line_of(text) for text in texts]
-        lines = models if asked.model else frame.of_rows(asked.rl_rows, command, data)
+        lines = frame.of_rows(asked.rl_rows, command, data)
         for text, it, model, line in zip(texts, data, models, lines):
             report.judge(command, it, model, line, listed.NEWER if model != line and listed.newer(text) else None)
         if command == 'explain':
@@ -235,5 +234,4 @@ def compare(asked, report):
 
 
 if __name__ == '__main__':
-    frame.run(compare, __doc__, ours=['rl_rows'], count=500_000, families='worked,cuts,edits,random', alone=2_000, rustc=False, litrs=False,
-              model=False)
+    frame.run(compare, __doc__, ours=['rl_rows'], count=500_000, families='worked,cuts,edits,random', alone=2_000, rustc=False, litrs=False)
