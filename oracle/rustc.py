@@ -109,7 +109,7 @@ class Lexer:
         None. If an error stops rustc, the texts without an error are lexed again."""
         if not texts:
             return []
-        begins, line, pieces = [], 2, [b'answers::%s!(\n' % command.encode()]
+        begins, line, pieces = [], 2, [b'answers::lines!(%s\n' % command.encode()]
         for text in texts:
             begins.append(line)
             # A CR at the end of the text must not be directly before the LF.

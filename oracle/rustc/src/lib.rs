@@ -37,8 +37,16 @@ pub fn tried(number: TokenStream) -> TokenStream {
     "compile_error! { \"groups do not match\" }".parse().expect("a call")
 }
 
-/// Writes the lines that the function returns for each group's text, and a line with a full stop after each text.
-fn write_groups(groups: TokenStream, lines: fn(&Cut<'_>) -> Result<String, Rejection>) -> TokenStream {
+/// `lines!(COMMAND {text} {text} ..)` gets the same texts as the file. It writes the lines of each text's literals (`spans`: kind, byte
+/// range and text; `sources`: also those inside groups) or attributes (`attr`), and a line with a full stop after each text.
+#[proc_macro]
+pub fn lines(tokens: TokenStream) -> TokenStream {
+    let mut groups = tokens.into_iter();
+    let lines = match groups.next().expect("a command").to_string().as_str() {
+        "spans" => lists::spans,
+        "attr" => lists::attributes,
+        _ => trees::all_literals,
+    };
     texts::write(texts::given().zip(groups).map(|(text, tree)| {
         let TokenTree::Group(group) = tree else { panic!("a text outside braces") };
         match lines(&Cut::of(text, group)) {
@@ -47,23 +55,4 @@ fn write_groups(groups: TokenStream, lines: fn(&Cut<'_>) -> Result<String, Rejec
             Err(Rejection::At(lo, hi, message)) => format!("error at {lo}..{hi}: {message}\n.\n"),
         }
     }))
-}
-
-/// `spans!({text} {text} ..)` gets the same texts as the file. It writes the lines of each text's literals: kind, byte range and
-/// text.
-#[proc_macro]
-pub fn spans(groups: TokenStream) -> TokenStream {
-    write_groups(groups, lists::spans)
-}
-
-/// `attr!({text} {text} ..)` gets the same texts as the file. It writes the lines of each text's attributes.
-#[proc_macro]
-pub fn attr(groups: TokenStream) -> TokenStream {
-    write_groups(groups, lists::attributes)
-}
-
-/// `sources!({text} {text} ..)` gets the same texts as the file. It writes the lines of each text's literals.
-#[proc_macro]
-pub fn sources(groups: TokenStream) -> TokenStream {
-    write_groups(groups, trees::all_literals)
 }
