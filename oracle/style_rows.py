@@ -28,6 +28,9 @@ PIECES = ['a', ' ', '\n', "'", '"', "\\'", '\\"', '\\\\', '\\n', '\\0', '\\x41',
           '\\xfF', '\\u{41}', '\\u{0000e9}', '\\u{E_9_}', '\\u{202E}', '\\u{D}', '\\u{aBcD}', '\\x09', '\\u{5c}', '\\x5C', '\\x20',
           '\\u{22}', '\\u{7f}', '\\u{141}', '\\xc1', '\\u{0_0}', '\\u{0_1_0}', '\\u{000041}', '\\\n', '\\\n \t', 'é', '\u202e', '1', 'x',
           '{', '\t', '\x00', '\x1b', '\x7f', '\x0c', '\x80', '\u200d', '\ufe0f', '\U000e0041']
+# Pieces of longer texts: also line ends, the first characters of each length in UTF-8, and texts as long as vectors.
+LONG_PIECES = PIECES + ['\r\n', '\\\r', '\\\r\n\r \n', '\\\n\\\n', '\\r', '\\t', '\\x01', '\\x80', '\\u{7ff}', '\\u{800}', '\\u{1F_600}',
+                        '\\u{0_0_0_0_0_1__}', '\u20ac', '\U0001f600', '}', '#', '(1', ')', ', ', 'x' * 17, 'y' * 64, '\u00df' * 9]
 RAW_PIECES = ['"', '"#', '#', 'a', '\\', '\n', '"##', ' ', 'é', '"#"', '\u202e', '\x1b', '\t', '\0']
 FRONTS = ['', '', '', '#', '.', '1.', '.#', '#.', '# ', '. ', 'é', 'a', '(', '\n']
 # Rules of one group exclude each other.
@@ -78,7 +81,7 @@ def long_texts(dice, count):
         elif way == 2:
             opener = dice.choice(list(OPENERS.values()))
             units = 1 if opener[-1] == "'" else dice.randrange(9)
-            yield opener + ''.join(dice.choice(PIECES) for _ in range(units)) + opener[-1] + suffix
+            yield opener + ''.join(dice.choice(LONG_PIECES) for _ in range(units)) + opener[-1] + suffix
         else:
             hashes = '#' * dice.randrange(6)
             inside = ''.join(dice.choice(RAW_PIECES) for _ in range(dice.randrange(9)))
