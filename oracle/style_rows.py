@@ -30,7 +30,7 @@ PIECES = ['a', ' ', '\n', "'", '"', "\\'", '\\"', '\\\\', '\\n', '\\0', '\\x41',
           '{', '\t', '\x00', '\x1b', '\x7f', '\x0c', '\x80', '\u200d', '\ufe0f', '\U000e0041']
 # Pieces of longer texts: also line ends, the first characters of each length in UTF-8, and texts as long as vectors.
 LONG_PIECES = PIECES + ['\r\n', '\\\r', '\\\r\n\r \n', '\\\n\\\n', '\\r', '\\t', '\\x01', '\\x80', '\\u{7ff}', '\\u{800}', '\\u{1F_600}',
-                        '\\u{0_0_0_0_0_1__}', '\u20ac', '\U0001f600', '}', '#', '(1', ')', ', ', 'x' * 17, 'y' * 64, '\u00df' * 9]
+                        '\\u{10FFFF}', '\\u{0_0_0_0_0_1__}', '\u20ac', '\U0001f600', '}', '#', '(1', ')', ', ', 'x' * 17, 'y' * 64, '\u00df' * 9]
 RAW_PIECES = ['"', '"#', '#', 'a', '\\', '\n', '"##', ' ', 'é', '"#"', '\u202e', '\x1b', '\t', '\0']
 FRONTS = ['', '', '', '#', '.', '1.', '.#', '#.', '# ', '. ', 'é', 'a', '(', '\n']
 # Rules of one group exclude each other.
