@@ -77,18 +77,11 @@ def front_of(text, at, form):
 
 def span_of(text, entry):
     """Returns the start of the entry's function, struct or impl, with its attributes, and its end, by the layout of its file."""
-    trait = re.fullmatch(r"impl (\w+) for (\w+)", entry.item)
-    if trait:
-        found = re.search(rf"^impl(?:<[^{{]*?>)? {trait[1]} for {trait[2]}(?:<[^{{]*?>)? \{{\n", text, re.M)
-        if not found:
-            fail(f"{entry.file} has no {entry.item}")
-        return front_of(text, found.start(), r"#\[.*\]"), re.compile(r"^\}\n", re.M).search(text, found.end()).end()
     owner, _, name = entry.item.rpartition("::")
-    indent = " " * 4 * bool(owner)
-    impl = rf"^impl(?:<[^{{]*?>)? {owner}(?:<[^{{]*?>)? \{{\n(?:(?!\}}).*\n)*?" * bool(owner)
-    found = re.search(rf"{impl}^(?P<head>{indent}(?:pub(?:\(crate\))? )?(?:fn|struct) {name}\b)", text, re.M)
-    if not found:
-        fail(f"{entry.file} has no function or struct {entry.item}")
+    indent, types = " " * 4 * bool(owner), r"(?:<[^{]*?>)?"
+    impl = rf"^impl{types} {owner}{types} \{{\n(?:(?!\}}).*\n)*?" * bool(owner)
+    head = rf"impl{types} {name[5:]}{types} \{{" if name.startswith("impl ") else rf"(?:pub(?:\(crate\))? )?(?:fn|struct) {name}\b"
+    found = re.search(rf"{impl}^(?P<head>{indent}{head})", text, re.M) or fail(f"{entry.file} has no {entry.item}")
     end = re.compile(rf"^{indent}\}}\n", re.M).search(text, found.end()).end()
     return front_of(text, found.start("head"), r" *#\[.*\]"), end
 
