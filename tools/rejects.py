@@ -31,7 +31,8 @@ TRIED += [(IDENT, ALL, f'{text}.chars().all(', word) for text, word in [
 # Entries of the list of uncalled items whose file, function, method, module or variant doesn't exist; lines that aren't entries.
 TRIED += [(UNCALLED, *change) for change in [
     ('body_unit', 'body_unit', None), ('kind.rs Kind::word', 'kinds.rs Kind::word', 'kinds.rs'),
-    ('Kind::word', 'Kind::words', 'Kind::words'), ('Kind::word', 'Sort::word', 'Sort::word'), ('char_of_body, body_unit', 'char_of_body, body_units', 'body_units'),
+    ('Kind::word', 'Kind::words', 'Kind::words'), ('Kind::word', 'Sort::word', 'Sort::word'),
+    ('char_of_body, body_unit', 'char_of_body, body_units', 'body_units'),
     ('- rl_strict/flaws.rs Flaw::piece_in_span', '- rl_strict/flaws.rs Flaw::text_in_span', 'text_in_span'),
     ('rl_syntax/span.rs *', 'rl_syntax/spans.rs *', 'spans.rs'), ('LexKind::{Memory}', 'LexKind::{Room}', 'Room'),
     ('LexKind::{Memory}', 'Lex::{Memory}', 'Lex::'), ('Kind::struct_name: ', 'Kind::struct_name ', 'no entry'),
