@@ -15,7 +15,6 @@ mod page;
 mod pairs;
 mod plain;
 mod row;
-mod segments;
 mod sources;
 mod streams;
 mod turns;

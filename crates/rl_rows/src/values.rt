@@ -7,29 +7,20 @@ use rust_literals::{Lit, LitByteStr, LitFloat, LitInt};
 use std::alloc::Global;
 use std::fmt::Display;
 use std::hash::{DefaultHasher, Hash, Hasher};
-use std::str::FromStr;
 
 /// Parses a text as an integer, and prints it as an `i8`, as a `u8` and as a `u16`.
 pub(crate) fn small(text: &str, out: &mut Page) {
-    if let Some(integer) = noted(LitInt::new(out.alloc(), text, HERE), out) {
-        put_numbers(&integer, out)
+    if let Some(integer) = noted(LitInt::new(out.alloc, text, HERE), out) {
+        put_number(integer.base10_parse::<i8, Global>(out.alloc), out);
+        put_number(integer.base10_parse::<u8, Global>(out.alloc), out);
+        put_number(integer.base10_parse::<u16, Global>(out.alloc), out);
+        out.put("\n")
     }
 }
 
-/// Prints an integer as an `i8`, as a `u8` and as a `u16`.
-fn put_numbers(integer: &LitInt, out: &mut Page) {
-    put_number::<i8>(integer, out);
-    put_number::<u8>(integer, out);
-    put_number::<u16>(integer, out);
-    out.put("\n")
-}
-
-/// Prints an integer as a number of the type `N`, or `none` if the type doesn't have it.
-fn put_number<N: FromStr + Display + Drop>(integer: &LitInt, out: &mut Page)
-where
-    N::Err: Display + Drop,
-{
-    match integer.base10_parse::<N, Global>(out.alloc()) {
+/// Prints a number, or `none` for an error.
+fn put_number<N: Display + Drop>(number: Result<N, Error>, out: &mut Page) {
+    match number {
         Ok(number) => out.show(&number, " "),
         Err(_) => out.put("none "),
     }
@@ -38,10 +29,10 @@ where
 /// Prints the bytes as a byte string literal. Then prints the offset of the NUL that prevents a C string, and the bytes that the
 /// error returns.
 pub(crate) fn bytes(bytes: &[u8], out: &mut Page) {
-    if let Some(literal) = noted(LitByteStr::new(out.alloc(), bytes, HERE), out) {
+    if let Some(literal) = noted(LitByteStr::new(out.alloc, bytes, HERE), out) {
         out.put(literal.text())
     }
-    if let Some(bytes) = noted(Vec::from_slice(out.alloc(), bytes), out) {
+    if let Some(bytes) = noted(Vec::from_slice(out.alloc, bytes), out) {
         put_zero(CString::new(bytes), out)
     }
 }
@@ -68,10 +59,10 @@ pub(crate) fn equal(text: &str, out: &mut Page) {
 
 /// Prints whether a text as an integer equals the same text as a float, and whether their hashes are equal.
 pub(crate) fn across(text: &str, out: &mut Page) {
-    let integer = made_of(LitInt::new(out.alloc(), text, HERE), out);
+    let integer = made_of(LitInt::new(out.alloc, text, HERE), out);
     put_equal(
         integer,
-        made_of(LitFloat::new(out.alloc(), text, HERE), out),
+        made_of(LitFloat::new(out.alloc, text, HERE), out),
         out,
     )
 }

@@ -29,7 +29,7 @@ pub(crate) fn run_held<T: Held<A> + Drop, A: Scarce>(
 ) {
     match T::of_text(trial, text, page) {
         Some(value) => call_held(&value, name, trial, page),
-        None => page.fail(),
+        None => page.is_short = true,
     }
 }
 

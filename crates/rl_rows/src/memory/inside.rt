@@ -60,7 +60,7 @@ pub(crate) fn call<A: Scarce>(literal: &Lit<A>, name: &str, scant: A, page: &mut
         Lit::Str(string) => in_string(string, name, scant, page),
         Lit::ByteStr(string) => format_result(string.value(scant), page),
         Lit::CStr(string) => format_result(string.value(scant), page),
-        _ => page.fail(),
+        _ => page.is_short = true,
     }
 }
 
@@ -80,7 +80,7 @@ fn in_string<A: Scarce>(string: &LitStr<A>, name: &str, scant: A, page: &mut Pag
 /// Parses the group that a string contains, and appends the result.
 fn in_group<A: Scarce>(string: &LitStr<A>, scant: A, page: &mut Page) {
     let parser = GroupTold {
-        page: page.another(),
+        page: Page::new(page.alloc),
     };
     format_result(string.parse_with(scant, parser), page)
 }

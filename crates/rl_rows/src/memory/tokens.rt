@@ -42,7 +42,7 @@ fn copied<A: Scarce>(name: &str, token: &Literal<A>, trial: &Trial<A>, page: &mu
 
 /// Returns the bytes of the text as a C string, or `None` if an allocation fails or the text contains a NUL.
 pub(crate) fn c_string_of(text: &str, page: &mut Page) -> Option<CString> {
-    let bytes = noted(Vec::from_slice(page.alloc(), text.as_bytes()), page)?;
+    let bytes = noted(Vec::from_slice(page.alloc, text.as_bytes()), page)?;
     noted(CString::new(bytes), page)
 }
 
@@ -142,7 +142,7 @@ fn parsed_of<T: Held<A> + Drop, A: Scarce>(
     let before = formatted(&trees, page);
     let mut input = ParseBuffer::new(trees, HERE);
     if call == "peek" {
-        page.put_shown(&input.peek::<T>())
+        page.show(&input.peek::<T>(), "")
     } else {
         format_result(input.parse::<T>(trial.begins()), page)
     }
