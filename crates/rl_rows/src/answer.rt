@@ -1,10 +1,13 @@
 //! Prints the result of a test on a text.
 
+use crate::Page;
 use crate::flaws::put_flaw;
 use crate::lists::{put_lines, put_spans};
 use crate::literals::{call, call_literal};
+use crate::pairs::pairs;
 use crate::sources::put_source;
-use crate::{Page, words};
+use crate::turns::turns;
+use crate::values::equal;
 use rl_commands::Command;
 use rl_grammar::strict::is_token;
 use rl_grammar::{LineEnds, explain, explain_value};
@@ -22,7 +25,9 @@ use rust_literals::{Lit, LitFloat, LitInt};
 /// - `read`, `spans`, `attr` and `source` print lines, and then a line with a full stop. `read` and `attr` are the commands of
 ///   `rl_tool`.
 ///
-/// Other names are tests of the module `words`.
+/// - `equal`, `pairs` and `turns` are tests of two literals, described with their functions.
+///
+/// Any other name prints an error.
 pub(crate) fn told(name: &str, text: &str, out: &mut Page) {
     match name {
         "text" | "value" => call_literal(name, text, out),
@@ -36,7 +41,10 @@ pub(crate) fn told(name: &str, text: &str, out: &mut Page) {
         "source" => put_source(text, out),
         "explain" => put_flaw(explain(text), out),
         "explain-value" => put_flaw(explain_value(text, LineEnds::Text, true), out),
-        _ => words::told(name, text, out),
+        "equal" => equal(text, out),
+        "pairs" => pairs(text, out),
+        "turns" => turns(text, out),
+        _ => out.put("error: no call\n"),
     }
 }
 

@@ -17,13 +17,12 @@ pub(crate) fn call_literal(word: &str, text: &str, out: &mut Page) {
     }
 }
 
-/// Makes the calls of the test `word` on a literal, and prints their results.
+/// Makes the calls of the test `word` on a literal, and prints their results. The words are `text`, `brief` and `value`.
 pub(crate) fn call(literal: &Lit, word: &str, out: &mut Page) {
     match word {
         "text" => put_line(literal, out),
         "brief" => put_brief(literal, out),
-        "value" => put_borrowed(literal, out),
-        _ => out.put("error: no call\n"),
+        _ => put_borrowed(literal, out),
     }
 }
 

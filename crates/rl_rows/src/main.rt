@@ -19,7 +19,6 @@ mod sources;
 mod streams;
 mod turns;
 mod values;
-mod words;
 
 pub use crate::failing::Failing;
 pub use crate::page::Page;

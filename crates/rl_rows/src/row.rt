@@ -2,7 +2,7 @@
 //! a space, and a row of plain text.
 
 use crate::noted::parts_of;
-use crate::{Page, answer, plain, streams, values};
+use crate::{Page, answer, plain, streams};
 use rl_program::decoded;
 use std::alloc::{AllocError, Global};
 
@@ -38,9 +38,6 @@ fn append_bytes(name: &str, bytes: &[u8], out: &mut Page) {
     let (word, words) = parts_of(name, ':');
     if word == "run" {
         return streams::told(words, bytes, out);
-    }
-    if word == "bytes" {
-        return values::bytes(bytes, out);
     }
     match std::str::from_utf8(bytes) {
         Ok(text) => answer::told(name, text, out),

@@ -14,6 +14,7 @@ use rust_literals::{
 use std::cell::Cell;
 
 /// A row of a test: a function to call, and the text that it is called with.
+#[derive(Drop)]
 pub(crate) struct Row<'t> {
     /// The type of the function.
     of: &'t str,

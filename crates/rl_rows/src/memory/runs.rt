@@ -8,7 +8,7 @@ use rl_attributes::Attrs;
 use rl_commands::Command;
 use rl_commands::run::run;
 use rl_program::Rejection;
-use rl_tokens::{Parse, ParseBuffer, TokenTree};
+use rl_tokens::{Parse, ParseBuffer};
 
 /// Runs a command on the text, and appends its result and the number of written bytes.
 pub(crate) fn command<A: Scarce>(name: &str, trial: &Trial<A>, text: &str, page: &mut Page) {
@@ -25,16 +25,11 @@ pub(crate) fn command<A: Scarce>(name: &str, trial: &Trial<A>, text: &str, page:
 /// Parses the text as attributes, and appends the result and the number of token trees that aren't consumed.
 pub(crate) fn attributes<A: Scarce>(trial: &Trial<A>, text: &str, page: &mut Page) {
     if let Some(stream) = trial.trees(text, page) {
-        attributes_of(trial, stream.trees(), page)
+        let mut input = ParseBuffer::new(stream.trees(), HERE);
+        match Attrs::parse(trial.begins(), &mut input) {
+            Ok(attrs) => page.show(&attrs.entries().len(), " taken, "),
+            Err(error) => page.show(&Rejection(&error), ", "),
+        }
+        page.show(&input.rest().len(), " left")
     }
-}
-
-/// Parses token trees as attributes, and appends the result and the number of token trees that aren't consumed.
-fn attributes_of<A: Scarce>(trial: &Trial<A>, trees: &[TokenTree<A>], page: &mut Page) {
-    let mut input = ParseBuffer::new(trees, HERE);
-    match Attrs::parse(trial.begins(), &mut input) {
-        Ok(attrs) => page.show(&attrs.entries().len(), " taken, "),
-        Err(error) => page.show(&Rejection(&error), ", "),
-    }
-    page.show(&input.rest().len(), " left")
 }
