@@ -1,3 +1,4 @@
+pub mod Names
 pub mod DecLemmas
 pub mod StrictWordLemmas
 pub mod StrictUnitRows
@@ -5,7 +6,6 @@ pub mod StrictUnitLemmas
 pub mod StrictRowLemmas
 pub mod StrictRawLemmas
 pub mod StrictLemmas
-pub mod InsideRuns
 pub mod Theorems
 pub mod EscapeLemmas
 pub mod UnitFlawLemmas
@@ -50,4 +50,3 @@ pub mod FilePlaces
 pub mod FileStrings
 pub mod ReadValues
 pub mod OneFileFlaw
-pub mod OpenRaw
