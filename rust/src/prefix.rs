@@ -2,7 +2,7 @@
 
 use crate::lit::Lit;
 use crate::rl_lexer::{first_source_token, whitespace};
-use crate::rl_recovery::{leading_literal, leading_signed, LeadingLiteral};
+use crate::rl_recovery::{leading_literal, leading_signed_literal, LeadingLiteral};
 use alloc::borrow::Cow;
 
 /// Returns the literal, and the text after it.
@@ -19,7 +19,7 @@ impl<'t> Lit<'t> {
     ///
     /// The literal ends where [`source`](crate::source) ends its token. A token without a value, such as `'\q'`, is returned as
     /// [`Lit::Verbatim`]. A minus isn't part of the literal; see [`Lit::parse_prefix_signed`]. The time grows with the token, not
-    /// with the text.
+    /// with the text. If the first characters can't begin a literal, at most five characters are read.
     ///
     /// The token is read as [`Lit::of_text`] reads it, so `0b12` is a float. [`Lit::check`] applies Rust's grammar. For the reason
     /// why the result is `None`, call [`Lit::parse`] with the text.
@@ -84,7 +84,7 @@ impl<'t> Lit<'t> {
     /// ```
     #[must_use]
     pub fn parse_prefix_signed(text: &'t str) -> Option<(Lit<'t>, &'t str)> {
-        leading_signed(text).map(split)
+        leading_signed_literal(text).map(split)
     }
 }
 

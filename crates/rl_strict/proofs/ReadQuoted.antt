@@ -1,5 +1,5 @@
 -- The code's parser of quoted literals returns what the grammars define.
-use Rattle.rl_strict.proofs.Names.{◌≡◌, ◌≢◌, ◌+◌, ℕ, ◌&&◌, Bool, true, false, not, ◌==◌, cond, List, [], ◌∷◌, ◌++◌, length, Option, Some, None, refl, sym, ap, subst, ◌∙◌, arith, and_parts, both_ways, eqb-true, inl, inr, flat_map, list_all, AllByRecursion, IsUtf8, after_run, first_passes, is_string, Kind, StrictUnit, Itself, QuoteEscape, PlainEscape, AsciiEscape, ByteEscape, UnicodeEscape, LineBreak, strict_text, is_dropped_blank, is_strict_unit, is_plain, is_single, chars, QuotedUnit, IsUnit, texts, values, MayFollow, is_return, no_blank, no_return, stands, Body, QuotedForm, CookedForm, RawForm, SingleForm, is_plain_body, IsQuotedAt, IsBodyWithin, body_in, suffix_in, found_opener, opener_at, is_some_text, BeginsStrictUnits, BreakEnds, BreaksEnd, cooked_found, single_found, form_at, ClosesUnits, ends_quoted, is_strict_suffix, unit_rest, FlawKind, ExtraHash, TwoCharacters, Unclosed, end_flaw_at, is_raw_form, suffix_piece, StopsIn, StopsBefore, raw_stop, ClosesForm, ClosesRaw, is_raw_character, is_hash, all_weaker, word_without, zero, suc, replicate, append_cancel_right, is_raw, IsStrictSuffix, Str, ByteStr, CStr, strict_unit_flaw_at, suffix_rest, suffix_read_at, FoundFlaw, found_flaw, option_map, ◌⊎◌, nat_lt, Byte, Char, and_right, content_of, is_line_end, is_bare_character, escape_at, line_feed_at, unit_at, escape_rest}
+use Rattle.rl_strict.proofs.Names.{◌≡◌, ◌≢◌, ◌+◌, ℕ, ◌&&◌, Bool, true, false, not, ◌==◌, cond, List, [], ◌∷◌, ◌++◌, length, Option, Some, None, refl, sym, ap, subst, ◌∙◌, arith, and_parts, both_ways, eqb-true, inl, inr, flat_map, list_all, AllByRecursion, IsUtf8, after_run, first_passes, is_string, Kind, StrictUnit, Itself, LineBreak, strict_text, is_dropped_blank, is_strict_unit, is_plain, is_single, chars, QuotedUnit, IsUnit, texts, values, MayFollow, is_return, no_blank, no_return, stands, Body, QuotedForm, CookedForm, RawForm, SingleForm, is_plain_body, IsQuotedAt, IsBodyWithin, body_in, suffix_in, found_opener, opener_at, is_some_text, BeginsStrictUnits, BreakEnds, BreaksEnd, cooked_found, single_found, form_at, ClosesUnits, ends_quoted, is_strict_suffix, unit_rest, FlawKind, ExtraHash, TwoCharacters, Unclosed, end_flaw_at, is_raw_form, suffix_piece, StopsIn, StopsBefore, raw_stop, ClosesForm, ClosesRaw, is_raw_character, is_hash, all_weaker, word_without, zero, suc, replicate, append_cancel_right, is_raw, IsStrictSuffix, Str, ByteStr, CStr, strict_unit_flaw_at, suffix_rest, suffix_read_at, FoundFlaw, found_flaw, option_map, ◌⊎◌, nat_lt, Byte, Char, and_right, content_of, is_line_end, is_bare_character, escape_at, line_feed_at, unit_at, escape_rest}
 use Rattle.rl_lenient.specs.UnitRuns.{BeginsRun, RunEnds}
 use Rattle.rl_lenient.proofs.FrontLenLemmas.{opener_lo, raw_lo}
 use Rattle.rl_strict.proofs.StrictRowLemmas.{bare_run, one_end, one_none, units_end, passes_seam}

@@ -13,7 +13,7 @@ use Rattle.rl_style.specs.Mirrors.{run_placed}
 use Rattle.rl_style.proofs.CaseLemmas.{cased_underscore, none_right}
 use Rattle.rl_style.proofs.GroupRows.{clear_ending, mark, not_false, only_ending, other, row_all, row_digits, row_ending, row_first, row_kept, row_some, row_spaced, row_trim}
 use Rattle.rl_style.proofs.NumberCharacters.{Keeps, RowKeeps, becomes}
-use Rattle.rl_style.proofs.Trimmed.{IsTrim, kept_permissions, none_of, only}
+use Rattle.rl_style.proofs.Trimmed.{IsTrim, passing_chars, none_of, only}
 
 -- ---- a sequence in groups, or unchanged
 
@@ -40,8 +40,8 @@ grouped_all p from_first size least run m h = either (λ z. list_all p z ≡ tru
     (row_all p (tests from_first size least (length (without_underscores run))) run m h)
 
 pub grouped_kept : (p : ℕ → Bool) (from_first : Bool) (size least : ℕ) (run : List ℕ) → p 95 ≡ false
-    → kept_permissions p (regrouped from_first size least run) ≡ kept_permissions p run
-grouped_kept p from_first size least run n = either (λ z. kept_permissions p z ≡ kept_permissions p run) from_first size least run refl
+    → passing_chars p (regrouped from_first size least run) ≡ passing_chars p run
+grouped_kept p from_first size least run n = either (λ z. passing_chars p z ≡ passing_chars p run) from_first size least run refl
     (row_kept p (tests from_first size least (length (without_underscores run))) run n)
 
 pub grouped_some : (p : ℕ → Bool) (from_first : Bool) (size least : ℕ) (run : List ℕ) → p 95 ≡ false
@@ -59,7 +59,7 @@ pub grouped_trim : (from_first : Bool) (size least : ℕ) (run : List ℕ) → I
 grouped_trim from_first size least run h = either IsTrim from_first size least run h
     (row_trim (tests from_first size least (length (without_underscores run))) run (ends_none from_first _ _) h)
 
--- A first character other than an underscore stays the first one.
+-- The sequence begins with the character `c`.
 pub record Begins (c : ℕ) (run : List ℕ) : Type 0 where
   pub rest : List ℕ
   pub is : run ≡ c ∷ rest
@@ -241,7 +241,7 @@ ending_flat f (c ∷ cs) u k =
       ]
     ]
 
--- ---- a sequence is rewritten twice as once
+-- ---- rewriting a sequence again changes nothing
 
 pub again_grouped : (drops hex plus : Bool) (digits letter : Option Case) (from_first : Bool) (size least : ℕ)
     (run : List ℕ) → flat_map (becomes drops hex plus digits letter) run ≡ run
@@ -264,7 +264,8 @@ again_grouped drops hex plus digits letter from_first size least run same plain 
         ∙ ap (flat_map f) (row_kept other test run refl)
         ∙ sym (bare_flat drops hex plus digits letter run) ∙ ap without_underscores same
 
-    -- The sequence after it is rewritten twice, whether or not underscores are dropped.
+    -- After a second rewriting, the underscores at the end of the sequence are those of `run`, whether or not underscores are
+    -- dropped.
     last : (drops : Bool) → flat_map (becomes drops hex plus digits letter) run ≡ run
         → RowPlain (becomes drops hex plus digits letter) new
         → ending (flat_map (becomes drops hex plus digits letter) new) ≡ ending run
@@ -365,7 +366,7 @@ placed_is f test (c ∷ cs) u k =
         ∙ sym (row_first test a.0 (flat_map f cs) other)
         ∙ ap (λ z. row_spaced test (z ++ flat_map f cs)) (sym a.1)
 
--- ---- one character after the other
+-- ---- writing one character after another
 
 pub counted : (c : ℕ) (cs : List ℕ) → (c == 95) ≡ false
     → length (without_underscores (c ∷ cs)) ≡ 1 + length (without_underscores cs)

@@ -24,7 +24,7 @@ pub enum FlawKind {
     Unclosed,
     /// The character after a backslash begins no known escape.
     UnknownEscape,
-    /// A `\u` escape in a byte or a byte string, where only characters, strings and C strings allow it.
+    /// A `\u` escape in a byte or a byte string. Only characters, strings and C strings allow it.
     NoUnicode,
     /// An escape lacks a hexadecimal digit.
     NoHexDigit,
@@ -197,7 +197,7 @@ pub fn make_flaw(kind: FlawKind, rest: &str) -> FlawAt<'_> {
 
 impl<'t> FlawAt<'t> {
     /// Returns the flaw with the text that begins at its piece replaced by `piece`.
-    pub fn in_piece(self, piece: &'t str) -> FlawAt<'t> {
+    pub fn with_piece(self, piece: &'t str) -> FlawAt<'t> {
         FlawAt {
             kind: self.kind,
             piece,

@@ -6,7 +6,7 @@ use crate::rl_strict::line_ends::LineEnds;
 use crate::rl_strict::read_numbers::skip_suffix;
 use crate::rl_strict::strict_quoted_flaws::{begins_hash, quote_of};
 use crate::rl_strict::strict_reading::Reading;
-use crate::rl_strict::walk::{open_raw, walk_cooked, walk_raw, walk_single};
+use crate::rl_strict::walk::{open_raw, parse_cooked_content, parse_raw_content, parse_single_unit};
 use crate::rl_lenient::Body;
 use crate::rl_lenient::quoted_forms::{QuotedForm, places};
 use crate::rl_lenient::units::{Piece, is_bare_character, piece_unit, unit};
@@ -26,21 +26,21 @@ fn is_lone_underscore(text: &str) -> bool {
 #[inline(never)]
 fn some_suffix_flaw<'t>(form: QuotedForm, closing: &'t str, suffix: &'t str) -> Option<FlawAt<'t>> {
     if begins_hash(form, suffix) {
-        return Some(make_flaw(FlawKind::ExtraHash, suffix).in_piece(closing));
+        return Some(make_flaw(FlawKind::ExtraHash, suffix).with_piece(closing));
     }
     let rest = skip_suffix(suffix);
     match split_char(rest) {
         None => {
             if is_lone_underscore(suffix) {
-                Some(make_flaw(FlawKind::UnderscoreSuffix, rest).in_piece(suffix))
+                Some(make_flaw(FlawKind::UnderscoreSuffix, rest).with_piece(suffix))
             } else {
                 None
             }
         }
         Some((c, _)) if c == quote_of(form) => {
-            Some(make_flaw(FlawKind::TextAfterQuote, rest).in_piece(closing))
+            Some(make_flaw(FlawKind::TextAfterQuote, rest).with_piece(closing))
         }
-        Some(_) => Some(make_flaw(FlawKind::BadSuffix, rest).in_piece(suffix)),
+        Some(_) => Some(make_flaw(FlawKind::BadSuffix, rest).with_piece(suffix)),
     }
 }
 
@@ -75,7 +75,7 @@ pub(crate) fn text_at<'t>(
     text: &'t str,
     inside: &'t str,
 ) -> Result<Body, FlawAt<'t>> {
-    let stretch = walk_cooked(ends, kind, inside);
+    let stretch = parse_cooked_content(ends, kind, inside);
     match stretch.end {
         Ok(suffix) => Ok(places(
             text,
@@ -122,7 +122,7 @@ pub(crate) fn unit_at<'t>(
     text: &'t str,
     inside: &'t str,
 ) -> Result<Single, FlawAt<'t>> {
-    let stretch = walk_single(ends, kind, inside);
+    let stretch = parse_single_unit(ends, kind, inside);
     match stretch.end {
         Ok((piece, suffix)) => Ok(Single {
             body: places(text, inside, stretch.closing, suffix, false),
@@ -142,7 +142,7 @@ fn opened_at<'t>(
     hashes: &'t str,
     opened: &'t str,
 ) -> Result<Body, FlawAt<'t>> {
-    let stretch = walk_raw(ends, kind, hashes, opened);
+    let stretch = parse_raw_content(ends, kind, hashes, opened);
     match stretch.end {
         Ok(suffix) => Ok(places(
             text,

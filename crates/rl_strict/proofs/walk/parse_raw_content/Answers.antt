@@ -1,6 +1,6 @@
 use Rattle.rl_strict.proofs.Names.{◌∙◌, ap, inl, inr, chars, RawForm}
 use Rattle.rl_strict.proofs.WalkForms.{raw_bad, raw_good, raw_held, raw_quote, good_suffix, raw_suffix_in, raw_unclosed, some_front}
-use Rattle.rl_strict.proofs.walk.walk_raw.Goals as goal
+use Rattle.rl_strict.proofs.walk.parse_raw_content.Goals as goal
 
 pub skip_raw-closing-requires : goal.skip_raw-closing-requires
 skip_raw-closing-requires c = let (n, few, e) = c.requires.hashes in (n, e)

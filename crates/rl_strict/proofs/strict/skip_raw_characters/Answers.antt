@@ -1,6 +1,6 @@
 use Rattle.rl_strict.proofs.Names.{[], refl, chars}
 use Rattle.rl_strict.proofs.StrictRawLemmas.{c_run, inside_run, str_run}
-use Rattle.rl_strict.proofs.strict.skip_inside.Goals as goal
+use Rattle.rl_strict.proofs.strict.skip_raw_characters.Goals as goal
 
 pub returns-in-Str-clause-run : goal.returns-in-Str-clause-run
 returns-in-Str-clause-run c = rw c.in-Str.is (

@@ -1,5 +1,5 @@
 use Rattle.rl_strict.proofs.Names.{◌≡◌, ◌≤◌, ◌++◌, replicate, IsTail, ◌-◌, Utf8, shadow, chars}
-use Rattle.rl_strict.proofs.strict_quoted_flaws.skip_few_hashes.Given as goal
+use Rattle.rl_strict.proofs.strict_quoted_flaws.skip_allowed_hashes.Given as goal
 
 abbrev pub invariant-loop-count : goal.invariant-loop-count
 invariant-loop-count l = record {

@@ -1,7 +1,7 @@
 use Rattle.rl_strict.proofs.Names.{rules, arith, IsUtf8, chars}
 use Rattle.rl_strict.proofs.EndLemmas.{step_in}
 use Rattle.rl_strict.proofs.FilePlaces.{rest_length}
-use Rattle.rl_strict.proofs.strict_reading.place_flaw.Goals as goal
+use Rattle.rl_strict.proofs.strict_reading.flaw_with_offsets.Goals as goal
 
 pub overflow_sub-result : goal.overflow_sub-result
 overflow_sub-result c =

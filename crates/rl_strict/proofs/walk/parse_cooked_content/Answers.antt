@@ -1,6 +1,6 @@
 use Rattle.rl_strict.proofs.Names.{◌∙◌, ap, inl, inr, chars, found_flaw, CookedForm}
 use Rattle.rl_strict.proofs.WalkForms.{cooked_bad, cooked_good, cooked_stuck, good_suffix, plain_not, plain_run, quote_stuck, run_in, run_of, unit_over, units_in, units_of}
-use Rattle.rl_strict.proofs.walk.walk_cooked.Goals as goal
+use Rattle.rl_strict.proofs.walk.parse_cooked_content.Goals as goal
 
 pub returns-in-None-clause-run : goal.returns-in-None-clause-run
 returns-in-None-clause-run c = run_of c.args.ends _ _ _ _ c.requires c.split_plain.ensures.cut c.split_plain.ensures.plain
@@ -86,9 +86,9 @@ returns-in-None-after_quote-clause-stops c =
     (units_of c.args.ends _ _ _ _ _ c.requires cut.cut cut.plain c.skip_units-closing.ensures.run)
     (units_in c.args.ends _ _ _ _ _ c.requires cut.cut cut.plain c.skip_units-closing.ensures.rest)
     c.skip_units-closing.ensures.stuck c.in-None-after_quote.ensures.none
-    (ap (λ k. found_flaw k (chars c.in_piece.result.rest.now)) c.in_piece.ensures.0
-    ∙ ap (λ z. found_flaw c.unit_flaw.result.kind (chars z)) c.in_piece.ensures.1 ∙ c.unit_flaw.ensures)
-    (ap chars c.in_piece.ensures.2)
+    (ap (λ k. found_flaw k (chars c.with_piece.result.rest.now)) c.with_piece.ensures.0
+    ∙ ap (λ z. found_flaw c.unit_flaw.result.kind (chars z)) c.with_piece.ensures.1 ∙ c.unit_flaw.ensures)
+    (ap chars c.with_piece.ensures.2)
 
 pub returns-in-None-clause-stuck : goal.returns-in-None-clause-stuck
 returns-in-None-clause-stuck c = quote_stuck c.args.ends _ _ _ c.requires c.in-Some.ensures.some
@@ -107,7 +107,7 @@ returns-in-Some-suffix_flaw-2-clause-at c = inr (
 
 pub returns-in-None-after_quote-clause-at : goal.returns-in-None-after_quote-clause-at
 returns-in-None-after_quote-clause-at c = inl (
-  c.in_piece.ensures.2,
-  unit_over _ _ _ _ (ap (λ k. found_flaw k (chars c.in_piece.result.rest.now)) c.in_piece.ensures.0
-      ∙ ap (λ z. found_flaw c.unit_flaw.result.kind (chars z)) c.in_piece.ensures.1 ∙ c.unit_flaw.ensures),
+  c.with_piece.ensures.2,
+  unit_over _ _ _ _ (ap (λ k. found_flaw k (chars c.with_piece.result.rest.now)) c.with_piece.ensures.0
+      ∙ ap (λ z. found_flaw c.unit_flaw.result.kind (chars z)) c.with_piece.ensures.1 ∙ c.unit_flaw.ensures),
 )

@@ -1,6 +1,6 @@
 use Rattle.rl_strict.proofs.Names.{rules, arith, tail_step}
 use Rattle.rl_strict.proofs.StrictRawFlaws.{hash_more}
-use Rattle.rl_strict.proofs.strict_quoted_flaws.skip_few_hashes.Goals as goal
+use Rattle.rl_strict.proofs.strict_quoted_flaws.skip_allowed_hashes.Goals as goal
 
 pub loop-count-preserved : goal.loop-count-preserved
 loop-count-preserved c = record {
