@@ -1,7 +1,7 @@
 -- The digits of an escape `\u{..}`, parsed one at a time.
 use Rattle.rl_syntax.proofs.Common.{◌≡◌, ℕ, ◌+◌, ◌*◌, ◌≤◌, ◌<◌, ◌&&◌, Bool, true, false, cond, eqb, ltb, List, [], ◌∷◌, Option, Some, None, refl, sym, ap, subst, inl, inr, arith, option_and_then, digit_value, scalar, both_ways, cases_Bool, eq-eqb, eqb-true, lt-ltb, ltb-true, ltb-false, ne_eqb}
 use Rattle.rl_lenient.proofs.Names.{Kind, allows_code, has_unicode, is_hex_digit}
-use Rattle.rl_lenient.specs.Mirrors.UnitAt.{◌>>=◌, brace_at, closed_at, code_digits_at, digit_at, first_code_digits_at, number_if, unicode_at}
+use Rattle.rl_lenient.specs.Mirrors.UnitAt.{brace_at, closed_at, code_digits_at, digit_at, first_code_digits_at, number_if, unicode_at}
 
 -- ---- the parse result
 

@@ -1,6 +1,6 @@
 -- The parts of numbers, as the code finds them.
-use Rattle.rl_syntax.proofs.Common.{◌≡◌, ℕ, Bool, true, false, ◌==◌, cond, List, [], ◌∷◌, ◌++◌, Option, Some, None, refl, sym, ap, subst, ◌∙◌, append_assoc, append_cancel_right, is_ascii_digit, chars}
-use Rattle.rl_lenient.proofs.Names.{first_passes, is_run_part, prefix, radix, Sign, sign_text, Fraction, NoFraction, Dot, fraction_text, IsFraction, IntReads, FloatReads, Kind, Int, Float, Contents, Reads, ReadsAs, HasNoReading, HasSuffix}
+use Rattle.rl_syntax.proofs.Common.{◌≡◌, ℕ, true, false, cond, List, ◌∷◌, ◌++◌, Option, Some, None, refl, sym, ap, subst, ◌∙◌, append_cancel_right, is_ascii_digit}
+use Rattle.rl_lenient.proofs.Names.{first_passes, is_run_part, prefix, radix, Sign, Fraction, NoFraction, Dot, fraction_text, IsFraction, IntReads, FloatReads, Kind, Float, ReadsAs, HasNoReading, HasSuffix}
 use Rattle.rl_syntax.specs.Numbers.{Exponent, NoExponent, Power, exponent_text, IsExponent}
 use Rattle.rl_syntax.proofs.OneNumber.{float_once}
 use Rattle.rl_syntax.proofs.OneReading.{one_reading}

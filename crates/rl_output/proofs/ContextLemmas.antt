@@ -14,7 +14,7 @@ use Rattle.std.specs.Prelude.{encode_utf8}
 use Rattle.rl_output.specs.Spots.{IsPositionAt, first_position, next_position, position_after}
 use Rattle.rl_output.specs.declared.line_column.Position.{Position}
 use Rattle.rl_lexer.proofs.ErrorKinds.{char_len}
-use Rattle.rl_output.specs.Contexts.{IsBeforeInLine, has_end, carets, context_lines, ends_line, first_line, is_long, left_out, line_char, line_text, marked_line, after_first_line, shown_line, shown_lines}
+use Rattle.rl_output.specs.Contexts.{IsBeforeInLine, has_end, context_lines, ends_line, first_line, is_long, left_out, line_char, line_text, marked_line, after_first_line, shown_line, shown_lines}
 use Rattle.rl_output.proofs.Pieces.{back_utf8, four_parts, five_parts}
 
 -- The first line of the text has been read up to `rest`.

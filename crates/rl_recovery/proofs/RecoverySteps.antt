@@ -1,5 +1,5 @@
 -- Single steps of a cursor over a source, which resumes after errors.
-use Rattle.rl_syntax.proofs.Common.{◌≡◌, ℕ, ◌+◌, ◌-◌, ◌≤◌, Bool, true, false, ◌==◌, List, [], length, take, drop, Option, Some, None, refl, sym, subst, arith, inr, append-nil, codes, chars, IsUtf8, IsUtf8-nil, IsUtf8-take, chars-nil, if◌then◌else◌, none-some}
+use Rattle.rl_syntax.proofs.Common.{◌≡◌, ℕ, ◌+◌, ◌-◌, ◌≤◌, Bool, true, false, ◌==◌, List, [], length, take, drop, Some, None, refl, sym, subst, arith, inr, append-nil, codes, chars, IsUtf8, IsUtf8-nil, IsUtf8-take, chars-nil, if◌then◌else◌, none-some}
 use Rattle.rl_syntax.specs.Texts.{IsTail, begins}
 use Rattle.rl_syntax.proofs.TailLemmas.{tail_self, tail_step, cut_boundary, cut_chars}
 use Rattle.rl_syntax.proofs.Rests.{tail_length}

@@ -6,7 +6,7 @@ use Rattle.rl_lexer.specs.Sources.{CutSource, source_end, source_text}
 use Rattle.rl_style.specs.Restyled.{IsEdited}
 use Rattle.rl_style.specs.declared.style.Style.{Style}
 use Rattle.rl_restyle.specs.Edits.{Restyles, placed_edits}
-use Rattle.rl_restyle.specs.Places.{AreEditsIn, IsTextBetween}
+use Rattle.rl_restyle.specs.Places.{AreEditsIn}
 use Rattle.rl_restyle.specs.declared.edit.Macros.{Macros}
 
 -- The edits of an end of the text, which begins at the byte offset `at`.

@@ -1,5 +1,5 @@
 -- Rewrites a source in a style, unless it has an error or begins as a script.
-use Rattle.std.specs.Prelude.{◌≡◌, ◌≢◌, ◌⊎◌, ℕ, Bool, true, false, List, [], map, string_bytes, Option, Some, None, IsFalse, IsTrue}
+use Rattle.std.specs.Prelude.{◌≡◌, ◌≢◌, ◌⊎◌, ℕ, Bool, true, List, [], map, string_bytes, Option, Some, None, IsFalse, IsTrue}
 use denote.Ref.{Bor}
 use Rattle.std.specs.Str.{chars}
 use Rattle.rl_output.specs.declared.form.Form.TheVariants.{Plain}

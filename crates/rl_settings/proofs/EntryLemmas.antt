@@ -1,13 +1,12 @@
 -- The text of a name with dots: its identifiers and dots are in the input text, each directly after the one before it.
-use Rattle.rl_syntax.proofs.Common.{◌≡◌, ◌≢◌, ℕ, ◌+◌, ◌-◌, ◌<◌, ◌≤◌, ◌⊎◌, inl, inr, Bool, true, false, List, [], ◌∷◌, ◌++◌, length, length-append, append_assoc, take, slice_range, refl, sym, ◌∙◌, ap, subst, arith, chars, encode_utf8_all, encode_ascii, encodes-append, encodes-chars, and_parts, Option, Some, None, IfSome, IfNone, take-append_seam, IsUtf8, IsCharBoundary}
+use Rattle.rl_syntax.proofs.Common.{◌≡◌, ℕ, ◌+◌, ◌-◌, ◌≤◌, true, List, [], ◌∷◌, ◌++◌, length, length-append, append_assoc, take, slice_range, refl, sym, ◌∙◌, ap, subst, arith, encode_utf8_all, encode_ascii, encodes-append, encodes-chars, and_parts, Option, Some, None, IfSome, IfNone, take-append_seam, IsUtf8, IsCharBoundary}
 use Rattle.std.proofs.lemmas.Str.{scalars-chars, IsCharBoundary-at_seam}
 use lib.Utf8.{scalars}
 use Prim.Native.Char.{code}
 use Rattle.rl_syntax.specs.Texts.{IsTail}
 use Rattle.rl_syntax.proofs.TailLemmas.{tail_step}
 use Rattle.rl_lexer.specs.declared.cursor.Lexeme.{Lexeme}
-use Rattle.rl_lexer.specs.Cursors.{CursorState, TakesNext, form_view}
-use Rattle.rl_lexer.specs.Cuts.{LexedToken, end_of}
+use Rattle.rl_lexer.specs.Cursors.{CursorState, TakesNext}
 use Rattle.rl_lexer.specs.Lexemes.{Lexeme as Tree, lexeme_text, form_of, MarkForm}
 use Rattle.rl_lexer.specs.Lexemes as lexemes
 use Rattle.rl_settings.specs.SettingSteps.{TakesName, TakesMark}

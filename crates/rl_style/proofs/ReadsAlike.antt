@@ -1,11 +1,11 @@
 -- Equal literals have equal parse results.
-use Rattle.rl_syntax.proofs.Common.{◌≡◌, ℕ, ◌≤◌, List, refl, subst, sym, ◌∙◌, ap}
+use Rattle.rl_syntax.proofs.Common.{◌≡◌, ℕ, ◌≤◌, List, subst, sym, ◌∙◌, ap}
 use Rattle.rl_syntax.specs.declared.kind.Kind.{Kind}
 use Rattle.rl_syntax.specs.declared.kind.Kind.TheVariants.{Str, ByteStr, CStr, Byte, Char, Int, Float, Bool as BoolKind}
-use Rattle.rl_syntax.specs.Numbers.{limit, IntReads}
+use Rattle.rl_syntax.specs.Numbers.{limit}
 use Rattle.rl_syntax.specs.Reading.{Contents, Digits, Reads}
 use Rattle.rl_syntax.specs.Spelling.{place_value}
-use Rattle.rl_syntax.specs.Strict.{Strict, StrictInt, dec}
+use Rattle.rl_syntax.specs.Strict.{Strict, dec}
 use Rattle.rl_syntax.specs.Agreeing.{IsWithinLimit}
 use Rattle.rl_syntax.proofs.Agreeing.{strict_reads}
 use Rattle.rl_syntax.proofs.OneNumber.{int_once}

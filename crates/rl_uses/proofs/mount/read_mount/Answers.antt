@@ -1,4 +1,4 @@
-use Rattle.std.proofs.Common.{List, ℕ, subst, sym}
+use Rattle.std.proofs.Common.{List, subst, sym}
 use Rattle.rl_attributes.specs.Attributes.{Attribute}
 use Rattle.rl_uses.specs.Mounts.{IsMount}
 use Rattle.rl_uses.proofs.mount.read_mount.Goals as goal

@@ -1,6 +1,6 @@
-use Rattle.std.proofs.Common.{◌≡◌, ◌<◌, ℤ, ◌*ℤ◌, w64, to_z, of_z, arith, rules, ap, ◌∙◌, sym}
+use Rattle.std.proofs.Common.{◌≡◌, ℤ, ◌*ℤ◌, w64, to_z, of_z, arith, rules, ap, ◌∙◌}
 use Rattle.std.proofs.lemmas.Int.{ints}
-use Rattle.rl_uses.specs.Sums.{Tree, Leaf, Times, eval}
+use Rattle.rl_uses.specs.Sums.{Leaf, Times, eval}
 use Rattle.rl_uses.proofs.sum.take_product.Goals as goal
 
 pub loop-tokens-init : goal.loop-tokens-init

@@ -1,6 +1,6 @@
-use Rattle.std.proofs.Common.{◌≡◌, ℤ, ◌+ℤ◌, w64, to_z, of_z, arith, rules, ap, ◌∙◌, sym}
+use Rattle.std.proofs.Common.{◌≡◌, ℤ, ◌+ℤ◌, w64, to_z, of_z, arith, rules, ◌∙◌}
 use Rattle.std.proofs.lemmas.Int.{ints}
-use Rattle.rl_uses.specs.Sums.{Tree, Plus, eval}
+use Rattle.rl_uses.specs.Sums.{Plus, eval}
 use Rattle.rl_uses.proofs.TreeLemmas.{sum_of_one}
 use Rattle.rl_uses.proofs.sum.take_sum.Goals as goal
 
