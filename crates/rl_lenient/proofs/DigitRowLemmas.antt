@@ -28,11 +28,11 @@ append_capped r v d h = elim (within_or_past v limit) [
   | inr k ↦ ap (λ o. append_digit r o d) (capped_past v k) ∙ sym (capped_past (v * r + d) (mul_grows v r d k h))
 ]
 
--- The number of digits with one more digit before them, multiplied out.
+-- The number that digits represent with one more digit before them, multiplied out.
 place_with : (v r d q p : ℕ) → (v * r + d) * q + p ≡ v * (q * r) + (d * q + p)
 place_with v r d q p = omega arith
 
--- The number of digits with one more digit before them, by a power of the base.
+-- The number that digits represent with one more digit before them, by a power of the base.
 place_step : (v r d n p : ℕ) → (v * r + d) * r ^ n + p ≡ v * r ^ suc n + (d * r ^ n + p)
 place_step v r d n p = place_with v r d (r ^ n) p ∙ ap (λ q. v * q + (d * r ^ n + p)) (sym (pow-suc r n))
 
@@ -152,7 +152,7 @@ row_is r some v (c ∷ cs) h k = go (λ s w. row_is r s w cs h k) (c == 95) (nat
         let y = run_no (is_run_part (has_value r)) c cs (part_none r c hu hg) in
         at_end r some v (c ∷ cs) ∙ at_parts r some v (c ∷ cs) [] (c ∷ cs) y.0 y.1
 
--- Zero before digits adds nothing to their number.
+-- A zero before digits adds nothing to the number that they represent.
 zero_times : (q p : ℕ) → 0 * q + p ≡ p
 zero_times q p = omega arith
 
@@ -162,7 +162,7 @@ pub row_start : (r : ℕ) (t : List ℕ) → 1 ≤ r → r ≤ 36 → run_from r
 row_start r t h k = row_is r false 0 t h k ∙ ap (λ n. (has_digit_at r t, capped n, after_digits r t))
     (zero_times (r ^ length (without_underscores (digit_run_at r t))) (magnitude_at r t))
 
--- The length of a sequence doesn't depend on the number before it.
+-- The length of a sequence of digits doesn't depend on the number that the digits before it represent.
 row_without : (r : ℕ) (some : Bool) (m : Option ℕ) (t : List ℕ) → run_from r some None t
     ≡ ((run_from r some m t).0, None, (run_from r some m t).2)
 unfolding run_from

@@ -106,7 +106,7 @@ cooked_once kind a v x w y c d =
     (unit_quote kind x c.string) (unit_quote kind y c.string) in
     (same.0, let e = same.1 in cc)
 
--- The characters and escapes of a text that begins with plain characters.
+-- If characters and escapes follow plain characters, all of them are a sequence of characters and escapes.
 pub cooked_units : (kind : Kind) (a run following v rest : List ℕ) → a ≡ run ++ following → list_all (is_plain kind) run
     ≡ true → BeginsRun kind following v rest → (w : List ℕ) × BeginsRun kind a w rest
 cooked_units kind a run following v rest cut plain row =
@@ -211,7 +211,7 @@ formed t k v x r =
       ]
     ]
 
--- The text is a quoted literal with these parts, in one of the forms.
+-- The text is a quoted literal of some form, with this value, body and suffix.
 pub record HasParts (kind : Kind) (t value body suffix : List ℕ) : Type 0 where
   pub form : QuotedForm
   pub parts : PartsAre form kind t value body suffix

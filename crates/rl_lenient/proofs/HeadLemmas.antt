@@ -103,7 +103,8 @@ head_float t r some m x h e =
     let y = after_exponent (after_fraction (after_digits 10 u)) in
     ap float_tail_at is ∙ sym (ap (λ b. cond (b && is_suffix y) (Some y) None) h.first)
 
--- The parse result of the code is the start of the number.
+-- If the code's base, digits, magnitude and remaining text are those of the models, they are the parsed start of the number
+-- (`IsHead`).
 pub head_read : (u ds x : List ℕ) (r : ℕ) (some : Bool) (m : Option ℕ) → first_passes is_ascii_digit u ≡ true
     → ◌≡◌ {A = ℕ × List ℕ} (r, ds) (radix_at u) → some ≡ has_digit_at r ds → m ≡ capped (magnitude_at r ds) → x
     ≡ after_digits r ds → IsHead u r some m x

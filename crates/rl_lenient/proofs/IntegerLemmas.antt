@@ -262,7 +262,7 @@ based_sound r t p h =
     let b = and_parts (has_digit_at r t) _ a.1 in
     record { front = a.0; some = b.0; ends = b.1; is = k.1 }
 
--- If a parse result with a sign is returned, there is one without the sign.
+-- If `with_sign` returns a parse result, it was called with a parse result without the sign.
 pub sign_of_some : (s : Sign) (o : Option (ℕ × List ℕ)) (p : Sign × ℕ × List ℕ) → with_sign s o ≡ Some p
     → (q : ℕ × List ℕ) × (o ≡ Some q) × ((s, q.0, q.1) ≡ p)
 sign_of_some s None p h = absurd (cc)
@@ -280,7 +280,7 @@ int_sound t p h =
     ≡ p = ap (λ q. (sign_at t, q.0, q.1)) r.is ∙ k.2 in
     subst (λ (q : Sign × ℕ × List ℕ). IntReads t q.0 q.1 q.2) whole (int_built t b r.front r.some r.ends)
 
--- If a number is dropped because of the limit, it is above the limit.
+-- If `capped` returns `None` for a number, the number is above the limit.
 capped_none : (n : ℕ) → capped n ≡ None → limit < n
 capped_none n h = elim (within_or_past n limit) [
   | inl k ↦ let e = capped_within n k in absurd (cc)
@@ -294,12 +294,12 @@ capped_some n k h = elim (within_or_past n limit) [
   | inr l ↦ let e = capped_past n l in absurd (cc)
 ]
 
--- If no limited result is returned, no result was.
+-- If `capped_int` returns `None`, its argument is `None`.
 none_int : (o : Option (Sign × ℕ × List ℕ)) → None ≡ capped_int o → o ≡ None
 none_int None h = refl
 none_int (Some p) h = absurd (cc)
 
--- If a limited result is returned, a result was.
+-- If `capped_int` returns a result, its argument is that result before the limit.
 some_int : (o : Option (Sign × ℕ × List ℕ)) (q : Option ℕ × List ℕ) → Some q ≡ capped_int o → (p : Sign × ℕ × List ℕ)
     × (o ≡ Some p) × (q ≡ (capped p.1, p.2))
 some_int None q h = absurd (cc)
@@ -327,11 +327,11 @@ is_within t x m h =
       within = subst (λ (n : ℕ). n ≤ limit) c.1 c.0;
     }
 
--- By equations: an integer that is parsed without a magnitude is above the limit.
+-- The lemma `is_past`, with equations for the parse result: an integer that is parsed without a magnitude is above the limit.
 pub is_past_at : (t x : List ℕ) (k : Option ℕ) → Some (k, x) ≡ capped_int (int_at t) → k ≡ None → IsPast t
 is_past_at t x k h e = is_past t x (sym (ap (λ o. Some (o, x)) e) ∙ h)
 
--- By equations: an integer that is parsed with a magnitude is within the limit.
+-- The lemma `is_within`, with equations for the parse result: an integer that is parsed with a magnitude is within the limit.
 pub is_within_at : (t x y : List ℕ) (m : ℕ) (k : Option ℕ) → Some (k, x) ≡ capped_int (int_at t) → k ≡ Some m → y ≡ x
     → HasMagnitude t m y
 is_within_at t x y m k h e q = is_within t y m (ap (λ z. Some (Some m, z)) q ∙ sym (ap (λ o. Some (o, x)) e) ∙ h)

@@ -116,8 +116,8 @@ all_make kind text start end ss whole p none =
 
 -- ---- offsets in order
 
--- The requirements on an offset in a character or escape: it is within its text, later bytes have later offsets, and
--- two with one text have equal offsets if both or neither represent themselves.
+-- The requirements on an offset in a character or escape: it is within its text, later bytes have later offsets, and two
+-- characters or escapes with equal texts have equal offsets if both or neither represent themselves.
 pub record IsPlacing (inside : QuotedUnit → ℕ → ℕ) : Type 0 where
   pub within : (kind : Kind) (u : QuotedUnit) (at : ℕ) → at < length (unit_bytes kind u)
       → inside u at ≤ byte_len (unit_text u)
@@ -135,7 +135,7 @@ itself_within kind (Hex high low) at d small one is = absurd (cc)
 itself_within kind (Unicode first more) at d small one is = absurd (cc)
 itself_within kind (Continuation c run) at d small one is = absurd (cc)
 
--- A choice by whether a unit is its own value.
+-- A property of the number that a condition chooses, from a proof for each of the two numbers.
 chosen : (P : ℕ → Type 0) (b : Bool) (x y : ℕ) → (b ≡ true → P x) → P y → P (cond b x y)
 chosen P true x y f g = f refl
 chosen P false x y f g = g
@@ -178,7 +178,7 @@ order_in inside p kind (u ∷ us) at next h =
     (λ small. absurd (omega (arith, h, large, small)))
     (λ large_too. omega (arith, order_in inside p kind us (at - n) (next - n) (omega (arith, h, large)))))
 
--- The range that a byte comes from begins before it ends.
+-- The range that a byte comes from begins no later than it ends.
 ends_after : (kind : Kind) (us : List QuotedUnit) (at : ℕ) → unit_place begins_in kind us at ≤ unit_place ends_in kind
     us at
 ends_after kind [] at = omega arith
@@ -239,7 +239,7 @@ rows_place inside p kind (u ∷ us) (w ∷ ws) t a b at =
     (rows_place inside p kind us ws (texts us) (record { each = a.each.1; ends = a.ends.1; text_is = refl })
     (record { each = b.each.1; ends = b.ends.1; text_is = same.1 }))
 
--- ---- of one literal
+-- ---- each byte of a literal's value has one offset in the literal's text
 
 abbrev Same : (QuotedUnit → ℕ → ℕ) → Kind → List QuotedUnit → List QuotedUnit → ℕ → ℕ → Type 0
 Same inside kind us ws lo start = (lo ≡ start) × ((at : ℕ) → unit_place inside kind us at

@@ -17,7 +17,7 @@ use Rattle.rl_lexer.specs.Lexemes.{begins_raw_identifier}
 pub char_len : (t : List ℕ) → IsUtf8 t → byte_len (chars t) ≡ length t
 char_len t is = ap length (encodes-chars t is)
 
--- The byte offset of the rest, by bytes and by characters.
+-- The byte offset of the rest, computed from the bytes of the text, is also the one computed from its characters.
 pub rest_place : (text rest : List ℕ) (at : ℕ) → IsUtf8 text → IsUtf8 rest → at + length rest ≡ length text
     → at + byte_len (chars rest) ≡ byte_len (chars text)
 rest_place text rest at is is_rest place = omega (arith, char_len text is, char_len rest is_rest, place)

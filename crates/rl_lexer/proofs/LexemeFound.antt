@@ -296,7 +296,7 @@ head_fact c true h = start_fact c h (c == 98) (c == 99) (c == 114) refl refl ref
 head_fact c false h = other_fact c (is_among delimiters c) (c == 47) (is_punct c) (is_ascii_digit c) (c == 34) (c == 39)
     refl refl refl refl refl refl
 
--- A lexeme that begins with a given character.
+-- The lexeme at the start of a text, if the text's first character is known to be `k`.
 at_head : (c k : ℕ) (t : List ℕ) (p : LexemeForm × List ℕ) → c ≡ k → Found (k ∷ t) p → Found (c ∷ t) p
 at_head c k t p h (l, is, same, form) = (l, is, ap (λ x. x ∷ t) h ∙ same, form)
 

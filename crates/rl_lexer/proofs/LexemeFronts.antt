@@ -91,7 +91,7 @@ class99 = class_start 99 (start_ascii 99 (lit< tt))
 pub class114 : head_class 114 ≡ LetterRHead
 class114 = class_start 114 (start_ascii 114 (lit< tt))
 
--- The text after a string literal with escapes.
+-- After a string literal with escapes, `quoted_at` returns the text after the literal and its suffix.
 quoted_past : (parts : List BodyPart) (x t : List ℕ) → IsBody parts → IsLexedSuffix x t
     → quoted_at (body_text parts ++ 34 ∷ x ++ t) ≡ Some t
 quoted_past parts x t is suffix =
@@ -121,7 +121,7 @@ front_character false inside x t is suffix = at_class 39 (character_body_text in
 front_character true inside x t is suffix = at_class 98 (39 ∷ (character_body_text inside ++ 39 ∷ x ++ t)) LetterBHead
     class98 ∙ ap literal_at (single_front inside x t is suffix)
 
--- Delimiters and punctuation characters.
+-- If a list contains no delimiter, a character of the list isn't a delimiter.
 not_delimiter : (codes : List ℕ) (c : ℕ) → list_all (λ k. not (is_among delimiters k)) codes ≡ true → is_among codes c
     ≡ true → is_among delimiters c ≡ false
 not_delimiter codes c all is = not_true (is_among delimiters c)
@@ -182,7 +182,7 @@ front_raw CPrefix n body x t is suffix =
     ∙ raw_chosen u (word_at (114 ∷ u)) t (raw_opens_here n (body ++ 34 ∷ (replicate n 35 ++ (x ++ t))))
     (raw_front n body x t is suffix)
 
--- The text after a number with a prefix.
+-- After a number with a prefix, `lexeme_at` returns the text after the number.
 front_based : (letter : ℕ) (digits t : List ℕ) → IsTrue (is_base_letter letter) → IsRun is_continue digits t
     → lexeme_at (48 ∷ letter ∷ digits ++ t) ≡ Some (LiteralForm, t)
 front_based letter digits t is run =

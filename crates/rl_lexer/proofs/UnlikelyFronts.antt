@@ -54,7 +54,7 @@ stray_table : (c : ℕ) → c < 128 → stray_here c ≡ true → stray_facts c 
 stray_table c low is = implied (stray_here c) (stray_facts c)
     (agree_below_at (λ k. not (stray_here k) || stray_facts k) (λ _. true) 128 c refl low) is
 
--- ---- the tokens before
+-- ---- characters that begin an identifier, and not a literal
 
 -- An identifier whose first two letters are neither those of `true` nor those of `false` is neither.
 word_no_truth : (c : ℕ) (u after : List ℕ) (token : SourceBefore (c ∷ u) (PlainKind IdentifierForm) after)
@@ -201,7 +201,8 @@ slash_of false true s b h = absurd (cc)
 slash_of false false true b h = absurd (cc)
 slash_of false false false b h = refl
 
--- A character that isn't part of an identifier leads from a text to the text after it.
+-- If a text begins with a character that begins neither an identifier nor a literal nor a comment, and only tokens other than
+-- literals follow up to `r`, this also holds for the whole text.
 reach_other : (c : ℕ) (u r : List ℕ) → c < 128 → is_word_byte c ≡ false → not (is_likely_mark c) ≡ true → Reaches u r
     → Reaches (c ∷ u) r
 reach_other c u r low plain unlikely more = go (is_white c) (is_always_token c) refl refl
@@ -456,7 +457,8 @@ unlikely-reaches bs rest n r u v e cut reaches =
     (agrees_bytes rest v) in
     subst (λ (z : List ℕ). Reaches z r) (sym whole) (reach_front 0 next front (chars rest) r agrees all reaches)
 
--- The fact in the form of the contract: with the byte before the text after the skipped bytes.
+-- The lemma `unlikely-reaches` in the form in which the contract states it. `before` is the byte before the text after the
+-- skipped bytes.
 pub unlikely-holds : (bs rest past next : List ℕ) (n before : ℕ) → IsUtf8 bs → IsUtf8 rest → n ≤ unlikely_len bs
     → rest ≡ drop n bs → before ≡ byte_before bs n → past ≡ past_word before (chars rest) → Reaches past next
     → HasOnlyOtherTokens (chars bs) next

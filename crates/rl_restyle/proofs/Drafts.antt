@@ -108,7 +108,7 @@ next_token style macros t s at out edits d token tokens takes =
       whole = ap chars takes.same ∙ d.whole;
     }
 
--- The text before a token and the text after it.
+-- The next token is between the text that precedes it and the rest after it.
 surrounds : (style : Style) (macros : Macros) (t : List ℕ) (s : RestylableState) (at : ℕ) (out : List ℕ) (edits : Told)
     (d : IsDraft style macros t s at out edits) (token : SourceToken) (tokens : CursorState)
     → (takes : TakesSource s.tokens token tokens)
@@ -117,7 +117,7 @@ surrounds style macros t s at out edits d token tokens takes =
     let n = next_token style macros t s at out edits d token tokens takes in
     record { after = n.later ++ chars tokens.rest; text_is = n.text_is; at_is = n.place_is; skips = n.skips }
 
--- The context of the next token, after one more token.
+-- The context after one more token, in the definitions, is that of the cursor's state after the token.
 seen_passed : (s : RestylableState) (token : SourceToken) (tokens : CursorState) (w : CutSource)
     → IsBorrowedSource token w → seen_after (seen_of s) w ≡ seen_of (passed s token tokens)
 seen_passed s token tokens w is =
@@ -232,7 +232,8 @@ draft_put style macros t s at out edits d token tokens takes new is later_at lon
 
 -- ---- the next literal
 
--- The tokens before the next literal are processed.
+-- The next literal of the cursor is `l`. The draft contains the new text of all tokens before it, and the cursor's state after it
+-- is `new`.
 record AtLiteral (style : Style) (macros : Macros) (t : List ℕ) (at : ℕ) (out : List ℕ) (edits : Told) (l : Restylable)
     (new : RestylableState) : Type 0 where
   s : RestylableState

@@ -11,7 +11,7 @@ use Rattle.rl_sources.specs.Places.{IsPlaceIn}
 use Rattle.rl_sources.specs.declared.options.Options.{Options}
 use Rattle.rl_scan.specs.Changes.{AreChangeLines, IsChangeLine, change_line}
 
--- The source can be split where a rewritten literal begins.
+-- The byte offset where a rewritten literal begins is a character boundary of the source.
 pub boundary : (places text : List ℕ) (lo hi : ℕ) (old : List ℕ) → places ≡ text → IsUtf8 text
     → IsTextBetween (chars text) lo hi old → IsCharBoundary places lo
 boundary places text lo hi old same u s = rw same ((slice text lo hi old u s).begins)

@@ -15,7 +15,7 @@ use Rattle.rl_scan.specs.Visits.{IsBytesReport, IsReadReport, IsReport, ReportsA
 use Rattle.rl_options.specs.Clashes.{lists_files}
 use Rattle.rl_scan.proofs.Handing.{hands_none}
 
--- The report for a file has the property, and no file was replaced.
+-- If the report for a file satisfies `IsThis`, and no file was replaced, the report satisfies `ReportsAs IsThis`.
 pub unhanded : {A E : Type 0} (IsThis : Findings → Type 0) (r : Result (Report A) E)
     (old new : Option (List Replacement)) → new ≡ old → IfOk r (λ p. IsThis (in_report p))
     → IfOk r (λ p. ReportsAs IsThis p old new)

@@ -80,7 +80,7 @@ dot_text old new dot t =
     ∙ ap encode_utf8_all (dot_tree t.takes.cut.lexeme (cut.form_is ∙ t.is_dot))
     ∙ ap (λ x. x ++ []) (encode_ascii (code ".") (omega arith))
 
--- ---- a name with one more identifier
+-- ---- a dotted name with one more identifier at its end
 
 parts_more : (end hi : ℕ) (t mid new : CursorState) (parts : List Lexeme) (part : Lexeme) → AreNameParts end t parts mid hi
     → JoinsName hi mid part new → AreNameParts end t (parts ++ part ∷ []) new part.hi

@@ -100,7 +100,7 @@ fewest_unicode ds h =
     (and_from (nat_le 1 (length new)) (nat_le (length new) 6) (le-leb 1 (length new) some) (le-leb (length new) 6 few))
     (fewest_hex ds q.1)) (ap (λ n. all_scalars (n ∷ [])) (fewest_value ds) ∙ p.1)
 
--- ---- the digits are rewritten twice as once
+-- ---- rewriting the digits again changes nothing
 
 pub twice_digits : (case : Option Case) (ds : List (ℕ × ℕ)) → map (cased_digit case) (map (cased_digit case) ds)
     ≡ map (cased_digit case) ds

@@ -20,7 +20,7 @@ other c = not (c == 95)
 abbrev pub mark : Bool → List ℕ
 mark b = cond b (95 ∷ []) []
 
--- A sequence without a plus, if its characters pass a test that a plus fails.
+-- If all characters of a sequence pass a test that a plus fails, the sequence contains no plus.
 pub plus_free : (test : ℕ → Bool) (cs : List ℕ) → test 43 ≡ false → list_all test cs ≡ true
     → list_all (λ c. not (c == 43)) cs ≡ true
 plus_free test [] n h = refl

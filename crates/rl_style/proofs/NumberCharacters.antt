@@ -270,7 +270,7 @@ decimal_by (c ∷ b ∷ ds) z h n =
     let q = and_parts (test b) (list_all test ds) p.1 in
     second_tells c b (ds ++ z) (apart test b 98 q.0 refl) (apart test b 111 q.0 refl) (apart test b 120 q.0 refl)
 
--- ---- characters are rewritten twice as once
+-- ---- rewriting characters again changes nothing
 
 again_hex : (drops plus : Bool) (digits letter : Option Case) (c : ℕ)
     → flat_map (becomes drops true plus digits letter) (becomes drops true plus digits letter c)

@@ -241,7 +241,7 @@ ending_flat f (c ∷ cs) u k =
       ]
     ]
 
--- ---- a sequence is rewritten twice as once
+-- ---- rewriting a sequence again changes nothing
 
 pub again_grouped : (drops hex plus : Bool) (digits letter : Option Case) (from_first : Bool) (size least : ℕ)
     (run : List ℕ) → flat_map (becomes drops hex plus digits letter) run ≡ run
@@ -264,7 +264,8 @@ again_grouped drops hex plus digits letter from_first size least run same plain 
         ∙ ap (flat_map f) (row_kept other test run refl)
         ∙ sym (bare_flat drops hex plus digits letter run) ∙ ap without_underscores same
 
-    -- The sequence after it is rewritten twice, whether or not underscores are dropped.
+    -- After a second rewriting, the underscores at the end of the sequence are those of `run`, whether or not underscores are
+    -- dropped.
     last : (drops : Bool) → flat_map (becomes drops hex plus digits letter) run ≡ run
         → RowPlain (becomes drops hex plus digits letter) new
         → ending (flat_map (becomes drops hex plus digits letter) new) ≡ ending run

@@ -1,4 +1,4 @@
--- A rewritten float is equal to the old one.
+-- A rewritten float has the value and the suffix of the old one, except for an added zero.
 use Rattle.rl_syntax.proofs.Common.{◌≡◌, ◌⊎◌, ℕ, ◌||◌, Bool, true, false, not, ◌==◌, cond, List, [], ◌∷◌, ◌++◌, map, refl, sym, ap, subst, ◌∙◌, inl, inr, ◌&&◌, append_assoc, append-nil, cases_Bool, append_cancel_right, map-append, list_all, list_any, list_all-append, and_from, or_cases, eqb-true, is_ascii_digit, flat_map, Some, None}
 use Rattle.std.specs.Prelude.{Option, filter}
 use Rattle.std.proofs.lemmas.List.Elements.{filter-append}
@@ -446,7 +446,7 @@ float_number style t u c = record {
   keeps = contents_kept style c.contents c.float.numeral c.suffix c.float.form c.float.contents;
 }
 
--- ---- a float is rewritten twice as once
+-- ---- rewriting a float again changes nothing
 
 -- The last part of a text without underscores at its end has none at its end either.
 tail_trims : (a b : List ℕ) → only b ≡ false → IsTrim (a ++ b) → IsTrim b
@@ -536,7 +536,7 @@ numeral_trims style x numeral form h =
     form_trims (drops_underscores style x) style.exponent_plus style.hex_digits style.exponent_letter style.float_zero
     (Size style x) (Least style) kept x (kept_form style numeral x form).form short
 
--- A sequence of digits that was written stays unchanged.
+-- If a sequence of digits is rewritten twice, the second time changes nothing.
 row_stays_so : (drops plus : Bool) (digits letter : Option Case) (from_first : Bool) (size least : ℕ) (d : List ℕ)
     → IsDigits d
     → Groups size least from_first (flat_map (becomes drops false plus digits letter)

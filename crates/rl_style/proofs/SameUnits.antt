@@ -1,4 +1,4 @@
--- A literal whose characters and escapes are rewritten is equal to the old one.
+-- A literal whose characters and escapes are rewritten keeps its kind, value and suffix.
 use Rattle.rl_syntax.proofs.Common.{nat_tests, or_cases, subst, ◌≡◌, ℕ, ◌<◌, ◌||◌, ◌&&◌, Bool, true, false, not, ◌==◌, cond, nat_le, nat_lt, List, [], ◌∷◌, ◌++◌, length, map, refl, sym, ap, ◌∙◌, inl, inr, arith, ◌⊎◌, append-nil, and_from, and_parts, cases_Bool, cases_lt, or_from, eqb-true, not-true, agree_below_at, is_ascii_hexdigit, all_scalars, list_all, flat_map, length-map, suc, both_ways, is_ascii_digit, encode_utf8_all, encode_ascii, Some, None}
 use Rattle.std.specs.Prelude.{Option}
 use Rattle.rl_syntax.proofs.Basics.{apart}
@@ -216,7 +216,7 @@ follows : (a b : Bool) → a ≡ true → (not a || b) ≡ true → b ≡ true
 follows true b h k = k
 follows false b h k = absurd (cc)
 
--- Tests of the characters below 128, each one separately.
+-- A test that passes for each visible ASCII character, tried one by one, passes for `n`.
 visible_test : (test : ℕ → Bool) (n : ℕ) → is_visible n ≡ true
     → ((n < 128) → (not (is_visible n) || test n) ≡ true) → test n ≡ true
 visible_test test n v all = follows (is_visible n) (test n) v (all (visible_low n v))
@@ -627,7 +627,7 @@ cooked_same style t u c = record {
   is = cooked_strict u c.kind c.contents c.suffix (written style t u c.kind c.contents c.suffix c.cooked c.new_is);
 }
 
--- ---- a literal is rewritten twice as once
+-- ---- rewriting a literal again changes nothing
 
 -- A character that needs no numeric escape is unchanged.
 pub shown_stays : (style : Style) (k : Kind) (z : Bool) (c : ℕ) → needs_number c ≡ false → restyled style k z (Itself c)

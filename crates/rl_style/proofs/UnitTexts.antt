@@ -129,7 +129,7 @@ either_way : (b : Bool) (n : ℕ) → cond b n n ≡ n
 either_way true n = refl
 either_way false n = refl
 
--- The value of the escape isn't a visible character, and has no escape with a letter.
+-- If the value of a numeric escape isn't a visible character, and has no escape with a letter, the escape is unchanged.
 kept_escape : (style : Style) (k : Kind) (z : Bool) (n : ℕ) (escape : StrictUnit) → is_visible n ≡ false
     → gets_letter z n ≡ false → respelled style k z n escape ≡ escape
 kept_escape style k z n escape v l =
@@ -371,7 +371,8 @@ itself_restyled style k y z c same = go (style.hidden && needs_number c) refl
         ∙ hidden_is style k z c (and_parts style.hidden (needs_number c) e).1
     go false e = refl
 
--- Whether a NUL may be written as `\0` is the result for its value and for the character itself.
+-- The test whether a character is a NUL that may be written as `\0` gives the same result for the character's value and for the
+-- character itself.
 zero_same : (k : Kind) (z : Bool) (c : ℕ)
     → ((lettered z (ascii_in (strict_content_of k (c ∷ []))) == 0) && c == 0) ≡ (z && c == 0)
 zero_same k z c = go (c == 0) refl

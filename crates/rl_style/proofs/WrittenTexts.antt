@@ -1,4 +1,4 @@
--- Bytes that are written one after the other are UTF-8.
+-- UTF-8 texts that are written one after the other are one UTF-8 text.
 use Rattle.rl_syntax.proofs.Common.{◌≡◌, ℕ, true, List, [], ◌∷◌, ◌++◌, sym, ap, ◌∙◌, append_assoc, and_from, and_parts, encodes-append, encodes-chars, encode_utf8_all, IsUtf8, scalar}
 use Rattle.std.specs.Str.{chars}
 use Rattle.std.proofs.Math.Utf8.{scalars}

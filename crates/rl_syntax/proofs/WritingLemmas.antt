@@ -91,7 +91,7 @@ pub begun_whole : (k : Kind) (a b xs ys : List ℕ) → a ≡ begun k xs → b �
 begun_whole k a b xs ys e h same u = begun_whole_after k [] a b xs ys e h same IsUtf8-nil u
     ∙ ap (λ z. z ++ written_text k ys) chars-nil
 
--- A text to which bytes were appended can be split where it ended before.
+-- If bytes were appended to a UTF-8 text, and the result is UTF-8, the old end of the text is a character boundary.
 pub cut_back : (old new : List ℕ) → IsUtf8 old → IsUtf8 new → take (length old) new ≡ old
     → IsSplitPoint new (length old)
 cut_back old new u v e =

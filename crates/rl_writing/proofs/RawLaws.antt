@@ -43,7 +43,7 @@ both f g (c ∷ cs) h k =
     let q = and_parts (g c) (list_all g cs) k in
     and_from _ _ (and_from _ _ p.0 q.0) (both f g cs p.1 q.1)
 
--- All allowed characters may be between the quotes of a raw string.
+-- If a body is allowed in a raw string of the kind, and contains no CR, the code accepts each of its characters.
 all_stand : (k : Kind) (inside : List ℕ) → is_string k ≡ true → IsRawInside k inside
     → list_all (λ c. not (eqb c 13)) inside ≡ true → list_all (raw_may_contain k) inside ≡ true
 all_stand Str inside s a h = h

@@ -140,7 +140,7 @@ escape_low c = low_join (numeral 16 false c) (125 ∷ [])
 
 -- ---- the written bytes
 
--- The digits that were written without underscores.
+-- With group size 0, the digits are written without underscores.
 digits_put : (c n : ℕ) (ds : List ℕ) → ds ≡ numeral 16 false n → n ≡ c → grouped 0 ds ≡ numeral 16 false c
 digits_put c n ds e same = ungrouped ds ∙ e ∙ ap (numeral 16 false) same
 
