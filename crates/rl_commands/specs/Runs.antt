@@ -41,7 +41,7 @@ PrintsBeginning command bytes old new =
 abbrev pub whole_token : List ℕ → SpannedText
 whole_token bytes = record { text = bytes; span = record { file = 0; lo = 0; hi = length bytes } }
 
--- The program's error is that of a literal, and has the property.
+-- The program's error is an error of the library that satisfies `rejects`.
 abbrev pub IsLiteralError : {A : Type 0} → (Error A → Type 0) → ProgramError A → Type 0
 IsLiteralError rejects (Literal error) = rejects error
 IsLiteralError rejects _ = ⊥
