@@ -138,7 +138,8 @@ module _ {P X : Type 0} (star : P → Bool) (one : P → X → Bool) where
         → StopsAs star one pattern_of text_of pattern text (Decided (length rest == 0))
     stops_at_end pattern text rest g = record { same = g.same; stands = tt }
 
-    -- The pattern doesn't match, since no element is left for a part, or the part doesn't match the next element.
+    -- If no element is left for a part, the pattern doesn't match. The next lemma is for a part that doesn't match the next
+    -- element.
     pub stops_short : (pattern : List P) (text : List X) (p : P) (after : List P) → Goes pattern text (p ∷ after) []
         → star p ≡ false → StopsAs star one pattern_of text_of pattern text (Decided false)
     stops_short pattern text p after g plain = record {
@@ -182,7 +183,7 @@ module _ {P X : Type 0} (star : P → Bool) (one : P → X → Bool) where
       smaller = reached_smaller pattern text (pattern_of after) (text_of rest) s.stands;
     }
 
-    -- The pattern doesn't match from this start, so a later start is tried.
+    -- If the pattern after a star doesn't match from one start, it matches exactly if it matches from a later start.
     pub fails_here : (pattern : List P) (first : List X) (x : X) (rest : List X)
         → any_end (all_match star one pattern) first ≡ any_end (all_match star one pattern) (x ∷ rest)
         → all_match star one pattern (x ∷ rest) ≡ false

@@ -40,7 +40,7 @@ enters {A} selection from directory names sorted old new same inorder is = (
   is,
 )
 
--- The invariant of a walk before its first step.
+-- The invariant of a walk holds before its first step.
 pub go_start : (selection : Selection) (holds : Option World) (old : List Waypoint) → WalksOn selection holds old old
 go_start selection None old = tt
 go_start selection (Some w) old = λ visits m. m

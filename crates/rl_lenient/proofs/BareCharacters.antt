@@ -60,7 +60,8 @@ bare_found c x small other u =
     } in
     quoted_found t Char BareBody c _ u at (byte_unit Char c refl (omega (arith, small))) refl
 
--- The parse result of an ASCII character between single quotes, from the text's bytes.
+-- If the bytes of a text begin with an ASCII character between single quotes, other than a backslash, the text is a character
+-- literal with that character as its value.
 pub bare_text : (t b : List ℕ) (found : Found) → b ≡ t → IsUtf8 t → 3 ≤ length t → get_or t 0 0 ≡ 39 → get_or b 2 0 ≡ 39
     → (get_or b 1 0 ≡ 92 → ⊥) → get_or b 1 0 < 128 → found ≡ OfUnit Char BareBody (get_or b 1 0) → IsFound t found
 bare_text t b found same u long first last other small found_is =

@@ -208,7 +208,7 @@ no_exponent (c ∷ cs) h k =
     (false_from_ne_true (is_exponent_letter c && has_digit_at 10 (power_at cs))
     (λ e. let b = and_parts (is_exponent_letter c) _ e in k (suffix_begins c cs h b.0 b.1)))
 
--- The text of an exponent and the text after it, as its parts.
+-- The text of an exponent, with a text after it, is the exponent's parts and that text, joined from the right.
 power_text : (letter : ℕ) (us sg row x : List ℕ) → exponent_text (Power letter us sg row) ++ x
     ≡ letter ∷ (us ++ (sg ++ (row ++ x)))
 power_text letter us sg row x = ap (λ z. letter ∷ z) (append_assoc us (sg ++ row) x
@@ -223,7 +223,7 @@ exponent_past (Power letter us sg row) x h (l, a, b, each, some) =
     ∙ power_past letter (us ++ (sg ++ (row ++ x))) x l (suffix_no_part x (suffix_sound x h))
     (powered us sg row x a b each (sym (any_same is_ascii_digit (has_value 10) digit_is_ten row) ∙ some))
 
--- The parts of a float, joined from the right.
+-- The parts of a float, joined in the order of the definition, are the same text as those joined from the right.
 float_text : (s w f e x : List ℕ) → (s ++ (w ++ (f ++ e))) ++ x ≡ s ++ (w ++ (f ++ (e ++ x)))
 float_text s w f e x = simp append_assoc
 
@@ -275,7 +275,7 @@ abbrev power_sign : List ℕ → List ℕ
 power_sign [] = []
 power_sign (c ∷ cs) = cond (c == 43 || c == 45) (c ∷ []) []
 
--- A sign, and the text after it.
+-- A text is its sign, perhaps an empty one, and the text after the sign.
 sign_splits : (v : List ℕ) → (v ≡ power_sign v ++ after_power_sign v) × (is_power_sign (power_sign v) ≡ true)
 sign_splits [] = (refl, refl)
 sign_splits (c ∷ cs) = go (c == 43 || c == 45) refl

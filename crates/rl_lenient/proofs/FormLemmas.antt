@@ -113,7 +113,8 @@ cooked_units kind a run following v rest cut plain row =
     let (w, whole) = row_after kind run following v rest plain row in
     (w, subst (λ t. BeginsRun kind t w rest) (sym cut) whole)
 
--- The body and the suffix of a string whose closing quote follows its last character or escape.
+-- If a closing quote follows the characters and escapes of a string, these are the string's body, and the text after the quote is
+-- its suffix.
 pub cooked_found : (kind : Kind) (a v rest b x : List ℕ) → is_string kind ≡ true → BeginsRun kind a v rest → a ≡ b
     ++ rest → rest ≡ 34 ∷ x → PartsAre CookedForm kind (opener kind ++ a) v b x
 cooked_found kind a v rest b x s row cut quote =
@@ -149,7 +150,8 @@ single_once kind a v x w y s q =
     let same = some_pair (v, 39 ∷ x) (w, 39 ∷ y) (sym (single_at kind a v x s) ∙ single_at kind a w y q) in
     (same.0, let e : 39 ∷ x ≡ 39 ∷ y = same.1 in cc)
 
--- The body and the suffix of a character or byte literal whose closing quote follows its character or escape.
+-- If a closing quote follows the character or escape of a character or byte literal, this is the literal's body, and the text
+-- after the quote is its suffix.
 pub single_found : (kind : Kind) (a : List ℕ) (q : List ℕ × List ℕ) (b x : List ℕ) → is_single kind ≡ true
     → unit_at kind a ≡ Some q → a ≡ b ++ q.1 → q.1 ≡ 39 ∷ x → PartsAre SingleForm kind (opener kind ++ a) q.0 b x
 single_found kind a q b x s h cut quote =

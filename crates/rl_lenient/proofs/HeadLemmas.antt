@@ -49,7 +49,7 @@ ten_whole (z ∷ c ∷ cs) h = go (z == 48 && not (radix_of c == 10)) refl h
         absurd (cc)
     go false e h = refl
 
--- The result of parsing an integer, by cases of its tests.
+-- If an integer is parsed only on a condition, its magnitude is limited to 128 bits on that condition too.
 capped_cond : (s : Sign) (b : Bool) (n : ℕ) (x : List ℕ) → capped_int (with_sign s (cond b (Some (n, x)) None))
     ≡ cond b (Some (capped n, x)) None
 capped_cond s true n x = refl

@@ -153,22 +153,22 @@ begins_is (k ∷ p) (c ∷ cs) h =
     let front : ℕ → List ℕ → List ℕ = λ a z. a ∷ z in
     (ih.0, ap (λ a. front a cs) (eqb-true c k b.0) ∙ ap (front k) ih.1)
 
--- The base of a text that begins with `0b`.
+-- A text that begins with `0b` is in base two.
 based_binary : (cs : List ℕ) → Based (48 ∷ 98 ∷ cs)
 unfolding radix_at
 based_binary cs = record { base = Binary; rest = cs; at = refl; text_is = refl; front = λ h. tt }
 
--- The base of a text that begins with `0o`.
+-- A text that begins with `0o` is in base eight.
 based_octal : (cs : List ℕ) → Based (48 ∷ 111 ∷ cs)
 unfolding radix_at
 based_octal cs = record { base = Octal; rest = cs; at = refl; text_is = refl; front = λ h. tt }
 
--- The base of a text that begins with `0x`.
+-- A text that begins with `0x` is in base sixteen.
 based_hexadecimal : (cs : List ℕ) → Based (48 ∷ 120 ∷ cs)
 unfolding radix_at
 based_hexadecimal cs = record { base = Hexadecimal; rest = cs; at = refl; text_is = refl; front = λ h. tt }
 
--- The base of a text without a prefix.
+-- A text without the prefix of a base is in base ten.
 based_decimal : (t : List ℕ) → begins_base t ≡ false → Based t
 based_decimal t h = record { base = Decimal; rest = t; at = not_based t h; text_is = refl; front = λ d. (d, h) }
 

@@ -29,7 +29,7 @@ found_float t x kind e h = let r = subst (λ (k : Kind). HasSuffix k t x) e h in
 
 -- ---- sequences of digits
 
--- A sequence of digits, by the text after it.
+-- The text before the rest after a sequence of digits is the sequence.
 pub row_front : (t front rest : List ℕ) → t ≡ front ++ rest → rest ≡ after_digits 10 t → front ≡ digit_run_at 10 t
 row_front t front rest is stops =
     append_cancel_right front (digit_run_at 10 t) rest (sym is ∙ run_join (is_run_part (has_value 10)) t

@@ -135,7 +135,7 @@ itself_within kind (Hex high low) at d small one is = absurd (cc)
 itself_within kind (Unicode first more) at d small one is = absurd (cc)
 itself_within kind (Continuation c run) at d small one is = absurd (cc)
 
--- A property of the number that a condition chooses, from a proof for each of the two numbers.
+-- A property that holds for each of two numbers holds for the one that a condition chooses.
 chosen : (P : ℕ → Type 0) (b : Bool) (x y : ℕ) → (b ≡ true → P x) → P y → P (cond b x y)
 chosen P true x y f g = f refl
 chosen P false x y f g = g
@@ -355,7 +355,7 @@ itself_places inside d itself kind true body us at is are h =
     ap (λ z. unit_place inside kind z at) (are ∙ sym (append-nil (map Plain body)))
     ∙ place_in_run inside d kind body [] at itself h
 
--- The offset that a cursor over the segments of this body returns.
+-- The offset that a byte of the value comes from is that in the body, plus the offset where the body begins.
 of_body : (inside : QuotedUnit → ℕ → ℕ) → IsPlacing inside → (kind : Kind) (t : List ℕ) (body : Body) (at place : ℕ)
     → IsUtf8 t → IsQuotedAt kind t body → IsGivenAt inside kind (chars t) at place → (us : List QuotedUnit)
     × AreUnitsIn kind body.plain (chars (body_in t body)) us × (place ≡ body.lo + unit_place inside kind us at)

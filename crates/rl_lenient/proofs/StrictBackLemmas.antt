@@ -110,12 +110,12 @@ abbrev group : ℕ → ℕ → List ℕ → List (ℕ × ℕ)
 group first n [] = (first, n) ∷ []
 group first n (c ∷ cs) = cond (eqb c 95) (group first (suc n) cs) ((first, n) ∷ group c 0 cs)
 
--- One more underscore after n underscores.
+-- One more underscore than n is n underscores with an underscore after them.
 underscore_more : (n : ℕ) (cs : List ℕ) → replicate (suc n) 95 ++ cs ≡ replicate n 95 ++ (95 ∷ cs)
 underscore_more zero cs = refl
 underscore_more (suc n) cs = ap (λ z. 95 ∷ z) (underscore_more n cs)
 
--- The text of the digits in the list, each with its underscores.
+-- The digits in the list, each with its underscores, are the text from which the list was made.
 group_text : (first n : ℕ) (cs : List ℕ) → flat_map spaced_digit (group first n cs) ≡ first ∷ (replicate n 95 ++ cs)
 group_text first n [] = refl
 group_text first n (c ∷ cs) =

@@ -12,7 +12,7 @@ use Rattle.rl_lexer.proofs.LexemeRows.{not_true, run_past, suffix_past, quote_pa
 use Rattle.rl_lexer.proofs.HashLemmas.{hashes_count, hashes_past}
 use Rattle.rl_lexer.proofs.LexemeOpeners.{raw_opens_here, exponent_past, no_otherwise}
 
--- The class of a character that doesn't begin an identifier.
+-- If a character doesn't begin an identifier, `other_class` returns its class.
 pub class_other : (c : ℕ) → is_start c ≡ false → head_class c ≡ other_class c
 class_other c h = ap (λ b. cond b (start_class c) (other_class c)) h
 
@@ -145,7 +145,7 @@ front_mark c t (inl is) =
     ∙ ap (λ b. cond (b || c == 47) MarkHead (tail_punct c)) is)
 front_mark c t (inr (e, h)) = ap (λ x. lexeme_at (x ∷ t)) e ∙ front_slash t h ∙ ap (λ x. Some (MarkForm x, t)) (sym e)
 
--- The text of a raw literal and the text after it.
+-- The text of a raw literal, with a text after it, is the literal's parts and that text, joined from the right.
 pub raw_text : (n : ℕ) (body x t : List ℕ) → (((replicate n 35 ++ (34 ∷ body)) ++ (34 ∷ replicate n 35)) ++ x) ++ t
     ≡ replicate n 35 ++ (34 ∷ (body ++ (34 ∷ (replicate n 35 ++ (x ++ t)))))
 raw_text n body x t = simp append_assoc

@@ -144,7 +144,7 @@ pub passed_join : (a b d : CursorState) → Passed a b → PassesTo b d → Pass
 passed_join a b d (inl same) q = subst (λ z. PassesTo z d) same q
 passed_join a b d (inr p) q = passes_join a b d p q
 
--- A token that isn't a literal was consumed.
+-- If the consumed token isn't a literal by its form and text in the code, it isn't one in the definitions.
 is_no_literal : (old new : CursorState) (l : SourceToken) → (t : TakesSource old l new)
     → (IsLiteralText (source_view l.form) (chars l.text.now) → ⊥) → IsOtherToken t.cut
 is_no_literal old new l t other = λ is. other (subst (λ z. IsLiteralText z (chars l.text.now)) t.is_cut.kind_is

@@ -222,7 +222,7 @@ Passes p c u r =
     (c < 128) × (not (is_likely_mark c) ≡ true)
     × (is_word_byte p ≡ false → is_word_byte c ≡ true → Reaches (after_run is_continue u) r → Reaches (c ∷ u) r)
 
--- The facts about a byte at which neither a literal nor a comment begins, where the byte before it shows this.
+-- If the byte before a byte shows that neither a literal nor a comment begins there, the facts `Passes` hold for the byte.
 passes_before : (p c : ℕ) (u r : List ℕ) → is_past (p, c) ≡ true → Passes p c u r
 passes_before p c u r past =
     let parts = parts_of (is_likely_mark c) (is_word_byte p) (is_likely_head c) past in (
@@ -247,7 +247,7 @@ three false true d h = absurd (cc)
 three false false true h = absurd (cc)
 three false false false h = (refl, refl, refl)
 
--- The facts about a byte at which neither a literal nor a comment begins, where the next byte shows this.
+-- If the byte after a byte shows that neither a literal nor a comment begins there, the facts `Passes` hold for the byte.
 passes_letter : (p c next : ℕ) (u r : List ℕ) → Agrees next u → goes_on_likely c next ≡ false → Passes p c u r
 passes_letter p c next u r agrees stops = go (c == 98) (c == 99) (c == 114) (c == 116) (c == 102) refl refl refl refl refl
     stops

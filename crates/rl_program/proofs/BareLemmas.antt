@@ -72,7 +72,8 @@ bare_shown : (value : List ℕ) → list_all is_bare value ≡ true
 bare_shown value bare =
     rw (bare_units value bare) (ap (λ z. codes "Str \"" ++ z) (sym (append_assoc value (34 ∷ []) (codes " -\n"))))
 
--- The output line of a string literal without a suffix, whose value is printable ASCII without quotes and backslashes.
+-- For a string literal without a suffix, whose value is printable ASCII without quotes and backslashes, `bare_line` is the output
+-- line.
 pub bare_is_line : (text suffix : List ℕ) → list_all is_bare text ≡ true → eqb (length suffix) 0 ≡ true
     → bare_line (chars text) ≡ literal_line Str (Characters (chars text)) (chars suffix)
 bare_is_line text suffix bare none =

@@ -9,7 +9,7 @@ use Rattle.rl_restyle.specs.Edits.{Restyles, placed_edits}
 use Rattle.rl_restyle.specs.Places.{AreEditsIn, IsTextBetween}
 use Rattle.rl_restyle.specs.declared.edit.Macros.{Macros}
 
--- The edits of an end of the text, which begins at the byte offset `at`.
+-- The edits of an end of the text, which begins at the byte offset `at`, are edits of the whole text.
 stand_on : (text front old new : List ℕ) (at : ℕ) (ws : List CutSource) (es : List (Option (List ℕ)))
     → text ≡ front ++ old → at ≡ byte_len front → IsEdited at old ws es new → AreEditsIn text (placed_edits ws es)
 stand_on text front old new at [] [] is at_is edited = tt

@@ -52,7 +52,7 @@ pub record LastAt (at : ℕ) (t : List ℕ) (w : CutSource) (r : List ℕ) : Typ
   pub place_is : w.at ≡ at + byte_len front
   pub skips : Skipped (gap ++ r) r
 
--- The byte offset of a token, if more text precedes it.
+-- If more text precedes the text of the last token, the token's byte offset stays the same.
 later : (from at : ℕ) (front t u : List ℕ) (w : CutSource) (r : List ℕ) → t ≡ front ++ u → from ≡ at + byte_len front
     → LastAt from u w r → LastAt at t w r
 later from at front t u w r text place l = record {
@@ -64,7 +64,7 @@ later from at front t u w r text place l = record {
   skips = l.skips;
 }
 
--- A token at the start of the text.
+-- A token at the start of a text is at the byte offset after the white space and comments before it.
 token_front : (at : ℕ) (t : List ℕ) (w : CutSource) (after : List ℕ) → Skipped t (source_text w.token ++ after)
     → w.at + byte_len (source_text w.token ++ after) ≡ at + byte_len t
     → (front : List ℕ) × (t ≡ front ++ (source_text w.token ++ after)) × (w.at ≡ at + byte_len front)

@@ -62,7 +62,7 @@ same_tail [] (y ∷ ys) us vs e l = absurd (omega (arith, ap length e, l, length
 same_tail (x ∷ xs) [] us vs e l = absurd (omega (arith, ap length e, l, length-append xs us))
 same_tail (x ∷ xs) (y ∷ ys) us vs e l = same_tail xs ys us vs (cc) l
 
--- The text of a dot token.
+-- The text of a dot token is a dot.
 dot_tree : (t : Tree) → form_of t ≡ MarkForm (code ".") → lexeme_text t ≡ code "." ∷ []
 dot_tree (lexemes.MarkLexeme c) e = cc
 dot_tree (lexemes.DelimiterLexeme c) e = absurd (cc)

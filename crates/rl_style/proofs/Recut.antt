@@ -144,7 +144,7 @@ skips_to t u full (inr s) = absurd (subst IsFull s.nothing full)
 
 -- ---- the tokens after the literal
 
--- The byte offset at which a token begins.
+-- A token begins at the byte offset of the text, plus the number of bytes of the text before the token.
 pub offset_of_rest : (at k : ℕ) (t f u : List ℕ) → t ≡ f ++ u → k + byte_len u ≡ at + byte_len t → k ≡ at + byte_len f
 offset_of_rest at k t f u e place = omega (arith, place, ap byte_len e, byte_len-append f u)
 

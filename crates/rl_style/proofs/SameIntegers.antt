@@ -150,7 +150,7 @@ integer_plus t v x run i each = go i.is_front
 
 -- ---- digits in groups
 
--- The properties of a sequence of digits that grouping doesn't change.
+-- A sequence of digits that is divided into groups keeps the properties `RowFacts`.
 pub in_row_facts : (style : Style) (base : ℕ) (x run : List ℕ) → of_base base 95 ≡ false → row_of base run
     → list_any (of_base base) run ≡ true → RowFacts base run (grouped_run false style base x run)
 in_row_facts style base x run n h some =

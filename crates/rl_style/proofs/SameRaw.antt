@@ -36,7 +36,7 @@ same_opener ByteStr s = refl
 same_opener CStr s = refl
 same_opener kind s = absurd (cc)
 
--- The parts of a raw string, concatenated from the right.
+-- The parts of a raw string, joined in the order of the definition, are the same text as those joined from the right.
 pub raw_joined : (o h i x : List ℕ) → ((((o ++ h) ++ (34 ∷ i)) ++ (34 ∷ h)) ++ x) ≡ o
     ++ (h ++ (34 ∷ (i ++ (34 ∷ (h ++ x)))))
 raw_joined o h i x = simp append_assoc

@@ -173,7 +173,8 @@ code_allowed style kind ds h = absurd (cc)
 
 -- ---- numeric escapes that become shorter
 
--- A property of each of the three new forms of a numeric escape holds for its new form.
+-- The new form of a numeric escape: a visible character if `a` is true, else an escape with a letter if `b` is true, else the
+-- escape itself.
 abbrev chosen : Bool → Bool → Kind → ℕ → StrictUnit → StrictUnit
 chosen a b k n escape = cond a (visible_unit k n) (cond b (PlainEscape (letter_of n)) escape)
 
@@ -240,7 +241,7 @@ visible_allowed Char us n q v = visible_test (λ n. is_strict_unit Char (visible
     low)
 visible_allowed kind us n q v = absurd q
 
--- A property of LF, CR, TAB and NUL, each one separately.
+-- A property that holds for LF, CR and TAB, and for NUL if it is the character, holds for each character with a letter escape.
 named_any : (P : ℕ → Type 0) (z : Bool) (n : ℕ) → gets_letter z n ≡ true → P 10 → P 13 → P 9
     → ((n == 0) ≡ true → P 0) → P n
 named_any P z n h a b c d =

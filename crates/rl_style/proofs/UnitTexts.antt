@@ -92,7 +92,7 @@ held_of Int n = alone_of n
 held_of Float n = alone_of n
 held_of BoolKind n = alone_of n
 
--- The value of a character, as the code computes it.
+-- The number that the code computes for a character is that of its value: the character if it is ASCII, and 128 otherwise.
 pub content_ascii : (k : Kind) (n m : ℕ) → m ≡ cond (nat_lt n 128) n 128 → m ≡ ascii_in (content_of k (n ∷ []))
 content_ascii k n m e = go (holds_characters k)
   where
@@ -429,7 +429,7 @@ at_escape : (style : Style) (k : Kind) (n : ℕ) (t cs : List ℕ) → t ≡ 92 
 unfolding restyled_text
 at_escape style k n t cs e = ap (restyled_text style k n) e
 
--- The new form of an escaped quote, by the quote after the backslash.
+-- An escaped quote loses its backslash if the rule is set and the quote doesn't close the literal.
 quoted_escape : (style : Style) (k : Kind) (n c : ℕ) (cs : List ℕ) → (c == 39 || c == 34) ≡ true
     → restyled_escape style k n (c ∷ cs) ≡ cond (style.quote_escapes && not (c == closer k)) (c ∷ cs) (92 ∷ c ∷ cs)
 quoted_escape style k n c cs q =
@@ -484,7 +484,7 @@ alone_bytes style k n unit escape u e f =
     let text : chars unit ≡ 92 ∷ [] = e ∙ ap (λ z. 92 ∷ z) f in
     ap encode_utf8_all (at_escape style k n (chars unit) [] text ∙ sym text) ∙ encodes-chars unit u
 
--- A character other than a backslash, and the text after it.
+-- The bytes that the code writes for a character other than a backslash are those of its new form.
 pub plain_bytes : (style : Style) (k : Kind) (n c : ℕ) (unit rest at a b : List ℕ) → IsUtf8 rest
     → chars unit ≡ c ∷ chars rest → first_passes (λ c. c == 92) (chars unit) ≡ false
     → a ≡ at ++ encode_utf8_all (itself_text style (n == 0) c) → b ≡ a ++ rest

@@ -96,7 +96,7 @@ module _ (q : ℕ → Bool) (high : PassesHigh q) where
       low : (b : ℕ) → q b ≡ false → b < 128
       low b fails = elim (cases128 b) [ inl is ↦ is | inr past ↦ absurd (both_ways (q b) fails (high b past)) ]
 
-  -- The characters of the sequence pass the test.
+  -- All characters of the sequence of passing bytes pass the test.
   pub run_plain : (bs : List ℕ) → IsUtf8 bs → list_all q (chars (take (prefix_len q bs) bs)) ≡ true
   run_plain bs u =
       let front = take (prefix_len q bs) bs in
