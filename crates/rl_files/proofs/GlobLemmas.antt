@@ -35,10 +35,10 @@ module _ {X : Type 0} (test : List X → Bool) where
       go true e later = absurd (none 0 e)
       go false e later = later
 
--- ---- up to the first star
+-- ---- matching up to the first star
 
 module _ {P X : Type 0} (star : P → Bool) (one : P → X → Bool) where
-  -- The next part of the pattern isn't a star and matches one element.
+  -- If the first part of a pattern isn't a star, it must match the first element, and the other parts the rest of the list.
   pub one_more : (p : P) (ps : List P) (xs : List X) → star p ≡ false
       → all_match star one (p ∷ ps) xs ≡ first_and (one p) (all_match star one ps) xs
   one_more p ps xs e = cond-false (star p) _ _ e
@@ -159,7 +159,7 @@ module _ {P X : Type 0} (star : P → Bool) (one : P → X → Bool) where
         and_false true b e = absurd (false≢true (sym e))
         and_false false b e = refl
 
-    -- ---- after a star
+    -- ---- matching after a star
 
     reached_smaller : (pattern : List P) (text : List X) (after : List P) (rest : List X)
         → IsReached star pattern text after rest → length after + 1 ≤ length pattern

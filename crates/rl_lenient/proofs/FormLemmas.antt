@@ -12,7 +12,7 @@ use Rattle.rl_lenient.proofs.UnitLemmas.{some_pair, unit_sound, unit_complete, u
 use Rattle.rl_lenient.proofs.RowLemmas.{ends_before, row_after, row_ends_on, row_ends_off, row_once}
 use Rattle.rl_lenient.proofs.RawLemmas.{raw_once}
 
--- ---- the start
+-- ---- the start of a quoted literal
 
 -- The text begins like a literal of this form and kind, which can occur together.
 pub record Reports (t : List ℕ) (p : QuotedForm × Kind × List ℕ) : Type 0 where
@@ -135,7 +135,7 @@ pub cooked_none : (kind : Kind) (a v rest : List ℕ) → BeginsRun kind a v res
 cooked_none kind a v rest row stuck h w b x p = h x (row_once kind a v rest w (34 ∷ x) row
     (cooked_row_of kind a w x p.0) stuck (unit_quote kind x p.0.string)).1
 
--- ---- characters and bytes
+-- ---- the body of a character or byte literal
 
 single_at : (kind : Kind) (a v x : List ℕ) → Single kind (opener kind ++ a) v x → unit_at kind a ≡ Some (v, 39 ∷ x)
 single_at kind a v x s =
@@ -174,7 +174,7 @@ single_none kind a q h ne v b x p = ne x (some_pair q (v, 39 ∷ x) (sym h ∙ s
 pub single_stuck : (kind : Kind) (a : List ℕ) → unit_at kind a ≡ None → HasNoParts SingleForm kind (opener kind ++ a)
 single_stuck kind a h v b x p = let e : None ≡ found v (39 ∷ x) = sym h ∙ single_at kind a v x p.0 in absurd (cc)
 
--- ---- one parse result
+-- ---- a quoted literal has one parse result
 
 pub parts_once : (form : QuotedForm) (kind : Kind) (a v b x w d y : List ℕ)
     → PartsAre form kind (form_opener form kind ++ a) v b x → PartsAre form kind (form_opener form kind ++ a) w d y
@@ -269,7 +269,7 @@ formed_once t k l v w x y r s =
     let same = parts_once r.form k r.inside v a.body x w b.body y a.parts b.parts in
     (b.kind_is, same.0, same.1)
 
--- ---- the steps of the code
+-- ---- texts that aren't quoted literals, by the tests of the code
 
 pub no_front : (t : List ℕ) → opener_at t ≡ None → HasNoQuoted t
 no_front t h k v x p =

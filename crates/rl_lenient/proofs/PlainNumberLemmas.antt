@@ -369,7 +369,7 @@ plain_numeral t body x r p numeral y s =
 pub held : (k : Kind) (t bytes s : List ℕ) → AreDigits k t (chars bytes) → s ≡ bytes → AreDigits k t (chars s)
 held k t bytes s d e = subst (λ z. AreDigits k t (chars z)) (sym e) d
 
--- ---- the results of the test
+-- ---- the results of the test for plain numbers
 
 abbrev Whether : Bool → Kind → List ℕ → Type 0
 Whether b k t = (IsTrue b → IsPlain k t) × (IsPlain k t → IsTrue b)

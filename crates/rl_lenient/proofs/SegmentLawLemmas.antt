@@ -193,7 +193,7 @@ ends_after kind (u ∷ us) at =
     go true more = cond_order (is_itself u) at (at + 1) 0 (byte_len (unit_text u)) (omega arith) (omega arith)
     go false more = omega (arith, more)
 
--- ---- a byte comes from one offset in a text
+-- ---- each byte of the value of a text between quotes comes from one offset
 
 -- The first character of a unit tells whether the unit is its own value.
 told : (kind : Kind) (u : QuotedUnit) → IsUnit kind u → is_itself u ≡ first_passes (is_plain kind) (unit_text u)

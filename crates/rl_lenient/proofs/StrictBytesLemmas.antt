@@ -147,7 +147,7 @@ row_same k (u ∷ us) b e c n =
 
 -- ---- byte strings with escapes, and byte literals
 
--- The text between an opening delimiter of two characters and the rest contains no CR.
+-- If a text contains no CR, neither does the part between its first two characters and the text `after`.
 inner_clean : (a b : ℕ) (text inner after : List ℕ) → text ≡ a ∷ b ∷ (inner ++ after) → list_all no_return text ≡ true
     → list_all no_return inner ≡ true
 inner_clean a b text inner after e n =

@@ -173,7 +173,7 @@ reach_stray c u r low here white more =
     reach_token c u u r StrayKind (not_true (c == 47) a.0) white
     (any_found (c ∷ u) (StrayKind, u) (no_lexeme (c ∷ u) none) any) (λ is. is) more
 
--- ---- starts in ASCII
+-- ---- single bytes at which neither a literal nor a comment begins
 
 low_of : (p c : ℕ) → is_past (p, c) ≡ true → c < 128
 low_of p c h = go (nat_le 128 c) refl h
@@ -314,7 +314,7 @@ passes p c next u r agrees none = go (goes_on_likely c next) refl none
     go true e none = passes_before p c u r (both (may_begin (p, c)) none)
     go false e none = passes_letter p c next u r agrees e
 
--- ---- starts
+-- ---- sequences of bytes at which neither a literal nor a comment begins
 
 -- Neither a literal nor a comment begins at any of the bytes, where `next` is the byte after them.
 abbrev none_in : ℕ → List ℕ → ℕ → Bool
@@ -360,7 +360,7 @@ reach_front p next (c ∷ cs) t r agrees all h = go (reach_front c next cs t r a
         (sym (ap (λ b. cond b (after_run is_continue (c ∷ (cs ++ t))) (c ∷ (cs ++ t))) e))
         (reach_other c (cs ++ t) r facts.0 f facts.1 (here more false f))
 
--- ---- the bytes before
+-- ---- the bytes before the first one at which a literal or a comment may begin
 
 -- The byte after the first n bytes of a list is the next one in the list.
 first_same : (n : ℕ) (bs : List ℕ) → first_or (first_or 0 (drop n bs)) (take n bs) ≡ first_or 0 bs

@@ -86,7 +86,7 @@ quote : chars (codes "\"") ≡ codes "\""
 unfolding chars
 quote = refl
 
--- The text is a quote, the value and a quote.
+-- If a quote precedes the rest of a text, and the rest is the value and a quote, the text is a quote, the value and a quote.
 pub between_quotes : (text rest before value : List ℕ) → chars text ≡ 34 ∷ chars rest → rest ≡ before ++ codes "\""
     → value ≡ before → IsUtf8 value → chars text ≡ codes "\"" ++ (chars value ++ codes "\"")
 between_quotes text rest before value first last is u =

@@ -130,7 +130,7 @@ cut_rest token text rest inside lo begins at is =
 pub flaw_cut : (text : List ℕ) (flaw : Flaw) → HasPlace text flaw → IsCutAt text flaw.lo
 flaw_cut text flaw place = record { front = place.front; back = place.rest; text_is = place.text_is; at_is = place.lo_is }
 
--- ---- the line
+-- ---- the line for an error of a literal
 
 pub message_low : (kind : FlawKind) → list_all is_ascii (flaw_message kind) ≡ true
 message_low Empty = refl
@@ -315,7 +315,7 @@ source_shown text old b new u shown ended =
     ∙ ap (λ z. z ++ codes "\n") shown
     ∙ append_assoc (chars old) (visible text) (codes "\n")
 
--- ---- the piece
+-- ---- the displayed part of a literal
 
 pub piece_is : (text piece : List ℕ) (finding : Finding) → IsUtf8 text → IsUtf8 piece
     → IsSlice text finding.from finding.to

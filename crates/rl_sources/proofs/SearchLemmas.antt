@@ -218,7 +218,7 @@ borders_more bytes borders count border (long, are) is = (omega (arith, length-a
             rw (get_or_at borders border [] 0 k long_is) (subst (λ (n : ℕ). IsLongestBorder bytes (n + 1) border)
             (sym same) is)
 
--- ---- the distance
+-- ---- the distance to the next possible match
 
 pub shift_of_none : (sought : List ℕ) → IsShift sought 0 1 0
 shift_of_none sought = record {

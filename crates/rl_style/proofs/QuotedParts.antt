@@ -320,7 +320,7 @@ raw_parts form kind t inside suffix body token begins q is b x =
     (raw_by q.form kind (chars t) q.value (chars (body_in t body)) (chars (suffix_in t body)) token q.parts
     (sym same ∙ is)))
 
--- ---- the parse result is the literal of this kind
+-- ---- a quoted token has one parse result, of the kind that its opening delimiter identifies
 
 -- A token parses as a literal of the kind that its opening delimiter identifies.
 token_reads : (form : QuotedForm) (kind : Kind) (t r : List ℕ) → opener_at t ≡ found_opener form kind r → IsToken t

@@ -366,7 +366,7 @@ placed_is f test (c ∷ cs) u k =
         ∙ sym (row_first test a.0 (flat_map f cs) other)
         ∙ ap (λ z. row_spaced test (z ++ flat_map f cs)) (sym a.1)
 
--- ---- one character after the other
+-- ---- writing one character after another
 
 pub counted : (c : ℕ) (cs : List ℕ) → (c == 95) ≡ false
     → length (without_underscores (c ∷ cs)) ≡ 1 + length (without_underscores cs)

@@ -96,7 +96,7 @@ some_not_only test cs n h =
       | inr a ↦ a
     ]
 
--- ---- dropping the underscores at the end twice is equal to dropping them once
+-- ---- dropping the underscores at the end again changes nothing
 
 abbrev pub IsTrim : List ℕ → Type 0
 IsTrim cs = trimmed cs ≡ cs

@@ -456,7 +456,7 @@ integer_put style manner base run front first second third suffix e d h z a b c 
     ∙ ap (λ y. y ++ encode_utf8_all (Of manner.style manner.drops manner.hex manner.size)) a
     ∙ ap (λ y. front ++ encode_utf8_all y) same)
 
--- ---- the parse result of a number
+-- ---- the parse result of a number token
 
 pub integer_of : (t : List ℕ) (n : Number) (m : Option ℕ) (suffix : Bor (List ℕ)) → IsNumberRead t n → n
     ≡ Integer m suffix

@@ -58,7 +58,7 @@ later_pass : (q : ℕ → Bool) (xs ys : List ℕ) → list_all q (xs ++ ys) ≡
 later_pass q [] ys h = h
 later_pass q (x ∷ xs) ys h = later_pass q xs ys (and_parts (q x) (list_all q (xs ++ ys)) h).1
 
--- ---- from bytes to characters
+-- ---- the sequence of passing bytes, as characters
 
 module _ (q : ℕ → Bool) (high : PassesHigh q) where
   all_encoded : (cs : List ℕ) → list_all q (encode_utf8_all cs) ≡ true → list_all q cs ≡ true

@@ -70,7 +70,7 @@ pub lanes_of : {X : Type 0} (g : ℕ → Bool) (part : X → ℕ) (xs : List X) 
     → z ≡ map (λ c. lane (g c)) v → z ≡ map (λ x. lane (g (part x))) xs
 lanes_of g part xs is lanes = lanes ∙ ap (map (λ c. lane (g c))) (sym is) ∙ map-map (λ c. lane (g c)) part xs
 
--- ---- the tests together
+-- ---- the condition on three bytes, from the vectors for the tests of each
 
 abbrev AreBytes : List (ℕ × ℕ × ℕ) → Type 0
 AreBytes [] = ⊤
@@ -197,7 +197,7 @@ likely_mask at bs room fits lanes =
     ∙ ap mask_l (same_places (three at bs) (take_bytes 16 (drop at (around 0 bs))
     (drop_bytes at (around 0 bs) (around_bytes 0 bs fits))))
 
--- ---- the first byte
+-- ---- masks for the test of one byte
 
 -- A mask has a bit for each byte below 64 at which a literal or a comment may begin.
 pub likely_low : (c : ℕ) → c < 64 → has_bit 288090205599039488 c ≡ (is_likely_mark c || is_likely_head c)

@@ -141,7 +141,8 @@ all_raw : (cs : List ℕ) → list_all (is_raw Str) cs ≡ true
 all_raw [] = refl
 all_raw (c ∷ cs) = all_raw cs
 
--- After equal opening delimiters, the hashes and the text between the quotes are equal.
+-- A text with `n` hashes around quotes is a raw string of `syn`'s grammar with the text between the quotes. So equal raw strings
+-- have equal hashes and equal texts between the quotes (`same_parts`).
 raw_at : (n : ℕ) (inside x : List ℕ) → list_all (λ c. not (eqb c 34)) x ≡ true
     → Raw Str (114 ∷ after_opener n inside x) inside x
 raw_at n inside x h = record { hashes = n; inside = inside; string = refl; each = all_raw inside; no_quote = h; text_is = refl; value_is = refl }
