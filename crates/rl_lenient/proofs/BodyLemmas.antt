@@ -212,7 +212,7 @@ not_false : (z : Bool) → (z ≡ false → ⊥) → z ≡ true
 not_false true n = refl
 not_false false n = absurd (n refl)
 
--- If the text is plain, the body of its parts is plain.
+-- If a string literal's body is its value (`IsPlain`), the body of the given parts is plain.
 pub parts_plain : (form : QuotedForm) (kind k : Kind) (t w b x : List ℕ) → is_string k ≡ true → IsUtf8 t → IsUtf8 b
     → IsUtf8 x → PartsAre form kind (chars t) w (chars b) (chars x) → IsPlain k t → (kind ≡ k)
     × (is_plain_body form kind (chars b) ≡ true)

@@ -34,7 +34,7 @@ no_base (z ∷ c ∷ cs) h = go (z == 48) refl
     go true e = let d : is_ascii_digit z ≡ true = ap is_ascii_digit (eqb-true z 48 e) in absurd (cc)
     go false e = refl
 
--- If the base is ten, no prefix is consumed.
+-- If `radix_at` returns the base ten, it returns the whole text with it.
 ten_whole : (u : List ℕ) → (radix_at u).0 ≡ 10 → radix_at u ≡ ten u
 unfolding radix_at
 ten_whole [] h = refl

@@ -77,7 +77,7 @@ not_based (z ∷ c ∷ cs) h = go (z == 48) (c == 98) (c == 111) (c == 120) h
     go true false false true e = absurd (cc)
     go true false false false e = refl
 
--- The prefix of each base is consumed.
+-- For the text of a number in a base, `radix_at` returns the base and the text after its prefix.
 pub radix_past : (base : Base) (w : List ℕ) → IsAfterPrefix base w → (radix_at (prefix base ++ w) ≡ (radix base, w))
     × (first_passes is_ascii_digit (prefix base ++ w) ≡ true)
 unfolding radix_at
@@ -86,14 +86,14 @@ radix_past Octal w h = (refl, refl)
 radix_past Hexadecimal w h = (refl, refl)
 radix_past Decimal w h = (not_based w h.1, h.0)
 
--- The condition of a base on the number's start passes the test.
+-- If the text after the prefix meets the condition of the base, the test `may_begin_number` is true for it.
 base_begins : (base : Base) (w : List ℕ) → IsAfterPrefix base w → may_begin_number (radix base) w ≡ true
 base_begins Binary w h = refl
 base_begins Octal w h = refl
 base_begins Decimal w h = h.0
 base_begins Hexadecimal w h = refl
 
--- The condition of a base on the suffix passes the test.
+-- If a suffix meets the condition of the base, the test `may_end` is true for it.
 base_ends : (base : Base) (x : List ℕ) → IsSuffix x → AllowsSuffix base x → may_end (radix base) x ≡ true
 base_ends Binary x h k = and_from (is_suffix x) true (suffix_complete x h) refl
 base_ends Octal x h k = and_from (is_suffix x) true (suffix_complete x h) refl
@@ -207,7 +207,7 @@ hex_stops (c ∷ cs) h = go (has_value 16 c) h
     go true e = e
     go false e = refl
 
--- A suffix that passes the test meets the condition of the base.
+-- If the test `may_end` is true for the text after the digits, this suffix meets the condition of the base.
 suffix_of : (base : Base) (x : List ℕ) → first_passes (is_run_part (has_value (radix base))) x ≡ false
     → may_end (radix base) x ≡ true → AllowsSuffix base x
 suffix_of Binary x h k = tt

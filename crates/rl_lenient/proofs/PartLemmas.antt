@@ -23,7 +23,7 @@ reads_as_none t kind h (v, x, r) = h kind v x r
 pub reads_as_other : (t x : List ℕ) (found kind : Kind) → HasSuffix found t x → (found ≡ kind → ⊥) → ReadsAs kind t → ⊥
 reads_as_other t x found kind (v, r) other (w, y, s) = other (one_reading t found kind v w x y r s).0
 
--- A text that is parsed as a float is a float.
+-- If the kind in a text's parse result is `Float`, the text is a float literal.
 pub found_float : (t x : List ℕ) (kind : Kind) → kind ≡ Float → HasSuffix kind t x → (n : List ℕ) × FloatReads t n x
 found_float t x kind e h = let r = subst (λ (k : Kind). HasSuffix k t x) e h in (r.1.numeral, r.1.reads)
 
@@ -78,7 +78,7 @@ letter_past : (e : Exponent) → after_letter (exponent_text e) ≡ power_run e
 letter_past NoExponent = refl
 letter_past (Power letter us sg row) = refl
 
--- After the fraction, the exponent is left.
+-- `fraction_at` returns the digits of a float's fraction, and the exponent after it.
 fraction_past : (f : Fraction) (e : Exponent) (x : List ℕ) → IsFraction f → IsExponent e x
     → fraction_at (fraction_text f ++ exponent_text e) ≡ (fraction_run f, exponent_text e)
 fraction_past NoFraction NoExponent x h k = refl

@@ -36,7 +36,7 @@ pub all_items : (n : ℕ) (written items whole : List ℕ) → whole ≡ take n 
 all_items n written items whole is long = is ∙ ap (λ z. take z (written ++ drop (length written) items)) (sym long)
     ∙ take-append_seam written (drop (length written) items)
 
--- The new text of a literal, if the literal may be rewritten. The old text before it is known.
+-- If a literal may be rewritten, its new text after the text `before` is its new text in the source.
 pub literal_text : {A E : Type 0} (style : Style) (macros : Macros) (source : List ℕ) (l : Restylable)
     (before : List ℕ) (made : Result (Option (String A)) E) → IsTrue (is_chosen macros l.is_field l.in_macro)
     → ((front : List ℕ) → IsTextBetween source 0 l.token.lo front → before ≡ front)

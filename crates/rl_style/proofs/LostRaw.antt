@@ -20,7 +20,7 @@ use Rattle.rl_syntax.specs.Texts.{first_passes}
 abbrev unit_by : Bool → Bool → ℕ → StrictUnit
 unit_by a b c = cond a (QuoteEscape c) (cond b (PlainEscape c) (Itself c))
 
--- A property of each of the three new forms of a character holds for its new form.
+-- A property holds for the new form of a character if it holds for each of the three forms that this may be.
 raw_any : (P : StrictUnit → Type 0) (c : ℕ) → ((c == 34) ≡ true → P (QuoteEscape c))
     → ((c == 92) ≡ true → P (PlainEscape c)) → ((c == 34) ≡ false → (c == 92) ≡ false → P (Itself c)) → P (raw_unit c)
 raw_any P c quote backslash other = go (c == 34) (c == 92) refl refl

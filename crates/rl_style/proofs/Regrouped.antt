@@ -59,7 +59,7 @@ pub grouped_trim : (from_first : Bool) (size least : ℕ) (run : List ℕ) → I
 grouped_trim from_first size least run h = either IsTrim from_first size least run h
     (row_trim (tests from_first size least (length (without_underscores run))) run (ends_none from_first _ _) h)
 
--- A first character other than an underscore stays the first one.
+-- The sequence begins with the character `c`.
 pub record Begins (c : ℕ) (run : List ℕ) : Type 0 where
   pub rest : List ℕ
   pub is : run ≡ c ∷ rest

@@ -350,7 +350,7 @@ respelled_contents style k z n escape v same h =
 
 -- ---- characters that become numeric escapes
 
--- A property of the numeric escape and of the character itself holds for the new form.
+-- A property holds for the new form of a character if it holds for the character and for its numeric escape.
 pub itself_any : (P : StrictUnit → Type 0) (style : Style) (k : Kind) (z : Bool) (c : ℕ)
     → (needs_number c ≡ true → P (reescaped style k z (number_escape k c))) → P (Itself c)
     → P (restyled style k z (Itself c))
