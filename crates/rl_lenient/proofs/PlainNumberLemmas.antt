@@ -272,7 +272,7 @@ bytes_cut t b x ut ub e =
     sym (encodes-chars t ut) ∙ ap encode_utf8_all e ∙ encodes-append (chars b) x
     ∙ ap (λ z. z ++ encode_utf8_all x) (encodes-chars b ub)
 
--- An integer that passes the test is plain.
+-- An integer whose body passes the test `is_plain_integer` is plain.
 integer_plain : (t b : List ℕ) (m : ℕ) → IsUtf8 t → IsUtf8 b → IsSplitInteger (chars t) m (chars b)
     → is_plain_integer (chars b) ≡ true → IsPlain Int t
 integer_plain t b m ut ub w p =
@@ -335,7 +335,7 @@ digits_kept (c ∷ cs) = go (c == 95 || c == 43) refl (digits_kept cs)
     go true e more = more
     go false e more = and_from (is_kept (change c)) (list_all is_kept (float_digits cs)) (changed_once c e) more
 
--- A float that passes the test is plain.
+-- A float whose body passes the test `is_plain_float` is plain.
 float_plain : (t b x : List ℕ) → IsUtf8 t → IsUtf8 b → FloatReads (chars t) (chars b) x → is_plain_float (chars b)
     ≡ true → IsPlain Float t
 float_plain t b x ut ub r p = record {

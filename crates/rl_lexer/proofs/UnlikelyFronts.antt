@@ -306,7 +306,7 @@ both : (m : Bool) → not (m && true) ≡ true → not m ≡ true
 both true h = absurd (cc)
 both false h = refl
 
--- If neither a literal nor a comment begins at a byte, it is passed.
+-- If neither a literal nor a comment begins at a byte, the facts `Passes` hold for it.
 passes : (p c next : ℕ) (u r : List ℕ) → Agrees next u → begins_none p c next ≡ true → Passes p c u r
 passes p c next u r agrees none = go (goes_on_likely c next) refl none
   where
