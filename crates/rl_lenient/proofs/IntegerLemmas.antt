@@ -102,7 +102,7 @@ base_ends Decimal x h k = and_from (is_suffix x) (not (is_exponent_suffix x)) (s
     (not_from_false (is_exponent_suffix x) (false_from_ne_true (is_exponent_suffix x)
     (λ e. k (exponent_suffix_sound x e))))
 
--- Digits and the suffix after them are parsed.
+-- `based_at` parses digits and the suffix after them.
 based_past : (r : ℕ) (ds x : List ℕ) → may_begin_number r (ds ++ x) ≡ true → list_all (is_run_part (has_value r)) ds
     ≡ true → list_any (has_value r) ds ≡ true → first_passes (is_run_part (has_value r)) x ≡ false → may_end r x ≡ true
     → based_at r (ds ++ x) ≡ Some (place_value r (without_underscores ds), x)

@@ -235,7 +235,7 @@ other_longest kind Nothing rest none = tt
 
 -- ---- offsets
 
--- A choice by whether a byte's offset is below a length.
+-- A property that holds for each of two values holds for the one that the test of an offset against a length chooses.
 pub tested : {A : Type 0} (P : A → Type 0) (a n : ℕ) (x y : A) → (a < n → P x) → (n ≤ a → P y) → P (cond (ltb a n) x y)
 tested P a n x y f g = go (ltb a n) refl
   where

@@ -120,7 +120,7 @@ digits_front t u y z c d m n e g a b = record {
     or_true true = refl
     or_true false = refl
 
--- A new decimal number replaces an old one if, before the same text, the new one also ends as a token.
+-- If the new decimal number ends as a token before the text `y` whenever the old one does, it may replace the old one.
 decimals_replace : (t u y : List ℕ) (s : DecimalForm t) (r : DecimalForm u)
     → (after_decimal (s.more ++ y) ≡ y → after_decimal (r.more ++ y) ≡ y) → Replaces t u y
 decimals_replace t u y s r same = record {
