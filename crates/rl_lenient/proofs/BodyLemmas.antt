@@ -144,8 +144,8 @@ held_in ByteStr t s p = record { contents = Bytes p.body; reads = p.reads; held_
 held_in CStr t s p = record { contents = Bytes p.body; reads = p.reads; held_are = λ ub. sym (bytes_are p.body p.reads.value p.reads.contents_is) }
 held_in kind t s p = absurd (cc)
 
--- If the bytes of a string literal are its parts as those of any literal are, they are its parts as those of a quoted literal
--- are.
+-- For the three kinds of strings, the split of a literal into its parts (`IsSplit`) is that of a quoted literal
+-- (`IsQuotedSplit`).
 string_cut : (kind : Kind) (t b x : List ℕ) → is_string kind ≡ true → IsSplit kind t b x → IsQuotedSplit kind t b x
 string_cut Str t b x s c = c
 string_cut ByteStr t b x s c = c

@@ -8,7 +8,7 @@ use Rattle.rl_lenient.proofs.UnitLemmas.{some_pair, unit_sound, unit_complete}
 
 -- ---- the ends of escaped line ends
 
--- A text continues with white space exactly if it does so before a text that doesn't begin with white space.
+-- If `r` doesn't begin with white space, the text `t` begins with white space exactly if `t` followed by `r` does.
 passes_on : (t r : List ℕ) → first_passes is_blank r ≡ false → first_passes is_blank (t ++ r) ≡ first_passes is_blank t
 passes_on [] r h = h
 passes_on (c ∷ t) r h = refl

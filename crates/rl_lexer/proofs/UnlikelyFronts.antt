@@ -56,7 +56,7 @@ stray_table c low is = implied (stray_here c) (stray_facts c)
 
 -- ---- characters that begin an identifier, and not a literal
 
--- An identifier whose first two letters are neither those of `true` nor those of `false` is neither.
+-- An identifier whose first two letters are neither those of `true` nor those of `false` is neither of these two words.
 word_no_truth : (c : ℕ) (u after : List ℕ) (token : SourceBefore (c ∷ u) (PlainKind IdentifierForm) after)
     → ((c == 116) && begins_char 114 u) ≡ false → ((c == 102) && begins_char 97 u) ≡ false
     → IsLiteralText (PlainKind IdentifierForm) (source_text token.token) → ⊥

@@ -416,7 +416,7 @@ written_more options whole rest next lines any more old mid new has adds utf8 ap
   written = lines_written options whole rest lines any old mid new has utf8 appends;
 }
 
--- Output up to `rest` with this part after it is the output for a part of the source.
+-- Any output for the source up to `rest`, with `piece` after it, is the output for a part of the source.
 abbrev pub ShowsOn : Options → List ℕ → List ℕ → List ℕ → Type 0
 ShowsOn options whole rest piece = (cuts : List CutSource) (shown : List ℕ) → ShowsUpTo options whole cuts rest shown
     → ShowsPart options whole (shown ++ piece)

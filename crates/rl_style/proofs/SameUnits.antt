@@ -282,7 +282,7 @@ respelled_allowed : (style : Style) (k : Kind) (z : Bool) (us : List StrictUnit)
 respelled_allowed style k z us n escape q m h = respelled_any (λ u. is_strict_unit k u ≡ true) style k z n escape
     (visible_allowed k us n q) (named_allowed k us z n q m) h
 
--- A character that isn't NUL isn't NUL. So no escape of a C string represents NUL (`MayBeZero`).
+-- The number that an escape of a C string represents isn't 0, so `MayBeZero` holds for it.
 no_zero : (b : Bool) (n : ℕ) → (b && not (n == 0)) ≡ true → (n == 0) ≡ true → ⊥
 no_zero b n h e = both_ways (n == 0) (not-true (n == 0) (and_parts b (not (n == 0)) h).1) e
 
