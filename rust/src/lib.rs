@@ -36,7 +36,7 @@
 //! | Read an attribute in a procedural macro | [`Attrs`], [`Meta`], [`MacroError`] | `proc-macro` |
 //! | Read literals in a procedural macro | [`next_literal_of`], [`next_literal`], [`next_value`]; with `settings` [`MacroInput`] | `proc-macro` |
 //!
-//! Ranges and places are byte offsets. All features except `proc-macro` are on by default.
+//! Ranges and positions are in bytes. All features except `proc-macro` are on by default.
 //!
 //! # Guarantees
 //!

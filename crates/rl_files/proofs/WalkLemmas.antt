@@ -40,7 +40,7 @@ enters {A} selection from directory names sorted old new same inorder is = (
   is,
 )
 
--- The invariant of a walk before its first step.
+-- The invariant of a walk holds before its first step.
 pub go_start : (selection : Selection) (holds : Option World) (old : List Waypoint) → WalksOn selection holds old old
 go_start selection None old = tt
 go_start selection (Some w) old = λ visits m. m
@@ -91,7 +91,7 @@ go_enter selection (Some w) old mid rest new given path names on is found (sorte
     (subst (λ (z : List Waypoint). Visits selection w z visited) (sym is) (EntersDirectory names sorted found order
     (subst (λ (z : List Waypoint). Visits selection w z visited) new_is m)))
 
--- For any entries, a walk with some results exists: an allocation failure for each directory.
+-- For any entries, some list is the results of a walk: for example that with an allocation failure for each directory.
 pub some_visits : (selection : Selection) (w : World) (waypoints : List Waypoint) → (visits : List Visited) × Visits selection w waypoints visits
 some_visits selection w [] = ([], VisitsNothing)
 some_visits selection w (AtFile path ∷ rest) = let more = some_visits selection w rest in (FileAt path ∷ more.0, VisitsFile more.1)
@@ -117,7 +117,7 @@ entered_next selection (Some w) old mid rest new turns given path names entered 
     subst (λ (z : List Waypoint). EntersInTurn selection w old (turns + 1) z) (sym new_is) (EntersNext names sorted
     (subst (λ (z : List Waypoint). EntersInTurn selection w old turns z) is entered) found order)
 
--- The walk has entered the largest number of directories, and ends early.
+-- If the walk has entered the largest number of directories, it ends early.
 pub ended_early : (selection : Selection) (holds : Option World) (old new : List Waypoint) (turns : ℕ)
     → HasEntered selection holds old turns new → turns ≡ 4294967295 → EndsEarly selection holds old TooManyDirectories
 ended_early selection None old new turns entered all = tt

@@ -154,7 +154,7 @@ pub data Visits (selection : Selection) (w : World) : List Waypoint → List Vis
       → Visits selection w rest visits
       → Visits selection w (AtDirectory None path ∷ rest) (FileAt path ∷ visits)
 
--- Each result of a walk with the entries `new` is one with the entries `old`.
+-- The results of a walk with the entries `new` are also the results of a walk with the entries `old`.
 abbrev pub WalksOn : Selection → Option World → List Waypoint → List Waypoint → Type 0
 WalksOn selection holds old new = IfSome holds (λ w. (visits : List Visited) → Visits selection w new visits → Visits selection w old visits)
 

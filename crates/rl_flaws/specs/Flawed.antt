@@ -58,7 +58,7 @@ abbrev pub is_single_open : Option Kind → Bool
 is_single_open (Some kind) = is_single kind
 is_single_open None = false
 
--- The end of the text at the byte offset `at` is `read`, as it is read. The whole text has `len` bytes. The offset isn't
+-- `read` is the end of the text from the byte offset `at` on, as rustc reads it. The whole text has `len` bytes. The offset isn't
 -- between a CR and an LF that are read as one character.
 pub record ReadsFrom (ends : LineEnds) (len : ℕ) (text read : List ℕ) (at : ℕ) : Type 0 where
   pub rest : List ℕ
@@ -66,7 +66,7 @@ pub record ReadsFrom (ends : LineEnds) (len : ℕ) (text read : List ℕ) (at : 
   pub reads : read_of ends rest ≡ read
   pub at_is : at + byte_len rest ≡ len
 
--- The unchecked rest of the text has, at the byte offset `at` of the whole text, the end `read`.
+-- `read` is the end of the unchecked text from the byte offset `at` of the whole text on, as rustc reads it.
 abbrev pub LeftReadsFrom : FlawsState → List ℕ → ℕ → Type 0
 LeftReadsFrom s read at = ReadsFrom s.ends s.len (chars s.rest) read at
 

@@ -1,4 +1,4 @@
 -- Executable models of the code: functions on lists of characters that the code is proved equal to. No public contract mentions
--- one.
+-- these functions.
 
 pub mod Floats

@@ -3,7 +3,7 @@ use Rattle.rl_syntax.proofs.Common.{◌≡◌, ℕ, ◌+◌, ◌*◌, ◌≤◌,
 use Rattle.rl_lenient.proofs.Names.{Kind, allows_code, has_unicode, is_hex_digit}
 use Rattle.rl_lenient.specs.Mirrors.UnitAt.{brace_at, closed_at, code_digits_at, digit_at, first_code_digits_at, number_if, unicode_at}
 
--- ---- the parse result
+-- ---- the parse result of an escape `\u{..}`
 
 -- The number of an escape `\u{..}` and the text after its closing brace, after n digits that represent the number v.
 unfoldable pub unicode_digits_at : ℕ → ℕ → List ℕ → Option (ℕ × List ℕ)

@@ -352,7 +352,7 @@ pub record Begins (kind : Kind) (t v r : List ℕ) : Type 0 where
   pub text_is : t ≡ unit_text unit ++ r
   pub value_is : v ≡ unit_value kind unit
 
--- Literals of each kind may contain every number except 0.
+-- A literal of any kind may contain each character or byte whose number isn't 0.
 pub holds_more : (kind : Kind) (n : ℕ) → eqb n 0 ≡ false → allows_code kind n ≡ true
 holds_more Str n h = refl
 holds_more ByteStr n h = refl

@@ -72,7 +72,7 @@ line_after : (p : Position) (cs : List ℕ) → (position_after p cs).line ≡ p
 line_after p [] = omega arith
 line_after p (c ∷ cs) = omega (arith, line_after (next_position p c) cs, next_line p c, ends_more c cs)
 
--- ---- in one line
+-- ---- positions in one line
 
 no_end : (c : ℕ) (cs : List ℕ) → ends_among (encode_utf8_all (c ∷ cs)) ≡ 0
     → ((c == 10) ≡ false) × (ends_among (encode_utf8_all cs) ≡ 0)
@@ -110,7 +110,7 @@ spot_within p inside count utf8 none counted =
     (omega (arith, line_after p (chars inside), none_here)) (omega (arith, column, counted))
     (omega (arith, byte_column, ap length bytes))
 
--- ---- after lines
+-- ---- positions after whole lines
 
 pub spot_after_none : (p : Position) (lines : List ℕ) → (length lines == 0) ≡ true → p ≡ position_after p (chars lines)
 spot_after_none p [] none = ap (position_after p) (sym chars-nil)
@@ -138,7 +138,7 @@ spot_after_lines p lines count utf8 (inr (others, is)) some counted =
     (omega (arith, line_after p (chars lines), ap ends_among bytes, counted)) (sym (ap (λ (q : Position). q.column) last))
     (sym (ap (λ (q : Position). q.byte_column) last))
 
--- ---- a text of lines and a part of one
+-- ---- the position after whole lines and a part of a line
 
 pub utf8_lines : (text lines back : List ℕ) → IsUtf8 text → text ≡ lines ++ back → AreWholeLines lines → IsUtf8 lines
 utf8_lines text lines back utf8 cut whole =

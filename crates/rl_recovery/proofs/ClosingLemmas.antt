@@ -15,8 +15,8 @@ use Rattle.rl_recovery.proofs.OpenerLemmas.{hashed, quoted_stuck, quoted_unclose
 
 -- ---- quoted literals
 
--- If the text ends with a quote that doesn't close the literal, a backslash escapes the quote. So the text after the quote is
--- searched as the whole text is.
+-- If no quote in a text closes the literal, a backslash escapes each quote in it. So no quote in the text `body` after one of
+-- these quotes closes the literal either.
 quote_tail : (front body : List ℕ) → after_quote (front ++ 34 ∷ body) ≡ None → after_quote body ≡ None
 quote_tail [] body h = absurd (none-some body (sym h ∙ quote_now body))
 quote_tail (c ∷ []) body h = go (c == 34) (c == 92) h
@@ -93,7 +93,7 @@ unclosed_tail k front t h = record {
 pub unclosed_end : (k : Unclosed) (t r : List ℕ) → EndsWith t r → AreUnclosed k t → AreUnclosed k r
 unclosed_end k t r ends h = unclosed_tail k ends.0 r (subst (AreUnclosed k) ends.1 h)
 
--- In an empty text, each literal is unclosed.
+-- A literal isn't closed in an empty text.
 pub unclosed_nil : (k : Unclosed) → AreUnclosed k []
 unclosed_nil k = record { quoted = λ on front body e. absurd (no_quote front body e); raw = nothing k.raw }
   where

@@ -12,11 +12,11 @@ use Rattle.rl_lenient.specs.declared.found.Found.{Found}
 use Rattle.rl_recovery.specs.Leading.{Leads, LeadsNone, LeadsNegative, LeadsNoNegative}
 use Rattle.rl_recovery.specs.declared.leading.LeadingLiteral.{LeadingLiteral}
 
--- The text begins with no token.
+-- If the text begins with no token, its first token isn't a literal.
 pub none_begins : (text : List ℕ) → BeginsNoSource (chars text) → LeadsNone text
 none_begins text none l h = none h.kind (chars l.following.now) h.begins
 
--- The text begins with another token than a literal.
+-- If the text begins with a token that isn't a literal, its first token isn't a literal.
 pub other_begins : (text literal rest : List ℕ) (kind : SourceKind) → SourceBefore (chars text) kind rest
     → chars text ≡ literal ++ rest → (IsLiteralText kind literal → ⊥) → LeadsNone text
 other_begins text literal rest kind begins are other l h =

@@ -83,7 +83,7 @@ begins_state text rest known cursor all = record {
   unclosed = all (chars rest);
 }
 
--- The cursor's state after more tokens of the part in which lexing resumed last.
+-- If the cursor reads more of the part in which lexing resumed last, its state is still valid.
 pub further : (whole part left rest : List ℕ) (known : Unclosed) → IsRecoveryState whole part left known
     → IsTail left rest → IsRecoveryState whole part rest known
 further whole part left rest known is tail = record {
@@ -97,7 +97,7 @@ pub literal_tail : (old : CursorState) (l : SourceToken) (new : CursorState) →
     → IsTail old.rest new.rest
 literal_tail old l new t = tail_step old.rest t.between.rest new.rest t.passes.following t.takes.following
 
--- The cursor's state when lexing resumes in the lines after an error.
+-- If lexing resumes in the lines after an error, the cursor's state is valid there.
 pub taken_up : (whole part left rest lines following : List ℕ) (known now : Unclosed)
     → IsRecoveryState whole part left known → IsTail left rest → IsTail rest lines → IsCursorState lines following
     → AreUnclosed now (chars lines) → IsRecoveryState whole lines following now
@@ -109,7 +109,7 @@ taken_up whole part left rest lines following known now is tail more cursor uncl
   unclosed = unclosed_rest now lines following cursor.is_text cursor.following unclosed;
 }
 
--- The cursor's state when no text follows an error.
+-- If no text follows an error, the cursor's state with an empty part is valid.
 pub nothing_left : (whole part left : List ℕ) (known : Unclosed) → IsRecoveryState whole part left known
     → IsRecoveryState whole [] [] known
 nothing_left whole part left known is = record {

@@ -108,7 +108,7 @@ next_token style macros t s at out edits d token tokens takes =
       whole = ap chars takes.same ∙ d.whole;
     }
 
--- The text before a token and the text after it.
+-- The next token is between the text that precedes it and the rest after it.
 surrounds : (style : Style) (macros : Macros) (t : List ℕ) (s : RestylableState) (at : ℕ) (out : List ℕ) (edits : Told)
     (d : IsDraft style macros t s at out edits) (token : SourceToken) (tokens : CursorState)
     → (takes : TakesSource s.tokens token tokens)
@@ -117,7 +117,7 @@ surrounds style macros t s at out edits d token tokens takes =
     let n = next_token style macros t s at out edits d token tokens takes in
     record { after = n.later ++ chars tokens.rest; text_is = n.text_is; at_is = n.place_is; skips = n.skips }
 
--- The context of the next token, after one more token.
+-- The context after one more token, in the definitions, is that of the cursor's state after the token.
 seen_passed : (s : RestylableState) (token : SourceToken) (tokens : CursorState) (w : CutSource)
     → IsBorrowedSource token w → seen_after (seen_of s) w ≡ seen_of (passed s token tokens)
 seen_passed s token tokens w is =
@@ -139,7 +139,7 @@ seen_next : (style : Style) (macros : Macros) (t : List ℕ) (s : RestylableStat
 seen_next style macros t s at out edits d token tokens takes = seen_more nothing_seen d.cuts takes.cut
     ∙ ap (λ z. seen_after z takes.cut) d.seen_is ∙ seen_passed s token tokens takes.cut takes.is_cut
 
--- The partly rewritten source after a token that stays unchanged.
+-- A token that stays unchanged leaves the new text and the edits of the draft unchanged.
 draft_past : (style : Style) (macros : Macros) (t : List ℕ) (s : RestylableState) (at : ℕ) (out : List ℕ) (edits : Told)
     → IsDraft style macros t s at out edits → (token : SourceToken) (tokens : CursorState)
     → (takes : TakesSource s.tokens token tokens) → IsEditOf style macros t (seen_of s) takes.cut None
@@ -177,7 +177,7 @@ draft_past style macros t s at out edits d token tokens takes is =
           ∙ append-nil (placed_edits d.cuts d.texts));
     }
 
--- The partly rewritten source after a token that a new text replaces.
+-- After a token that a new text replaces, the draft contains the new text and the edit.
 draft_put : (style : Style) (macros : Macros) (t : List ℕ) (s : RestylableState) (at : ℕ) (out : List ℕ) (edits : Told)
     → (d : IsDraft style macros t s at out edits) → (token : SourceToken) (tokens : CursorState)
     → (takes : TakesSource s.tokens token tokens) (new : List ℕ)
@@ -232,7 +232,8 @@ draft_put style macros t s at out edits d token tokens takes new is later_at lon
 
 -- ---- the next literal
 
--- The tokens before the next literal are processed.
+-- The next literal of the cursor is `l`. The draft contains the new text of all tokens before it, and the cursor's state after it
+-- is `new`.
 record AtLiteral (style : Style) (macros : Macros) (t : List ℕ) (at : ℕ) (out : List ℕ) (edits : Told) (l : Restylable)
     (new : RestylableState) : Type 0 where
   s : RestylableState
@@ -308,7 +309,7 @@ literal_front style macros t at out edits l new a =
       hi_is = sym a.takes.is_cut.lo_is ∙ n.place_is;
     }
 
--- The text between the last edit and the next literal.
+-- The text between the last edit and the next literal is the unchanged text of the draft.
 literal_middle : (style : Style) (macros : Macros) (t : List ℕ) (at : ℕ) (out : List ℕ) (edits : Told) (l : Restylable)
     (new : RestylableState) → (a : AtLiteral style macros t at out edits l new)
     → IsTextBetween t at l.token.lo (a.draft.tail ++ a.draft.gap)
@@ -339,7 +340,7 @@ next_middle style macros t at out edits l (old, new, d, g) =
     let a = to_literal style macros t at out edits d g in
     (a.draft.tail ++ a.draft.gap, literal_middle style macros t at out edits l new a)
 
--- The edit of a token: the new text of the literal, or none.
+-- The new text of a literal, or none, is the edit of its token.
 edit_of : (style : Style) (macros : Macros) (t : List ℕ) (at : ℕ) (out : List ℕ) (edits : Told) (l : Restylable)
     (new : RestylableState) (e : Option (List ℕ)) → (a : AtLiteral style macros t at out edits l new)
     → IsTextOf style macros t l e → IsEditOf style macros t (seen_of a.s) a.takes.cut e
@@ -398,7 +399,7 @@ put_some style macros t at out edits l x later_at longer told is text at_is told
 
 -- ---- the end of the source
 
--- The rest of the source, if it begins with no token and has no error.
+-- If the rest of the source begins with no token and has no error, it is empty.
 pub none_left : (s : RestylableState) → BeginsNoSource (chars s.tokens.rest)
     → ((s.tokens.rest ≡ []) ⊎ ((kind : SourceKind) × (after : List ℕ) × SourceBefore (chars s.tokens.rest) kind after))
     → s.tokens.rest ≡ []

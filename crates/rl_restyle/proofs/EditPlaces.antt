@@ -9,7 +9,7 @@ use Rattle.rl_restyle.specs.Edits.{Restyles, placed_edits}
 use Rattle.rl_restyle.specs.Places.{AreEditsIn}
 use Rattle.rl_restyle.specs.declared.edit.Macros.{Macros}
 
--- The edits of an end of the text, which begins at the byte offset `at`.
+-- The edits of an end of the text, which begins at the byte offset `at`, are edits of the whole text.
 stand_on : (text front old new : List ℕ) (at : ℕ) (ws : List CutSource) (es : List (Option (List ℕ)))
     → text ≡ front ++ old → at ≡ byte_len front → IsEdited at old ws es new → AreEditsIn text (placed_edits ws es)
 stand_on text front old new at [] [] is at_is edited = tt
@@ -44,7 +44,7 @@ stand_on text front old new at (w ∷ ws) (Some written ∷ es) is at_is (gap, a
           (text_is ∙ sym (append_assoc (front ++ gap) (source_text w.token) after)) ends others,
     )
 
--- The edits of a rewritten source are in its old text.
+-- The ranges of the edits of a rewritten source are in its old text.
 pub edits_stand : (style : Style) (macros : Macros) (t new : List ℕ) (edits : List (ℕ × ℕ × List ℕ))
     → Restyles style macros t new edits → AreEditsIn t edits
 edits_stand style macros t new edits r = rw r.edits_are (stand_on t [] t new 0 r.cuts r.texts refl refl r.is_edited)

@@ -30,13 +30,13 @@ no_other style front text flaw is new rewrites =
     } in
     absurd (is.no_token token)
 
--- The items of a vector are all the bytes that were written.
+-- If as many bytes were written as a vector keeps, its items are the written bytes.
 pub all_items : (n : ℕ) (written items whole : List ℕ) → whole ≡ take n (written ++ drop (length written) items)
     → length written ≡ n → whole ≡ written
 all_items n written items whole is long = is ∙ ap (λ z. take z (written ++ drop (length written) items)) (sym long)
     ∙ take-append_seam written (drop (length written) items)
 
--- The new text of a literal, if the literal may be rewritten. The old text before it is known.
+-- If a literal may be rewritten, its new text after the text `before` is its new text in the source.
 pub literal_text : {A E : Type 0} (style : Style) (macros : Macros) (source : List ℕ) (l : Restylable)
     (before : List ℕ) (made : Result (Option (String A)) E) → IsTrue (is_chosen macros l.is_field l.in_macro)
     → ((front : List ℕ) → IsTextBetween source 0 l.token.lo front → before ≡ front)
@@ -53,7 +53,7 @@ pub piece_after : (old piece new : List ℕ) (middle : List ℕ) → IsUtf8 old 
     → chars new ≡ chars old ++ middle
 piece_after old piece new middle u is same = ap chars is ∙ chars-append old piece u ∙ ap (λ z. chars old ++ z) same
 
--- The text that was written, or none if it equals the old text.
+-- The written text, or `None` if it equals the old text, is the new text of the literal.
 pub text_made : {A E : Type 0} (style : Style) (front old written : List ℕ) (made : Result (Option (String A)) E)
     → Rewrites style front old written → IfOk made (λ m. IfNone m (written ≡ old))
     → IfOk made (λ m. IfSome m (λ s. chars (string_bytes s) ≡ written))

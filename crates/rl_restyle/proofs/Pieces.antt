@@ -52,7 +52,7 @@ pub record LastAt (at : ℕ) (t : List ℕ) (w : CutSource) (r : List ℕ) : Typ
   pub place_is : w.at ≡ at + byte_len front
   pub skips : Skipped (gap ++ r) r
 
--- The byte offset of a token, if more text precedes it.
+-- If more text precedes the text of the last token, the token's byte offset stays the same.
 later : (from at : ℕ) (front t u : List ℕ) (w : CutSource) (r : List ℕ) → t ≡ front ++ u → from ≡ at + byte_len front
     → LastAt from u w r → LastAt at t w r
 later from at front t u w r text place l = record {
@@ -64,7 +64,7 @@ later from at front t u w r text place l = record {
   skips = l.skips;
 }
 
--- A token at the start of the text.
+-- A token at the start of a text is at the byte offset after the white space and comments before it.
 token_front : (at : ℕ) (t : List ℕ) (w : CutSource) (after : List ℕ) → Skipped t (source_text w.token ++ after)
     → w.at + byte_len (source_text w.token ++ after) ≡ at + byte_len t
     → (front : List ℕ) × (t ≡ front ++ (source_text w.token ++ after)) × (w.at ≡ at + byte_len front)
@@ -113,7 +113,7 @@ last_at t cuts w r cut =
 
 -- ---- edits
 
--- Equal text is appended to the old and to the new text.
+-- The edits stay the same if equal text is appended to the old and to the new text.
 pub edited_longer : (at : ℕ) (old : List ℕ) (ws : List CutSource) (es : List (Option (List ℕ))) (new x : List ℕ)
     → IsEdited at old ws es new → IsEdited at (old ++ x) ws es (new ++ x)
 edited_longer at old [] [] new x same = ap (λ z. z ++ x) same
@@ -132,7 +132,8 @@ edited_longer at old (w ∷ ws) (e ∷ es) new x (gap, after, new_after, old_is,
     longer : (t g s a : List ℕ) → t ≡ g ++ (s ++ a) → t ++ x ≡ g ++ (s ++ (a ++ x))
     longer t g s a is = ap (λ z. z ++ x) is ∙ append_assoc g (s ++ a) x ∙ ap (λ z. g ++ z) (append_assoc s a x)
 
--- White space, comments and one more token are appended to the old and to the new text.
+-- The old and the new text of one more token, with the white space and comments before it, are appended to the old and to the new
+-- text. The edit of that token is appended to the edits.
 pub edited_more : (at : ℕ) (old : List ℕ) (ws : List CutSource) (es : List (Option (List ℕ))) (new gap : List ℕ)
     (w : CutSource) (e : Option (List ℕ)) → IsEdited at old ws es new → w.at ≡ at + byte_len (old ++ gap)
     → IsEdited at (old ++ (gap ++ source_text w.token)) (ws ++ w ∷ []) (es ++ e ∷ [])

@@ -18,8 +18,8 @@ seen_all seen (w ∷ ws) = seen_all (seen_after seen w) ws
 abbrev pub seen_of : RestylableState → Seen
 seen_of s = record { last = s.last; end = s.end; calls = s.calls }
 
--- A source is rewritten up to the byte offset `at`, and its literals are processed up to the last token. The new text is `out`
--- up to `at`, followed by the unchanged old text after `at`.
+-- A partly rewritten source. `s` is the cursor's state after the last token that was lexed. The new text up to this token is
+-- `out`, which replaces the old text before the byte offset `at`, and then the unchanged old text after `at`.
 pub record IsDraft (style : Style) (macros : Macros) (t : List ℕ) (s : RestylableState) (at : ℕ) (out : List ℕ)
     (edits : List (ℕ × ℕ × List ℕ)) : Type 0 where
   pub whole : chars s.tokens.text ≡ t

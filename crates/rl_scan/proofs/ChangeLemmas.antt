@@ -11,7 +11,7 @@ use Rattle.rl_sources.specs.Places.{IsPlaceIn}
 use Rattle.rl_sources.specs.declared.options.Options.{Options}
 use Rattle.rl_scan.specs.Changes.{AreChangeLines, IsChangeLine, change_line}
 
--- The source can be split where a rewritten literal begins.
+-- The byte offset where a rewritten literal begins is a character boundary of the source.
 pub boundary : (places text : List ℕ) (lo hi : ℕ) (old : List ℕ) → places ≡ text → IsUtf8 text
     → IsTextBetween (chars text) lo hi old → IsCharBoundary places lo
 boundary places text lo hi old same u s = rw same ((slice text lo hi old u s).begins)
@@ -27,7 +27,7 @@ left places text rest lo hi old same u s is =
     let cut = slice text lo hi old u s in
     rw (is, same) (omega (arith, length-drop lo text, cut.ordered, cut.within))
 
--- The output line for one rewritten literal.
+-- The line that the code appends for one rewritten literal is the output line for it.
 pub change_told : (options : Options) (form : Form) (places text old old_text new : List ℕ) (lo hi : ℕ) (place : Place)
     (before after : List ℕ) → places ≡ text → IsPlaceIn options (chars places) lo hi place
     → IsTextBetween (chars text) lo hi old → old_text ≡ old

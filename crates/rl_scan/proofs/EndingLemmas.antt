@@ -34,7 +34,7 @@ pub keeps_same : (a : Option (List ℕ)) → Keeps a a
 keeps_same None = tt
 keeps_same (Some xs) = refl
 
--- The call has written the help. `ends_version` is the lemma for the version.
+-- If the help is requested, the result of writing it is the result of the call. `ends_version` is the lemma for the version.
 pub ends_help : {B : Type 0} (wishes : Wishes) (is_terminal : Bool) (holds : Option World) (o0 o1 e : Option (List ℕ))
     (h : Option (List Replacement)) (text : List ℕ) (ending : Ending (CallError B)) → wishes.action ≡ Help
     → EndsText text o0 o1 ending → EndsAsked wishes is_terminal holds (written_on o0 o1 e e h h) ending
@@ -67,7 +67,8 @@ command_for command selecting style finds extensions excludes lists paths is = r
   rules_are = is.rules_are;
 }
 
--- There are no lists of paths. `ends_listed` is the lemma for lists of paths.
+-- Without lists of paths, the result of the run over the passed paths is that of the call. `ends_listed` is the lemma for lists
+-- of paths.
 pub ends_named : {B : Type 0} (files : List (Bor (List ℕ))) (command : Command) (is_terminal : Bool)
     (holds : Option World) (paths : List (List ℕ)) (streams : Streams) (ending : Ending (CallError B))
     → (length files == 0) ≡ true → EndsPaths command holds (paths_read is_terminal paths) streams ending
@@ -99,7 +100,7 @@ scan_ends command selecting style finds extensions excludes lists paths is_termi
           ends),
     )
 
--- The option `--style` names a file with the rules of a style.
+-- If the option `--style` names a file, the result of the call with the rules in this file is that of the call.
 pub ends_styled : {B : Type 0} (said : Option (Bor (List ℕ))) (file : Bor (List ℕ)) (wishes : Wishes)
     (is_terminal : Bool) (holds : Option World) (streams : Streams) (ending : Ending (CallError B)) → said ≡ Some file
     → EndsStyled (Some file.now) wishes is_terminal holds streams ending

@@ -42,7 +42,7 @@ message_ascii OwnerChanges = low_text (path_error_message OwnerChanges) refl
 message_ascii ReadFailed = low_text (path_error_message ReadFailed) refl
 message_ascii WriteFailed = low_text (path_error_message WriteFailed) refl
 
--- The line for a path on standard error, from its parts.
+-- The line for a path on standard error is its parts, one after another: the program's name, the path, and the text after it.
 pub line_reported : (path after a b line : List ℕ) → IsAscii after → IsUtf8 b → a ≡ codes "rl_scan: "
     → chars b ≡ chars a ++ visible (chars path) → line ≡ b ++ after
     → chars line ≡ codes "rl_scan: " ++ (visible (chars path) ++ after)
@@ -53,7 +53,7 @@ line_reported path after a b line ascii utf8 first shown written =
     ∙ ap (λ (z : List ℕ). z ++ after) (shown ∙ ap (λ (z : List ℕ). z ++ visible (chars path)) begun)
     ∙ append_assoc (codes "rl_scan: ") (visible (chars path)) after
 
--- The line for a source that begins as a script and isn't rewritten.
+-- The parts of the line for a source that begins as a script, and isn't rewritten, are that line.
 pub script_reported : (path a b line : List ℕ) → IsUtf8 b → a ≡ codes "rl_scan: "
     → chars b ≡ chars a ++ visible (chars path) → line ≡ b ++ codes ": left alone: its first line begins with #!\n"
     → chars line
@@ -62,7 +62,7 @@ script_reported path a b line utf8 first shown written = line_reported path
     (codes ": left alone: its first line begins with #!\n") a b line
     (low_text (codes ": left alone: its first line begins with #!\n") refl) utf8 first shown written
 
--- The line for a path that can't be read.
+-- The parts of the line for a path that can't be read are that line.
 pub error_reported : (path : List ℕ) (why : PathError) (a b errors : List ℕ) → IsUtf8 b → a ≡ codes "rl_scan: "
     → chars b
     ≡ chars a ++ visible (chars path) → errors ≡ b ++ (codes ": " ++ (path_error_message why ++ codes "\n"))

@@ -39,7 +39,7 @@ IsReport command w (FileAt path) printed =
     ⊎ ((lists_files command.action ≡ false) × IsReadReport command w path printed)
 IsReport command w (ErrorAt path why) printed = IsErrorReport path why printed
 
--- The report has the property for some replaced files, and these files are added to the list of replaced files.
+-- With some list of replaced files, the report satisfies `IsThis`, and these files are added to the list `old`.
 abbrev pub ReportsAs : {A : Type 0} → (Findings → Type 0) → Report A → Option (List Replacement)
     → Option (List Replacement) → Type 0
 ReportsAs IsThis report old new =

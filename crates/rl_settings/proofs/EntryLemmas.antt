@@ -61,7 +61,7 @@ same_tail [] (y ∷ ys) us vs e l = absurd (omega (arith, ap length e, l, length
 same_tail (x ∷ xs) [] us vs e l = absurd (omega (arith, ap length e, l, length-append xs us))
 same_tail (x ∷ xs) (y ∷ ys) us vs e l = same_tail xs ys us vs (cc) l
 
--- The text of a dot token.
+-- The text of a dot token is a dot.
 dot_tree : (t : Tree) → form_of t ≡ MarkForm (code ".") → lexeme_text t ≡ code "." ∷ []
 dot_tree (lexemes.MarkLexeme c) e = cc
 dot_tree (lexemes.DelimiterLexeme c) e = absurd (cc)
@@ -79,7 +79,7 @@ dot_text old new dot t =
     ∙ ap encode_utf8_all (dot_tree t.takes.cut.lexeme (cut.form_is ∙ t.is_dot))
     ∙ ap (λ x. x ++ []) (encode_ascii (code ".") (omega arith))
 
--- ---- a name with one more identifier
+-- ---- a dotted name with one more identifier at its end
 
 parts_more : (end hi : ℕ) (t mid new : CursorState) (parts : List Lexeme) (part : Lexeme) → AreNameParts end t parts mid hi
     → JoinsName hi mid part new → AreNameParts end t (parts ++ part ∷ []) new part.hi

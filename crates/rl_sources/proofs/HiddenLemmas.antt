@@ -56,7 +56,7 @@ pub shown_plain : (options : Options) (whole after old : List ℕ) (c : ℕ) →
     → Appends (IsShownCharacter options whole c after) old old
 shown_plain options whole after old c plain = ([], inr (plain, refl), sym (append-nil old))
 
--- The line for an invisible or bidirectional character, from its parts.
+-- The parts of the line for an invisible or bidirectional character are that line.
 pub hidden_line : (options : Options) (whole rest after : List ℕ) (c lo hi : ℕ) (place : Place)
     (old mid ended new : List ℕ) → IsCursorState whole rest → IsCursorState whole after → chars rest ≡ c ∷ chars after
     → lo + length rest ≡ length whole → hi + length after ≡ length whole

@@ -348,7 +348,7 @@ rest_is text places rest taken at is seen place drops =
 
 -- ---- the written bytes
 
--- The written bytes are the output for the source up to `rest`, and `any` tells whether they are any.
+-- The written bytes are the output for the source up to `rest`, and `any` is true exactly if any byte was written.
 pub record HasWritten (options : Options) (whole rest : List ℕ) (any : Bool) (old new : Option (List ℕ)) : Type 0 where
   pub cuts : List CutSource
   pub shown : List ℕ
@@ -395,7 +395,7 @@ any_more any more shown lines utf8 is more_is =
     subst (λ (b : Bool). IsTrue b ↔ ((shown ++ chars lines) ≢ [])) (sym more_is)
     (any_cases any (length lines == 0) shown lines utf8 is refl)
 
--- The written bytes are the output before and the lines.
+-- The written bytes are those of the output that was written before, and then those of `lines`.
 pub lines_written : (options : Options) (whole rest lines : List ℕ) (any : Bool) (old mid new : Option (List ℕ))
     (has : HasWritten options whole rest any old mid) → IsUtf8 lines → AppendsBytes mid new lines
     → AppendsBytes old new (encode_utf8_all (has.shown ++ chars lines))
@@ -416,12 +416,12 @@ written_more options whole rest next lines any more old mid new has adds utf8 ap
   written = lines_written options whole rest lines any old mid new has utf8 appends;
 }
 
--- Output up to `rest` with this part after it is the output for a part of the source.
+-- Any output for the source up to `rest`, with `piece` after it, is the output for a part of the source.
 abbrev pub ShowsOn : Options → List ℕ → List ℕ → List ℕ → Type 0
 ShowsOn options whole rest piece = (cuts : List CutSource) (shown : List ℕ) → ShowsUpTo options whole cuts rest shown
     → ShowsPart options whole (shown ++ piece)
 
--- After a beginning of the lines is written, the written bytes are a beginning of the output for a part of the source.
+-- If only a beginning of `lines` was written, all written bytes are a beginning of the output for a part of the source.
 pub written_beginning : (options : Options) (whole rest lines : List ℕ) (any : Bool)
     (old mid new : Option (List ℕ)) → HasWritten options whole rest any old mid
     → ShowsOn options whole rest (chars lines) → IsUtf8 lines → AppendsBeginning mid new lines → (shown : List ℕ)

@@ -19,13 +19,13 @@ use Rattle.rl_sources.specs.Scans.{ScansHidden, ScansTokens, FailsHidden, FailsT
 use Rattle.rl_sources.specs.Steps.{Adds, Completes, IsStepOf}
 use Rattle.rl_sources.proofs.ScanLemmas.{HasWritten, ShowsOn, any_more, lines_written, written_more, written_beginning, step_shows}
 
--- The part of the output that a step adds, for the text as the scan has it.
+-- The part of the output that a step adds for the cursor's text is also that for the text of the scan, which is the same text.
 of_text : (options : Options) (text : List ℕ) (old : CursorState) (rest piece : List ℕ) → old.text ≡ text
     → Adds options (chars old.text) (chars old.rest) rest piece → Adds options (chars text) (chars old.rest) rest piece
 of_text options text old rest piece same adds = subst (λ (t : List ℕ). Adds options (chars t) (chars old.rest) rest
     piece) same adds
 
--- The write of the step's lines failed.
+-- If the write of a step's lines fails, the scan fails after a beginning of the output for a part of the source.
 pub write_fails : {A : Type 0} (options : Options) (text lines : List ℕ) (old new : CursorState) (places : List ℕ)
     (step : Step) (any : Bool) (out mid after : Option (List ℕ)) (error : ProgramError A) → old.text ≡ text
     → HasWritten options (chars text) (chars old.rest) any out mid → IsStepOf options old (chars lines) new places step
@@ -37,7 +37,7 @@ write_fails {A = A} options text lines old new places step any out mid after err
     (subst (λ (t : List ℕ). ShowsOn options (chars t) (chars old.rest) (chars lines)) same
     (step_shows options old (chars lines) new places step is)) utf8 begins)
 
--- The step's lines were written, and the source has more tokens.
+-- If a step's lines were written, and the source has more tokens, the written bytes are the output up to the next token.
 pub writes_on : (options : Options) (text lines : List ℕ) (old new : CursorState) (places : List ℕ) (any more : Bool)
     (out mid after : Option (List ℕ)) → old.text ≡ text → HasWritten options (chars text) (chars old.rest) any out mid
     → IsStepOf options old (chars lines) new places More → IsUtf8 lines → Appends mid after lines → more
@@ -46,7 +46,7 @@ writes_on options text lines old new places any more out mid after same has is u
     written_more options (chars text) (chars old.rest) (chars new.rest) lines any more out mid after has
     (of_text options text old (chars new.rest) (chars lines) same is.adds) utf8 appends more_is
 
--- The step's lines were written, and the source has ended.
+-- If a step's lines were written, and the source has ended, the written bytes are the output for the source.
 pub writes_all : (options : Options) (text lines : List ℕ) (old new : CursorState) (places : List ℕ) (any more : Bool)
     (out mid after : Option (List ℕ)) → old.text ≡ text → HasWritten options (chars text) (chars old.rest) any out mid
     → IsStepOf options old (chars lines) new places End → IsUtf8 lines → Appends mid after lines → more
@@ -60,7 +60,7 @@ writes_all options text lines old new places any more out mid after same has is 
       lines_written options (chars text) (chars old.rest) lines any out mid after has utf8 appends,
     )
 
--- The step's lines were written, and the source has an error.
+-- If a step's lines were written, and the source has an error, the written bytes are the output up to that error.
 pub writes_up_to : (A : Type 0) (options : Options) (text lines : List ℕ) (old new : CursorState) (places : List ℕ)
     (place : Place) (kind : LexKind) (any more : Bool) (out mid after : Option (List ℕ)) → old.text ≡ text
     → HasWritten options (chars text) (chars old.rest) any out mid
@@ -86,7 +86,7 @@ writes_up_to A options text lines old new places place kind any more out mid aft
       all.written,
     )
 
--- The lines for the invisible and bidirectional characters were written.
+-- If the lines for the invisible and bidirectional characters were written, the scan for these characters is complete.
 pub hidden_written : (options : Options) (text lines : List ℕ) (empty : Bool) (old new : Option (List ℕ))
     → IsUtf8 lines → ShowsHidden options text (chars lines) → empty ≡ (length lines == 0) → Appends old new lines
     → ScansHidden options text old new (not empty)
@@ -97,7 +97,7 @@ hidden_written options text lines empty old new utf8 shows empty_is appends = (
   subst (λ (z : List ℕ). Appends old new z) (sym (encodes-chars lines utf8)) appends,
 )
 
--- The write of the lines for invisible and bidirectional characters failed.
+-- If the write of the lines for invisible and bidirectional characters fails, the scan fails after a beginning of these lines.
 pub hidden_unwritten : {A : Type 0} (options : Options) (text lines : List ℕ) (old new : Option (List ℕ))
     (error : ProgramError A) → IsUtf8 lines → ShowsHidden options text (chars lines)
     → (error ≡ Write) × AppendsBeginning old new lines → FailsHidden {A = A} options text old new (Program error)

@@ -1,4 +1,4 @@
--- The effect of stray characters, which no Rust token contains.
+-- The effect of a stray character on the output for a source. No Rust token begins at a stray character.
 use Rattle.std.specs.Prelude.{Bool, not, ◌&&◌}
 use Rattle.rl_sources.specs.declared.options.Options.{Options}
 

@@ -1,4 +1,5 @@
--- Mirrors of the code: functions on lists of characters, which the code is proved equal to. No public contract mentions one.
+-- Mirrors of the code: functions on lists of characters, which the code is proved equal to. No public contract mentions these
+-- functions.
 
 pub mod StrictAt
 pub mod StrictFlawAt

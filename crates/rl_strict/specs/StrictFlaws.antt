@@ -9,8 +9,8 @@ use Rattle.rl_strict.specs.StrictFlawKinds.{HasStrictQuotedFlaw}
 use Rattle.rl_strict.specs.StrictNumberFlaws.{IsStrictNumberFlaw, IsStrictWordFlaw}
 use Rattle.rl_strict.specs.StrictShapes.{IsToken}
 
--- The flaw's kind describes the error in the text, which begins at the rest. In a number or a word, its piece is all of the
--- text.
+-- The flaw's kind describes the error in the text. The error is at the start of `rest`. In a number or a word, the flaw's piece
+-- is all of the text.
 abbrev pub IsStrictFlawOf : FlawKind → List ℕ → List ℕ → List ℕ → Type 0
 IsStrictFlawOf kind text piece rest =
     HasStrictQuotedFlaw kind text piece rest

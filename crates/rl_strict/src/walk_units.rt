@@ -83,7 +83,7 @@ fn skip_blanks(ends: LineEnds, text: &str) -> &str
 
 /// Returns the text after an escape in a literal of the kind `kind`. `at` is the byte offset after the backslash.
 ///
-/// Except for escaped line ends, `syn` and rustc accept equal escapes.
+/// Except for escaped line ends, `syn` and rustc accept the same escapes.
 #[inline(always)]
 fn skip_escape(ends: LineEnds, kind: Kind, text: &str, at: usize) -> Option<&str>
     requires string { IsTrue (is_string kind) }

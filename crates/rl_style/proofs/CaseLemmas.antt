@@ -104,7 +104,7 @@ pub number_cased : (case : Option Case) (base : ℕ) (run : List ℕ) → place_
 number_cased case base run = ap (place_value base) (bare_cased case run)
     ∙ spelled_cased case base (without_underscores run)
 
--- ---- a change of case twice is equal to one change
+-- ---- changing the case again changes nothing
 
 pub twice_cased : (case : Option Case) (c : ℕ) → cased case (cased case c) ≡ cased case c
 twice_cased case c =

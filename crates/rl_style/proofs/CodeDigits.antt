@@ -100,7 +100,7 @@ fewest_unicode ds h =
     (and_from (nat_le 1 (length new)) (nat_le (length new) 6) (le-leb 1 (length new) some) (le-leb (length new) 6 few))
     (fewest_hex ds q.1)) (ap (λ n. all_scalars (n ∷ [])) (fewest_value ds) ∙ p.1)
 
--- ---- the digits are rewritten twice as once
+-- ---- rewriting the digits again changes nothing
 
 pub twice_digits : (case : Option Case) (ds : List (ℕ × ℕ)) → map (cased_digit case) (map (cased_digit case) ds)
     ≡ map (cased_digit case) ds
@@ -185,7 +185,7 @@ under_bare : (n : ℕ) (t : List ℕ) → without_underscores (replicate n 95 ++
 under_bare zero t = refl
 under_bare (suc n) t = under_bare n t
 
--- The text of the digits after the first one, with the closing brace.
+-- The text of digits, with the closing brace after them.
 abbrev closed : List (ℕ × ℕ) → List ℕ
 closed ds = flat_map spaced_digit ds ++ (125 ∷ [])
 
@@ -217,7 +217,7 @@ is_other c z h = or_from (c == 48) (c == 95) z (not_code c 95 h refl)
 is_pad : (c : ℕ) → (c == 48) ≡ true → is_padding c ≡ true
 is_pad c z = ap (λ b. b || c == 95) z
 
--- The text of the digits after a leading zero.
+-- If the first digit is a zero, dropping the leading zeros and all underscores gives the text of the fewest digits.
 zero_text : (d : ℕ × ℕ) (ds : List (ℕ × ℕ)) → (d.0 == 48) ≡ true → list_all hex_of ds ≡ true
     → without_underscores (zero_closed (after_run is_padding (closed ds))) ≡ closed (fewest_digits (d ∷ ds))
 zero_text d [] z h = ap (λ c. c ∷ 125 ∷ []) (sym (eqb-true d.0 48 z))

@@ -16,7 +16,7 @@ use Rattle.rl_style.proofs.Recut.{Alike, alike_more, alike_stays, offset_of_rest
 use Rattle.rl_style.proofs.RestyledCuts.{NewToken, new_token}
 use Rattle.rl_style.proofs.WholeSource.{Preamble, preamble}
 
--- ---- one token after the other
+-- ---- rewriting one token after another
 
 -- The new tokens of a text. No token before can distinguish the old and the new text, which both follow the text `lead`.
 record Made (lead : List ℕ) (at : ℕ) (old new : List ℕ) (cuts : List CutSource) (edits : List (Option (List ℕ)))

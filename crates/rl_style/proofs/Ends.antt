@@ -89,7 +89,7 @@ based_row : (letter : ℕ) (digits new after : List ℕ) → list_all is_continu
     → IsLexeme (BasedLexeme letter digits) after → IsLexeme (BasedLexeme letter new) after
 based_row letter digits new after is (l, run) = (l, record { each = is; ends = run.ends })
 
--- The properties of two literals, by their forms.
+-- The properties `Keeps` of two literals follow from those of equal literals.
 named : (l m a b : Lexeme) (after : List ℕ) → l ≡ a → m ≡ b → Keeps a after b → Keeps l after m
 named l m a b after e f is = subst (λ (z : Lexeme). Keeps z after m) (sym e)
     (subst (λ (z : Lexeme). Keeps a after z) (sym f) is)

@@ -161,7 +161,7 @@ shape_of numeral x (inr (inr a)) = PowerShape
 abbrev pub Groups : ℕ → ℕ → Bool → List ℕ → List ℕ
 Groups size least from_first run = regrouped from_first size least run
 
--- The digits at the start of a text.
+-- If a text is digits and underscores, and then a text that begins with neither, these are the digits at its start.
 digits_past : (run x : List ℕ) → list_all (is_run_part is_ascii_digit) run ≡ true
     → first_passes (is_run_part is_ascii_digit) x ≡ false
     → (digit_run (run ++ x) ≡ run) × (after_run (is_run_part is_ascii_digit) (run ++ x) ≡ x)
@@ -177,7 +177,7 @@ digits_past (d ∷ run) x h n =
       ap (λ b. cond b (after_run (is_run_part is_ascii_digit) (run ++ x)) (d ∷ (run ++ x))) p.0 ∙ more.1,
     )
 
--- The whole part of a float, and the text after it.
+-- The digits of a float in groups are the whole part in groups, and then the rewritten text after it.
 numeral_at : (f : ℕ → List ℕ) (closes : Bool) (size least : ℕ) (numeral d z : List ℕ) → IsDigits d
     → first_passes (is_run_part is_ascii_digit) z ≡ false → numeral ≡ d ++ z
     → float_in_groups closes f (Groups size least) numeral
@@ -274,7 +274,7 @@ pub record Numeral (numeral x : List ℕ) (shape : FloatShape) : Type 0 where
   pub form : FloatForm numeral x
   pub same_shape : shape_of numeral x form ≡ shape
 
--- The digits, rewritten and in groups.
+-- Digits that are rewritten and then divided into groups are still a digit followed by digits and underscores.
 pub row_is : (drops plus : Bool) (digits letter : Option Case) (from_first : Bool) (size least : ℕ) (d : List ℕ)
     → IsDigits d
     → IsDigits (Groups size least from_first (flat_map (becomes drops false plus digits letter) d))

@@ -60,7 +60,7 @@ ends_so c (d ∷ cs) =
     ∙ sym (ap (λ z. last_byte (encode_utf8 c ++ z)) rest ∙ last_join (encode_utf8 c) b.first (b.more
     ++ encode_utf8_all cs)))
 
--- A nonempty text, and its last byte.
+-- A quote may follow a nonempty text exactly if the text's last byte fails the test `is_end`.
 pub ends_by_byte : (t : List ℕ) → IsUtf8 t → 1 ≤ length t
     → may_precede_quote (chars t) ≡ not (is_end (get_or t (length t - 1) 0))
 ends_by_byte t u some = go (chars t) (encodes-chars t u)

@@ -81,7 +81,7 @@ new_is_head h k (inr (a, b)) is = ap (λ z. is_among (codes "\"'rbc") k || z) b 
     or_true true = refl
     or_true false = refl
 
--- Equal text before two texts that begin alike.
+-- If two texts begin alike, they still do with the same text before both.
 pub front_more : (s a b : List ℕ) → SameFront a b → SameFront (s ++ a) (s ++ b)
 front_more s a b f = record {
   front = s ++ f.front;
@@ -179,7 +179,7 @@ powers_agree f h k x y s =
     let n = other_heads h k 95 x y s refl in
     run_agrees is_underscore is_ascii_digit f h k x y n.0 n.1 (head_agrees is_ascii_digit digit_on h k s.same)
 
--- A text that doesn't begin with a sign.
+-- If a text doesn't begin with a sign, no sign is skipped.
 no_sign : (h : ℕ) (x : List ℕ) → (h == 43) ≡ false → (h == 45) ≡ false → powers (after_sign (h ∷ x)) ≡ powers (h ∷ x)
 no_sign h x a b = ap (λ z. powers (cond (z || h == 45) x (h ∷ x))) a ∙ ap (λ z. powers (cond z x (h ∷ x))) b
 
@@ -195,7 +195,7 @@ signed_agree (c ∷ f) h k x y s = go (c == 43 || c == 45)
     go true = powers_agree f h k x y s
     go false = powers_agree (c ∷ f) h k x y s
 
--- A text that doesn't begin with the letter of an exponent.
+-- A text that doesn't begin with the letter of an exponent doesn't begin with an exponent.
 no_letter : (h : ℕ) (x : List ℕ) → (h == 101) ≡ false → (h == 69) ≡ false → begins_exponent (h ∷ x) ≡ false
 no_letter h x a b = ap (λ z. (z || h == 69) && powers (after_sign x)) a ∙ ap (λ z. z && powers (after_sign x)) b
 

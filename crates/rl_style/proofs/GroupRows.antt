@@ -20,7 +20,7 @@ other c = not (c == 95)
 abbrev pub mark : Bool → List ℕ
 mark b = cond b (95 ∷ []) []
 
--- A sequence without a plus, if its characters pass a test that a plus fails.
+-- If all characters of a sequence pass a test that a plus fails, the sequence contains no plus.
 pub plus_free : (test : ℕ → Bool) (cs : List ℕ) → test 43 ≡ false → list_all test cs ≡ true
     → list_all (λ c. not (c == 43)) cs ≡ true
 plus_free test [] n h = refl
@@ -193,7 +193,7 @@ pub row_some : (p test : ℕ → Bool) (run : List ℕ) → p 95 ≡ false → l
 row_some p test run n h = any_left p (spaced test (without_underscores run)) (ending run)
     (spaced_any p test (without_underscores run) n ∙ bare_any p run n ∙ h)
 
--- A first character other than an underscore stays the first one.
+-- If a sequence is divided into groups, its first character stays the first one, unless it is an underscore.
 pub row_first : (test : ℕ → Bool) (c : ℕ) (cs : List ℕ) → (c == 95) ≡ false
     → row_spaced test (c ∷ cs)
     ≡ c ∷ ((mark (test (length (without_underscores cs))) ++ spaced test (without_underscores cs)) ++ ending cs)

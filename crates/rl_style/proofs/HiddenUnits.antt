@@ -14,7 +14,7 @@ use Rattle.rl_writing.proofs.UnicodeLemmas.{digits_of, escape_fits, escape_is, e
 use Rattle.rl_style.specs.Mirrors.{code_text}
 use Rattle.rl_style.specs.Rewriting.{has_letter, needs_number, is_visible, lower_digit, number_escape, hex_escape}
 
--- A property of the numeric escapes holds for that of the character.
+-- A property that holds for all numeric escapes holds for the numeric escape of the character.
 pub number_any : (P : StrictUnit → Type 0) (k : Kind) (c : ℕ) → ((high low : ℕ) → P (AsciiEscape high low))
     → ((high low : ℕ) → P (ByteEscape high low)) → ((ds : List (ℕ × ℕ)) → P (UnicodeEscape ds))
     → P (number_escape k c)

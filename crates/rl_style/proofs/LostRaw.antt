@@ -1,4 +1,4 @@
--- A raw string that becomes a string with escapes is equal to the old one.
+-- A raw string that becomes a string with escapes keeps its kind, value and suffix.
 use Rattle.rl_syntax.proofs.Common.{◌≡◌, ℕ, ◌||◌, ◌&&◌, Bool, true, false, not, ◌==◌, cond, nat_lt, List, [], ◌∷◌, ◌++◌, map, refl, sym, ap, ◌∙◌, arith, and_from, and_parts, eqb-true, list_all, flat_map, encodes-append, is_ascii_digit, encode_utf8_all}
 use Rattle.rl_lenient.proofs.Names.{Kind, Str, ByteStr, CStr, Byte, Char, Int, Float, BoolKind, Contents, StrictUnit, Itself, QuoteEscape, PlainEscape, is_string, strict_contents, strict_content_of, is_strict_unit, strict_text, quoted_contents}
 use Rattle.rl_syntax.specs.Strict.{BlanksEnd, HasUnits, IsRawInside, StrictCooked, StrictRaw, is_bare_in_string, is_plain_letter, plain_escapes, plain_value_in, strict_closer, strict_opener}
@@ -20,7 +20,7 @@ use Rattle.rl_syntax.specs.Texts.{first_passes}
 abbrev unit_by : Bool → Bool → ℕ → StrictUnit
 unit_by a b c = cond a (QuoteEscape c) (cond b (PlainEscape c) (Itself c))
 
--- A property of each of the three new forms of a character holds for its new form.
+-- A property holds for the new form of a character if it holds for each of the three forms that this may be.
 raw_any : (P : StrictUnit → Type 0) (c : ℕ) → ((c == 34) ≡ true → P (QuoteEscape c))
     → ((c == 92) ≡ true → P (PlainEscape c)) → ((c == 34) ≡ false → (c == 92) ≡ false → P (Itself c)) → P (raw_unit c)
 raw_any P c quote backslash other = go (c == 34) (c == 92) refl refl

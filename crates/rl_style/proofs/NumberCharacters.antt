@@ -256,7 +256,8 @@ alone c =
     ap (λ z. z || (c == 48 && false) || (c == 48 && false)) (none_right (c == 48))
     ∙ ap (λ z. z || (c == 48 && false)) (none_right (c == 48)) ∙ none_right (c == 48)
 
--- The form of a decimal number, after its digits and before text that doesn't begin with the letter of a base.
+-- If decimal digits are followed by a text that doesn't begin with the letter of a base, the whole text doesn't begin with the
+-- prefix of a base.
 pub decimal_by : (d z : List ℕ) → IsDigits d → first_passes is_base_letter z ≡ false → IsDecimalText (d ++ z)
 decimal_by [] z h n = absurd (let e : false ≡ true = h.0 in cc)
 decimal_by (c ∷ []) [] h n = alone c
@@ -270,7 +271,7 @@ decimal_by (c ∷ b ∷ ds) z h n =
     let q = and_parts (test b) (list_all test ds) p.1 in
     second_tells c b (ds ++ z) (apart test b 98 q.0 refl) (apart test b 111 q.0 refl) (apart test b 120 q.0 refl)
 
--- ---- characters are rewritten twice as once
+-- ---- rewriting characters again changes nothing
 
 again_hex : (drops plus : Bool) (digits letter : Option Case) (c : ℕ)
     → flat_map (becomes drops true plus digits letter) (becomes drops true plus digits letter c)
@@ -295,7 +296,7 @@ again_hex drops plus digits letter c = go (cases_Bool (drops && c == 95))
         ∙ ap (λ z. z ∷ []) (twice_cased digits c))
         ∙ sym e
 
--- A property of a character, by cases: an underscore, a plus, `e`, `E` or another character.
+-- A property holds for each character if it holds for an underscore, a plus, `e`, `E`, and each other character.
 pub by_character : (P : ℕ → Type 0) (c : ℕ) → P 95 → P 43 → P 69 → P 101
     → ((c == 95) ≡ false → (c == 43) ≡ false → (c == 69) ≡ false → (c == 101) ≡ false → P c) → P c
 by_character P c under plus upper lower other =

@@ -106,7 +106,7 @@ raw_parts_once t k v w x a b =
           ∙ ap (λ z. b.inside ++ (34 ∷ (replicate z 35 ++ x))) (sym count)),
     )
 
--- The other result is that of a raw string with the old kind and suffix.
+-- The old text `t` is a raw string with the kind `k` and the suffix `x`, and the new text `w` is a raw string with `n` hashes.
 abbrev StaysAs : Style → List ℕ → List ℕ → List ℕ → Contents → ℕ → Kind → List ℕ → Type 0
 StaysAs style front t w v n k x =
     (s : StrictRaw t k v x) × HasHashes style.raw_hashes k s.inside s.hashes n × (w ≡ raw_text k n s.inside ++ x)

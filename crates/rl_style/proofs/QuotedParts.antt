@@ -320,7 +320,7 @@ raw_parts form kind t inside suffix body token begins q is b x =
     (raw_by q.form kind (chars t) q.value (chars (body_in t body)) (chars (suffix_in t body)) token q.parts
     (sym same ∙ is)))
 
--- ---- the parse result is the literal of this kind
+-- ---- a quoted token has one parse result, of the kind that its opening delimiter identifies
 
 -- A token parses as a literal of the kind that its opening delimiter identifies.
 token_reads : (form : QuotedForm) (kind : Kind) (t r : List ℕ) → opener_at t ≡ found_opener form kind r → IsToken t
@@ -365,7 +365,7 @@ no_word : (form : QuotedForm) (kind : Kind) (t : List ℕ) (b : Bool) → OpensA
 no_word form kind t b begins e =
     let none : None ≡ found_opener form kind begins.0 = sym (ap opener_at e ∙ word_has_none b) ∙ begins.1 in absurd (cc)
 
--- A quoted literal has no other parse result.
+-- The parse result of a quoted literal is `Text`, for a string, or `Unit`, for a character or byte.
 pub no_other : (form : QuotedForm) (kind : Kind) (t : List ℕ) (r : Reading) → OpensAs form kind (chars t)
     → IsStrictReading t r → ((k : Kind) (body : Body) → r ≡ Text k body → ⊥)
     → ((k : Kind) (body : Body) (n : ℕ) → r ≡ Unit k body n → ⊥) → ⊥

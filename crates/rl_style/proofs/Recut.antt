@@ -144,7 +144,7 @@ skips_to t u full (inr s) = absurd (subst IsFull s.nothing full)
 
 -- ---- the tokens after the literal
 
--- The byte offset at which a token begins.
+-- A token begins at the byte offset of the text, plus the number of bytes of the text before the token.
 pub offset_of_rest : (at k : ℕ) (t f u : List ℕ) → t ≡ f ++ u → k + byte_len u ≡ at + byte_len t → k ≡ at + byte_len f
 offset_of_rest at k t f u e place = omega (arith, place, ap byte_len e, byte_len-append f u)
 
@@ -336,7 +336,8 @@ one_more lead at t d before after old new place r u front sound is text_is here 
       cuts = subst (λ (z : List ℕ). SourcesUpTo at z (d ∷ cuts) r) (sym whole) all;
     }
 
--- The text after the literal in the whole text is equal to that in the rest after a token.
+-- If the new literal may replace the old one in the text `t`, it may also replace it in the text `u` after the first token of
+-- `t`.
 follows_inner : (lead : List ℕ) (at : ℕ) (t : List ℕ) (d : CutSource) (old new : Lexeme) (place : ℕ)
     (u rest front : List ℕ) → t ≡ front ++ (source_text d.token ++ u) → d.at ≡ at + byte_len front
     → Follows lead at t old new place rest

@@ -59,7 +59,7 @@ pub grouped_trim : (from_first : Bool) (size least : ℕ) (run : List ℕ) → I
 grouped_trim from_first size least run h = either IsTrim from_first size least run h
     (row_trim (tests from_first size least (length (without_underscores run))) run (ends_none from_first _ _) h)
 
--- A first character other than an underscore stays the first one.
+-- The sequence begins with the character `c`.
 pub record Begins (c : ℕ) (run : List ℕ) : Type 0 where
   pub rest : List ℕ
   pub is : run ≡ c ∷ rest
@@ -241,7 +241,7 @@ ending_flat f (c ∷ cs) u k =
       ]
     ]
 
--- ---- a sequence is rewritten twice as once
+-- ---- rewriting a sequence again changes nothing
 
 pub again_grouped : (drops hex plus : Bool) (digits letter : Option Case) (from_first : Bool) (size least : ℕ)
     (run : List ℕ) → flat_map (becomes drops hex plus digits letter) run ≡ run
@@ -264,7 +264,8 @@ again_grouped drops hex plus digits letter from_first size least run same plain 
         ∙ ap (flat_map f) (row_kept other test run refl)
         ∙ sym (bare_flat drops hex plus digits letter run) ∙ ap without_underscores same
 
-    -- The sequence after it is rewritten twice, whether or not underscores are dropped.
+    -- After a second rewriting, the underscores at the end of the sequence are those of `run`, whether or not underscores are
+    -- dropped.
     last : (drops : Bool) → flat_map (becomes drops hex plus digits letter) run ≡ run
         → RowPlain (becomes drops hex plus digits letter) new
         → ending (flat_map (becomes drops hex plus digits letter) new) ≡ ending run
@@ -365,7 +366,7 @@ placed_is f test (c ∷ cs) u k =
         ∙ sym (row_first test a.0 (flat_map f cs) other)
         ∙ ap (λ z. row_spaced test (z ++ flat_map f cs)) (sym a.1)
 
--- ---- one character after the other
+-- ---- writing one character after another
 
 pub counted : (c : ℕ) (cs : List ℕ) → (c == 95) ≡ false
     → length (without_underscores (c ∷ cs)) ≡ 1 + length (without_underscores cs)

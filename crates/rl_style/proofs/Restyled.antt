@@ -120,7 +120,7 @@ digits_front t u y z c d m n e g a b = record {
     or_true true = refl
     or_true false = refl
 
--- The old and the new decimal number end alike.
+-- If the new decimal number ends as a token before the text `y` whenever the old one does, it may replace the old one.
 decimals_replace : (t u y : List ℕ) (s : DecimalForm t) (r : DecimalForm u)
     → (after_decimal (s.more ++ y) ≡ y → after_decimal (r.more ++ y) ≡ y) → Replaces t u y
 decimals_replace t u y s r same = record {
@@ -144,7 +144,7 @@ digits_then (d ∷ run) z t (first, each) is e = record {
   more_is = refl;
 }
 
--- Decimal integers.
+-- A decimal integer is a sequence of digits and the suffix after it.
 ten_then : (t x : List ℕ) (v : Contents) (s : StrictInt t v x) → s.prefix ≡ [] → IsDigits s.run → IsDecimalText t
     → DigitsThen s.run x t
 ten_then t x v s none digits is = digits_then s.run x t digits is (s.text ∙ ap (λ z. (z ++ s.run) ++ x) none)
@@ -153,7 +153,7 @@ ten_end : (run x t y : List ℕ) → (d : DigitsThen run x t) → after_decimal 
 ten_end run x t y d = ap (λ z. after_decimal (z ++ y)) d.more_is ∙ ap after_decimal (append_assoc d.rest x y)
     ∙ digits_gone d.rest (x ++ y) d.each
 
--- Integers with a base prefix.
+-- The text of an integer with a base prefix, in parts.
 record Based (t x : List ℕ) (prefix : List ℕ) : Type 0 where
   letter : ℕ
   digits : List ℕ
@@ -258,7 +258,7 @@ float_parts t x v s (inr (inr (d, p, h, k, inr (f, g, e)))) =
     grouped : (r f p x y : List ℕ) → (r ++ (46 ∷ f ++ (p ++ x))) ++ y ≡ r ++ (46 ∷ f ++ (p ++ (x ++ y)))
     grouped r f p x y = simp append_assoc
 
--- If a dot alone ends a number, a dot and a zero end it too.
+-- If a number may end with a dot before the text `y`, it may also end with a dot and a zero there.
 dot_closes : (y : List ℕ) → after_decimal (46 ∷ y) ≡ y → shape_end PointShape y ≡ y
 dot_closes y h = go (first_passes (λ d. d == 46 || is_start d) y) h
   where

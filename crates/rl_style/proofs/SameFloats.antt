@@ -1,4 +1,4 @@
--- A rewritten float is equal to the old one.
+-- A rewritten float has the value and the suffix of the old one, except for an added zero.
 use Rattle.rl_syntax.proofs.Common.{◌≡◌, ◌⊎◌, ℕ, ◌||◌, Bool, true, false, not, ◌==◌, cond, List, [], ◌∷◌, ◌++◌, map, refl, sym, ap, subst, ◌∙◌, inl, inr, ◌&&◌, append_assoc, append-nil, cases_Bool, append_cancel_right, map-append, list_all, list_any, list_all-append, and_from, or_cases, eqb-true, is_ascii_digit, flat_map, Some, None}
 use Rattle.std.specs.Prelude.{Option, filter}
 use Rattle.std.proofs.lemmas.List.Elements.{filter-append}
@@ -155,7 +155,7 @@ no_separator (Some Underscore) x e = ap (separator_by (Some Underscore)) e
 abbrev pub spelled : List ℕ → List ℕ
 spelled cs = map (λ c. cond (c == 69) 101 c) (filter (λ c. not (c == 95 || c == 43)) cs)
 
--- One more character in the old and in the new text.
+-- The new characters of `c` before the new text `a` have the value that `c` has before the old text `b`.
 abbrev More : Bool → Bool → Option Case → Option Case → List ℕ → List ℕ → ℕ → Type 0
 More drops plus digits letter a b c = spelled (becomes drops false plus digits letter c ++ a) ≡ spelled (c ∷ b)
 
@@ -193,7 +193,7 @@ more_plus false false digits None a b s = s
 more_plus false false digits (Some Lower) a b s = s
 more_plus false false digits (Some Upper) a b s = s
 
--- The letter of an exponent, in either case.
+-- The rewritten letter of an exponent, in either case, keeps the value.
 more_letter : (drops plus : Bool) (digits letter : Option Case) (c : ℕ) (a b : List ℕ) → spelled (c ∷ b)
     ≡ 101 ∷ spelled b
     → (l : Letter drops plus digits letter c) → spelled a ≡ spelled b → More drops plus digits letter a b c
@@ -278,7 +278,7 @@ added_none DotShape = refl
 added_none PointShape = refl
 added_none PowerShape = refl
 
--- The value of a whole part and the text after it.
+-- If the whole part is rewritten and divided into groups, the value changes only as the text after the whole part does.
 spelled_at : (drops plus : Bool) (digits letter : Option Case) (size least : ℕ) (numeral new d z w extra : List ℕ)
     → new ≡ Groups size least false (flat_map (becomes drops false plus digits letter) d) ++ w → numeral ≡ d ++ z
     → spelled w ≡ spelled z ++ extra → spelled new ≡ spelled numeral ++ extra
@@ -446,7 +446,7 @@ float_number style t u c = record {
   keeps = contents_kept style c.contents c.float.numeral c.suffix c.float.form c.float.contents;
 }
 
--- ---- a float is rewritten twice as once
+-- ---- rewriting a float again changes nothing
 
 -- The last part of a text without underscores at its end has none at its end either.
 tail_trims : (a b : List ℕ) → only b ≡ false → IsTrim (a ++ b) → IsTrim b
@@ -536,7 +536,7 @@ numeral_trims style x numeral form h =
     form_trims (drops_underscores style x) style.exponent_plus style.hex_digits style.exponent_letter style.float_zero
     (Size style x) (Least style) kept x (kept_form style numeral x form).form short
 
--- A sequence of digits that was written stays unchanged.
+-- If a sequence of digits is rewritten twice, the second time changes nothing.
 row_stays_so : (drops plus : Bool) (digits letter : Option Case) (from_first : Bool) (size least : ℕ) (d : List ℕ)
     → IsDigits d
     → Groups size least from_first (flat_map (becomes drops false plus digits letter)

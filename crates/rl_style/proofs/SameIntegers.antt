@@ -1,4 +1,4 @@
--- A rewritten integer is equal to the old one.
+-- A rewritten integer has the value and the suffix of the old one.
 use Rattle.rl_syntax.proofs.Common.{◌≡◌, ℕ, ◌⊎◌, Bool, true, false, not, ◌==◌, ◌&&◌, ◌||◌, cond, nat_lt, List, [], ◌∷◌, ◌++◌, refl, sym, ap, subst, ◌∙◌, inl, inr, append_assoc, append-nil, list_all-append, and_from, and_parts, cases_Bool, digit_value, eqb-true, or_parts, is_ascii_digit, list_all, list_any, flat_map, Some, None}
 use Rattle.std.specs.Prelude.{Option}
 use Rattle.rl_syntax.specs.Texts.{first_passes, is_run_part}
@@ -44,7 +44,7 @@ facts_then base a b c f g = record {
   digits = λ d. g.digits (f.digits d);
 }
 
--- The sequence without the underscores at its end has these properties too.
+-- The sequence without the underscores at its end has the properties `RowFacts` too.
 kept_facts : (style : Style) (base : ℕ) (x run : List ℕ) → row_of base run → list_any (of_base base) run ≡ true
     → of_base base 95 ≡ false → RowFacts base run (kept_run style x run)
 kept_facts style base x run h some n = go (trims_by style.suffix_separator x)
@@ -150,7 +150,7 @@ integer_plus t v x run i each = go i.is_front
 
 -- ---- digits in groups
 
--- The properties of a sequence of digits that grouping doesn't change.
+-- A sequence of digits that is divided into groups keeps the properties `RowFacts`.
 pub in_row_facts : (style : Style) (base : ℕ) (x run : List ℕ) → of_base base 95 ≡ false → row_of base run
     → list_any (of_base base) run ≡ true → RowFacts base run (grouped_run false style base x run)
 in_row_facts style base x run n h some =
@@ -277,7 +277,7 @@ integer_same style t u c = record {
   is = written style t u c.contents c.suffix c.int c.new_is;
 }
 
--- ---- an integer is rewritten twice as once
+-- ---- rewriting an integer again changes nothing
 
 -- A rewritten sequence of digits has no leading zeros, if the style drops them.
 zeros_again : (style : Style) (drops : Bool) (base : ℕ) (x run : List ℕ) → row_of base run

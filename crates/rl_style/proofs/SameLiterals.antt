@@ -1,4 +1,4 @@
--- A rewritten literal of any kind is equal to the old one.
+-- A rewritten literal of any kind has the kind, value and suffix of the old one.
 use Rattle.rl_syntax.proofs.Common.{◌≡◌, ℕ, false, List, inl, inr, refl, subst, sym}
 use Rattle.rl_syntax.specs.declared.kind.Kind.TheVariants.{Bool as BoolKind}
 use Rattle.rl_syntax.specs.Strict.{StrictBool}
@@ -24,7 +24,7 @@ same style front t u off (inr (inr (inl (inr a)))) = lost_same style front t u a
 same style front t u off (inr (inr (inr (inl a)))) = cooked_same style t u a
 same style front t u off (inr (inr (inr (inr a)))) = truth_same t u a
 
--- Equal literals are equal numbers, apart from an added zero.
+-- If two literals have one kind, value and suffix, they satisfy `SameNumber`, which also allows an added zero.
 number_of : (style : Style) (t u : List ℕ) → SameLiteral t u → SameNumber style t u
 number_of style t u c = record {
   kind = c.kind;

@@ -1,4 +1,4 @@
--- A rewritten raw string is equal to the old one.
+-- A rewritten raw string has the kind, value and suffix of the old one.
 use Rattle.rl_syntax.proofs.Common.{◌≡◌, ◌≢◌, ℕ, zero, suc, ◌<◌, Bool, true, false, ◌==◌, List, [], ◌∷◌, ◌++◌, length, replicate, refl, sym, ap, subst, ◌∙◌, inl, inr, append_assoc, append-nil, append_cancel_right, both_ways}
 use Rattle.rl_syntax.specs.Texts.{first_passes}
 use Rattle.rl_syntax.proofs.Basics.{hashes_all}
@@ -36,7 +36,7 @@ same_opener ByteStr s = refl
 same_opener CStr s = refl
 same_opener kind s = absurd (cc)
 
--- The parts of a raw string, concatenated from the right.
+-- The parts of a raw string, joined in the order of the definition, are the same text as those joined from the right.
 pub raw_joined : (o h i x : List ℕ) → ((((o ++ h) ++ (34 ∷ i)) ++ (34 ∷ h)) ++ x) ≡ o
     ++ (h ++ (34 ∷ (i ++ (34 ∷ (h ++ x)))))
 raw_joined o h i x = simp append_assoc
@@ -77,7 +77,7 @@ pub length_hashes : (n : ℕ) → length {A = ℕ} (replicate n 35) ≡ n
 length_hashes zero = refl
 length_hashes (suc n) = ap suc (length_hashes n)
 
--- A text can be split into hashes and a content in exactly one way.
+-- The text of a raw string after its prefix determines its number of hashes and its body.
 one_way : (n m : ℕ) (inside other : List ℕ) → replicate n 35 ++ (34 ∷ (inside ++ (34 ∷ replicate n 35)))
     ≡ replicate m 35 ++ (34 ∷ (other ++ (34 ∷ replicate m 35))) → (n ≡ m) × (inside ≡ other)
 one_way n m inside other e =

@@ -1,4 +1,4 @@
--- A literal whose characters and escapes are rewritten is equal to the old one.
+-- A literal whose characters and escapes are rewritten keeps its kind, value and suffix.
 use Rattle.rl_syntax.proofs.Common.{nat_tests, or_cases, subst, ◌≡◌, ℕ, ◌<◌, ◌||◌, ◌&&◌, Bool, true, false, not, ◌==◌, cond, nat_le, nat_lt, List, [], ◌∷◌, ◌++◌, length, map, refl, sym, ap, ◌∙◌, inl, inr, arith, ◌⊎◌, append-nil, and_from, and_parts, cases_Bool, cases_lt, or_from, eqb-true, not-true, agree_below_at, is_ascii_hexdigit, all_scalars, list_all, flat_map, length-map, suc, both_ways, is_ascii_digit, encode_utf8_all, encode_ascii, Some, None}
 use Rattle.std.specs.Prelude.{Option}
 use Rattle.rl_syntax.proofs.Basics.{apart}
@@ -173,7 +173,8 @@ code_allowed style kind ds h = absurd (cc)
 
 -- ---- numeric escapes that become shorter
 
--- A property of each of the three new forms of a numeric escape holds for its new form.
+-- The new form of a numeric escape: a visible character if `a` is true, else an escape with a letter if `b` is true, else the
+-- escape itself.
 abbrev chosen : Bool → Bool → Kind → ℕ → StrictUnit → StrictUnit
 chosen a b k n escape = cond a (visible_unit k n) (cond b (PlainEscape (letter_of n)) escape)
 
@@ -216,7 +217,7 @@ follows : (a b : Bool) → a ≡ true → (not a || b) ≡ true → b ≡ true
 follows true b h k = k
 follows false b h k = absurd (cc)
 
--- Tests of the characters below 128, each one separately.
+-- A test that passes for each visible ASCII character, tried one by one, passes for `n`.
 visible_test : (test : ℕ → Bool) (n : ℕ) → is_visible n ≡ true
     → ((n < 128) → (not (is_visible n) || test n) ≡ true) → test n ≡ true
 visible_test test n v all = follows (is_visible n) (test n) v (all (visible_low n v))
@@ -240,7 +241,7 @@ visible_allowed Char us n q v = visible_test (λ n. is_strict_unit Char (visible
     low)
 visible_allowed kind us n q v = absurd q
 
--- A property of LF, CR, TAB and NUL, each one separately.
+-- A property that holds for LF, CR and TAB, and for NUL if it is the character, holds for each character with a letter escape.
 named_any : (P : ℕ → Type 0) (z : Bool) (n : ℕ) → gets_letter z n ≡ true → P 10 → P 13 → P 9
     → ((n == 0) ≡ true → P 0) → P n
 named_any P z n h a b c d =
@@ -281,7 +282,7 @@ respelled_allowed : (style : Style) (k : Kind) (z : Bool) (us : List StrictUnit)
 respelled_allowed style k z us n escape q m h = respelled_any (λ u. is_strict_unit k u ≡ true) style k z n escape
     (visible_allowed k us n q) (named_allowed k us z n q m) h
 
--- In a C string, no escape represents NUL.
+-- The number that an escape of a C string represents isn't 0, so `MayBeZero` holds for it.
 no_zero : (b : Bool) (n : ℕ) → (b && not (n == 0)) ≡ true → (n == 0) ≡ true → ⊥
 no_zero b n h e = both_ways (n == 0) (not-true (n == 0) (and_parts b (not (n == 0)) h).1) e
 
@@ -349,7 +350,7 @@ respelled_contents style k z n escape v same h =
 
 -- ---- characters that become numeric escapes
 
--- A property of the numeric escape and of the character itself holds for the new form.
+-- A property holds for the new form of a character if it holds for the character and for its numeric escape.
 pub itself_any : (P : StrictUnit → Type 0) (style : Style) (k : Kind) (z : Bool) (c : ℕ)
     → (needs_number c ≡ true → P (reescaped style k z (number_escape k c))) → P (Itself c)
     → P (restyled style k z (Itself c))
@@ -627,7 +628,7 @@ cooked_same style t u c = record {
   is = cooked_strict u c.kind c.contents c.suffix (written style t u c.kind c.contents c.suffix c.cooked c.new_is);
 }
 
--- ---- a literal is rewritten twice as once
+-- ---- rewriting a literal again changes nothing
 
 -- A character that needs no numeric escape is unchanged.
 pub shown_stays : (style : Style) (k : Kind) (z : Bool) (c : ℕ) → needs_number c ≡ false → restyled style k z (Itself c)

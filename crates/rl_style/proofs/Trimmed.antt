@@ -96,7 +96,7 @@ some_not_only test cs n h =
       | inr a ↦ a
     ]
 
--- ---- dropping the underscores at the end twice is equal to dropping them once
+-- ---- dropping the underscores at the end again changes nothing
 
 abbrev pub IsTrim : List ℕ → Type 0
 IsTrim cs = trimmed cs ≡ cs
@@ -249,7 +249,7 @@ base_kept (Some Nothing) x h = (ap not h, refl, h)
 base_kept (Some Underscore) [] h = absurd (cc)
 base_kept (Some Underscore) (c ∷ cs) h = absurd (cc)
 
--- The digits of a written number are found again.
+-- If the underscores at the end of a rewritten number are dropped again, the digits stay as they were.
 pub row_again : (s : Option Separator) (x run : List ℕ) → (trims_by s x ≡ true → IsTrim run)
     → cond (trims_by s x) (trimmed (run ++ separator_by s x)) (run ++ separator_by s x) ≡ run
 row_again None x run h = append-nil run

@@ -92,7 +92,7 @@ held_of Int n = alone_of n
 held_of Float n = alone_of n
 held_of BoolKind n = alone_of n
 
--- The value of a character, as the code computes it.
+-- The number that the code computes for a character is that of its value: the character if it is ASCII, and 128 otherwise.
 pub content_ascii : (k : Kind) (n m : ℕ) → m ≡ cond (nat_lt n 128) n 128 → m ≡ ascii_in (content_of k (n ∷ []))
 content_ascii k n m e = go (holds_characters k)
   where
@@ -129,7 +129,7 @@ either_way : (b : Bool) (n : ℕ) → cond b n n ≡ n
 either_way true n = refl
 either_way false n = refl
 
--- The value of the escape isn't a visible character, and has no escape with a letter.
+-- If the value of a numeric escape isn't a visible character, and has no escape with a letter, the escape is unchanged.
 kept_escape : (style : Style) (k : Kind) (z : Bool) (n : ℕ) (escape : StrictUnit) → is_visible n ≡ false
     → gets_letter z n ≡ false → respelled style k z n escape ≡ escape
 kept_escape style k z n escape v l =
@@ -371,7 +371,8 @@ itself_restyled style k y z c same = go (style.hidden && needs_number c) refl
         ∙ hidden_is style k z c (and_parts style.hidden (needs_number c) e).1
     go false e = refl
 
--- Whether a NUL may be written as `\0` is the result for its value and for the character itself.
+-- The test whether a character is a NUL that may be written as `\0` gives the same result for the character's value and for the
+-- character itself.
 zero_same : (k : Kind) (z : Bool) (c : ℕ)
     → ((lettered z (ascii_in (strict_content_of k (c ∷ []))) == 0) && c == 0) ≡ (z && c == 0)
 zero_same k z c = go (c == 0) refl
@@ -428,7 +429,7 @@ at_escape : (style : Style) (k : Kind) (n : ℕ) (t cs : List ℕ) → t ≡ 92 
 unfolding restyled_text
 at_escape style k n t cs e = ap (restyled_text style k n) e
 
--- The new form of an escaped quote, by the quote after the backslash.
+-- An escaped quote loses its backslash if the rule is set and the quote doesn't close the literal.
 quoted_escape : (style : Style) (k : Kind) (n c : ℕ) (cs : List ℕ) → (c == 39 || c == 34) ≡ true
     → restyled_escape style k n (c ∷ cs) ≡ cond (style.quote_escapes && not (c == closer k)) (c ∷ cs) (92 ∷ c ∷ cs)
 quoted_escape style k n c cs q =
@@ -483,7 +484,7 @@ alone_bytes style k n unit escape u e f =
     let text : chars unit ≡ 92 ∷ [] = e ∙ ap (λ z. 92 ∷ z) f in
     ap encode_utf8_all (at_escape style k n (chars unit) [] text ∙ sym text) ∙ encodes-chars unit u
 
--- A character other than a backslash, and the text after it.
+-- The bytes that the code writes for a character other than a backslash are those of its new form.
 pub plain_bytes : (style : Style) (k : Kind) (n c : ℕ) (unit rest at a b : List ℕ) → IsUtf8 rest
     → chars unit ≡ c ∷ chars rest → first_passes (λ c. c == 92) (chars unit) ≡ false
     → a ≡ at ++ encode_utf8_all (itself_text style (n == 0) c) → b ≡ a ++ rest

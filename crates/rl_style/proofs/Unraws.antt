@@ -72,7 +72,8 @@ after_dot (LexedPower letter sign n d more) s f x y may suffix (il, id, row) h =
 assoc3 : (d e s t : List ℕ) → (d ++ (e ++ s)) ++ t ≡ d ++ (e ++ (s ++ t))
 assoc3 d e s t = simp append_assoc
 
--- A test of the text after more text has equal results for the old and the new text.
+-- A test of a first character that fails for the old text also fails for the new text, with the parts `d`, `e` and `s` before
+-- both.
 behind : (test : ℕ → Bool) (d e s f x y : List ℕ) → test 34 ≡ false → first_passes test (d ++ (e ++ (s ++ old f x)))
     ≡ false
     → first_passes test (d ++ (e ++ (s ++ new f y))) ≡ false

@@ -14,7 +14,8 @@ use Rattle.rl_style.proofs.Recut.{Alike, Recut, alike_more, recut_ends}
 abbrev is_mark : ℕ → Bool
 is_mark c = c == 65279
 
--- The byte order mark or nothing, and the source after it. It is equal for all texts that begin alike.
+-- The byte order mark at the start of the text, or nothing, and the source after it. If another source `u` follows the same mark,
+-- only this mark is dropped, provided that both sources or neither of them begin with a byte order mark.
 record Marked (t : List ℕ) : Type 0 where
   pub mark : List ℕ
   pub text_is : t ≡ mark ++ without_byte_order_mark t

@@ -75,7 +75,8 @@ digits_found t v x i =
 
 -- ---- the bytes that the code writes
 
--- A text of Unicode scalar values, followed by a UTF-8 text.
+-- If Unicode scalar values are written before a UTF-8 text, the result is UTF-8, and its characters are these and those of the
+-- text.
 followed : (m s b : List ℕ) → IsUtf8 s → scalars m ≡ true → b ≡ encode_utf8_all m ++ s → IsUtf8 b
     × (chars b ≡ m ++ chars s)
 followed m s b v h e = text_of b (m ++ chars s) (scalars_join m (chars s) h (scalars-chars s v))
@@ -206,7 +207,7 @@ pub number_utf8 : (style : Style) (front middle suffix new : List ℕ) → IsUtf
     → scalars middle ≡ true → Written style front middle suffix new → IsUtf8 new
 number_utf8 style front middle suffix new u us h e = (number_text style front middle suffix new u us h e).0
 
--- The byte offset of an integer's digits.
+-- The base and the digits that the code finds in an integer are those of Rust's grammar.
 pub digits_cut : (text digits suffix full : List ℕ) (base : ℕ) (v : Contents)
     → ◌≡◌ {A = ℕ × List ℕ} (base, chars digits) (radix_at (chars text))
     → chars digits ≡ chars full ++ chars suffix → (i : StrictInt (chars text) v (chars suffix))
@@ -322,7 +323,7 @@ float_written style text full numeral suffix new v un us cut kept e f =
 
 -- ---- parts that are written into a slice one after the other
 
--- The text that is still to be written, and the text written so far.
+-- If one more part is written, the whole text is still the text written so far and the text that is still to be written.
 pub one_more : (whole taken new one rest : List ℕ) → whole ≡ taken ++ encode_utf8_all (one ++ rest)
     → new ≡ taken ++ encode_utf8_all one → whole ≡ new ++ encode_utf8_all rest
 one_more whole taken new one rest e h =
@@ -330,7 +331,7 @@ one_more whole taken new one rest e h =
     ∙ sym (append_assoc taken (encode_utf8_all one) (encode_utf8_all rest))
     ∙ ap (λ z. z ++ encode_utf8_all rest) (sym h)
 
--- A digit, and an underscore after it if its group ends.
+-- If a digit's group ends, the digit and then an underscore are written.
 pub digit_marked : (old first new one : List ℕ) (b : Bool) → first ≡ old ++ encode_utf8_all one
     → new ≡ first ++ (95 ∷ []) → b ≡ true → new ≡ old ++ encode_utf8_all (one ++ cond b (95 ∷ []) [])
 digit_marked old first new one b e h is =
@@ -339,7 +340,7 @@ digit_marked old first new one b e h is =
     ∙ ap (λ z. old ++ z) (sym (encodes-append one (95 ∷ [])))
     ∙ ap (λ z. old ++ encode_utf8_all (one ++ cond z (95 ∷ []) [])) (sym is)
 
--- A text that begins with a dot.
+-- A text that begins with a dot is one byte longer than the text after the dot.
 pub dotted : (text inside prefix : List ℕ) → IsUtf8 text → IsUtf8 inside → prefix ≡ 46 ∷ []
     → chars text ≡ chars prefix ++ chars inside
     → (length text ≡ 1 + length inside) × (chars text ≡ 46 ∷ chars inside)
@@ -352,7 +353,7 @@ dotted text inside prefix ut ui is e =
     ∙ ap (λ z. 46 ∷ z) (encodes-chars inside ui) in
     (let n = ap length bytes in omega (arith, n), whole)
 
--- A text that doesn't begin with a dot.
+-- If the text after the whole part doesn't begin with a dot, only its characters are rewritten.
 pub undotted : (closes : Bool) (f : ℕ → List ℕ) (g : List ℕ → List ℕ) (cs prefix : List ℕ) → prefix ≡ 46 ∷ []
     → ((x : List ℕ) → cs ≡ chars prefix ++ x → ⊥) → fraction_in_groups closes f g cs ≡ flat_map f cs
 undotted closes f g [] prefix is none = refl
@@ -455,7 +456,7 @@ integer_put style manner base run front first second third suffix e d h z a b c 
     ∙ ap (λ y. y ++ encode_utf8_all (Of manner.style manner.drops manner.hex manner.size)) a
     ∙ ap (λ y. front ++ encode_utf8_all y) same)
 
--- ---- the parse result of a number
+-- ---- the parse result of a number token
 
 pub integer_of : (t : List ℕ) (n : Number) (m : Option ℕ) (suffix : Bor (List ℕ)) → IsNumberRead t n → n
     ≡ Integer m suffix

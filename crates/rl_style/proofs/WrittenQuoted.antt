@@ -114,7 +114,7 @@ closer_scalars Int = refl
 closer_scalars Float = refl
 closer_scalars BoolKind = refl
 
--- One text written after another.
+-- Texts that are written one after another are joined in that order.
 pub joined : (a b c d o mid x : List ℕ) (q r : ℕ) → d ≡ c ++ x → c ≡ b ++ encode_utf8 q → q ≡ r → b ≡ a ++ mid → a ≡ o
     → d
     ≡ ((o ++ mid) ++ encode_utf8 r) ++ x

@@ -1,4 +1,4 @@
--- Bytes that are written one after the other are UTF-8.
+-- UTF-8 texts that are written one after the other are one UTF-8 text.
 use Rattle.rl_syntax.proofs.Common.{◌≡◌, ℕ, true, List, [], ◌∷◌, ◌++◌, sym, ap, ◌∙◌, append_assoc, and_from, and_parts, encodes-append, encodes-chars, encode_utf8_all, IsUtf8, scalar}
 use Rattle.std.specs.Str.{chars}
 use Rattle.std.proofs.Math.Utf8.{scalars}
@@ -13,7 +13,8 @@ scalars_join (c ∷ cs) b h k =
 pub text_of : (b cs : List ℕ) → scalars cs ≡ true → b ≡ encode_utf8_all cs → IsUtf8 b × (chars b ≡ cs)
 text_of b cs h e = ((cs, (h, sym e)), ap chars e ∙ chars-encodes cs h)
 
--- A text before the written characters, and a text after them.
+-- If characters are written between two UTF-8 texts, the result is UTF-8, and its characters are those of the three parts in
+-- order.
 pub between_texts : (p m s b : List ℕ) → IsUtf8 p → IsUtf8 s → scalars m ≡ true → b ≡ (p ++ encode_utf8_all m) ++ s
     → IsUtf8 b × (chars b ≡ chars p ++ (m ++ chars s))
 between_texts p m s b u v h e =

@@ -75,7 +75,7 @@ unraw_written style k t inside suffix new ui us p w =
           ++ (z ++ chars suffix))) (sym o.3),
     )
 
--- ---- one character after the other
+-- ---- writing one character after another
 
 -- The new text of the first characters of a raw string, where other characters follow.
 abbrev pub raw_before : Style → List ℕ → List ℕ → List ℕ

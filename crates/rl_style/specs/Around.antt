@@ -1,5 +1,5 @@
--- The differences between two texts on which a token before them may depend. It doesn't depend on them if both texts begin
--- alike up to a literal's first character. A character is its code.
+-- A token may depend on the text after it. If two texts begin alike up to a literal's first character, the tokens before them
+-- don't depend on which of the two texts follows. A character is its code.
 use Rattle.std.specs.Prelude.{◌≡◌, ◌≢◌, ℕ, ◌⊎◌, Bool, true, false, not, ◌&&◌, ◌||◌, ◌==◌, List, [], ◌∷◌, ◌++◌, codes, IsTrue, ⊤}
 use Rattle.std.specs.Char.{is_ascii_digit}
 use Rattle.std.specs.List.{list_all}

@@ -47,7 +47,8 @@ abbrev pub trimmed : List ℕ → List ℕ
 trimmed [] = []
 trimmed (c ∷ cs) = if list_all is_underscore (c ∷ cs) then [] else c ∷ trimmed cs
 
--- The style drops the underscores before a number's suffix, and without them the number doesn't become another one.
+-- The style drops the underscores before a number's suffix. A style without a separator keeps them if the suffix begins with the
+-- letter of a base, so that the number doesn't become another number.
 abbrev pub trims_by : Option Separator → List ℕ → Bool
 trims_by None suffix = false
 trims_by (Some Nothing) suffix = not (first_passes is_base_letter suffix)

@@ -12,8 +12,8 @@ abbrev pub ARewrittenLiteralIsTheSame : Type 0
 ARewrittenLiteralIsTheSame =
     (style : Style) (front t u : List ℕ) → IsFalse style.float_zero → Rewrites style front t u → SameLiteral t u
 
--- In any style, a rewritten literal is equal to the old one, except that the text of a float which ends with its dot may get a
--- zero: `1.0` for `1.`.
+-- In any style, a rewritten literal has the kind, the value and the suffix of the old one, except that a float which ends with
+-- its dot may get a zero: `1.0` for `1.`.
 abbrev pub ARewrittenLiteralIsTheSameNumber : Type 0
 ARewrittenLiteralIsTheSameNumber =
     (style : Style) (front t u : List ℕ) → Rewrites style front t u → SameNumber style t u
@@ -45,10 +45,12 @@ StrictAlike t u =
     (kind : Kind) (contents : Contents) (suffix : List ℕ)
     → Strict t kind contents suffix → Strict u kind contents suffix
 
--- Equal literals have equal parse results. An integer above 128 bits has no parse result, in either text.
+-- If two literal tokens have one kind, value and suffix (`SameLiteral`), their parse results by `syn`'s grammar are equal. For an
+-- integer above 128 bits, neither token has a parse result.
 abbrev pub TheSameLiteralReadsAlike : Type 0
 TheSameLiteralReadsAlike = (t u : List ℕ) → SameLiteral t u → ReadsAlike t u
 
--- If two literals are equal and one is a literal token of Rust's grammar, the other one is too.
+-- If two literal tokens have one kind, value and suffix (`SameLiteral`), each kind, value and suffix of the old token by Rust's
+-- grammar is also that of the new token.
 abbrev pub TheSameLiteralIsStrictAlike : Type 0
 TheSameLiteralIsStrictAlike = (t u : List ℕ) → SameLiteral t u → StrictAlike t u

@@ -20,8 +20,8 @@ use Rattle.rl_style.specs.declared.style.Style.{Style}
 use Rattle.rl_style.specs.Cases.{cased, drops_underscores, kept_digits, kept_run, number_character, separator}
 use Rattle.rl_style.specs.Groups.{float_in_groups, grouped_run}
 
--- Both texts are literal tokens of one kind, with one value and one suffix. It is proved that they have equal parse results
--- then.
+-- Both texts are literal tokens of one kind, with one value and one suffix. It is proved that two such texts have equal parse
+-- results.
 pub record SameLiteral (old new : List ℕ) : Type 0 where
   pub kind : Kind
   pub contents : Contents
@@ -110,8 +110,8 @@ visible_unit kind c = if c == closer kind then QuoteEscape c else (if c == code 
 abbrev pub has_letter : ℕ → Bool
 has_letter c = c == code "\n" || c == code "\r" || c == code "\t"
 
--- The character may have an escape with a letter: LF, CR, TAB, or NUL if `zero` is true. It is false before a digit, since
--- `\01` is octal in other languages.
+-- The character may have an escape with a letter: LF, CR, TAB, or NUL if `zero` is true. `zero` is false if a digit follows,
+-- since `\01` is octal in other languages.
 abbrev pub gets_letter : Bool → ℕ → Bool
 gets_letter zero c = has_letter c || (zero && c == 0)
 

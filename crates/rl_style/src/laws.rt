@@ -11,8 +11,8 @@ pub fn a_rewritten_literal_is_the_same()
     ensures { ARewrittenLiteralIsTheSame }
 {}
 
-/// In any style, a rewritten literal is equal to the old one, except that the text of a float which ends with its dot may get a
-/// zero: `1.0` for `1.`.
+/// In any style, a rewritten literal has the kind, the value and the suffix of the old one, except that a float which ends with
+/// its dot may get a zero: `1.0` for `1.`.
 pub fn a_rewritten_literal_is_the_same_number()
     ensures { ARewrittenLiteralIsTheSameNumber }
 {}

@@ -314,7 +314,7 @@ stand_row k (s ∷ us) h b =
           r.value_is;
     }
 
--- ---- the forms
+-- ---- the forms of quoted literals
 
 pub between : (o b e x : List ℕ) → ((o ++ b) ++ e) ++ x ≡ o ++ (b ++ (e ++ x))
 between o b e x = append_assoc (o ++ b) e x ∙ append_assoc o b (e ++ x)

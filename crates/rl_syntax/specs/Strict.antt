@@ -195,11 +195,11 @@ pub record StrictRaw (t : List ℕ) (k : Kind) (v : Contents) (x : List ℕ) : T
       ++ code "\"" ∷ replicate hashes (code "#") ++ x
   pub contents : v ≡ quoted_contents k (strict_content_of k inside)
 
--- The text is a decimal digit, followed by digits and underscores. Other comments call this text D.
+-- The text is a decimal digit, followed by digits and underscores.
 abbrev pub IsDigits : List ℕ → Type 0
 IsDigits d = IsTrue (first_passes is_ascii_digit d) × IsTrue (list_all (is_run_part is_ascii_digit) d)
 
--- The text doesn't begin with the prefix of a base other than ten. A decimal number doesn't.
+-- The text doesn't begin with the prefix of a base other than ten. So a number at its start is decimal.
 abbrev pub IsDecimalText : List ℕ → Type 0
 IsDecimalText t = IsFalse (begins (codes "0b") t || begins (codes "0o") t || begins (codes "0x") t)
 

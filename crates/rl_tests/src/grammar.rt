@@ -9,8 +9,8 @@ fn kind_and_suffix(text: &str) -> Option<(Kind, &str)> {
     Some((parts.kind, parts.suffix))
 }
 
-/// Texts, the kind and the suffix, and whether the Reference has such a literal. `syn` has the first five texts, and
-/// the Reference the next two.
+/// Texts, each with its kind and its suffix, and whether it is a literal of the Reference. The first five texts are from `syn`,
+/// and the next two from the Reference.
 const TEXTS: [(&str, Option<(Kind, &str)>, bool); 20] = [
     ("1u16", Some((Kind::Int, "u16")), true),
     ("1.0e10f64", Some((Kind::Float, "f64")), true),

@@ -1,5 +1,5 @@
-//! Tests of the five libraries for callers, a file each. The expected values are from outside: from the documentation
-//! and the tests of `syn`, from the Rust Reference, and worked by hand from the grammars of docs/GRAMMAR.md.
+//! Tests of the five libraries for callers, a file each. The expected values are from outside: from the documentation and the
+//! tests of `syn`, from the Rust Reference, and worked out by hand from the grammars of docs/GRAMMAR.md.
 #![tactic(auto)]
 
 #[cfg(test)]

@@ -21,7 +21,7 @@ fn parts(lit: &Lit) -> (Option<Kind>, &str, &str) {
     }
 }
 
-/// Numbers with their kind, digits and suffix. `syn` has the first nine.
+/// Numbers with their kind, digits and suffix. The first nine are from `syn`.
 const NUMBERS: [(&str, Option<Kind>, &str, &str); 14] = [
     ("5u32", Some(Kind::Int), "5", "u32"),
     ("0_4", Some(Kind::Int), "4", ""),

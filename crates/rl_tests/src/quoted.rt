@@ -11,7 +11,7 @@ fn value(alloc: Global, text: &str) -> Result<String, Error> {
     parse_all::<LitStr, Global>(alloc, text, 0)?.value(alloc)
 }
 
-/// String literals and their values. `syn` or the Reference has the first nine.
+/// String literals and their values. The first nine are from `syn` or the Reference.
 const STRINGS: [(&str, &str); 12] = [
     ("\"\"", ""),
     ("\"foo\"", "foo"),
@@ -27,7 +27,7 @@ const STRINGS: [(&str, &str); 12] = [
     ("r#\"a\"b\"#tail", "a\"b"),
 ];
 
-/// Byte string literals and their values. `syn` or the Reference has the first three.
+/// Byte string literals and their values. The first three are from `syn` or the Reference.
 const BYTE_STRINGS: [(&str, &[u8]); 5] = [
     ("b\"foo\"", b"foo"),
     ("b\"\\x52\"", b"R"),

@@ -9,7 +9,7 @@ fn trees(alloc: Global, text: &str) -> Result<usize, LexError> {
     Ok(lex(alloc, text, 0)?.trees().len())
 }
 
-/// Texts, and the number of their token trees. `syn` has the first two, and the Reference the third.
+/// Texts, and the number of their token trees. The first two are from `syn`, and the third from the Reference.
 const LEXED: [(&str, usize); 10] = [
     ("0_4", 1),
     ("true | true |", 4),

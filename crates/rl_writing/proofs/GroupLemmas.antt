@@ -8,7 +8,7 @@ use Rattle.rl_syntax.specs.Texts.{is_underscore}
 use Rattle.rl_syntax.specs.Spelling.{without_underscores}
 use Rattle.rl_writing.specs.Integers.{ends_group, group_size, grouped}
 
--- A digit that no underscore follows.
+-- If no group ends after a digit, no underscore follows the digit.
 pub without_byte_order_mark : (size d : ℕ) (ds : List ℕ) → ends_group size (length ds) ≡ false
     → grouped size (d ∷ ds) ≡ d ∷ grouped size ds
 without_byte_order_mark size d ds e = ap (λ b. d ∷ ((if b then 95 ∷ [] else []) ++ grouped size ds)) e
@@ -62,7 +62,7 @@ pub grouped_short : (size n k : ℕ) (room : List ℕ) → n ≤ k → length (g
 grouped_short size n k room h =
     omega (arith, h, grouped_length size (reverse (take n room)), length-reverse (take n room), length-take n room)
 
--- The number of digits that were written, last digit first.
+-- If `n` digits were written, the last digit first, the reversed digits are also `n`.
 pub count_is : (n : ℕ) (room : List ℕ) → n ≤ length room → length (reverse (take n room)) ≡ n
 count_is n room h = length-reverse (take n room) ∙ length-take-le n room h
 

@@ -137,7 +137,7 @@ decimal_text value run x r n =
     let more = (and_parts (is_run_part (has_value 10) r.first) (list_all (is_run_part (has_value 10)) r.more) each).1 in
     ap (λ z. begins_base (z ++ x)) r.is ∙ no_base r.first (r.more ++ x) (rest_no_letter r.more x more n)
 
--- ---- the whole
+-- ---- the whole literal
 
 -- The start of a written integer, by its base.
 abbrev IsFront : Base → List ℕ → List ℕ → Type 0
@@ -199,7 +199,7 @@ integer_written value style suffix h =
     let strict = integer_strict b value run x h (styled_run value style) (suffix_is suffix) in
     record { text_is = refl; strict = strict; reads = integer_reads (prefix b ++ (run ++ x)) x value h strict }
 
--- ---- in ASCII
+-- ---- a written integer is ASCII
 
 prefix_low : (b : Base) → list_all is_low (prefix b) ≡ true
 prefix_low Binary = refl

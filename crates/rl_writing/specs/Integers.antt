@@ -25,7 +25,7 @@ suffix_text None = []
 unfoldable pub numeral : ℕ → Bool → ℕ → List ℕ
 numeral base upper n = digits_onto (suc n) base upper n []
 
--- An underscore follows a digit that has `left` digits after it.
+-- Whether an underscore follows a digit that has `left` digits after it, in groups of `size` digits.
 abbrev pub ends_group : ℕ → ℕ → Bool
 ends_group size left = nat_lt 0 size && nat_lt 0 left && left % size == 0
 

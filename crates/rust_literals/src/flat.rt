@@ -1,4 +1,5 @@
-//! Functions that read the literals of a text token by token, without building token trees. The text has no groups.
+//! Functions that read the literals of a text token by token, without building token trees. A text of literals contains no
+//! groups.
 
 ghost use Rattle.std.specs.Prelude.{
   ◌≡◌,

@@ -24,7 +24,7 @@ pub enum FlawKind {
     Unclosed,
     /// The character after a backslash begins no known escape.
     UnknownEscape,
-    /// A `\u` escape in a byte or a byte string, where only characters, strings and C strings allow it.
+    /// A `\u` escape in a byte or a byte string. Only characters, strings and C strings allow it.
     NoUnicode,
     /// An escape lacks a hexadecimal digit.
     NoHexDigit,

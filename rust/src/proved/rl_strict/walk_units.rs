@@ -50,7 +50,7 @@ fn skip_blanks(ends: LineEnds, text: &str) -> &str {
 
 /// Returns the text after an escape in a literal of the kind `kind`. `at` is the byte offset after the backslash.
 ///
-/// Except for escaped line ends, `syn` and rustc accept equal escapes.
+/// Except for escaped line ends, `syn` and rustc accept the same escapes.
 #[cfg_attr(debug_assertions, inline)]
 #[cfg_attr(not(debug_assertions), inline(always))]
 fn skip_escape(ends: LineEnds, kind: Kind, text: &str, at: usize) -> Option<&str> {

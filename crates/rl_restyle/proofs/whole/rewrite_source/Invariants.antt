@@ -3,7 +3,7 @@ use Rattle.rl_restyle.specs.Edits.{edit_in}
 use Rattle.rl_restyle.specs.Mirrors.{IsDraft}
 use Rattle.rl_restyle.proofs.whole.rewrite_source.Given as goal
 
--- The loop's invariant: the literals so far are processed.
+-- The loop's invariant: the draft contains the new text of each literal that was returned so far.
 abbrev pub invariant-loop-literal : goal.invariant-loop-literal
 invariant-loop-literal g l = IsDraft l.style l.macros (chars l.text) l.literals l.draft.at
     (chars (string_bytes l.draft.text)) (map edit_in l.draft.edits.items)

@@ -27,7 +27,8 @@ fn text_of<'a>(failing: Scant<'a>, text: &str, room: usize) -> String<Scant<'a>>
     made
 }
 
-/// Returns the numbers of the calls, among `calls` calls, that request an allocation. No call may fail.
+/// Calls `call` with each number below `calls`, and returns the numbers whose calls request an allocation. Panics if a call
+/// fails.
 fn asking(
     failing: Scant<'_>,
     calls: usize,

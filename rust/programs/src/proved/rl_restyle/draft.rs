@@ -36,7 +36,7 @@ fn put<A: Allocator>(
     Ok(())
 }
 
-/// Processes the next literal of the source, and rewrites it if the style changes it.
+/// Rewrites `literal`, the next literal of the source, if the style changes it.
 pub(crate) fn put_literal<A: Allocator + Copy>(
     alloc: A,
     style: Style,

@@ -1,5 +1,6 @@
 // Rendered from crates/rust_literals/src/flat.rt by tools/render, which erases contracts: change that file, and render anew.
-//! Functions that read the literals of a text token by token, without building token trees. The text has no groups.
+//! Functions that read the literals of a text token by token, without building token trees. A text of literals contains no
+//! groups.
 
 use crate::rattle_std::prelude::{Vec};
 use crate::rust_literals::lit::Lit;
