@@ -4,6 +4,7 @@
 use navyspindle::{skip_token, skip_trivia, source, Lit};
 use std::fs;
 use std::ops::Range;
+use std::time::{Duration, Instant};
 
 /// Returns the literals of a text that has no `#!` line for an interpreter. If an open quote or comment ends the loop, it also
 /// returns that byte offset.
@@ -90,5 +91,69 @@ fn one_token_is_passed() {
         "", " a", "\n", "// b\nc", "/* d */e", "\"f", "/* g", "r#\"h\"",
     ] {
         assert_eq!(skip_token(text), None, "{text}");
+    }
+}
+
+/// A parser may call `parse_prefix` at each character of a text. If no literal begins with the first characters, the result doesn't
+/// depend on the text after them: reading each of these texts to its end at each character would take minutes.
+#[test]
+fn none_without_reading_on() {
+    for piece in ["word", "é", "/* ", "+ ", "recover ", "bytes_"] {
+        let text = piece.repeat(400_000 / piece.len());
+        let begun = Instant::now();
+        for (at, _) in text.char_indices() {
+            assert!(Lit::parse_prefix(&text[at..]).is_none());
+        }
+        assert!(begun.elapsed() < Duration::from_secs(20), "{piece}");
+    }
+}
+
+/// `parse_prefix` returns a literal exactly where `source` finds one at the start of the text.
+#[test]
+fn a_literal_where_source_finds_one() {
+    for text in [
+        "0",
+        "9.5",
+        "\"\"",
+        "'a'",
+        "''",
+        "'ab'",
+        "'1a",
+        "r\"\"",
+        "r#\"\"#",
+        "r##\"\"##",
+        "b\"\"",
+        "b'a'",
+        "b'ab'",
+        "br\"\"",
+        "br#\"\"#",
+        "c\"\"",
+        "cr\"\"",
+        "cr#\"\"#",
+        "true",
+        "false",
+        "truth",
+        "trues",
+        "f",
+        "r",
+        "r#a",
+        "r#",
+        "b",
+        "br",
+        "br#",
+        "c",
+        "cr",
+        "'a",
+        "a\"\"",
+        "R\"\"",
+        "-1",
+        "é",
+        "",
+        " 1",
+        "/* */1",
+    ] {
+        let first = source(text).next();
+        let begins = matches!(first, Some(Ok((ref place, _))) if place.start == 0);
+        assert_eq!(Lit::parse_prefix(text).is_some(), begins, "{text}");
     }
 }

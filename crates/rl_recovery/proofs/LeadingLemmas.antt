@@ -1,15 +1,18 @@
 -- A text has at most one first token, and this token has one list of bytes.
-use Rattle.rl_syntax.proofs.Common.{◌≡◌, ◌==◌, ℕ, zero, suc, false, true, List, [], ◌∷◌, ◌++◌, Option, None, Some, sym, subst, ap, ◌∙◌, arith, lit<, append_cancel_right, chars, chars_past_char, encode_ascii, encode_utf8_all, encodes-chars, IfNone, IsAscii, IsTrue, IsUtf8}
+use Rattle.rl_syntax.proofs.Common.{◌≡◌, ◌==◌, ℕ, zero, suc, Bool, false, true, ◌||◌, List, [], ◌∷◌, ◌++◌, Option, None, Some, refl, sym, subst, ap, ◌∙◌, arith, lit<, append_cancel_right, chars, chars_past_char, encode_ascii, encode_utf8_all, encodes-chars, IfNone, IsAscii, IsTrue, IsUtf8}
 use Rattle.std.proofs.lemmas.Str.{IsUtf8-append, IsUtf8-from_ascii}
-use Rattle.rl_syntax.specs.Reading.{HasSuffix}
+use Rattle.std.specs.Char.{is_ascii_digit}
+use Rattle.rl_syntax.specs.Reading.{HasSuffix, truth_text}
 use Rattle.rl_syntax.specs.declared.kind.Kind.{Kind}
 use Rattle.rl_syntax.specs.Texts.{first_passes}
 use Rattle.rl_syntax.specs.Reading.{HasNoReading}
-use Rattle.rl_lexer.specs.Sources.{BeginsNoSource, IsLiteralText, SourceBefore, SourceKind}
+use Rattle.rl_lexer.specs.Lexemes.{Lexeme, QuotedLexeme, RawLexeme, CharacterLexeme, BasedLexeme, DecimalLexeme, IdentifierLexeme, DelimiterLexeme, MarkLexeme, NoPrefix, BytePrefix, CPrefix, IsLexeme, lexeme_text, lexed_fraction_text, lexed_exponent_text, LexemeForm, form_of, LiteralForm, IdentifierForm, DelimiterForm, MarkForm}
+use Rattle.rl_lexer.specs.BadQuotes.{BadQuote, WordQuote, RawWordQuote, DigitQuote, OtherQuote, ByteQuote, bad_quote_text}
+use Rattle.rl_lexer.specs.Sources.{BeginsNoSource, IsLiteralText, IsSource, SourceBefore, SourceKind, SourceLexeme, PlainKind, PlainToken, RawIdentifierToken, LifetimeToken, RawLifetimeToken, DocLineToken, DocBlockToken, BadQuoteToken, StrayToken, source_kind, source_text}
 use Rattle.rl_lexer.proofs.SourceLaws.{one_token}
 use Rattle.rl_lenient.specs.Founds.{IsFound}
 use Rattle.rl_lenient.specs.declared.found.Found.{Found}
-use Rattle.rl_recovery.specs.Leading.{Leads, LeadsNone, LeadsNegative, LeadsNoNegative}
+use Rattle.rl_recovery.specs.Leading.{Leads, LeadsNone, LeadsNegative, LeadsNoNegative, may_lead}
 use Rattle.rl_recovery.specs.declared.leading.LeadingLiteral.{LeadingLiteral}
 
 -- If the text begins with no token, its first token isn't a literal.
@@ -35,6 +38,74 @@ one_leads text k l p q =
     p.begins.is_source q.begins.is_source (sym p.begins.text_is ∙ q.begins.text_is) in
     append_cancel_right (chars k.text.now) (chars l.text.now) (chars l.following.now)
     (ap (λ z. chars k.text.now ++ z) (sym same.rest) ∙ sym p.chars_are ∙ q.chars_are)
+
+pub truth_false : IsTrue false → ⊥
+truth_false is = cc
+
+-- ---- the first characters of a literal
+
+digit_leads : (d : ℕ) (t : List ℕ) → is_ascii_digit d ≡ true → may_lead (d ∷ t) ≡ true
+digit_leads d t is = go (is_ascii_digit d) _ is
+  where
+    go : (b others : Bool) → b ≡ true → (b || others) ≡ true
+    go true others e = refl
+    go false others e = absurd (let f : true ≡ false = sym e in cc)
+
+lexeme_leads : (l : Lexeme) (after : List ℕ) → IsLexeme l after → form_of l ≡ LiteralForm
+    → may_lead (lexeme_text l ++ after) ≡ true
+lexeme_leads (QuotedLexeme NoPrefix parts suffix) after h e = refl
+lexeme_leads (QuotedLexeme BytePrefix parts suffix) after h e = refl
+lexeme_leads (QuotedLexeme CPrefix parts suffix) after h e = refl
+lexeme_leads (RawLexeme NoPrefix zero body suffix) after h e = refl
+lexeme_leads (RawLexeme NoPrefix (suc n) body suffix) after h e = refl
+lexeme_leads (RawLexeme BytePrefix n body suffix) after h e = refl
+lexeme_leads (RawLexeme CPrefix n body suffix) after h e = refl
+lexeme_leads (CharacterLexeme true inside suffix) after h e = refl
+lexeme_leads (CharacterLexeme false inside suffix) after h e = refl
+lexeme_leads (BasedLexeme letter digits) after h e = refl
+lexeme_leads (DecimalLexeme d more fraction exponent suffix) after h e =
+    digit_leads d ((more ++ (lexed_fraction_text fraction ++ (lexed_exponent_text exponent ++ suffix))) ++ after) h.0
+lexeme_leads (IdentifierLexeme c more) after h e = cc
+lexeme_leads (DelimiterLexeme c) after h e = cc
+lexeme_leads (MarkLexeme c) after h e = cc
+
+bad_quote_leads : (q : BadQuote) (after : List ℕ) → may_lead (bad_quote_text q ++ after) ≡ true
+bad_quote_leads (WordQuote c more) after = refl
+bad_quote_leads (RawWordQuote c more) after = refl
+bad_quote_leads (DigitQuote c more) after = refl
+bad_quote_leads (OtherQuote parts suffix) after = refl
+bad_quote_leads (ByteQuote parts suffix) after = refl
+
+truth_leads : (b : Bool) (after : List ℕ) → may_lead (truth_text b ++ after) ≡ true
+truth_leads true after = refl
+truth_leads false after = refl
+
+token_leads : (w : SourceLexeme) (after literal : List ℕ) → IsSource w after → IsLiteralText (source_kind w) literal
+    → source_text w ++ after ≡ literal ++ after → may_lead (source_text w ++ after) ≡ true
+token_leads (PlainToken l) after literal is lit same = plain (form_of l) refl lit
+  where
+    plain : (form : LexemeForm) → form_of l ≡ form → IsLiteralText (PlainKind form) literal
+        → may_lead (lexeme_text l ++ after) ≡ true
+    plain LiteralForm e h = lexeme_leads l after is e
+    plain IdentifierForm e h = ap may_lead (same ∙ ap (λ z. z ++ after) h.1) ∙ truth_leads h.0 after
+    plain (DelimiterForm c) e h = absurd h
+    plain (MarkForm c) e h = absurd h
+token_leads (RawIdentifierToken c more) after literal is lit same = absurd lit
+token_leads (LifetimeToken c more) after literal is lit same = absurd lit
+token_leads (RawLifetimeToken c more) after literal is lit same = absurd lit
+token_leads (DocLineToken body) after literal is lit same = absurd lit
+token_leads (DocBlockToken inside) after literal is lit same = absurd lit
+token_leads (BadQuoteToken q) after literal is lit same = bad_quote_leads q after
+token_leads (StrayToken c) after literal is lit same = absurd lit
+
+-- If no literal begins with the first characters of a text, its first token isn't a literal.
+pub no_lead : (text : List ℕ) → may_lead (chars text) ≡ false → LeadsNone text
+no_lead text none l h =
+    let after = chars l.following.now in
+    let lit = subst (λ z. IsLiteralText z (chars l.text.now)) (sym h.begins.kind_is) h.is_literal in
+    let leads = token_leads h.begins.token after (chars l.text.now) h.begins.is_source lit
+    (sym h.begins.text_is ∙ h.chars_are) in
+    truth_false (let e : true ≡ false = sym leads ∙ sym (ap may_lead h.begins.text_is) ∙ none in cc)
 
 -- ---- a minus before a number
 
@@ -107,6 +178,3 @@ negative text unsigned cut l number found u v are leads is whole text_is followi
 pub if_none : {A : Type 0} (r : Option A) {X : Type 0} → X → IfNone r X
 if_none None x = x
 if_none (Some y) x = tt
-
-pub truth_false : IsTrue false → ⊥
-truth_false is = cc

@@ -1,8 +1,9 @@
 -- The literal at the start of a text.
-use Rattle.std.specs.Prelude.{◌≡◌, ◌⊎◌, ℕ, List, ◌∷◌, ◌++◌, Some}
+use Rattle.std.specs.Prelude.{◌≡◌, ◌⊎◌, ℕ, Bool, ◌||◌, List, ◌∷◌, ◌++◌, Some, codes}
+use Rattle.std.specs.Char.{is_ascii_digit}
 use Rattle.std.specs.Str.{chars, IsUtf8}
 use Prim.Native.Char.{code}
-use Rattle.rl_syntax.specs.Texts.{IsTail}
+use Rattle.rl_syntax.specs.Texts.{IsTail, begins, first_passes}
 use Rattle.rl_lexer.specs.Sources.{SourceKind, SourceBefore, IsLiteralText}
 use Rattle.rl_lenient.specs.declared.found.Found.{Found}
 use Rattle.rl_lenient.specs.Founds.{IsFound}
@@ -19,6 +20,14 @@ pub record Leads (text : List ℕ) (l : LeadingLiteral) : Type 0 where
   pub chars_are : chars text ≡ chars l.text.now ++ chars l.following.now
   pub following : IsTail text l.following.now
   pub reading : FindsReading l.text.now l.found
+
+-- The text begins with a digit, an apostrophe or a quote, with a literal's prefix, or with `true` or `false`. Each text that
+-- begins with a literal does.
+abbrev pub may_lead : List ℕ → Bool
+may_lead t =
+    first_passes is_ascii_digit t || (begins (codes "\"") t || (begins (codes "'") t || (begins (codes "r\"") t
+    || (begins (codes "r#") t || (begins (codes "b\"") t || (begins (codes "b'") t || (begins (codes "br") t
+    || (begins (codes "c\"") t || (begins (codes "cr") t || (begins (codes "true") t || begins (codes "false") t))))))))))
 
 -- The first token of the text isn't a literal.
 abbrev pub LeadsNone : List ℕ → Type 0

@@ -1,11 +1,13 @@
 //! The literal at the start of a text, optionally with a minus before it.
 
-ghost use Rattle.std.specs.Prelude.{IfSome, IfNone};
-ghost use Rattle.rl_recovery.specs.Leading.{Leads, LeadsNone, LeadsNegative, LeadsSigned, LeadsNoneSigned, LeadsNoNegative};
+ghost use Rattle.std.specs.Prelude.{◌≡◌, IfSome, IfNone};
+ghost use Rattle.std.specs.Str.{chars};
+ghost use Rattle.rl_recovery.specs.Leading.{Leads, LeadsNone, LeadsNegative, LeadsSigned, LeadsNoneSigned, LeadsNoNegative, may_lead};
 
+use rl_lenient::digit_runs::begins_digit;
 use rl_lenient::{Found, find, find_negative};
 use rl_lexer::{SourceToken, first_source_token};
-use rl_syntax::text::{before, strip_byte};
+use rl_syntax::text::{before, begins, strip_byte};
 
 /// The literal at the start of a text.
 #[derive(Clone, Copy)]
@@ -18,14 +20,36 @@ pub struct LeadingLiteral<'t> {
     pub following: &'t str,
 }
 
+/// Whether a literal may begin with the first characters of the text. At most five characters are read.
+fn may_lead(text: &str) -> bool
+    ensures { result ≡ may_lead (chars text.now) }
+{
+    begins_digit(text)
+        || begins(text, "\"")
+        || begins(text, "'")
+        || begins(text, "r\"")
+        || begins(text, "r#")
+        || begins(text, "b\"")
+        || begins(text, "b'")
+        || begins(text, "br")
+        || begins(text, "c\"")
+        || begins(text, "cr")
+        || begins(text, "true")
+        || begins(text, "false")
+}
+
 /// Returns the literal at the start of the text, its parse result, and the text after the literal.
 ///
 /// The literal is a literal token, as the lexer splits the text, or `true` or `false`. Returns `None` if the text begins with
-/// another token, with white space or a comment, or with no token. The running time is proportional to the token's length.
+/// another token, with white space or a comment, or with no token. The running time is proportional to the token's length. If no
+/// literal begins with the first characters of the text, at most five characters are read.
 pub fn leading_literal(text: &str) -> Option<LeadingLiteral<'_>>
     ensures leads { IfSome result (λ l. Leads text.now l) }
     ensures none { IfNone result (LeadsNone text.now) }
 {
+    if !may_lead(text) {
+        return None;
+    }
     let (form, following) = first_source_token(text)?;
     let literal = before(text, following);
     let token = SourceToken {

@@ -1,9 +1,10 @@
 // Rendered from crates/rl_recovery/src/leading.rt by tools/render, which erases contracts: change that file, and render anew.
 //! The literal at the start of a text, optionally with a minus before it.
 
+use crate::rl_lenient::digit_runs::begins_digit;
 use crate::rl_lenient::{Found, find, find_negative};
 use crate::rl_lexer::{SourceToken, first_source_token};
-use crate::rl_syntax::text::{before, strip_byte};
+use crate::rl_syntax::text::{before, begins, strip_byte};
 
 /// The literal at the start of a text.
 #[derive(Clone, Copy)]
@@ -16,11 +17,31 @@ pub struct LeadingLiteral<'t> {
     pub following: &'t str,
 }
 
+/// Whether a literal may begin with the first characters of the text. At most five characters are read.
+fn may_lead(text: &str) -> bool {
+    begins_digit(text)
+        || begins(text, "\"")
+        || begins(text, "'")
+        || begins(text, "r\"")
+        || begins(text, "r#")
+        || begins(text, "b\"")
+        || begins(text, "b'")
+        || begins(text, "br")
+        || begins(text, "c\"")
+        || begins(text, "cr")
+        || begins(text, "true")
+        || begins(text, "false")
+}
+
 /// Returns the literal at the start of the text, its parse result, and the text after the literal.
 ///
 /// The literal is a literal token, as the lexer splits the text, or `true` or `false`. Returns `None` if the text begins with
-/// another token, with white space or a comment, or with no token. The running time is proportional to the token's length.
+/// another token, with white space or a comment, or with no token. The running time is proportional to the token's length. If no
+/// literal begins with the first characters of the text, at most five characters are read.
 pub fn leading_literal(text: &str) -> Option<LeadingLiteral<'_>> {
+    if !may_lead(text) {
+        return None;
+    }
     let (form, following) = first_source_token(text)?;
     let literal = before(text, following);
     let token = SourceToken {
