@@ -19,7 +19,7 @@ impl<'t> Lit<'t> {
     ///
     /// The literal ends where [`source`](crate::source) ends its token. A token without a value, such as `'\q'`, is returned as
     /// [`Lit::Verbatim`]. A minus isn't part of the literal; see [`Lit::parse_prefix_signed`]. The time grows with the token, not
-    /// with the text. If no literal begins with the first characters of the text, at most five characters are read.
+    /// with the text. If the first characters can't begin a literal, at most five characters are read.
     ///
     /// The token is read as [`Lit::of_text`] reads it, so `0b12` is a float. [`Lit::check`] applies Rust's grammar. For the reason
     /// why the result is `None`, call [`Lit::parse`] with the text.

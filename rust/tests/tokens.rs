@@ -94,7 +94,7 @@ fn one_token_is_passed() {
     }
 }
 
-/// A parser may call `parse_prefix` at each character of a text. If no literal begins with the first characters, the result doesn't
+/// A parser may call `parse_prefix` at each character of a text. If the first characters can't begin a literal, the result doesn't
 /// depend on the text after them: reading each of these texts to its end at each character would take minutes.
 #[test]
 fn none_without_reading_on() {

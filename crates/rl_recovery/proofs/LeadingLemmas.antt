@@ -98,7 +98,7 @@ token_leads (DocBlockToken inside) after literal is lit same = absurd lit
 token_leads (BadQuoteToken q) after literal is lit same = bad_quote_leads q after
 token_leads (StrayToken c) after literal is lit same = absurd lit
 
--- If no literal begins with the first characters of a text, its first token isn't a literal.
+-- If the first characters of a text can't begin a literal, the first token isn't one.
 pub no_lead : (text : List ℕ) → may_lead (chars text) ≡ false → LeadsNone text
 no_lead text none l h =
     let after = chars l.following.now in

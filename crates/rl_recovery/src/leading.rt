@@ -41,8 +41,8 @@ fn may_lead(text: &str) -> bool
 /// Returns the literal at the start of the text, its parse result, and the text after the literal.
 ///
 /// The literal is a literal token, as the lexer splits the text, or `true` or `false`. Returns `None` if the text begins with
-/// another token, with white space or a comment, or with no token. The running time is proportional to the token's length. If no
-/// literal begins with the first characters of the text, at most five characters are read.
+/// another token, with white space or a comment, or with no token. The running time is proportional to the token's length. If the
+/// first characters can't begin a literal, at most five characters are read.
 pub fn leading_literal(text: &str) -> Option<LeadingLiteral<'_>>
     ensures leads { IfSome result (λ l. Leads text.now l) }
     ensures none { IfNone result (LeadsNone text.now) }
