@@ -1,11 +1,7 @@
 -- A suffix of ASCII characters, recognized by the bytes of its text.
-use Rattle.rl_syntax.proofs.Common.{◌≡◌, ◌<◌, ◌||◌, ◌==◌, ℕ, suc, zero, true, cond, List, [], ◌∷◌, get_or, refl, ap, subst, ◌∙◌, arith, nat_tests, and_parts, or_right, list_all, is_ascii_alphabetic, IsAscii, chars}
-use Rattle.rl_lenient.proofs.Names.{after_run}
-use Rattle.std.proofs.lemmas.Str.{chars-IsAscii}
-use Rattle.rl_syntax.specs.Texts.{is_continue, is_start}
+use Rattle.rl_strict.proofs.Names.{◌≡◌, ◌<◌, ◌||◌, ◌==◌, ℕ, suc, zero, true, cond, List, [], ◌∷◌, get_or, refl, ap, subst, ◌∙◌, arith, nat_tests, and_parts, or_right, list_all, is_ascii_alphabetic, IsAscii, after_run, chars-IsAscii, is_continue, is_start, suffix_rest, is_suffix_byte}
+use Rattle.rl_syntax.proofs.Common.{chars}
 use Rattle.rl_syntax.proofs.AsciiLemmas.{ascii_xid_continue, ascii_xid_start, continue_is_plain, start_is_plain}
-use Rattle.rl_strict.specs.Mirrors.StrictFlawAt.{suffix_rest}
-use Rattle.rl_strict.specs.Mirrors.SuffixRead.{is_suffix_byte}
 
 low : (b : ℕ) → is_suffix_byte b ≡ true → b < 128
 low b h = grind (arith, nat_tests)

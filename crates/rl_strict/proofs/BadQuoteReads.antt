@@ -1,21 +1,10 @@
 -- An invalid quote of a source doesn't parse by `syn`'s grammar, and isn't a literal token.
-use Rattle.rl_syntax.proofs.Common.{◌≡◌, ℕ, ◌==◌, ◌||◌, true, false, not, List, [], ◌∷◌, ◌++◌, refl, sym, ap, inl, lit<, and_parts, both_ways, list_all, or_parts, subst, is_ascii_digit}
-use Rattle.rl_lenient.proofs.Names.{Byte, Char, Continuation, CrLf, Hex, HasNoReading, IsUnit, Kind, Named, Plain, QuotedUnit, Unicode, append_cancel_left, first_passes, is_plain, is_single, opener, unit_text}
-use Rattle.rl_syntax.specs.Texts.{is_continue, is_start}
-use Rattle.rl_syntax.proofs.OneNumber.{begins_number, int_front}
+use Rattle.rl_strict.proofs.Names.{◌≡◌, ℕ, ◌==◌, ◌||◌, true, false, not, List, [], ◌∷◌, ◌++◌, refl, sym, ap, inl, lit<, and_parts, both_ways, list_all, or_parts, subst, is_ascii_digit, Byte, Char, Continuation, CrLf, Hex, HasNoReading, IsUnit, Kind, Named, Plain, QuotedUnit, Unicode, append_cancel_left, first_passes, is_plain, is_single, opener, unit_text, is_continue, is_start, begins_number, int_front, BadQuoteToken, BeginsProper, IsSource, PlainToken, suffix_found, neither_true, not_among, HasNoParts, SingleForm, front_complete, not_both, only_quoted, IsToken}
 use Rattle.rl_lexer.specs.BadQuotes.{BadQuote, ByteQuote, DigitQuote, IsQuoteBody, OtherQuote, RawWordQuote, WordQuote, bad_quote_text, begins_escape, begins_word_or_escape}
 use Rattle.rl_lexer.specs.Lexemes.{BodyPart, CharacterLexeme, EscapedPart, IsLexedSuffix, OneCharacter, PlainPart, body_text}
 use Rattle.rl_lexer.specs.Mirrors.LexemeAt.{after_suffix}
-use Rattle.rl_lexer.specs.Sources.{BadQuoteToken, BeginsProper, IsSource, PlainToken}
 use Rattle.rl_lexer.proofs.BadQuotes.{continue_39}
-use Rattle.rl_lexer.proofs.LexemeFound.{suffix_found}
 use Rattle.rl_lexer.proofs.LexemeFronts.{start_ascii}
-use Rattle.rl_lexer.proofs.LexemeRows.{neither_true, not_among}
-use Rattle.rl_lenient.specs.Forms.{HasNoParts}
-use Rattle.rl_lenient.specs.declared.quoted_forms.QuotedForm.TheVariants.{Single as SingleForm}
-use Rattle.rl_lenient.proofs.FormLemmas.{front_complete, not_both}
-use Rattle.rl_lenient.proofs.OpenerLemmas.{only_quoted}
-use Rattle.rl_strict.specs.StrictShapes.{IsToken}
 use Rattle.rl_strict.proofs.LimitLemmas.{unread_past}
 
 -- ---- texts without a valid character or escape after the opening quote
@@ -59,9 +48,8 @@ word_92 c h = not_among c 92 (λ d. is_ascii_digit d || is_start d) h (start_asc
 -- An identifier contains no quote.
 row_goes_on : (c d : ℕ) (more x : List ℕ) → list_all is_continue more ≡ true → c ∷ more ≡ d ∷ 39 ∷ x → ⊥
 row_goes_on c d [] x each e = absurd (cc)
-row_goes_on c d (k ∷ more) x each e = both_ways (k == 39)
-    (not_among k 39 is_continue (and_parts (is_continue k) (list_all is_continue more) each).0 continue_39)
-    (second_is c k d more x e)
+row_goes_on c d (k ∷ more) x each e = both_ways (k == 39) (not_among k 39 is_continue (and_parts (is_continue k)
+    (list_all is_continue more) each).0 continue_39) (second_is c k d more x e)
 
 -- ---- one character between quotes
 
@@ -90,9 +78,8 @@ one_byte_proper c after n =
 word_bare : (c : ℕ) (more : List ℕ) → list_all is_continue more ≡ true → (more ≡ [] → ⊥)
     → HasNoBare Char (c ∷ (more ++ (39 ∷ [])))
 word_bare c [] each some d x plain e = some refl
-word_bare c (k ∷ more) each some d x plain e = both_ways (k == 39)
-    (not_among k 39 is_continue (and_parts (is_continue k) (list_all is_continue more) each).0 continue_39)
-    (second_is c k d (more ++ (39 ∷ [])) x e)
+word_bare c (k ∷ more) each some d x plain e = both_ways (k == 39) (not_among k 39 is_continue (and_parts (is_continue
+    k) (list_all is_continue more) each).0 continue_39) (second_is c k d (more ++ (39 ∷ [])) x e)
 
 -- ---- all other texts up to a quote
 
@@ -100,10 +87,9 @@ suffix_39 : (suffix after : List ℕ) → IsLexedSuffix suffix after → first_p
 suffix_39 [] after is = refl
 suffix_39 (c ∷ more) after is = start_39 c is.0
 
-body_bare : (kind : Kind) (parts : List BodyPart) (suffix : List ℕ) → first_passes begins_escape (body_text parts)
-    ≡ false
-    → IsQuoteBody parts → first_passes (λ c. c == 39) suffix ≡ false
-    → ((c : ℕ) → parts ≡ PlainPart c ∷ [] → (c == 92) ≡ false → ⊥) → HasNoBare kind (body_text parts ++ (39 ∷ suffix))
+body_bare : (kind : Kind) (parts : List BodyPart) (suffix : List ℕ) → first_passes begins_escape (body_text parts) ≡
+    false → IsQuoteBody parts → first_passes (λ c. c == 39) suffix ≡ false → ((c : ℕ) → parts ≡ PlainPart c ∷ [] → (c ==
+    92) ≡ false → ⊥) → HasNoBare kind (body_text parts ++ (39 ∷ suffix))
 body_bare kind [] [] first is after alone d x plain e = absurd (cc)
 body_bare kind [] (s ∷ suffix) first is after alone d x plain e = both_ways (s == 39) after
     (second_is 39 s d suffix x e)
@@ -156,10 +142,7 @@ bad_quote_unread (ByteQuote parts suffix) after (none, (first, is, ends)) =
 
 no_number : (quote : BadQuote) → begins_number (bad_quote_text quote) ≡ false
 no_number (WordQuote c more) = refl
-no_number (RawWordQuote c more) = refl
-no_number (DigitQuote digit more) = refl
-no_number (OtherQuote parts suffix) = refl
-no_number (ByteQuote parts suffix) = refl
+no_number other = refl
 
 pub bad_quote_no_token : (quote : BadQuote) (after : List ℕ) → IsSource (BadQuoteToken quote) after
     → IsToken (bad_quote_text quote) → ⊥

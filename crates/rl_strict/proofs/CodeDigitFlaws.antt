@@ -1,10 +1,5 @@
 -- The flaw of the digits of a `\u{..}` escape, one digit at a time.
-use Rattle.rl_syntax.proofs.Common.{◌≡◌, ℕ, ◌+◌, ◌*◌, ◌≤◌, ◌&&◌, false, not, cond, eqb, List, [], ◌∷◌, Option, Some, None, refl, sym, ap, subst, ◌∙◌, inl, inr, arith, option_and_then, digit_value, and_parts, both_ways, cases_Bool, eq-eqb, eqb-true, ne_eqb, not-true}
-use Rattle.rl_lenient.proofs.Names.{Kind, is_hex_digit}
-use Rattle.rl_strict.specs.declared.flaws.FlawKind.TheVariants.{Unclosed, NoHexDigit, TooManyDigits}
-use Rattle.rl_lenient.specs.Mirrors.UnitAt.{CodeDigits, code_digits_at, first_code_digits_at}
-use Rattle.rl_strict.specs.Mirrors.UnitFlawAt.{FoundFlaw, code_flaw_at, code_flaw_of, first_digit_flaw_at, found_flaw, is_code}
-use Rattle.rl_lenient.proofs.CodeDigitLemmas.{digit_apart, below_six}
+use Rattle.rl_strict.proofs.Names.{◌≡◌, ℕ, ◌+◌, ◌*◌, ◌≤◌, ◌&&◌, false, not, cond, eqb, List, [], ◌∷◌, Option, Some, None, refl, sym, ap, subst, ◌∙◌, inl, inr, arith, option_and_then, digit_value, and_parts, both_ways, cases_Bool, eq-eqb, eqb-true, ne_eqb, not-true, Kind, is_hex_digit, Unclosed, NoHexDigit, TooManyDigits, CodeDigits, code_digits_at, first_code_digits_at, FoundFlaw, code_flaw_at, code_flaw_of, first_digit_flaw_at, found_flaw, is_code, digit_apart, below_six}
 
 -- ---- the flaw of the digits
 

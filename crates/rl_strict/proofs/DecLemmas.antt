@@ -1,14 +1,8 @@
 -- The decimal text of an integer of any size: it represents the integer, contains only digits, and has no leading zero unless
 -- the integer is 0.
-use Rattle.rl_syntax.proofs.Common.{◌≡◌, ℕ, suc, zero, ◌+◌, ◌*◌, ◌<◌, ◌≤◌, ◌^◌, Bool, true, false, eqb, ◌==◌, cond, List, [], ◌∷◌, length, refl, sym, ap, ◌∙◌, arith, eqb-true, ne_eqb, nat_tests, digit_value, is_ascii_digit, list_all}
-use Rattle.rl_lenient.proofs.Names.{first_passes}
-use Rattle.std.proofs.Common.{◌/◌, ◌%◌}
-use Rattle.std.proofs.lemmas.Bool.{agree_below_at}
-use Rattle.std.proofs.Math.Nat.{pow-succ'}
+use Rattle.rl_strict.proofs.Names.{◌≡◌, ℕ, suc, zero, ◌+◌, ◌*◌, ◌<◌, ◌≤◌, ◌^◌, Bool, true, false, eqb, ◌==◌, cond, List, [], ◌∷◌, length, refl, sym, ap, ◌∙◌, arith, eqb-true, ne_eqb, nat_tests, digit_value, is_ascii_digit, list_all, first_passes, ◌/◌, ◌%◌, agree_below_at, pow-succ', dec, place_value}
 use Rattle.std.specs.Fmt.{digits_onto, digit_glyph}
-use Rattle.rl_syntax.specs.Strict.{dec}
 use Rattle.rl_lenient.proofs.PlainNumberLemmas.{onto_digits}
-use Rattle.rl_syntax.specs.Spelling.{place_value}
 
 -- ---- one digit
 
@@ -72,9 +66,8 @@ dec_digits n = onto_digits (suc n) n [] refl
 
 -- ---- the text has no leading zero
 
-zero_step : (n : ℕ) (ds more : List ℕ) (b : Bool) → 0 < n → (n / 10 == 0) ≡ b
-    → ((n / 10 == 0) ≡ false → first_passes (λ c. c == 48) more ≡ false)
-    → first_passes (λ c. c == 48) (cond b (digit_glyph false (n % 10) ∷ ds) more) ≡ false
+zero_step : (n : ℕ) (ds more : List ℕ) (b : Bool) → 0 < n → (n / 10 == 0) ≡ b → ((n / 10 == 0) ≡ false → first_passes (λ
+    c. c == 48) more ≡ false) → first_passes (λ c. c == 48) (cond b (digit_glyph false (n % 10) ∷ ds) more) ≡ false
 zero_step n ds more true p e m =
     let none : n / 10 ≡ 0 = eqb-true (n / 10) 0 e in
     glyph_zero (n % 10) (omega arith) ∙ ne_eqb (n % 10) 0 (λ z. omega arith)

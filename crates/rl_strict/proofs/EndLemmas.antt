@@ -1,21 +1,5 @@
 -- Texts as they are read, in a file or not: lemmas on files, and lemmas on texts in which CR LF isn't read as LF.
-use Rattle.rl_syntax.proofs.Common.{◌≡◌, ℕ, Bool, true, false, ◌==◌, ◌&&◌, List, [], ◌∷◌, ◌++◌, Option, Some, None, refl, sym, ap, ◌∙◌, append_assoc, option_map, replicate}
-use Rattle.rl_lenient.proofs.Names.{Kind, first_passes, is_single, is_string}
-use Rattle.rl_syntax.specs.Texts.{begins}
-use Rattle.rl_lenient.specs.Forms.{has_form}
-use Rattle.rl_lenient.specs.declared.quoted_forms.QuotedForm.{QuotedForm}
-use Rattle.rl_lenient.specs.Mirrors.PlainAt.{is_some_text}
-use Rattle.rl_strict.specs.Mirrors.StrictAt.{unit_rest}
-use Rattle.rl_strict.specs.StrictShapes.{ClosesForm}
-use Rattle.rl_strict.specs.declared.flaws.FlawKind.{FlawKind}
-use Rattle.rl_strict.specs.declared.line_ends.LineEnds.{LineEnds}
-use Rattle.rl_strict.specs.declared.line_ends.LineEnds.TheVariants.{Text, File}
-use Rattle.rl_strict.specs.Flaws.{StopsBefore}
-use Rattle.rl_strict.specs.LineEnds.{IsFileRest, IsRestOf, read_of}
-use Rattle.rl_strict.specs.Mirrors.StrictFlawAt.{strict_unit_flaw_at}
-use Rattle.rl_strict.specs.Mirrors.SuffixRead.{suffix_read_at}
-use Rattle.rl_strict.specs.Mirrors.UnitFlawAt.{FoundFlaw}
-use Rattle.rl_strict.specs.Mirrors.WordFlawAt.{end_flaw_at}
+use Rattle.rl_strict.proofs.Names.{◌≡◌, ℕ, Bool, true, List, [], ◌++◌, Option, Some, None, refl, sym, ap, ◌∙◌, append_assoc, option_map, replicate, Kind, first_passes, is_single, is_string, begins, has_form, QuotedForm, is_some_text, unit_rest, ClosesForm, FlawKind, LineEnds, Text, File, StopsBefore, IsFileRest, IsRestOf, read_of, strict_unit_flaw_at, suffix_read_at, FoundFlaw, end_flaw_at}
 use Rattle.rl_strict.proofs.FileEscapes.{unit_flaw_read}
 use Rattle.rl_strict.proofs.FileSuffixes.{end_flaw_read, first_read, suffix_place, suffix_read}
 use Rattle.rl_strict.proofs.FileTextLemmas.{form_rest, free_text, lacks_cr, rest_free, rest_self, rest_step}

@@ -1,14 +1,5 @@
 -- The results of the parsers of one character or escape, for each first character, and the ways to complete a text.
-use Rattle.rl_syntax.proofs.Common.{◌≡◌, ℕ, suc, ◌+◌, ◌*◌, ◌^◌, ◌<◌, ◌≤◌, ◌||◌, ◌&&◌, Bool, true, false, not, cond, eqb, ltb, List, [], ◌∷◌, ◌++◌, Option, Some, None, refl, sym, ap, subst, ◌∙◌, ◌⊎◌, inl, inr, arith, option_and_then, digit_value, scalar, and_from, and_parts, both_ways, cases_Bool, eqb-true, ltb-true, ltb-false, lt-ltb, eq-eqb, ne_eqb, or_right}
-use Rattle.rl_lenient.proofs.Names.{IsScalar, pow-suc, and_right, le-ltb, Kind, CStr, content_of, is_hex_digit, holds_characters, is_string, is_single, is_line_end, allows_code, may_be_hex, has_unicode}
-use Rattle.std.proofs.Common.{leb}
-use Rattle.std.proofs.Math.Nat.{pow-le-pow_right}
-use Rattle.std.proofs.lemmas.Bool.{le-leb, leb-false}
-use Rattle.rl_strict.specs.Flaws.{IsCompletable}
-use Rattle.rl_lenient.specs.Mirrors.UnitAt.{found, number_if, digit_at, hex_at, unicode_at, after_blanks, named_in, named_at, escape_at, unit_at}
-use Rattle.rl_strict.specs.Mirrors.UnitFlawAt.{is_code}
-use Rattle.rl_lenient.proofs.UnitLemmas.{holds_more, unicode_sound}
-use Rattle.rl_lenient.proofs.CodeDigitLemmas.{below_six, digit_apart, unicode_digits_at, unicode_is}
+use Rattle.rl_strict.proofs.Names.{◌≡◌, ℕ, suc, ◌+◌, ◌*◌, ◌^◌, ◌<◌, ◌≤◌, ◌||◌, ◌&&◌, Bool, true, false, not, cond, eqb, ltb, List, [], ◌∷◌, ◌++◌, Option, Some, None, refl, sym, ap, subst, ◌∙◌, ◌⊎◌, inl, inr, arith, option_and_then, digit_value, scalar, and_from, and_parts, both_ways, cases_Bool, eqb-true, ltb-true, ltb-false, lt-ltb, eq-eqb, ne_eqb, or_right, IsScalar, pow-suc, and_right, le-ltb, Kind, CStr, content_of, is_hex_digit, holds_characters, is_string, is_single, is_line_end, allows_code, may_be_hex, has_unicode, leb, pow-le-pow_right, le-leb, leb-false, IsCompletable, found, number_if, digit_at, hex_at, unicode_at, after_blanks, named_in, named_at, escape_at, unit_at, is_code, holds_more, unicode_sound, below_six, digit_apart, unicode_digits_at, unicode_is}
 
 -- ---- parsers of the beginning of a text
 
@@ -62,9 +53,8 @@ not_zero n = ne_eqb (n + 1) 0 (λ e. omega (arith, e))
 
 -- ---- the two digits of \x
 
-pub hex_read : (kind : Kind) (c d : ℕ) (r : List ℕ) → is_hex_digit c ≡ true → is_hex_digit d ≡ true
-    → hex_at kind (c ∷ d ∷ r) ≡ number_if (may_be_hex kind (digit_value c * 16 + digit_value d))
-    (digit_value c * 16 + digit_value d) r
+pub hex_read : (kind : Kind) (c d : ℕ) (r : List ℕ) → is_hex_digit c ≡ true → is_hex_digit d ≡ true → hex_at kind (c ∷ d
+    ∷ r) ≡ number_if (may_be_hex kind (digit_value c * 16 + digit_value d)) (digit_value c * 16 + digit_value d) r
 unfolding hex_at
 hex_read kind c d r a b = rw (a, b) refl
 

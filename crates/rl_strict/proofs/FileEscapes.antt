@@ -1,12 +1,5 @@
 -- Escapes of a literal in a file: the code finds equal results in the file and in the text as rustc reads it.
-use Rattle.rl_syntax.proofs.Common.{◌≡◌, ℕ, ◌+◌, ◌*◌, Bool, true, false, not, ◌==◌, ◌&&◌, cond, List, [], ◌∷◌, Option, Some, None, refl, sym, ap, subst, ◌∙◌, digit_value, nat_lt, option_and_then, option_map, scalar}
-use Rattle.rl_lenient.proofs.Names.{ByteStr, CStr, Kind, Str, after_run, allows_code, content_of, has_unicode, holds_characters, is_dropped_blank, is_line_end, is_strict_unit, is_string, Itself, may_be_hex}
-use Rattle.rl_lenient.specs.Mirrors.UnitAt.{CodeDigits, brace_at, close_at, closed_at, code_digits, code_digits_at, digit_at, after_blanks, escape_at, first_code_digits_at, found, hex_at, named_at, named_in, number_if, unicode_at}
-use Rattle.rl_strict.specs.Mirrors.StrictAt.{escape_rest, unit_rest}
-use Rattle.rl_strict.specs.declared.flaws.FlawKind.TheVariants.{CarriageReturn, EmptyBraces, NoBrace, NoHexDigit, NoUnicode, Nul, HexEscapeOutOfRange, TooManyDigits, UnknownEscape}
-use Rattle.rl_strict.specs.LineEnds.{is_dropped, lf_text}
-use Rattle.rl_strict.specs.Mirrors.StrictFlawAt.{strict_escape_flaw_at, strict_unit_flaw_at}
-use Rattle.rl_strict.specs.Mirrors.UnitFlawAt.{FoundFlaw, character_flaw_of, code_flaw_at, code_flaw_of, escape_flaw_at, first_digit_flaw_at, found_flaw, hex_flaw_at, is_code, low_digit_flaw_at, unclosed_flaw_at, unicode_flaw_at}
+use Rattle.rl_strict.proofs.Names.{◌≡◌, ℕ, ◌+◌, ◌*◌, Bool, true, false, not, ◌==◌, ◌&&◌, cond, List, [], ◌∷◌, Option, Some, None, refl, sym, ap, subst, ◌∙◌, digit_value, nat_lt, option_and_then, option_map, scalar, ByteStr, CStr, Kind, Str, after_run, allows_code, content_of, has_unicode, holds_characters, is_dropped_blank, is_line_end, is_strict_unit, is_string, Itself, may_be_hex, CodeDigits, brace_at, close_at, closed_at, code_digits, code_digits_at, digit_at, after_blanks, escape_at, first_code_digits_at, found, hex_at, named_at, named_in, number_if, unicode_at, escape_rest, unit_rest, CarriageReturn, EmptyBraces, NoBrace, NoHexDigit, NoUnicode, Nul, HexEscapeOutOfRange, TooManyDigits, UnknownEscape, is_dropped, lf_text, strict_escape_flaw_at, strict_unit_flaw_at, FoundFlaw, character_flaw_of, code_flaw_at, code_flaw_of, escape_flaw_at, first_digit_flaw_at, found_flaw, hex_flaw_at, is_code, low_digit_flaw_at, unclosed_flaw_at, unicode_flaw_at}
 use Rattle.rl_strict.proofs.FileTextLemmas.{by_first, line_of, when_kept}
 use Rattle.rl_strict.proofs.FileSuffixes.{both, lf_flaw}
 
@@ -59,11 +52,10 @@ digits_read (c ∷ cs) v n last = go (digits_read cs) (is_dropped c cs) refl
 
     kept : More → lf_text (c ∷ cs) ≡ c ∷ lf_text cs → code_digits_at v n (lf_text last) (c ∷ lf_text cs)
         ≡ lf_digits (code_digits_at v n last (c ∷ cs))
-    kept more e = both lf_digits (nat_lt (digit_value c) 16) _ _ _ _
-        (both lf_digits (n == 6) _ _ _ _ (ap (code_digits v n (lf_text last)) (sym e))
-        (ap (λ z. code_digits_at (v * 16 + digit_value c) (n + 1) z (lf_text cs)) (sym e)
-        ∙ more (v * 16 + digit_value c) (n + 1) (c ∷ cs)))
-        (both lf_digits (c == 95) _ _ _ _ (more v n last) (ap (code_digits v n (lf_text last)) (sym e)))
+    kept more e = both lf_digits (nat_lt (digit_value c) 16) _ _ _ _ (both lf_digits (n == 6) _ _ _ _ (ap (code_digits v
+        n (lf_text last)) (sym e)) (ap (λ z. code_digits_at (v * 16 + digit_value c) (n + 1) z (lf_text cs)) (sym e) ∙
+        more (v * 16 + digit_value c) (n + 1) (c ∷ cs))) (both lf_digits (c == 95) _ _ _ _ (more v n last) (ap
+        (code_digits v n (lf_text last)) (sym e)))
 
     go : More → (b : Bool) → is_dropped c cs ≡ b → At (c ∷ cs)
     go more true h = let found = line_of c cs h in subst At (sym found.1) refl
@@ -140,22 +132,19 @@ escape_read k c cs h =
 -- ---- the flaw of an invalid escape
 
 low_read : (t : List ℕ) → low_digit_flaw_at (lf_text t) ≡ lf_flaw (low_digit_flaw_at t)
-low_read t = by_first (λ z r. low_digit_flaw_at r ≡ lf_flaw (low_digit_flaw_at z)) refl (λ cs. refl)
-    (λ c cs e. both lf_flaw (nat_lt (digit_value c) 16) _ _ _ _ (ap (found_flaw Nul) (sym e))
-    (ap (found_flaw NoHexDigit) (sym e))) t
+low_read t = by_first (λ z r. low_digit_flaw_at r ≡ lf_flaw (low_digit_flaw_at z)) refl (λ cs. refl) (λ c cs e. both
+    lf_flaw (nat_lt (digit_value c) 16) _ _ _ _ (ap (found_flaw Nul) (sym e)) (ap (found_flaw NoHexDigit) (sym e))) t
 
 hex_flaw_read : (k : Kind) (t : List ℕ) → hex_flaw_at k (lf_text t) ≡ lf_flaw (hex_flaw_at k t)
 unfolding hex_flaw_at
-hex_flaw_read k t = by_first (λ z r. hex_flaw_at k r ≡ lf_flaw (hex_flaw_at k z)) refl (λ cs. refl)
-    (λ c cs e. both lf_flaw (nat_lt (digit_value c) 16) _ _ _ _
-    (both lf_flaw (holds_characters k && nat_lt 7 (digit_value c)) _ _ _ _ (ap (found_flaw HexEscapeOutOfRange) (sym e))
-    (low_read cs)) (ap (found_flaw NoHexDigit) (sym e))) t
+hex_flaw_read k t = by_first (λ z r. hex_flaw_at k r ≡ lf_flaw (hex_flaw_at k z)) refl (λ cs. refl) (λ c cs e. both
+    lf_flaw (nat_lt (digit_value c) 16) _ _ _ _ (both lf_flaw (holds_characters k && nat_lt 7 (digit_value c)) _ _ _ _
+    (ap (found_flaw HexEscapeOutOfRange) (sym e)) (low_read cs)) (ap (found_flaw NoHexDigit) (sym e))) t
 
 unclosed_read : (v : ℕ) (t : List ℕ) → unclosed_flaw_at v (lf_text t) ≡ lf_flaw (unclosed_flaw_at v t)
-unclosed_read v t = by_first (λ z r. unclosed_flaw_at v r ≡ lf_flaw (unclosed_flaw_at v z)) refl (λ cs. refl)
-    (λ c cs e. both lf_flaw (c == 125) _ _ _ _ (ap (found_flaw (code_flaw_of v)) (sym e))
-    (both lf_flaw (nat_lt (digit_value c) 16) _ _ _ _ (ap (found_flaw TooManyDigits) (sym e))
-    (ap (found_flaw NoHexDigit) (sym e)))) t
+unclosed_read v t = by_first (λ z r. unclosed_flaw_at v r ≡ lf_flaw (unclosed_flaw_at v z)) refl (λ cs. refl) (λ c cs e.
+    both lf_flaw (c == 125) _ _ _ _ (ap (found_flaw (code_flaw_of v)) (sym e)) (both lf_flaw (nat_lt (digit_value c) 16)
+    _ _ _ _ (ap (found_flaw TooManyDigits) (sym e)) (ap (found_flaw NoHexDigit) (sym e)))) t
 
 code_read : (k : Kind) (d : CodeDigits) → code_flaw_at k (lf_digits d) ≡ lf_flaw (code_flaw_at k d)
 code_read k (v, n, last, rest) = both lf_flaw (n == 6 && not (is_code k v)) _ _ _ _ refl (unclosed_read v rest)
@@ -163,11 +152,10 @@ code_read k (v, n, last, rest) = both lf_flaw (n == 6 && not (is_code k v)) _ _ 
 first_digit_read : (k : Kind) (t : List ℕ) → first_digit_flaw_at k (lf_text t) ≡ lf_flaw (first_digit_flaw_at k t)
 unfolding first_digit_flaw_at
 first_digit_read k t = by_first (λ z r. first_digit_flaw_at k r ≡ lf_flaw (first_digit_flaw_at k z)) refl (λ cs. refl)
-    (λ c cs e. both lf_flaw (nat_lt (digit_value c) 16) _ _ _ _
-    (ap (λ z. code_flaw_at k (code_digits_at (digit_value c) 1 z (lf_text cs))) (sym e)
-    ∙ ap (code_flaw_at k) (digits_read cs (digit_value c) 1 (c ∷ cs))
-    ∙ code_read k (code_digits_at (digit_value c) 1 (c ∷ cs) cs))
-    (both lf_flaw (c == 125) _ _ _ _ (ap (found_flaw EmptyBraces) (sym e)) (ap (found_flaw NoHexDigit) (sym e)))) t
+    (λ c cs e. both lf_flaw (nat_lt (digit_value c) 16) _ _ _ _ (ap (λ z. code_flaw_at k (code_digits_at (digit_value c)
+    1 z (lf_text cs))) (sym e) ∙ ap (code_flaw_at k) (digits_read cs (digit_value c) 1 (c ∷ cs)) ∙ code_read k
+    (code_digits_at (digit_value c) 1 (c ∷ cs) cs)) (both lf_flaw (c == 125) _ _ _ _ (ap (found_flaw EmptyBraces) (sym
+    e)) (ap (found_flaw NoHexDigit) (sym e)))) t
 
 unicode_flaw_read : (k : Kind) (t : List ℕ) → unicode_flaw_at k (lf_text t) ≡ lf_flaw (unicode_flaw_at k t)
 unfolding unicode_flaw_at
@@ -176,11 +164,10 @@ unicode_flaw_read k t = by_first (λ z r. unicode_flaw_at k r ≡ lf_flaw (unico
 
 escape_flaw_read : (k : Kind) (t : List ℕ) → escape_flaw_at k (lf_text t) ≡ lf_flaw (escape_flaw_at k t)
 unfolding escape_flaw_at
-escape_flaw_read k t = by_first (λ z r. escape_flaw_at k r ≡ lf_flaw (escape_flaw_at k z)) refl (λ cs. refl)
-    (λ c cs e. both lf_flaw (c == 120) _ _ _ _ (hex_flaw_read k cs)
-    (both lf_flaw (c == 117) _ _ _ _
-    (both lf_flaw (has_unicode k) _ _ _ _ (unicode_flaw_read k cs) (ap (found_flaw NoUnicode) (sym e)))
-    (both lf_flaw (c == 48) _ _ _ _ (ap (found_flaw Nul) (sym e)) (ap (found_flaw UnknownEscape) (sym e))))) t
+escape_flaw_read k t = by_first (λ z r. escape_flaw_at k r ≡ lf_flaw (escape_flaw_at k z)) refl (λ cs. refl) (λ c cs e.
+    both lf_flaw (c == 120) _ _ _ _ (hex_flaw_read k cs) (both lf_flaw (c == 117) _ _ _ _ (both lf_flaw (has_unicode k)
+    _ _ _ _ (unicode_flaw_read k cs) (ap (found_flaw NoUnicode) (sym e))) (both lf_flaw (c == 48) _ _ _ _ (ap
+    (found_flaw Nul) (sym e)) (ap (found_flaw UnknownEscape) (sym e))))) t
 
 -- The flaw of an invalid character or escape. In a string, a text that begins with LF, or with a backslash and LF, is valid.
 strict_escape_read : (k : Kind) (t : List ℕ) → (is_string k ≡ true → escape_rest k (lf_text t) ≡ None)
@@ -201,9 +188,8 @@ strict_escape_read k t none = by_first (λ z r. (is_string k ≡ true → escape
             absurd (cc)
         go false s = refl
 
-    kept : (c : ℕ) (cs : List ℕ) → lf_text (c ∷ cs) ≡ c ∷ lf_text cs
-        → (is_string k ≡ true → escape_rest k (c ∷ lf_text cs) ≡ None) → strict_escape_flaw_at k (c ∷ lf_text cs)
-        ≡ lf_flaw (strict_escape_flaw_at k (c ∷ cs))
+    kept : (c : ℕ) (cs : List ℕ) → lf_text (c ∷ cs) ≡ c ∷ lf_text cs → (is_string k ≡ true → escape_rest k (c ∷ lf_text
+        cs) ≡ None) → strict_escape_flaw_at k (c ∷ lf_text cs) ≡ lf_flaw (strict_escape_flaw_at k (c ∷ cs))
     kept c cs e h = both lf_flaw (c == 13 && is_string k) _ _ _ _ (ap (found_flaw CarriageReturn) (sym e))
         (ap (escape_flaw_at k) (sym e) ∙ escape_flaw_read k (c ∷ cs))
 
@@ -223,15 +209,13 @@ unit_flaw_read k t none = by_first (λ z r. (is_string k ≡ true → unit_rest 
         → strict_unit_flaw_at k (10 ∷ lf_text cs) ≡ lf_flaw (strict_unit_flaw_at k (13 ∷ 10 ∷ cs))
     line cs h = go (is_string k) refl
       where
-        go : (b : Bool) → is_string k ≡ b → found_flaw (character_flaw_of 10) (10 ∷ lf_text cs)
-            ≡ lf_flaw (cond b (found_flaw CarriageReturn (13 ∷ 10 ∷ cs))
-            (found_flaw (character_flaw_of 13) (13 ∷ 10 ∷ cs)))
+        go : (b : Bool) → is_string k ≡ b → found_flaw (character_flaw_of 10) (10 ∷ lf_text cs) ≡ lf_flaw (cond b
+            (found_flaw CarriageReturn (13 ∷ 10 ∷ cs)) (found_flaw (character_flaw_of 13) (13 ∷ 10 ∷ cs)))
         go true s = absurd (feed k (lf_text cs) s (h s))
         go false s = refl
 
-    kept : (c : ℕ) (cs : List ℕ) → lf_text (c ∷ cs) ≡ c ∷ lf_text cs
-        → (is_string k ≡ true → unit_rest k (c ∷ lf_text cs) ≡ None) → strict_unit_flaw_at k (c ∷ lf_text cs)
-        ≡ lf_flaw (strict_unit_flaw_at k (c ∷ cs))
+    kept : (c : ℕ) (cs : List ℕ) → lf_text (c ∷ cs) ≡ c ∷ lf_text cs → (is_string k ≡ true → unit_rest k (c ∷ lf_text
+        cs) ≡ None) → strict_unit_flaw_at k (c ∷ lf_text cs) ≡ lf_flaw (strict_unit_flaw_at k (c ∷ cs))
     kept c cs e h = go (c == 92) refl
       where
         bare : List ℕ → Option (List ℕ)

@@ -1,20 +1,7 @@
 -- Numbers in a file: the code finds equal results in the file and in the text as rustc reads it.
-use Rattle.rl_syntax.proofs.Common.{◌≡◌, ℕ, ◌≤◌, Bool, true, false, not, ◌==◌, ◌&&◌, ◌||◌, cond, List, [], ◌∷◌, Option, Some, None, refl, sym, ap, subst, ◌∙◌, arith, both_ways, is_ascii_digit, list_any, or_from}
-use Rattle.rl_lenient.proofs.Names.{cond_both, first_passes, is_exponent_letter, is_run_part, le-ltb, place_value, without_underscores}
-use Rattle.std.proofs.Math.Bool.{and-false}
-use Rattle.rl_syntax.proofs.Basics.{apart}
-use Rattle.rl_lenient.specs.Mirrors.NumberAt.{after_digits, after_power_sign, capped, digit_run_at, has_digit_at, has_value, magnitude_at, radix_at, radix_of}
-use Rattle.rl_lenient.specs.Mirrors.PlainAt.{is_some_text}
-use Rattle.rl_strict.specs.declared.flaws.FlawKind.{FlawKind}
-use Rattle.rl_strict.specs.declared.flaws.FlawKind.TheVariants.{BadSuffix, BasedFloat, InvalidDigit, NoDigits, NoExponentDigit, NoFractionDigit}
-use Rattle.rl_strict.specs.LineEnds.{lf_text}
-use Rattle.rl_strict.specs.StrictNumberFlaws.{is_float_mark}
-use Rattle.rl_strict.specs.StrictNumbersRead.{IsStop}
-use Rattle.rl_strict.specs.Mirrors.NumberRead.{Ending, NumberRead, as_float, as_integer, based_read_at, digits_end_at, ended, fraction_end_at, number_outcome, number_read_at, power_end_at, stopped, suffix_end_at, whole_read_at}
-use Rattle.rl_strict.specs.Mirrors.StrictFlawAt.{suffix_rest}
-use Rattle.rl_strict.proofs.FileTextLemmas.{by_first, other_kept, stops_rest, when_kept}
+use Rattle.rl_strict.proofs.Names.{◌≡◌, ℕ, ◌≤◌, Bool, true, false, not, ◌==◌, ◌&&◌, ◌||◌, cond, List, [], ◌∷◌, Option, Some, None, refl, sym, ap, ◌∙◌, arith, both_ways, is_ascii_digit, list_any, or_from, cond_both, first_passes, is_exponent_letter, is_run_part, le-ltb, place_value, without_underscores, and-false, apart, after_digits, after_power_sign, capped, digit_run_at, has_digit_at, has_value, magnitude_at, radix_at, radix_of, is_some_text, FlawKind, BadSuffix, BasedFloat, InvalidDigit, NoDigits, NoExponentDigit, NoFractionDigit, lf_text, is_float_mark, IsStop, Ending, NumberRead, as_float, as_integer, based_read_at, digits_end_at, ended, fraction_end_at, number_read_at, power_end_at, stopped, suffix_end_at, whole_read_at, suffix_rest}
+use Rattle.rl_strict.proofs.FileTextLemmas.{by_first, other_kept, when_kept}
 use Rattle.rl_strict.proofs.FileSuffixes.{both, first_read, front_read, run_read, some_read, suffix_rest_read}
-use Rattle.rl_strict.proofs.NumberEnds.{end_of, number_end_at}
 use Rattle.rl_strict.proofs.ReadNumbers.{stop_of}
 
 abbrev lf_ending : Ending → Ending
@@ -80,20 +67,18 @@ power_read t = ap of (sign_read t) ∙ of_read (after_power_sign t)
 
 digits_end_read : (t : List ℕ) → digits_end_at (lf_text t) ≡ lf_ending (digits_end_at t)
 unfolding digits_end_at
-digits_end_read t = by_first (λ z r. digits_end_at r ≡ lf_ending (digits_end_at z)) (suffix_end_read [])
-    (λ cs. suffix_end_read (13 ∷ 10 ∷ cs))
-    (λ c cs e. both lf_ending (is_exponent_letter c) (power_end_at cs) (suffix_end_at (c ∷ cs))
-    (power_end_at (lf_text cs)) (suffix_end_at (c ∷ lf_text cs)) (power_read cs)
-    (ap suffix_end_at (sym e) ∙ suffix_end_read (c ∷ cs))) t
+digits_end_read t = by_first (λ z r. digits_end_at r ≡ lf_ending (digits_end_at z)) (suffix_end_read []) (λ cs.
+    suffix_end_read (13 ∷ 10 ∷ cs)) (λ c cs e. both lf_ending (is_exponent_letter c) (power_end_at cs) (suffix_end_at (c
+    ∷ cs)) (power_end_at (lf_text cs)) (suffix_end_at (c ∷ lf_text cs)) (power_read cs) (ap suffix_end_at (sym e) ∙
+    suffix_end_read (c ∷ cs))) t
 
 fraction_read : (t : List ℕ) → fraction_end_at (lf_text t) ≡ lf_ending (fraction_end_at t)
 unfolding fraction_end_at
-fraction_read t = by_first (λ z r. fraction_end_at r ≡ lf_ending (fraction_end_at z)) refl (λ cs. refl)
-    (λ c cs e. both lf_ending (is_ascii_digit c) (digits_end_at (after_digits 10 (c ∷ cs)))
-    (stopped NoFractionDigit (c ∷ cs)) (digits_end_at (after_digits 10 (c ∷ lf_text cs)))
-    (stopped NoFractionDigit (c ∷ lf_text cs))
-    (ap (λ z. digits_end_at (after_digits 10 z)) (sym e) ∙ ap digits_end_at (after_read 10 ten (c ∷ cs))
-    ∙ digits_end_read (after_digits 10 (c ∷ cs))) (ap (stopped NoFractionDigit) (sym e))) t
+fraction_read t = by_first (λ z r. fraction_end_at r ≡ lf_ending (fraction_end_at z)) refl (λ cs. refl) (λ c cs e. both
+    lf_ending (is_ascii_digit c) (digits_end_at (after_digits 10 (c ∷ cs))) (stopped NoFractionDigit (c ∷ cs))
+    (digits_end_at (after_digits 10 (c ∷ lf_text cs))) (stopped NoFractionDigit (c ∷ lf_text cs)) (ap (λ z.
+    digits_end_at (after_digits 10 z)) (sym e) ∙ ap digits_end_at (after_read 10 ten (c ∷ cs)) ∙ digits_end_read
+    (after_digits 10 (c ∷ cs))) (ap (stopped NoFractionDigit) (sym e))) t
 
 -- ---- numbers
 
@@ -117,11 +102,10 @@ whole_read m t = by_first (λ z r. whole_read_at m r ≡ lf_number (whole_read_a
     kept : (c : ℕ) (cs : List ℕ) → lf_text (c ∷ cs) ≡ c ∷ lf_text cs → whole_read_at m (c ∷ lf_text cs)
         ≡ lf_number (whole_read_at m (c ∷ cs))
     kept c cs e = both lf_number (c == 46) (as_float (fraction_end_at cs)) _ (as_float (fraction_end_at (lf_text cs))) _
-        (ap as_float (fraction_read cs) ∙ float_read (fraction_end_at cs))
-        (both lf_number (is_exponent_letter c) (as_float (power_end_at cs)) (as_integer m (suffix_end_at (c ∷ cs)))
-        (as_float (power_end_at (lf_text cs))) (as_integer m (suffix_end_at (c ∷ lf_text cs)))
-        (ap as_float (power_read cs) ∙ float_read (power_end_at cs))
-        (ap (λ z. as_integer m (suffix_end_at z)) (sym e) ∙ integer_end m (c ∷ cs)))
+        (ap as_float (fraction_read cs) ∙ float_read (fraction_end_at cs)) (both lf_number (is_exponent_letter c)
+        (as_float (power_end_at cs)) (as_integer m (suffix_end_at (c ∷ cs))) (as_float (power_end_at (lf_text cs)))
+        (as_integer m (suffix_end_at (c ∷ lf_text cs))) (ap as_float (power_read cs) ∙ float_read (power_end_at cs)) (ap
+        (λ z. as_integer m (suffix_end_at z)) (sym e) ∙ integer_end m (c ∷ cs)))
 
 based_read : (radix : ℕ) → radix ≤ 36 → (t : List ℕ) → based_read_at radix (lf_text t)
     ≡ lf_number (based_read_at radix t)
@@ -168,9 +152,8 @@ abbrev lf_radix : ℕ × List ℕ → ℕ × List ℕ
 lf_radix p = (p.0, lf_text p.1)
 
 small_letter : (c : ℕ) → radix_of c ≤ 36
-small_letter c = cond_both (c == 98) 2 _ (λ n. n ≤ 36) (λ e. omega arith)
-    (λ e. cond_both (c == 111) 8 _ (λ n. n ≤ 36) (λ e. omega arith)
-    (λ e. cond_both (c == 120) 16 10 (λ n. n ≤ 36) (λ e. omega arith) (λ e. omega arith)))
+small_letter c = cond_both (c == 98) 2 _ (λ n. n ≤ 36) (λ e. omega arith) (λ e. cond_both (c == 111) 8 _ (λ n. n ≤ 36)
+    (λ e. omega arith) (λ e. cond_both (c == 120) 16 10 (λ n. n ≤ 36) (λ e. omega arith) (λ e. omega arith)))
 
 small_radix : (t : List ℕ) → (radix_at t).0 ≤ 36
 unfolding radix_at

@@ -1,20 +1,6 @@
 -- Byte offsets in a text as written, and in the text as it is read.
-use Rattle.rl_syntax.proofs.Common.{◌≡◌, ℕ, ◌+◌, ◌-◌, ◌≤◌, ◌&&◌, Bool, true, false, cond, List, [], ◌∷◌, ◌++◌, length, refl, sym, ap, subst, ◌∙◌, inl, inr, arith, and_from, and_parts, append-nil, append_assoc, append_cancel_right, drop, encode_utf8, encode_utf8_all, encodes-chars, chars_from_encodes, scalar, IsUtf8}
+use Rattle.rl_strict.proofs.Names.{◌≡◌, ℕ, ◌+◌, ◌-◌, ◌≤◌, Bool, true, false, cond, List, [], ◌∷◌, ◌++◌, length, refl, sym, ap, subst, ◌∙◌, arith, and_from, and_parts, append-nil, append_assoc, append_cancel_right, drop, encode_utf8, encode_utf8_all, encodes-chars, chars_from_encodes, scalar, IsUtf8, byte_len, chars, scalars-chars, IsTail, byte_len-append, tail_chars, Flaw, FlawKind, LineEnds, Text, File, first_len, IsPlaceInFile, IsFileRest, IsRestOf, is_dropped, lf_text, read_of, ExplainsOf, IsFlawOf, IsPlaceAfter, IsRestPlace, SaysOf, lf_bytes}
 use Rattle.std.proofs.Math.Utf8.{scalars}
-use Rattle.rl_lenient.proofs.Names.{byte_len}
-use Rattle.std.specs.Str.{chars}
-use Rattle.std.proofs.lemmas.Str.{scalars-chars}
-use Rattle.rl_syntax.specs.Texts.{IsTail}
-use Rattle.rl_lexer.proofs.CutLemmas.{byte_len-append}
-use Rattle.rl_lenient.proofs.CutLemmas.{tail_chars}
-use Rattle.rl_strict.specs.declared.flaws.Flaw.{Flaw}
-use Rattle.rl_strict.specs.declared.flaws.FlawKind.{FlawKind}
-use Rattle.rl_strict.specs.declared.line_ends.LineEnds.{LineEnds}
-use Rattle.rl_strict.specs.declared.line_ends.LineEnds.TheVariants.{Text, File}
-use Rattle.rl_strict.specs.Flaws.{StopsBefore, first_len}
-use Rattle.rl_strict.specs.FileTexts.{IsPlaceInFile}
-use Rattle.rl_strict.specs.LineEnds.{IsFileRest, IsRestOf, is_dropped, lf_text, read_of}
-use Rattle.rl_strict.specs.Readings.{ExplainsOf, IsFlawOf, IsPlaceAfter, IsRestPlace, IsTokenIf, SaysOf, lf_bytes}
 use Rattle.rl_strict.proofs.FileTextLemmas.{rest_text}
 use Rattle.rl_strict.proofs.StrictExplainLemmas.{cut_bytes}
 
@@ -61,9 +47,8 @@ pub lf_tail : (t rest : List ℕ) → IsUtf8 t → IsUtf8 rest → IsFileRest (c
 lf_tail t rest ut ur r =
     tail_chars (lf_bytes t) (lf_bytes rest) (lf_text r.front) (lf_utf8 t ut) (lf_utf8 rest ur) (lf_cut t rest ut ur r)
 
-pub lf_place : (t rest : List ℕ) (at : ℕ) → IsUtf8 t → IsUtf8 rest → (r : IsFileRest (chars t) (chars rest))
-    → at + length rest ≡ length t
-    → IsPlaceInFile (chars t) (length (lf_bytes t) - length (lf_bytes rest)) at
+pub lf_place : (t rest : List ℕ) (at : ℕ) → IsUtf8 t → IsUtf8 rest → (r : IsFileRest (chars t) (chars rest)) → at +
+    length rest ≡ length t → IsPlaceInFile (chars t) (length (lf_bytes t) - length (lf_bytes rest)) at
 lf_place t rest at ut ur r e =
     let read = cut_bytes (lf_bytes t) (lf_bytes rest) (lf_text r.front) (lf_utf8 t ut) (lf_utf8 rest ur)
     (lf_cut t rest ut ur r) in
@@ -82,11 +67,11 @@ longer : (front : List ℕ) (c : ℕ) → byte_len (front ++ (c ∷ [])) ≡ byt
 longer front c = byte_len-append front (c ∷ []) ∙ ap (λ z. byte_len front + length z) (append-nil (encode_utf8 c))
 
 -- Outside files, the byte offset of an end is the number of bytes before it.
-front_at : (t rest front : List ℕ) (at : ℕ) → IsRestPlace Text t rest at → t ≡ front ++ rest → at ≡ byte_len front
+pub front_at : (t rest front : List ℕ) (at : ℕ) → IsRestPlace Text t rest at → t ≡ front ++ rest → at ≡ byte_len front
 front_at t rest front at p e = p.at_is
     ∙ ap byte_len (append_cancel_right p.is_rest.front front rest (sym p.is_rest.text_is ∙ e))
 
-after_at : (t rest front : List ℕ) (at : ℕ) → IsPlaceAfter Text t rest at → t ≡ front ++ rest
+pub after_at : (t rest front : List ℕ) (at : ℕ) → IsPlaceAfter Text t rest at → t ≡ front ++ rest
     → at ≡ byte_len front + first_len rest
 after_at t rest front at p e = go rest refl
   where
@@ -94,9 +79,8 @@ after_at t rest front at p e = go rest refl
     go [] is =
         let none : byte_len front ≡ byte_len front + 0 = omega arith in
         front_at t p.after front at p.place (e ∙ ap (λ z. front ++ z) (is ∙ sym (p.after_is ∙ ap (drop 1) is))) ∙ none
-    go (c ∷ cs) is = front_at t p.after (front ++ (c ∷ [])) at p.place
-        (e ∙ ap (λ z. front ++ z) (is ∙ ap (λ z. c ∷ z) (sym (p.after_is ∙ ap (drop 1) is)))
-        ∙ sym (append_assoc front (c ∷ []) p.after)) ∙ longer front c
+    go (c ∷ cs) is = front_at t p.after (front ++ (c ∷ [])) at p.place (e ∙ ap (λ z. front ++ z) (is ∙ ap (λ z. c ∷ z)
+        (sym (p.after_is ∙ ap (drop 1) is))) ∙ sym (append_assoc front (c ∷ []) p.after)) ∙ longer front c
 
 -- In a file, the byte offset of an end is that of the end as it is read.
 place_in : (t rest front : List ℕ) (at : ℕ) → IsRestPlace File t rest at → lf_text t ≡ front ++ lf_text rest
@@ -123,10 +107,9 @@ after_place t rest front at p e = go (lf_text rest) refl
         let none : byte_len front ≡ byte_len front + 0 = omega arith in
         subst (λ n. IsPlaceInFile t n at) none (place_in t p.after front at p.place
         (e ∙ ap (λ z. front ++ z) (is ∙ sym (p.after_is ∙ ap (drop 1) is))))
-    go (c ∷ cs) is = subst (λ n. IsPlaceInFile t n at) (longer front c)
-        (place_in t p.after (front ++ (c ∷ [])) at p.place
-        (e ∙ ap (λ z. front ++ z) (is ∙ ap (λ z. c ∷ z) (sym (p.after_is ∙ ap (drop 1) is)))
-        ∙ sym (append_assoc front (c ∷ []) (lf_text p.after))))
+    go (c ∷ cs) is = subst (λ n. IsPlaceInFile t n at) (longer front c) (place_in t p.after (front ++ (c ∷ [])) at
+        p.place (e ∙ ap (λ z. front ++ z) (is ∙ ap (λ z. c ∷ z) (sym (p.after_is ∙ ap (drop 1) is))) ∙ sym (append_assoc
+        front (c ∷ []) (lf_text p.after))))
 
 -- ---- the byte offsets of flaws
 

@@ -1,41 +1,9 @@
 -- The parse result of a literal's text, outside files and in a file. A string parses as the text that rustc reads does. Any
 -- other literal parses as written.
-use Rattle.rl_syntax.proofs.Common.{◌≡◌, ℕ, ◌+◌, ◌-◌, ◌≤◌, ◌==◌, Bool, true, false, not, List, [], ◌∷◌, ◌++◌, length, list_all, refl, sym, ap, ap₂, subst, ◌∙◌, inl, inr, arith, drop, take, encodes-chars, replicate, IsUtf8}
-use Rattle.rl_lenient.proofs.Names.{Kind, Str, Char, byte_len, is_plain, is_string}
-use Rattle.std.specs.Str.{chars, IsCharBoundary}
-use Rattle.rl_syntax.specs.Texts.{IsTail}
-use Rattle.rl_syntax.proofs.Rests.{tail_length}
-use Rattle.rl_syntax.proofs.Basics.{word_without}
-use Rattle.rl_syntax.specs.Strict.{IsStrictSuffix}
+use Rattle.rl_strict.proofs.Names.{◌≡◌, ℕ, ◌+◌, ◌-◌, ◌≤◌, ◌==◌, Bool, true, false, not, List, ◌∷◌, ◌++◌, length, list_all, refl, sym, ap, subst, ◌∙◌, inl, inr, arith, drop, take, encodes-chars, replicate, IsUtf8, Kind, byte_len, is_plain, is_string, chars, IsTail, tail_length, word_without, IsStrictSuffix, length-drop, Body, CookedForm, RawForm, IsQuotedAt, IsBodyWithin, body_in, suffix_in, found_opener, opener_at, BeginsStrictUnits, front_sound, body_text, placed, LineEnds, Text, File, Reading, AText, Unit, Integer, AFloat, Truth, Number, AnInteger, AFloatNumber, IsFileRest, IsRestOf, lf_text, read_of, is_strict_suffix, raw_stop, IsReadingInFile, IsReadingOf, lf_bytes, plain_of, IsSignedToken, IsNumberRead, suffix_of, IsStrictReading, placed_in, IsToken}
 use Rattle.rl_lenient.proofs.SegmentStarts.{body_long}
-use Rattle.std.proofs.lemmas.List.{length-drop}
-use Rattle.rl_lenient.specs.declared.found.Body.{Body}
-use Rattle.rl_lenient.specs.declared.quoted_forms.QuotedForm.{QuotedForm}
-use Rattle.rl_lenient.specs.declared.quoted_forms.QuotedForm.TheVariants.{Cooked as CookedForm, Raw as RawForm}
-use Rattle.rl_lenient.specs.Forms.{is_plain_body}
-use Rattle.rl_lenient.specs.Founds.{IsQuotedAt, IsBodyWithin, body_in, suffix_in}
-use Rattle.rl_lenient.specs.Mirrors.OpenerAt.{found_opener, opener_at}
-use Rattle.rl_lenient.specs.StrictUnits.{BeginsStrictUnits}
-use Rattle.rl_lenient.proofs.CutLemmas.{tail_chars}
-use Rattle.rl_lenient.proofs.FormLemmas.{front_sound}
-use Rattle.rl_lenient.proofs.FoundLemmas.{body_text}
-use Rattle.rl_lenient.proofs.PlaceLemmas.{opened as opened_tail, placed}
-use Rattle.rl_strict.specs.declared.line_ends.LineEnds.{LineEnds}
-use Rattle.rl_strict.specs.declared.line_ends.LineEnds.TheVariants.{Text, File}
-use Rattle.rl_strict.specs.declared.strict_reading.Reading.{Reading}
-use Rattle.rl_strict.specs.declared.strict_reading.Reading.TheVariants.{Text as AText, Unit, Integer, Float as AFloat, Truth}
-use Rattle.rl_strict.specs.declared.read_numbers.Number.{Number}
-use Rattle.rl_strict.specs.declared.read_numbers.Number.TheVariants.{Integer as AnInteger, Float as AFloatNumber}
-use Rattle.rl_strict.specs.LineEnds.{IsFileRest, IsRestOf, lf_text, read_of}
-use Rattle.rl_strict.specs.Mirrors.StrictAt.{is_strict_suffix}
-use Rattle.rl_strict.specs.Mirrors.StrictFlawAt.{raw_stop}
-use Rattle.rl_strict.specs.Readings.{IsBodyInFile, IsReadingInFile, IsReadingOf, lf_bytes, plain_of}
-use Rattle.rl_strict.specs.SignedFlaws.{IsSignedToken}
-use Rattle.rl_strict.specs.StrictNumbersRead.{IsNumberRead, suffix_of}
-use Rattle.rl_strict.specs.StrictRead.{IsSignedRead, IsStrictReading, placed_in}
-use Rattle.rl_strict.specs.StrictShapes.{IsToken}
 use Rattle.rl_strict.proofs.FilePlaces.{lf_chars, lf_place, lf_same, lf_tail, lf_utf8}
-use Rattle.rl_strict.proofs.FileTextLemmas.{lacks_cr, rest_free, rest_step, same_text, token_free, token_same}
+use Rattle.rl_strict.proofs.FileTextLemmas.{lacks_cr, rest_step, same_text, token_free, token_same}
 use Rattle.rl_strict.proofs.FormReads.{inside_in, opener_of, unread_same}
 use Rattle.rl_strict.proofs.ReadLemmas.{minus_placed, number_placed, text_found}
 use Rattle.rl_strict.proofs.ReadQuoted.{cooked_at, raw_at}
@@ -68,9 +36,8 @@ number_reads File t (AnInteger m x) r e h tail y = subst (IsReadingInFile false 
 number_reads File t (AFloatNumber x) r e h tail y = subst (IsReadingInFile false t) (sym e)
     (token_same (chars t) y, number_placed t (AFloatNumber x) (placed_in t (AFloatNumber x)) refl h tail)
 
-pub minus_reads : (how : LineEnds) (t u : List ℕ) (n : Number) (r : Reading) → r ≡ placed_in t n
-    → chars t ≡ 45 ∷ chars u → IsNumberRead (chars u) n → IsTail t (suffix_of n) → IsSignedToken (chars t)
-    → IsReadingOf how true t r
+pub minus_reads : (how : LineEnds) (t u : List ℕ) (n : Number) (r : Reading) → r ≡ placed_in t n → chars t ≡ 45 ∷ chars
+    u → IsNumberRead (chars u) n → IsTail t (suffix_of n) → IsSignedToken (chars t) → IsReadingOf how true t r
 minus_reads Text t u n r e text h tail y = minus_placed t u n r e text h tail
 minus_reads File t u (AnInteger m x) r e text h tail y = subst (IsReadingInFile true t) (sym e)
     (signed_same (chars t) y, minus_placed t u (AnInteger m x) (placed_in t (AnInteger m x)) refl text h tail)
@@ -92,10 +59,7 @@ pub reads_signed : (how : LineEnds) (signed : Bool) (t : List ℕ) (r : Reading)
 reads_signed how false t r h = h
 reads_signed Text true t r h = inl h
 reads_signed File true t (AText kind body) h = h
-reads_signed File true t (Unit kind body unit) h = (h.0, inl h.1)
-reads_signed File true t (Integer m at) h = (h.0, inl h.1)
-reads_signed File true t (AFloat at) h = (h.0, inl h.1)
-reads_signed File true t (Truth truth) h = (h.0, inl h.1)
+reads_signed File true t other h = (h.0, inl h.1)
 
 -- ---- strings in a file
 
@@ -157,10 +121,9 @@ abbrev read_plain : Kind → List ℕ → List ℕ → List ℕ → Bool
 read_plain kind t opened closing = list_all (is_plain kind) (chars (take ((length t - length closing) - (length t - length opened))
     (drop (length t - length opened) t)))
 
-in_file : (kind : Kind) (t opened closing suffix : List ℕ) (body : Body) (plain : Bool) → is_string kind ≡ true
-    → InFile t opened closing suffix body
-    → IsQuotedAt kind (lf_bytes t) (BodyRead t opened closing suffix plain)
-    → IsReadingOf File false t (AText kind body)
+in_file : (kind : Kind) (t opened closing suffix : List ℕ) (body : Body) (plain : Bool) → is_string kind ≡ true → InFile
+    t opened closing suffix body → IsQuotedAt kind (lf_bytes t) (BodyRead t opened closing suffix plain) → IsReadingOf
+    File false t (AText kind body)
 in_file kind t opened closing suffix body plain s f q =
     let closing_in = rest_step (chars t) (chars opened) (chars closing) f.opened_in f.closing_in in
     let suffix_is_in = rest_step (chars t) (chars closing) (chars suffix) closing_in f.suffix_in_closing in
@@ -181,15 +144,13 @@ in_file kind t opened closing suffix body plain s f q =
     )
 
 -- The parse result of a string with escapes.
-pub cooked_reads : (how : LineEnds) (kind : Kind) (t inside closing suffix : List ℕ) (body : Body) (plain : Bool)
-    → opener_at (chars t) ≡ found_opener CookedForm kind (chars inside)
-    → BeginsStrictUnits kind (read_of how (chars inside)) (read_of how (chars closing))
-    → IsRestOf how (chars inside) (chars closing) → chars closing ≡ 34 ∷ chars suffix
-    → is_strict_suffix (read_of how (chars suffix)) ≡ true
-    → ((b : List ℕ) → chars inside ≡ b ++ chars closing → plain ≡ list_all (is_plain kind) b)
-    → IsUtf8 t → IsUtf8 inside → IsUtf8 closing → IsUtf8 suffix → IsBodyWithin t body
-    → chars inside ≡ chars (body_in t body) ++ chars closing → suffix_in t body ≡ suffix
-    → body.lo + length inside ≡ length t → body.plain ≡ plain_of how plain → IsReadingOf how false t (AText kind body)
+pub cooked_reads : (how : LineEnds) (kind : Kind) (t inside closing suffix : List ℕ) (body : Body) (plain : Bool) →
+    opener_at (chars t) ≡ found_opener CookedForm kind (chars inside) → BeginsStrictUnits kind (read_of how (chars
+    inside)) (read_of how (chars closing)) → IsRestOf how (chars inside) (chars closing) → chars closing ≡ 34 ∷ chars
+    suffix → is_strict_suffix (read_of how (chars suffix)) ≡ true → ((b : List ℕ) → chars inside ≡ b ++ chars closing →
+    plain ≡ list_all (is_plain kind) b) → IsUtf8 t → IsUtf8 inside → IsUtf8 closing → IsUtf8 suffix → IsBodyWithin t
+    body → chars inside ≡ chars (body_in t body) ++ chars closing → suffix_in t body ≡ suffix → body.lo + length inside
+    ≡ length t → body.plain ≡ plain_of how plain → IsReadingOf how false t (AText kind body)
 cooked_reads Text kind t inside closing suffix body plain e run rest quote strict plains ut ui uc us stands cut suffix_is lo is =
     let s = (front_sound (chars t) (CookedForm, kind, chars inside) e).has in
     text_found t kind body s ut (cooked_at kind t inside closing suffix body e s run quote cut suffix_is stands
@@ -228,15 +189,13 @@ cooked_reads File kind t inside closing suffix body plain e run rest quote stric
 
 -- The parse result of a raw string.
 pub raw_reads : (how : LineEnds) (kind : Kind) (n : ℕ) (t inside opened closing suffix hashes : List ℕ) (body : Body)
-    (plain : Bool) → opener_at (chars t) ≡ found_opener RawForm kind (chars inside) → hashes ≡ replicate n 35
-    → chars inside ≡ hashes ++ (34 ∷ chars opened)
-    → read_of how (chars closing) ≡ raw_stop kind hashes (read_of how (chars opened))
-    → IsRestOf how (chars opened) (chars closing) → IsRestOf how (chars closing) (chars suffix)
-    → read_of how (chars closing) ≡ 34 ∷ (hashes ++ read_of how (chars suffix))
-    → is_strict_suffix (read_of how (chars suffix)) ≡ true → plain ≡ true → IsUtf8 t → IsUtf8 inside → IsUtf8 opened
-    → IsUtf8 closing → IsUtf8 suffix → IsBodyWithin t body → chars opened ≡ chars (body_in t body) ++ chars closing
-    → suffix_in t body ≡ suffix → body.lo + length opened ≡ length t → body.plain ≡ plain_of how plain
-    → IsReadingOf how false t (AText kind body)
+    (plain : Bool) → opener_at (chars t) ≡ found_opener RawForm kind (chars inside) → hashes ≡ replicate n 35 → chars
+    inside ≡ hashes ++ (34 ∷ chars opened) → read_of how (chars closing) ≡ raw_stop kind hashes (read_of how (chars
+    opened)) → IsRestOf how (chars opened) (chars closing) → IsRestOf how (chars closing) (chars suffix) → read_of how
+    (chars closing) ≡ 34 ∷ (hashes ++ read_of how (chars suffix)) → is_strict_suffix (read_of how (chars suffix)) ≡ true
+    → plain ≡ true → IsUtf8 t → IsUtf8 inside → IsUtf8 opened → IsUtf8 closing → IsUtf8 suffix → IsBodyWithin t body →
+    chars opened ≡ chars (body_in t body) ++ chars closing → suffix_in t body ≡ suffix → body.lo + length opened ≡
+    length t → body.plain ≡ plain_of how plain → IsReadingOf how false t (AText kind body)
 raw_reads Text kind n t inside opened closing suffix hashes body plain e are text at rest left quote strict plains ut ui uo uc us stands cut suffix_is lo is =
     let s = (front_sound (chars t) (RawForm, kind, chars inside) e).has in
     text_found t kind body s ut (raw_at kind n t inside (34 ∷ chars opened) opened closing suffix hashes

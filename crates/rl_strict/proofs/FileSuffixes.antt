@@ -1,26 +1,6 @@
 -- The text after the closing delimiter of a literal in a file, words, and opening delimiters: the code finds equal results in
 -- the file and in the text as rustc reads it.
-use Rattle.rl_syntax.proofs.Common.{◌≡◌, ℕ, Bool, true, false, not, ◌==◌, ◌&&◌, ◌||◌, cond, List, [], ◌∷◌, Option, Some, None, refl, sym, ap, subst, ◌∙◌, arith, and_parts, not-true, is_xid_continue, is_xid_continue-ascii, is_xid_start, is_xid_start-ascii, list_all, option_map}
-use Rattle.rl_lenient.proofs.Names.{ByteStr, CStr, Kind, Str, after_run, first_passes, truth_text}
-use Rattle.std.proofs.lemmas.Bool.{and_left}
-use Rattle.rl_syntax.specs.Texts.{is_continue, is_start, is_white}
-use Rattle.rl_syntax.proofs.Basics.{all_weaker, apart}
-use Rattle.rl_lenient.specs.Mirrors.NumberAt.{run}
-use Rattle.rl_lenient.specs.Mirrors.OpenerAt.{FoundOpener, byte_opener_at, opener_at, string_opener_at}
-use Rattle.rl_lenient.specs.Mirrors.PlainAt.{is_some_text}
-use Rattle.rl_lenient.specs.declared.quoted_forms.QuotedForm.{QuotedForm}
-use Rattle.rl_lenient.specs.declared.quoted_forms.QuotedForm.TheVariants.{Cooked as CookedForm, Raw as RawForm, Single as SingleForm}
-use Rattle.rl_lenient.proofs.RunLemmas.{run_all, run_join}
-use Rattle.std.proofs.lemmas.Bool.{and_from}
-use Rattle.rl_strict.specs.declared.flaws.FlawKind.{FlawKind}
-use Rattle.rl_strict.specs.declared.flaws.FlawKind.TheVariants.{BadSuffix, TextAfterQuote, ExtraHash, NotALiteral, UnderscoreSuffix, UnexpectedEnd}
-use Rattle.rl_strict.specs.LineEnds.{is_dropped, lf_text}
-use Rattle.rl_strict.specs.LineEnds.{IsFileRest}
-use Rattle.rl_strict.specs.StrictFlawKinds.{form_quote, is_raw_form}
-use Rattle.rl_strict.specs.Mirrors.StrictFlawAt.{begins_hash, suffix_end_flaw_at, suffix_rest}
-use Rattle.rl_strict.specs.Mirrors.SuffixRead.{is_lone_underscore, suffix_end_read, suffix_read_at}
-use Rattle.rl_strict.specs.Mirrors.UnitFlawAt.{FoundFlaw, found_flaw}
-use Rattle.rl_strict.specs.Mirrors.WordFlawAt.{after_letters, end_flaw_at, word_flaw_at}
+use Rattle.rl_strict.proofs.Names.{◌≡◌, ℕ, Bool, true, false, not, ◌==◌, ◌&&◌, ◌||◌, cond, List, [], ◌∷◌, Option, Some, None, refl, sym, ap, subst, ◌∙◌, arith, and_parts, not-true, is_xid_continue, is_xid_continue-ascii, is_xid_start, is_xid_start-ascii, list_all, option_map, ByteStr, CStr, Kind, Str, after_run, first_passes, truth_text, and_left, is_continue, is_start, is_white, all_weaker, apart, run, FoundOpener, byte_opener_at, opener_at, string_opener_at, is_some_text, QuotedForm, CookedForm, RawForm, SingleForm, run_all, run_join, and_from, FlawKind, BadSuffix, TextAfterQuote, ExtraHash, NotALiteral, UnderscoreSuffix, UnexpectedEnd, is_dropped, lf_text, IsFileRest, form_quote, is_raw_form, begins_hash, suffix_end_flaw_at, suffix_rest, is_lone_underscore, suffix_end_read, suffix_read_at, FoundFlaw, found_flaw, after_letters, end_flaw_at, word_flaw_at}
 use Rattle.rl_strict.proofs.FileTextLemmas.{by_first, lacks_cr, line_of, rest_free, rest_self, when_kept}
 
 -- ---- a function of a conditional value
@@ -74,8 +54,7 @@ front_read test r l (c ∷ cs) = go (front_read test r l cs) (is_dropped c cs) r
     At z = run test (lf_text z) ≡ run test z
 
     line : (ds : List ℕ) → At (13 ∷ 10 ∷ ds)
-    line ds = ap (λ b. cond b (10 ∷ run test (lf_text ds)) []) l
-        ∙ sym (ap (λ b. cond b (13 ∷ run test (10 ∷ ds)) []) r)
+    line ds = ap (λ b. cond b (10 ∷ run test (lf_text ds)) []) l ∙ sym (ap (λ b. cond b (13 ∷ run test (10 ∷ ds)) []) r)
 
     go : At cs → (b : Bool) → is_dropped c cs ≡ b → At (c ∷ cs)
     go ih true h = let found = line_of c cs h in subst At (sym found.1) (line found.0)
@@ -252,13 +231,11 @@ string_read k t = by_first (λ z r. string_opener_at k r ≡ lf_opener (string_o
     (λ c cs e. both lf_opener (c == 34) _ _ _ _ refl (both lf_opener (c == 114) _ _ _ _ refl refl)) t
 
 byte_read : (t : List ℕ) → byte_opener_at (lf_text t) ≡ lf_opener (byte_opener_at t)
-byte_read t = by_first (λ z r. byte_opener_at r ≡ lf_opener (byte_opener_at z)) refl (λ cs. refl)
-    (λ c cs e. both lf_opener (c == 39) _ _ _ _ refl (ap (string_opener_at ByteStr) (sym e) ∙ string_read ByteStr (c ∷ cs)))
-    t
+byte_read t = by_first (λ z r. byte_opener_at r ≡ lf_opener (byte_opener_at z)) refl (λ cs. refl) (λ c cs e. both
+    lf_opener (c == 39) _ _ _ _ refl (ap (string_opener_at ByteStr) (sym e) ∙ string_read ByteStr (c ∷ cs))) t
 
 pub opener_read : (t : List ℕ) → opener_at (lf_text t) ≡ lf_opener (opener_at t)
 unfolding opener_at
-opener_read t = by_first (λ z r. opener_at r ≡ lf_opener (opener_at z)) refl (λ cs. refl)
-    (λ c cs e. both lf_opener (c == 39) _ _ _ _ refl (both lf_opener (c == 98) _ _ _ _ (byte_read cs)
-    (both lf_opener (c == 99) _ _ _ _ (string_read CStr cs)
-    (ap (string_opener_at Str) (sym e) ∙ string_read Str (c ∷ cs))))) t
+opener_read t = by_first (λ z r. opener_at r ≡ lf_opener (opener_at z)) refl (λ cs. refl) (λ c cs e. both lf_opener (c
+    == 39) _ _ _ _ refl (both lf_opener (c == 98) _ _ _ _ (byte_read cs) (both lf_opener (c == 99) _ _ _ _ (string_read
+    CStr cs) (ap (string_opener_at Str) (sym e) ∙ string_read Str (c ∷ cs))))) t

@@ -1,20 +1,8 @@
 -- Texts without each CR before an LF, and ends of these texts.
-use Rattle.rl_syntax.proofs.Common.{◌≡◌, ℕ, Bool, true, false, not, ◌==◌, cond, List, [], ◌∷◌, ◌++◌, refl, sym, ap, subst, ◌∙◌, append_assoc, and_parts, both_ways, eqb-true, flat_map, list_all, list_all-append, not-true}
-use Rattle.rl_lenient.proofs.Names.{Kind, first_passes, is_string, strict_text}
-use Rattle.std.proofs.Math.Bool.{and-false}
-use Rattle.std.proofs.lemmas.Bool.{and_left}
+use Rattle.rl_strict.proofs.Names.{◌≡◌, ℕ, Bool, true, false, not, ◌==◌, cond, List, [], ◌∷◌, ◌++◌, refl, sym, ap, subst, ◌∙◌, append_assoc, and_parts, both_ways, eqb-true, flat_map, list_all, list_all-append, not-true, Kind, first_passes, is_string, strict_text, and-false, and_left, form_opener, has_form, BeginsStrictUnits, QuotedForm, CookedForm, is_strict_suffix, ClosesForm, IsToken, StopsBefore, is_dropped, lf_text, IsFileRest, is_seam}
 use Rattle.rl_syntax.proofs.StrictReturns.{strict_holds_no_return}
-use Rattle.rl_lenient.specs.Forms.{form_opener, has_form}
-use Rattle.rl_lenient.specs.StrictUnits.{BeginsStrictUnits}
-use Rattle.rl_lenient.specs.declared.quoted_forms.QuotedForm.{QuotedForm}
-use Rattle.rl_lenient.specs.declared.quoted_forms.QuotedForm.TheVariants.{Cooked as CookedForm}
-use Rattle.rl_strict.specs.Mirrors.StrictAt.{is_strict_suffix}
-use Rattle.rl_strict.specs.StrictShapes.{ClosesForm, IsToken}
 use Rattle.rl_strict.proofs.StrictLemmas.{close_token}
 use Rattle.rl_strict.proofs.StrictUnitRows.{breaks_to}
-use Rattle.rl_strict.specs.Flaws.{StopsBefore}
-use Rattle.rl_strict.specs.LineEnds.{is_dropped, lf_text}
-use Rattle.rl_strict.specs.LineEnds.{IsFileRest, is_seam}
 use Rattle.rl_strict.proofs.StrictCookedFlaws.{cooked_closes}
 
 -- ---- the function `lf_text` for a text with one more character in front
@@ -37,9 +25,8 @@ pub other_kept : (c : ℕ) (cs : List ℕ) → (c == 13) ≡ false → is_droppe
 other_kept c cs h = and_left (c == 13) (first_passes (λ d. d == 10) cs) h
 
 -- The cases of a text as it is read: it is empty, begins with CR LF, or begins with a character that is kept.
-pub by_first : (P : List ℕ → List ℕ → Type 0) → P [] [] → ((cs : List ℕ) → P (13 ∷ 10 ∷ cs) (10 ∷ lf_text cs))
-    → ((c : ℕ) (cs : List ℕ) → lf_text (c ∷ cs) ≡ c ∷ lf_text cs → P (c ∷ cs) (c ∷ lf_text cs)) → (t : List ℕ)
-    → P t (lf_text t)
+pub by_first : (P : List ℕ → List ℕ → Type 0) → P [] [] → ((cs : List ℕ) → P (13 ∷ 10 ∷ cs) (10 ∷ lf_text cs)) → ((c :
+    ℕ) (cs : List ℕ) → lf_text (c ∷ cs) ≡ c ∷ lf_text cs → P (c ∷ cs) (c ∷ lf_text cs)) → (t : List ℕ) → P t (lf_text t)
 by_first P end line kept [] = end
 by_first P end line kept (c ∷ cs) = go (is_dropped c cs) refl
   where

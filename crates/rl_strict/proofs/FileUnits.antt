@@ -1,35 +1,15 @@
 -- The characters and escapes of a quoted literal in a file, in order, as they are read.
-use Rattle.rl_syntax.proofs.Common.{◌≡◌, ℕ, zero, suc, Bool, true, false, not, ◌==◌, ◌&&◌, ◌||◌, cond, List, [], ◌∷◌, ◌++◌, Option, Some, None, refl, sym, ap, subst, ◌∙◌, append_cancel_right, list_all, option_map, or_from, replicate}
-use Rattle.rl_lenient.proofs.Names.{and_right, Kind, Str, ByteStr, CStr, Byte, Char, after_run, first_passes, is_dropped_blank, is_plain, is_single, is_strict_unit, is_string, strict_text, StrictUnit, Itself, QuoteEscape, PlainEscape, AsciiEscape, ByteEscape, UnicodeEscape, LineBreak}
-use Rattle.rl_syntax.specs.Texts.{begins}
-use Rattle.rl_syntax.proofs.Basics.{all_weaker, apart}
-use Rattle.rl_lenient.specs.Mirrors.UnitAt.{escape_at, unit_at}
-use Rattle.rl_lenient.specs.StrictUnits.{BeginsStrictUnits, BreakEnds}
-use Rattle.rl_lenient.specs.declared.quoted_forms.QuotedForm.TheVariants.{Single as SingleForm}
-use Rattle.rl_lenient.proofs.RunLemmas.{run_ends}
-use Rattle.rl_strict.specs.Mirrors.StrictAt.{escape_rest, is_inside, is_raw_character, is_strict_suffix, unit_rest}
+use Rattle.rl_strict.proofs.Names.{◌≡◌, ℕ, zero, suc, Bool, true, false, not, ◌==◌, ◌&&◌, cond, List, [], ◌∷◌, ◌++◌, Option, Some, None, refl, sym, ap, subst, ◌∙◌, append_cancel_right, list_all, option_map, or_from, replicate, Kind, Str, ByteStr, CStr, Byte, Char, after_run, first_passes, is_dropped_blank, is_plain, is_single, is_strict_unit, is_string, strict_text, StrictUnit, Itself, QuoteEscape, PlainEscape, AsciiEscape, ByteEscape, UnicodeEscape, LineBreak, begins, all_weaker, apart, escape_at, unit_at, BeginsStrictUnits, BreakEnds, SingleForm, run_ends, escape_rest, is_inside, is_strict_suffix, unit_rest, is_dropped, lf_text, IsFileRest}
 use Rattle.rl_strict.proofs.StrictRowLemmas.{is_bare, quoted_single, quoted_string}
 use Rattle.rl_strict.proofs.StrictUnitLemmas.{unit_rest_complete, unit_rest_sound}
 use Rattle.rl_strict.proofs.StrictUnitRows.{breaks_to, row_join, row_none, row_unit}
-use Rattle.rl_strict.specs.LineEnds.{is_dropped, lf_text}
-use Rattle.rl_strict.specs.LineEnds.{IsFileRest}
 use Rattle.rl_strict.proofs.FileTextLemmas.{by_first, closes_free, free_text, front_free, lacks_cr, other_kept, rest_free, rest_line, rest_step, row_rest, when_kept}
 use Rattle.rl_strict.proofs.FileSuffixes.{both, run_rest}
 use Rattle.rl_strict.proofs.FileEscapes.{escape_read, lf_pair}
 use Rattle.rl_strict.proofs.ReadQuoted.{plain_row, single_closes}
+pub use Rattle.rl_strict.proofs.ReadQuoted.{not_string}
 
 -- ---- a CR LF
-
-pub no_cr_line : (t : List ℕ) → first_passes (λ c. c == 13) t ≡ false → (c : ℕ) (following : List ℕ) → t ≡ c ∷ following
-    → is_dropped c following ≡ false
-no_cr_line t h c following e = other_kept c following (sym (ap (first_passes (λ d. d == 13)) e) ∙ h)
-
-pub no_lf_line : (t u : List ℕ) → t ≡ 13 ∷ u → first_passes (λ c. c == 10) u ≡ false → (c : ℕ) (following : List ℕ)
-    → t ≡ c ∷ following → is_dropped c following ≡ false
-no_lf_line t u is h c following e =
-    let same : 13 ∷ u ≡ c ∷ following = sym is ∙ e in
-    let back : u ≡ following = cc in
-    and_right (c == 13) (first_passes (λ d. d == 10) following) (sym (ap (first_passes (λ d. d == 10)) back) ∙ h)
 
 pub line_read : (t rest : List ℕ) → t ≡ 13 ∷ 10 ∷ rest → lf_text t ≡ 10 ∷ lf_text rest
 line_read t rest e = ap lf_text e
@@ -46,12 +26,10 @@ blanks_past [] = refl
 blanks_past (c ∷ cs) = go (blanks_past cs) (is_dropped_blank c) refl
   where
     go : after_run is_dropped_blank (lf_text (after_run is_dropped_blank cs)) ≡ after_run is_dropped_blank (lf_text cs)
-        → (b : Bool) → is_dropped_blank c ≡ b
-        → after_run is_dropped_blank (lf_text (cond b (after_run is_dropped_blank cs) (c ∷ cs)))
-        ≡ after_run is_dropped_blank (lf_text (c ∷ cs))
-    go ih true h = ih
-        ∙ sym (ap (λ b. cond b (after_run is_dropped_blank (lf_text cs)) (c ∷ lf_text cs)) h)
-        ∙ sym (ap (after_run is_dropped_blank) (when_kept c cs (other_kept c cs (apart is_dropped_blank c 13 h refl))))
+        → (b : Bool) → is_dropped_blank c ≡ b → after_run is_dropped_blank (lf_text (cond b (after_run is_dropped_blank
+        cs) (c ∷ cs))) ≡ after_run is_dropped_blank (lf_text (c ∷ cs))
+    go ih true h = ih ∙ sym (ap (λ b. cond b (after_run is_dropped_blank (lf_text cs)) (c ∷ lf_text cs)) h) ∙ sym (ap
+        (after_run is_dropped_blank) (when_kept c cs (other_kept c cs (apart is_dropped_blank c 13 h refl))))
     go ih false h = refl
 
 pub blanks_first : (t rest : List ℕ) → rest ≡ after_run is_dropped_blank t → after_run is_dropped_blank (lf_text rest)
@@ -68,14 +46,12 @@ pub blanks_stop : (t rest : List ℕ) → rest ≡ after_run is_dropped_blank t 
 blanks_stop t rest e = ap (first_passes is_dropped_blank) e ∙ run_ends is_dropped_blank t
 
 pub blanks_end : (t rest : List ℕ) → after_run is_dropped_blank (lf_text rest) ≡ after_run is_dropped_blank (lf_text t)
-    → first_passes is_dropped_blank rest ≡ false
-    → ((c : ℕ) (following : List ℕ) → rest ≡ c ∷ following → is_dropped c following ≡ false) → lf_text rest
-    ≡ after_run is_dropped_blank (lf_text t)
+    → first_passes is_dropped_blank rest ≡ false → ((c : ℕ) (following : List ℕ) → rest ≡ c ∷ following → is_dropped c
+    following ≡ false) → lf_text rest ≡ after_run is_dropped_blank (lf_text t)
 blanks_end t rest same stops none = go rest stops none ∙ same
   where
-    go : (z : List ℕ) → first_passes is_dropped_blank z ≡ false
-        → ((c : ℕ) (following : List ℕ) → z ≡ c ∷ following → is_dropped c following ≡ false) → lf_text z
-        ≡ after_run is_dropped_blank (lf_text z)
+    go : (z : List ℕ) → first_passes is_dropped_blank z ≡ false → ((c : ℕ) (following : List ℕ) → z ≡ c ∷ following →
+        is_dropped c following ≡ false) → lf_text z ≡ after_run is_dropped_blank (lf_text z)
     go [] h n = refl
     go (c ∷ cs) h n =
         let e = when_kept c cs (n c cs refl) in
@@ -92,21 +68,9 @@ blanks_more t rest after next r e is = rest_step t rest next r
 
 -- ---- escapes
 
--- The text after a backslash and a line end.
-pub break_read : (k : Kind) (t blanks rest : List ℕ) → is_string k ≡ true → lf_text t ≡ 10 ∷ lf_text blanks
-    → lf_text rest ≡ after_run is_dropped_blank (lf_text blanks) → Some (lf_text rest) ≡ escape_rest k (lf_text t)
-break_read k t blanks rest s e is = ap Some is
-    ∙ sym (ap (escape_rest k) e
-    ∙ ap (λ b. cond {A = Option (List ℕ)} b (Some (after_run is_dropped_blank (lf_text blanks))) None) s)
-
 pub break_in : (t blanks rest : List ℕ) → t ≡ 10 ∷ blanks → IsFileRest blanks rest → IsFileRest (92 ∷ t) rest
 break_in t blanks rest e r = rest_step (92 ∷ t) blanks rest
     (rest_free (92 ∷ t) (92 ∷ 10 ∷ []) blanks (ap (λ z. 92 ∷ z) e) refl) r
-
-pub break_line_in : (t line blanks rest : List ℕ) → t ≡ 13 ∷ line → line ≡ 10 ∷ blanks → IsFileRest blanks rest
-    → IsFileRest (92 ∷ t) rest
-break_line_in t line blanks rest e f r = rest_step (92 ∷ t) t rest (rest_free (92 ∷ t) (92 ∷ []) t refl refl)
-    (rest_step t blanks rest (rest_line t blanks (e ∙ ap (λ z. 13 ∷ z) f)) r)
 
 -- After a backslash, a CR that no LF follows isn't a valid escape.
 pub lone_read : (k : Kind) (t line : List ℕ) → t ≡ 13 ∷ line → first_passes (λ c. c == 10) line ≡ false
@@ -160,47 +124,12 @@ other_in k t cs v rest c s e n m is =
 
 -- ---- an escape, or a CR LF
 
-pub backslash_read : (k : Kind) (t following : List ℕ) (o : Option (List ℕ)) → t ≡ 92 ∷ following
-    → o ≡ escape_rest k (lf_text following) → o ≡ unit_rest k (lf_text t)
-unfolding unit_rest
-backslash_read k t following o e h = h ∙ sym (ap (unit_rest k) (kept_read t following 92 e refl))
-
 pub feed_unit : (k : Kind) (x : List ℕ) → is_string k ≡ true → unit_rest k (10 ∷ x) ≡ Some x
 unfolding unit_rest
 feed_unit Str x s = refl
 feed_unit ByteStr x s = refl
 feed_unit CStr x s = refl
 feed_unit k x s = absurd (cc)
-
-pub feed_read : (k : Kind) (t line after : List ℕ) → is_string k ≡ true → t ≡ 13 ∷ line → line ≡ 10 ∷ after
-    → Some (lf_text after) ≡ unit_rest k (lf_text t)
-feed_read k t line after s e f = sym (ap (unit_rest k) (line_read t after (e ∙ ap (λ z. 13 ∷ z) f))
-    ∙ feed_unit k (lf_text after) s)
-
-pub feed_in : (t line after : List ℕ) → t ≡ 13 ∷ line → line ≡ 10 ∷ after → IsFileRest t after
-feed_in t line after e f = rest_line t after (e ∙ ap (λ z. 13 ∷ z) f)
-
-return_unit : (k : Kind) (x : List ℕ) → is_string k ≡ true → unit_rest k (13 ∷ x) ≡ None
-unfolding unit_rest
-return_unit Str x s = refl
-return_unit ByteStr x s = refl
-return_unit CStr x s = refl
-return_unit k x s = absurd (cc)
-
-pub return_read : (k : Kind) (t line : List ℕ) → is_string k ≡ true → t ≡ 13 ∷ line
-    → first_passes (λ c. c == 10) line ≡ false → None ≡ unit_rest k (lf_text t)
-return_read k t line s e h = sym (ap (unit_rest k) (kept_read t line 13 e h) ∙ return_unit k (lf_text line) s)
-
-pub none_read : (k : Kind) (t : List ℕ) → t ≡ [] → None ≡ unit_rest k (lf_text t)
-unfolding unit_rest
-none_read k t e = sym (ap (λ z. unit_rest k (lf_text z)) e)
-
-pub bad_read : (k : Kind) (t cs : List ℕ) (c : ℕ) → first_passes (is_bare k) t ≡ false → t ≡ c ∷ cs
-    → (c == 92) ≡ false → (c == 13) ≡ false → None ≡ unit_rest k (lf_text t)
-unfolding unit_rest
-bad_read k t cs c h e n m = sym (ap (unit_rest k) (kept_read t cs c e (other_kept c cs m))
-    ∙ ap (λ b. cond b (escape_rest k (lf_text cs)) (cond (is_bare k c) (Some (lf_text cs)) None)) n
-    ∙ ap (λ b. cond b (Some (lf_text cs)) None) (sym (ap (first_passes (is_bare k)) e) ∙ h))
 
 -- ---- sequences of characters and escapes
 
@@ -270,17 +199,11 @@ stuck_alone k t s h = go (unit_rest k t) refl
 
 -- ---- a character or byte literal
 
-pub not_string : (k : Kind) → is_single k ≡ true → is_string k ≡ false
-not_string Byte s = refl
-not_string Char s = refl
-not_string k s = absurd (cc)
-
 single_escape : (k : Kind) (t : List ℕ) → is_single k ≡ true → escape_rest k (lf_text t)
     ≡ option_map lf_text (escape_rest k t)
 unfolding unit_at
-single_escape k t s = by_first (λ z r. escape_rest k r ≡ option_map lf_text (escape_rest k z)) refl
-    (λ cs. ap (λ b. cond {A = Option (List ℕ)} b (Some (after_run is_dropped_blank (lf_text cs))) None) (not_string k s))
-    kept t
+single_escape k t s = by_first (λ z r. escape_rest k r ≡ option_map lf_text (escape_rest k z)) refl (λ cs. ap (λ b. cond
+    {A = Option (List ℕ)} b (Some (after_run is_dropped_blank (lf_text cs))) None) (not_string k s)) kept t
   where
     Left : Type 0
     Left = Option (List ℕ)
@@ -300,16 +223,14 @@ single_escape k t s = by_first (λ z r. escape_rest k r ≡ option_map lf_text (
         same None = refl
         same (Some p) = refl
 
-        go : (a : Bool) → (c == 10) ≡ a → (b : Bool) → (c == 13) ≡ b
-            → cond a (none (lf_text cs)) (cond b None (left (lf_text cs)))
-            ≡ option_map lf_text (cond a (none cs) (cond b None (left cs)))
+        go : (a : Bool) → (c == 10) ≡ a → (b : Bool) → (c == 13) ≡ b → cond a (none (lf_text cs)) (cond b None (left
+            (lf_text cs))) ≡ option_map lf_text (cond a (none cs) (cond b None (left cs)))
         go true n b m = ap (λ b. cond {A = Left} b (Some (after_run is_dropped_blank (lf_text cs))) None) (not_string k s)
             ∙ sym (ap (λ b. option_map lf_text (cond {A = Left} b (Some (after_run is_dropped_blank cs)) None))
             (not_string k s))
         go false n true m = refl
-        go false n false m = ap (option_map (λ (p : List ℕ × List ℕ). p.1))
-            (escape_read k c cs (or_from (c == 10) (c == 13) n m))
-            ∙ map_map (escape_at k (c ∷ cs)) ∙ same (escape_at k (c ∷ cs))
+        go false n false m = ap (option_map (λ (p : List ℕ × List ℕ). p.1)) (escape_read k c cs (or_from (c == 10) (c ==
+            13) n m)) ∙ map_map (escape_at k (c ∷ cs)) ∙ same (escape_at k (c ∷ cs))
 
 -- The content of a character or byte literal.
 pub single_read : (k : Kind) (t : List ℕ) → is_single k ≡ true → unit_rest k (lf_text t)
@@ -353,8 +274,6 @@ closer_read n hashes t e = subst (λ z. begins z (lf_text t) ≡ begins z t) (sy
 
 no_cr_inside : (k : Kind) → is_inside k 13 ≡ false
 no_cr_inside Str = refl
-no_cr_inside ByteStr = refl
-no_cr_inside CStr = refl
 no_cr_inside k = refl
 
 pub inside_free : (k : Kind) (run : List ℕ) → list_all (is_inside k) run ≡ true → lacks_cr run ≡ true

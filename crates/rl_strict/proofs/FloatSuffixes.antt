@@ -1,11 +1,8 @@
 -- Decimal integers that Rust reads as floats because of their suffix.
-use Rattle.rl_syntax.proofs.Common.{◌≡◌, ◌≢◌, ℕ, ◌==◌, Bool, true, false, cond, List, [], ◌∷◌, ◌++◌, refl, sym, ap, subst, ◌∙◌, inl, inr, both_ways, chars, codes, encode_utf8_all, encodes-chars, eqb-true, is_ascii_digit, IsTrue, IsUtf8}
-use Rattle.rl_lenient.proofs.Names.{◌↔◌, Minus, NoSign, Sign, first_passes, sign_text}
-use Rattle.rl_lexer.proofs.LexemeFound.{run_found}
-use Rattle.rl_lexer.proofs.LexemeRows.{not_among, run_past}
-use Rattle.rl_lenient.specs.Mirrors.NumberAt.{after_digits, after_minus}
-use Rattle.rl_lenient.proofs.TestLemmas.{passes_more}
-use Rattle.rl_strict.specs.Limits.{IsFloatBySuffix, IsFloatSuffix}
+use Rattle.rl_strict.proofs.Names.{◌≡◌, ◌≢◌, ℕ, ◌==◌, Bool, true, false, cond, List, [], ◌∷◌, ◌++◌, refl, sym, ap, subst, ◌∙◌, inl, inr, both_ways, codes, encode_utf8_all, encodes-chars, eqb-true, is_ascii_digit, IsTrue, IsUtf8, ◌↔◌, NoSign, Sign, first_passes, sign_text, run_found, not_among, after_digits, after_minus, passes_more, IsFloatBySuffix, IsFloatSuffix}
+use Rattle.rl_syntax.proofs.Common.{chars}
+use Rattle.rl_lenient.proofs.Names.{Minus}
+use Rattle.rl_lexer.proofs.LexemeRows.{run_past}
 use Rattle.rl_strict.proofs.NumberEnds.{in_row, part_row, row_part}
 
 -- ---- the suffix

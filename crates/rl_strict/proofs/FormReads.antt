@@ -1,27 +1,5 @@
 -- The parse result of a text as it is read, by its beginning: opening delimiters, words, numbers, and a minus.
-use Rattle.rl_syntax.proofs.Common.{◌≡◌, ◌≢◌, ℕ, Bool, true, false, not, ◌==◌, List, [], ◌∷◌, ◌++◌, None, Some, refl, sym, ap, subst, ◌∙◌, inl, inr, and_parts, both_ways, is_ascii_digit, list_all}
-use Rattle.rl_lenient.proofs.Names.{Kind, Str, ByteStr, CStr, Byte, Char, first_passes, truth_text}
-use Rattle.std.specs.Str.{chars}
-use Rattle.rl_lenient.specs.Forms.{form_opener, has_form}
-use Rattle.rl_lenient.specs.Mirrors.OpenerAt.{found_opener, opener_at}
-use Rattle.rl_lenient.specs.declared.quoted_forms.QuotedForm.{QuotedForm}
-use Rattle.rl_lenient.specs.declared.quoted_forms.QuotedForm.TheVariants.{Cooked as CookedForm, Raw as RawForm, Single as SingleForm}
-use Rattle.rl_lenient.proofs.FormLemmas.{front_sound}
-use Rattle.rl_strict.specs.StrictShapes.{ClosesForm, IsToken}
-use Rattle.rl_strict.specs.declared.flaws.FlawKind.{FlawKind}
-use Rattle.rl_strict.specs.declared.flaws.FlawKind.TheVariants.{Minus, NoNumber, UnexpectedEnd}
-use Rattle.rl_strict.specs.declared.line_ends.LineEnds.{LineEnds}
-use Rattle.rl_strict.specs.declared.line_ends.LineEnds.TheVariants.{Text, File}
-use Rattle.rl_strict.specs.Flaws.{StopsBefore}
-use Rattle.rl_strict.specs.LineEnds.{IsRestOf, StopsAsRead, is_dropped, lf_text, read_of}
-use Rattle.rl_strict.specs.Readings.{IsFlawOf, IsTokenIf}
-use Rattle.rl_strict.specs.SignedFlaws.{IsSignedToken}
-use Rattle.rl_strict.specs.StrictNumberFlaws.{IsStrictWordFlaw}
-use Rattle.rl_strict.specs.StrictNumbersRead.{IsStop}
-use Rattle.rl_strict.specs.StrictRead.{IsMinusStop}
-use Rattle.rl_strict.specs.Mirrors.NumberRead.{NumberRead, number_read_at}
-use Rattle.rl_strict.specs.Mirrors.UnitFlawAt.{FoundFlaw, found_flaw}
-use Rattle.rl_strict.specs.Mirrors.WordFlawAt.{end_flaw_at, word_flaw_at}
+use Rattle.rl_strict.proofs.Names.{◌≡◌, ◌≢◌, ℕ, Bool, true, false, not, ◌==◌, List, [], ◌∷◌, ◌++◌, None, Some, refl, sym, ap, subst, ◌∙◌, inl, inr, and_parts, both_ways, is_ascii_digit, list_all, Kind, Str, ByteStr, CStr, Byte, Char, first_passes, truth_text, form_opener, found_opener, opener_at, QuotedForm, CookedForm, RawForm, SingleForm, front_sound, ClosesForm, IsToken, FlawKind, Minus, NoNumber, UnexpectedEnd, LineEnds, Text, File, StopsBefore, IsRestOf, StopsAsRead, is_dropped, lf_text, read_of, IsFlawOf, IsTokenIf, IsSignedToken, IsStrictWordFlaw, IsStop, IsMinusStop, NumberRead, number_read_at, FoundFlaw, found_flaw, end_flaw_at, word_flaw_at, goes_on}
 use Rattle.rl_strict.proofs.EndLemmas.{end_of, first_of, free_in, loose, read_flaw, self_in, step_in}
 use Rattle.rl_strict.proofs.FileNumbers.{file_stop}
 use Rattle.rl_strict.proofs.FileSuffixes.{lf_flaw, lf_opener, opener_read, word_read}
@@ -33,22 +11,15 @@ use Rattle.rl_strict.proofs.Stops.{raised}
 use Rattle.rl_strict.proofs.StrictTokens.{no_token}
 use Rattle.rl_strict.proofs.StrictWordFlaws.{IsStrictFlaw, strict_minus, strict_word}
 use Rattle.rl_strict.proofs.WalkForms.{end_place, quote_read}
-use Rattle.rl_lenient.proofs.TestLemmas.{goes_on}
 
 -- ---- opening delimiters
 
 cooked_free : (k : Kind) → lacks_cr (form_opener CookedForm k) ≡ true
 cooked_free Str = refl
-cooked_free ByteStr = refl
-cooked_free CStr = refl
-cooked_free Byte = refl
-cooked_free Char = refl
 cooked_free k = refl
 
 raw_free : (k : Kind) → lacks_cr (form_opener RawForm k) ≡ true
 raw_free Str = refl
-raw_free ByteStr = refl
-raw_free CStr = refl
 raw_free k = refl
 
 opener_free : (form : QuotedForm) (k : Kind) → lacks_cr (form_opener form k) ≡ true
@@ -205,16 +176,14 @@ minus_number_flaw how t number rest k text d e = after_minus how t number rest k
 pub minus_alone_flaw : (how : LineEnds) (t number rest : List ℕ) (k : FlawKind) → t ≡ 45 ∷ number
     → first_passes is_ascii_digit number ≡ false → found_flaw k rest ≡ end_flaw_at UnexpectedEnd NoNumber number
     → IsFlawOf how true t k t rest
-minus_alone_flaw how t number rest k text n same = after_minus how t number rest k text
-    (minus_alone (read_of how number) k (read_of how rest) (first_of how is_ascii_digit refl number ∙ n)
-    (ap (read_flaw how) same ∙ sym (end_of how UnexpectedEnd NoNumber number)))
-    (subst (IsRestOf how number)
-    (sym (ap (λ (z : FoundFlaw). z.1) same ∙ end_place UnexpectedEnd NoNumber number)) (self_in how number))
+minus_alone_flaw how t number rest k text n same = after_minus how t number rest k text (minus_alone (read_of how
+    number) k (read_of how rest) (first_of how is_ascii_digit refl number ∙ n) (ap (read_flaw how) same ∙ sym (end_of
+    how UnexpectedEnd NoNumber number))) (subst (IsRestOf how number) (sym (ap (λ (z : FoundFlaw). z.1) same ∙ end_place
+    UnexpectedEnd NoNumber number)) (self_in how number))
 
 -- In a text that begins with no minus, a flaw is also a flaw where a minus before a number is allowed.
-pub flaw_signed : (how : LineEnds) (signed : Bool) (t piece rest : List ℕ) (k : FlawKind)
-    → (signed ≡ true → first_passes (λ c. c == 45) t ≡ false) → IsFlawOf how false t k piece rest
-    → IsFlawOf how signed t k piece rest
+pub flaw_signed : (how : LineEnds) (signed : Bool) (t piece rest : List ℕ) (k : FlawKind) → (signed ≡ true →
+    first_passes (λ c. c == 45) t ≡ false) → IsFlawOf how false t k piece rest → IsFlawOf how signed t k piece rest
 flaw_signed how false t piece rest k none f = f
 flaw_signed how true t piece rest k none f =
     let n = first_of how (λ c. c == 45) refl t ∙ none refl in

@@ -1,16 +1,8 @@
 -- An unescaped ASCII character between single quotes, recognized by the bytes of its text.
-use Rattle.rl_syntax.proofs.Common.{◌≡◌, ◌<◌, ℕ, suc, zero, true, false, List, [], ◌∷◌, length, get_or, refl, sym, ap, subst, ◌∙◌, arith, inl, and_from, both_ways, IsAscii, IsUtf8, chars}
-use Rattle.rl_lenient.proofs.Names.{Char}
-use Rattle.std.proofs.lemmas.Str.{chars-IsAscii}
-use Rattle.rl_syntax.specs.Strict.{Itself, is_bare_character, is_strict_unit}
-use Rattle.rl_lenient.specs.declared.found.Body.{Body}
-use Rattle.rl_lenient.specs.declared.quoted_forms.QuotedForm.TheVariants.{Single as SingleForm}
+use Rattle.rl_strict.proofs.Names.{◌≡◌, ◌<◌, ℕ, suc, zero, true, false, List, [], ◌∷◌, length, get_or, refl, sym, ap, subst, ◌∙◌, arith, inl, and_from, both_ways, IsAscii, IsUtf8, Char, chars-IsAscii, Itself, is_bare_character, is_strict_unit, Body, SingleForm, OfUnit, IsStrictReading, Unit, ClosesUnits, IsToken}
+use Rattle.rl_syntax.proofs.Common.{chars}
 use Rattle.rl_lenient.proofs.BareCharacters.{bare_text}
-use Rattle.rl_lenient.proofs.FoundLemmas.{OfUnit}
 use Rattle.rl_strict.specs.Fronts.{IsBare}
-use Rattle.rl_strict.specs.StrictRead.{IsStrictReading}
-use Rattle.rl_strict.specs.declared.strict_reading.Reading.TheVariants.{Unit}
-use Rattle.rl_strict.specs.StrictShapes.{ClosesUnits, IsToken}
 use Rattle.rl_strict.proofs.StrictLemmas.{close_token}
 
 -- ---- the text is a literal token, and its value is the character

@@ -1,3 +1,5 @@
+pub mod InsideRuns
+pub mod Names
 pub mod DecLemmas
 pub mod StrictWordLemmas
 pub mod StrictUnitRows
@@ -5,7 +7,6 @@ pub mod StrictUnitLemmas
 pub mod StrictRowLemmas
 pub mod StrictRawLemmas
 pub mod StrictLemmas
-pub mod InsideRuns
 pub mod Theorems
 pub mod EscapeLemmas
 pub mod UnitFlawLemmas
@@ -50,4 +51,3 @@ pub mod FilePlaces
 pub mod FileStrings
 pub mod ReadValues
 pub mod OneFileFlaw
-pub mod OpenRaw

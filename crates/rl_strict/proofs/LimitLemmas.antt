@@ -1,33 +1,13 @@
 -- Integers above 128 bits: the byte offset of their suffix. Any other literal token parses by `syn`'s grammar.
-use Rattle.rl_syntax.proofs.Common.{◌≡◌, ℕ, ◌+◌, ◌-◌, ◌<◌, ◌≤◌, ◌⊎◌, ◌||◌, ◌==◌, Bool, true, false, cond, List, [], ◌∷◌, ◌++◌, length, take, IfNone, IfSome, Option, Some, None, refl, sym, ap, subst, ◌∙◌, inl, inr, cases_Bool, cases_lt, is_ascii_digit, IsUtf8, IsUtf8-take, chars}
-use Rattle.rl_lenient.proofs.Names.{Int, Float, Contents, Digits, Minus, NoSign, Sign, first_passes, limit, HasNoReading, HasReading, IsPast, byte_len}
-use Rattle.std.specs.Prelude.{drop}
-use Rattle.std.specs.Str.{IsCharBoundary}
-use Rattle.std.proofs.lemmas.Bool.{le-leb, lt-leb}
-use Rattle.rl_syntax.specs.Texts.{IsTail}
-use Rattle.rl_syntax.specs.Numbers.{IntReads}
-use Rattle.rl_syntax.specs.Strict.{dec, StrictFloat, StrictInt}
-use Rattle.rl_syntax.proofs.OneNumber.{begins_number, int_front}
-use Rattle.rl_syntax.proofs.StrictNumbers.{float_strict_reads, minus_int, signed_float, strict_float, strict_int}
-use Rattle.rl_lenient.specs.Founds.{suffix_in}
-use Rattle.rl_lenient.specs.WholeShapes.{is_number_front}
+use Rattle.rl_strict.proofs.Names.{◌≡◌, ℕ, ◌+◌, ◌-◌, ◌<◌, ◌≤◌, ◌⊎◌, ◌||◌, ◌==◌, Bool, true, false, cond, List, [], ◌∷◌, ◌++◌, length, take, Some, None, refl, sym, ap, subst, ◌∙◌, inl, inr, cases_Bool, cases_lt, is_ascii_digit, IsUtf8, IsUtf8-take, Int, Float, Contents, Digits, NoSign, Sign, first_passes, limit, HasNoReading, HasReading, IsPast, byte_len, drop, IsCharBoundary, le-leb, lt-leb, IsTail, IntReads, dec, StrictFloat, StrictInt, begins_number, int_front, float_strict_reads, minus_int, signed_float, strict_float, strict_int, suffix_in, is_number_front, only_number, Reading, Unit, Integer, AFloat, Truth, oversized_suffix_at, IsSignedToken, in_128_bits, IsSignedRead, IsToken, cut_boundary, cut_chars, within_reads, place_value}
+use Rattle.rl_syntax.proofs.Common.{chars}
+use Rattle.rl_lenient.proofs.Names.{Minus}
 use Rattle.rl_lenient.proofs.NumberLemmas.{past_number}
-use Rattle.rl_lenient.proofs.ReadingLemmas.{only_number}
 use Rattle.rl_strict.proofs.DecLemmas.{dec_spells}
 use Rattle.rl_strict.proofs.StrictLemmas.{truth_token}
-use Rattle.rl_strict.specs.declared.flaws.Flaw.{Flaw}
-use Rattle.rl_strict.specs.declared.strict_reading.Reading.{Reading}
-use Rattle.rl_strict.specs.declared.strict_reading.Reading.TheVariants.{Text, Unit, Integer, Float as AFloat, Truth}
-use Rattle.rl_strict.specs.Limits.{ExplainsLimit, IsFloatBySuffix, IsLimitFlaw, oversized_suffix_at}
-use Rattle.rl_strict.specs.SignedFlaws.{IsSignedToken}
-use Rattle.rl_strict.specs.StrictNumbersRead.{in_128_bits}
-use Rattle.rl_strict.specs.StrictRead.{IsSignedRead}
-use Rattle.rl_strict.specs.StrictShapes.{IsToken}
-use Rattle.rl_syntax.proofs.TailLemmas.{cut_boundary, cut_chars}
-use Rattle.rl_lenient.proofs.IntegerLemmas.{within_reads}
+use Rattle.rl_strict.specs.declared.strict_reading.Reading.TheVariants.{Text}
 use Rattle.rl_strict.proofs.StrictExplainLemmas.{cut_bytes}
 use Rattle.rl_strict.proofs.StrictTokens.{token_number, token_reads, truth_no_digit}
-use Rattle.rl_syntax.specs.Spelling.{place_value}
 
 -- ---- the byte offset of the suffix
 
@@ -96,18 +76,6 @@ unread_past t none y = elim (either t y) [
   | inl r ↦ absurd (none r.0 r.1.0 r.1.1 r.1.2)
   | inr p ↦ p
 ]
-
--- A literal token parses by `syn`'s grammar or is a float by its suffix, if it is such a float whenever it is above 128 bits.
-pub reads_or_float : (t : List ℕ) → IsSignedToken t → (IsPast t → IsFloatBySuffix t) → HasReading t ⊎ IsFloatBySuffix t
-reads_or_float t y none = elim (either t y) [
-  | inl r ↦ inl r
-  | inr p ↦ inr (none p)
-]
-
-pub limit_explains : (t : List ℕ) (o : Option Flaw) → IsSignedToken t
-    → IfSome o (λ flaw. IsLimitFlaw t flaw × (IsFloatBySuffix t → ⊥)) → IfSome o (ExplainsLimit t)
-limit_explains t None y some = tt
-limit_explains t (Some flaw) y some = (y, some.0, some.1)
 
 -- ---- conclusions from the parse result
 

@@ -1,21 +1,6 @@
 -- The end of parsing a number: after each part of the number, parsing continues with the next part.
-use Rattle.rl_syntax.proofs.Common.{◌≡◌, ◌≢◌, ℕ, ◌⊎◌, ◌||◌, ◌&&◌, Bool, true, false, not, ◌==◌, cond, List, [], ◌∷◌, ◌++◌, Option, Some, None, refl, sym, ap, ◌∙◌, inl, inr, append_assoc, and_parts, both_ways, eqb-true, or_from, or_parts, is_ascii_digit, list_all, list_any}
-use Rattle.rl_lenient.proofs.Names.{after_run, first_passes, is_run_part, is_underscore, Base, Binary, Octal, Decimal, Hexadecimal, radix, prefix, is_exponent_letter}
-use Rattle.std.specs.Option.{is_some}
-use Rattle.rl_syntax.specs.Texts.{is_continue, is_start}
-use Rattle.rl_syntax.specs.Numbers.{is_power_sign}
-use Rattle.rl_syntax.specs.Strict.{IsDigits, IsNumberSuffix}
-use Rattle.rl_syntax.proofs.Basics.{all_same, any_same, apart, digit_is_ten}
-use Rattle.rl_lenient.specs.Mirrors.NumberAt.{after_digits, after_power_sign, capped, digit_run_at, has_digit_at, has_value, magnitude_at, radix_at, radix_of}
-use Rattle.rl_lenient.specs.Mirrors.PlainAt.{is_some_text}
-use Rattle.rl_lenient.proofs.FloatLemmas.{run_first}
-use Rattle.rl_lenient.proofs.RunLemmas.{run_all, run_past}
-use Rattle.rl_strict.specs.Mirrors.StrictAt.{is_number_suffix, is_strict_suffix}
+use Rattle.rl_strict.proofs.Names.{◌≡◌, ◌≢◌, ℕ, ◌⊎◌, ◌||◌, ◌&&◌, Bool, true, false, not, ◌==◌, cond, List, [], ◌∷◌, ◌++◌, Option, Some, None, refl, sym, ap, ◌∙◌, inl, inr, append_assoc, and_parts, both_ways, eqb-true, or_from, or_parts, is_ascii_digit, list_all, list_any, after_run, first_passes, is_run_part, is_underscore, Base, Binary, Octal, Decimal, Hexadecimal, radix, prefix, is_exponent_letter, is_some, is_continue, is_start, is_power_sign, IsDigits, IsNumberSuffix, all_same, any_same, apart, digit_is_ten, after_digits, after_power_sign, capped, digit_run_at, has_digit_at, has_value, magnitude_at, radix_at, radix_of, is_some_text, run_first, run_all, run_past, is_number_suffix, is_strict_suffix, BadSuffix, BasedFloat, InvalidDigit, NoDigits, NoExponentDigit, NoFractionDigit, is_float_mark, suffix_rest, Ending, NumberRead, as_float, as_integer, based_read_at, digits_end_at, ended, fraction_end_at, number_read_at, power_end_at, stopped, suffix_end_at, whole_read_at}
 use Rattle.rl_strict.proofs.StrictWordLemmas.{number_suffix_complete}
-use Rattle.rl_strict.specs.declared.flaws.FlawKind.TheVariants.{BadSuffix, BasedFloat, InvalidDigit, NoDigits, NoExponentDigit, NoFractionDigit}
-use Rattle.rl_strict.specs.StrictNumberFlaws.{is_float_mark}
-use Rattle.rl_strict.specs.Mirrors.StrictFlawAt.{suffix_rest}
-use Rattle.rl_strict.specs.Mirrors.NumberRead.{Ending, NumberRead, as_float, as_integer, based_read_at, digits_end_at, ended, fraction_end_at, number_read_at, power_end_at, stopped, suffix_end_at, whole_read_at}
 
 -- ---- the results of parsing a number
 
@@ -100,8 +85,7 @@ suffix_whole [] u = refl
 suffix_whole (c ∷ cs) u = ap (λ b. not b && (cond b (is_some_text cs) (is_start c) && list_all is_continue cs)) u
     ∙ go (is_start c)
   where
-    go : (b : Bool) → (b && list_all is_continue cs)
-        ≡ not (is_some_text (cond b (after_run is_continue cs) (c ∷ cs)))
+    go : (b : Bool) → (b && list_all is_continue cs) ≡ not (is_some_text (cond b (after_run is_continue cs) (c ∷ cs)))
     go true = all_run is_continue cs
     go false = refl
 
@@ -164,10 +148,9 @@ row_bare (c ∷ cs) x each some =
 abbrev pub power_tail : Bool → List ℕ → Ending
 power_tail some y = cond some (suffix_end_at y) (stopped NoExponentDigit y)
 
-pub power_is : (sign run x : List ℕ) (some : Bool) → IsSign sign
-    → (sign ≡ [] → first_passes is_sign (run ++ x) ≡ false) → list_all in_row run ≡ true
-    → list_any (has_value 10) run ≡ some → first_passes in_row x ≡ false
-    → power_end_at (sign ++ (run ++ x)) ≡ power_tail some x
+pub power_is : (sign run x : List ℕ) (some : Bool) → IsSign sign → (sign ≡ [] → first_passes is_sign (run ++ x) ≡ false)
+    → list_all in_row run ≡ true → list_any (has_value 10) run ≡ some → first_passes in_row x ≡ false → power_end_at
+    (sign ++ (run ++ x)) ≡ power_tail some x
 unfolding power_end_at
 power_is sign run x some s bare each is stops =
     let p = run_past in_row run x each stops in

@@ -1,23 +1,12 @@
 -- A number of Rust's grammar is parsed to its end.
-use Rattle.rl_syntax.proofs.Common.{◌≡◌, ◌≢◌, ℕ, ◌||◌, Bool, true, false, not, ◌==◌, List, [], ◌∷◌, ◌++◌, refl, sym, ap, subst, ◌∙◌, inl, inr, append_assoc, append-nil, and_parts, not-true, is_ascii_digit, is_ascii_hexdigit, list_all, list_any}
-use Rattle.rl_lenient.proofs.Names.{first_passes, is_underscore, Base, Binary, Octal, Decimal, Hexadecimal, radix, prefix, is_exponent_letter, Contents}
-use Rattle.rl_syntax.specs.Numbers.{AllowsSuffix}
-use Rattle.rl_syntax.specs.Strict.{IsDigits, IsDecimalText, IsNumberSuffix, StrictInt, IsStrictExponent, StrictFloat}
-use Rattle.rl_syntax.proofs.StrictNumbers.{foreign_dot, letter_no_part, no_part, suffix_no_part, suffix_without}
-use Rattle.rl_syntax.proofs.Basics.{digit_is_ten, hex_is_sixteen, passes_same}
-use Rattle.rl_lenient.specs.Mirrors.NumberAt.{has_value}
-use Rattle.rl_lenient.proofs.FloatLemmas.{letter_no_dot}
-use Rattle.rl_lenient.proofs.IntegerLemmas.{not_based}
+use Rattle.rl_strict.proofs.Names.{◌≡◌, ◌≢◌, ℕ, ◌||◌, Bool, true, false, not, ◌==◌, List, [], ◌∷◌, ◌++◌, refl, sym, ap, subst, ◌∙◌, inl, inr, append_assoc, append-nil, and_parts, not-true, is_ascii_digit, is_ascii_hexdigit, list_all, list_any, first_passes, is_underscore, Base, Binary, Octal, Decimal, Hexadecimal, radix, prefix, is_exponent_letter, Contents, AllowsSuffix, IsDigits, IsDecimalText, IsNumberSuffix, StrictInt, IsStrictExponent, StrictFloat, foreign_dot, letter_no_part, no_part, suffix_no_part, suffix_without, suffix_of_strict, digit_is_ten, hex_is_sixteen, passes_same, has_value, letter_no_dot, not_based, is_float_mark, digits_end_at, fraction_end_at, suffix_end_at}
 use Rattle.rl_strict.proofs.StrictLemmas.{IsStrictNumber}
-use Rattle.rl_strict.proofs.StrictWordLemmas.{lenient_suffix}
-use Rattle.rl_strict.specs.StrictNumberFlaws.{is_float_mark}
-use Rattle.rl_strict.specs.Mirrors.NumberRead.{digits_end_at, fraction_end_at, suffix_end_at}
 use Rattle.rl_strict.proofs.NumberEnds.{Passes, based_is, both_fail, decimal_is, digits_plain, digits_power, each_fails, fraction_is, in_row, is_read, number_end_at, power_is, row_bare, row_part, row_plain, some_value, suffix_is_read, whole_digits, whole_dot, whole_plain}
 
 -- ---- the characters that a suffix doesn't begin with
 
 no_row : (x : List ℕ) → IsNumberSuffix x → first_passes in_row x ≡ false
-no_row x s = suffix_no_part x (lenient_suffix x s)
+no_row x s = suffix_no_part x (suffix_of_strict x s)
 
 no_digit : (x : List ℕ) → IsNumberSuffix x → first_passes is_ascii_digit x ≡ false
 no_digit x s = passes_same is_ascii_digit (has_value 10) digit_is_ten x
@@ -26,7 +15,7 @@ no_digit x s = passes_same is_ascii_digit (has_value 10) digit_is_ten x
 no_dot : (x : List ℕ) → IsNumberSuffix x → first_passes (λ c. c == 46) x ≡ false
 no_dot [] s = refl
 no_dot (c ∷ cs) s = not-true (c == 46) (and_parts (not (c == 46)) (list_all (λ c. not (c == 46)) cs)
-    (suffix_without 46 (c ∷ cs) foreign_dot (lenient_suffix (c ∷ cs) s))).0
+    (suffix_without 46 (c ∷ cs) foreign_dot (suffix_of_strict (c ∷ cs) s))).0
 
 no_mark : (x : List ℕ) → IsNumberSuffix x → first_passes is_exponent_letter x ≡ false
     → first_passes is_float_mark x ≡ false
@@ -56,9 +45,8 @@ dot_alone t d numeral x n h is e text =
     let whole : t ≡ d ++ (46 ∷ []) = text ∙ ap (λ z. numeral ++ z) e ∙ append-nil numeral ∙ is in
     ap is_read (decimal_is t d (46 ∷ []) (not_based t n) whole h refl ∙ whole_dot [])
 
-pointed : (t d f numeral x : List ℕ) → IsDecimalText t → IsDigits d → IsDigits f → numeral ≡ d ++ (46 ∷ f)
-    → first_passes is_exponent_letter x ≡ false → IsNumberSuffix x → t ≡ numeral ++ x → number_end_at t
-    ≡ suffix_end_at x
+pointed : (t d f numeral x : List ℕ) → IsDecimalText t → IsDigits d → IsDigits f → numeral ≡ d ++ (46 ∷ f) →
+    first_passes is_exponent_letter x ≡ false → IsNumberSuffix x → t ≡ numeral ++ x → number_end_at t ≡ suffix_end_at x
 pointed t d f numeral x n h k is p s text =
     let whole : t ≡ d ++ (46 ∷ (f ++ x)) = text ∙ ap (λ z. z ++ x) is ∙ append_assoc d (46 ∷ f) x in
     decimal_is t d (46 ∷ (f ++ x)) (not_based t n) whole h refl ∙ whole_dot (f ++ x) ∙ fraction_is f x k (no_row x s)
@@ -110,7 +98,7 @@ based_passes b t x v s n p base of =
     let All : ℕ → Type 0 = λ r. list_all (λ c. has_value r c || is_underscore c) s.run ≡ true in
     let Any : ℕ → Type 0 = λ r. list_any (has_value r) s.run ≡ true in
     ap is_read (ap number_end_at (s.text ∙ ap (λ z. (z ++ s.run) ++ x) p)
-    ∙ based_is b s.run x n (subst All base s.each) (no_part b x (lenient_suffix x s.suffix) of)
+    ∙ based_is b s.run x n (subst All base s.each) (no_part b x (suffix_of_strict x s.suffix) of)
     ∙ row_plain b s.run x (subst Any base s.some) (no_digit x s.suffix) (no_mark x s.suffix s.no_exponent))
     ∙ suffix_is_read x s.suffix
 

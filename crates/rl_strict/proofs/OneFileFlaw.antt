@@ -1,14 +1,5 @@
 -- A text in a file has at most one flaw. Each byte offset in the text as it is read is exactly one byte offset in the file.
-use Rattle.rl_syntax.proofs.Common.{◌≡◌, ℕ, ◌<◌, ◌==◌, Bool, false, true, not, List, [], ◌∷◌, ◌++◌, length, refl, sym, ap, subst, ◌∙◌, inl, inr, arith}
-use Rattle.std.proofs.Math.Bool.{and-false}
-use Rattle.std.proofs.lemmas.Str.{length-le-encodes}
-use Rattle.rl_lenient.proofs.Names.{byte_len}
-use Rattle.rl_lexer.proofs.CutLemmas.{byte_len-append}
-use Rattle.rl_strict.specs.declared.flaws.Flaw.{Flaw}
-use Rattle.rl_strict.specs.FileTexts.{ExplainsInFile, ExplainsSignedInFile, ExplainsSignedValueInFile, ExplainsValueInFile, IsPlaceInFile}
-use Rattle.rl_strict.specs.LineEnds.{is_dropped, is_seam, lf_text}
-use Rattle.rl_strict.specs.OneFlaw.{IsExplainedOnce}
-use Rattle.rl_strict.specs.SignedFlaws.{IsSignedToken}
+use Rattle.rl_strict.proofs.Names.{◌≡◌, ℕ, ◌<◌, ◌==◌, Bool, false, true, not, List, [], ◌∷◌, ◌++◌, length, refl, sym, ap, subst, ◌∙◌, inl, inr, arith, and-false, length-le-encodes, byte_len, byte_len-append, Flaw, ExplainsInFile, ExplainsSignedInFile, ExplainsSignedValueInFile, ExplainsValueInFile, IsPlaceInFile, is_dropped, is_seam, lf_text, IsExplainedOnce, IsSignedToken}
 use Rattle.rl_strict.proofs.FileStrings.{signed_same}
 use Rattle.rl_strict.proofs.FileTextLemmas.{by_first, seam_text, when_dropped, when_kept}
 use Rattle.rl_strict.proofs.OneSignedFlaw.{limit_once, signed_once}
@@ -94,10 +85,9 @@ record InFile (t : List ℕ) (read flaw : Flaw) : Type 0 where
   pub hi : IsPlaceInFile t read.hi flaw.hi
 
 in_file_once : (t : List ℕ) (a b r s : Flaw) → r ≡ s → InFile t r a → InFile t s b → a ≡ b
-in_file_once t a b r s e p q = flaw_same a b (p.kind ∙ ap (λ (z : Flaw). z.kind) e ∙ sym q.kind)
-    (place_once t r.from s.from a.from b.from (ap (λ (z : Flaw). z.from) e) p.from q.from)
-    (place_once t r.lo s.lo a.lo b.lo (ap (λ (z : Flaw). z.lo) e) p.lo q.lo)
-    (place_once t r.hi s.hi a.hi b.hi (ap (λ (z : Flaw). z.hi) e) p.hi q.hi)
+in_file_once t a b r s e p q = flaw_same a b (p.kind ∙ ap (λ (z : Flaw). z.kind) e ∙ sym q.kind) (place_once t r.from
+    s.from a.from b.from (ap (λ (z : Flaw). z.from) e) p.from q.from) (place_once t r.lo s.lo a.lo b.lo (ap (λ (z :
+    Flaw). z.lo) e) p.lo q.lo) (place_once t r.hi s.hi a.hi b.hi (ap (λ (z : Flaw). z.hi) e) p.hi q.hi)
 
 pub file_once : (t : List ℕ) → IsExplainedOnce ExplainsInFile t
 file_once t a b p q = in_file_once t a b p.read q.read

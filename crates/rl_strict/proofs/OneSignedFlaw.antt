@@ -1,16 +1,5 @@
 -- A text has at most one flaw where a minus before a number is allowed, and at most one flaw as an integer above 128 bits.
-use Rattle.rl_syntax.proofs.Common.{◌≡◌, ℕ, ◌+◌, ◌==◌, false, List, [], ◌∷◌, ◌++◌, refl, sym, ap, subst, ◌∙◌, inl, inr, append_cancel_right, both_ways, is_ascii_digit}
-use Rattle.rl_lenient.proofs.Names.{byte_len, first_passes}
-use Rattle.rl_lenient.proofs.TestLemmas.{front_passes}
-use Rattle.rl_syntax.proofs.OneNumber.{int_once}
-use Rattle.rl_strict.specs.StrictShapes.{IsToken}
-use Rattle.rl_strict.specs.declared.flaws.Flaw.{Flaw}
-use Rattle.rl_strict.specs.declared.flaws.FlawKind.{FlawKind}
-use Rattle.rl_strict.specs.declared.flaws.FlawKind.TheVariants.{NoNumber, UnexpectedEnd}
-use Rattle.rl_strict.specs.Flaws.{IsCompletable, StopsBefore, first_len}
-use Rattle.rl_strict.specs.Limits.{ExplainsValue, IsLimitFlaw}
-use Rattle.rl_strict.specs.OneFlaw.{IsExplainedOnce}
-use Rattle.rl_strict.specs.SignedFlaws.{ExplainsSigned, IsMinusFlawOf, IsSignedFlawOf, IsSignedToken, LacksNumber}
+use Rattle.rl_strict.proofs.Names.{◌≡◌, ℕ, ◌+◌, ◌==◌, false, List, [], ◌∷◌, ◌++◌, refl, sym, ap, subst, ◌∙◌, inl, inr, append_cancel_right, both_ways, is_ascii_digit, byte_len, first_passes, front_passes, int_once, IsToken, Flaw, FlawKind, NoNumber, UnexpectedEnd, IsCompletable, StopsBefore, first_len, ExplainsValue, IsLimitFlaw, IsExplainedOnce, ExplainsSigned, IsMinusFlawOf, IsSignedFlawOf, IsSignedToken, LacksNumber}
 use Rattle.rl_strict.proofs.OneStrictFlaw.{Explained, explained_once, flaw_same, kinds_once, number_once}
 use Rattle.rl_strict.proofs.ReadNumbers.{one_digit}
 use Rattle.rl_strict.proofs.SignedFlaws.{unsigned}
@@ -43,9 +32,8 @@ number_cut : (t number rest : List ℕ) → t ≡ 45 ∷ number → StopsBefore 
     → (front : List ℕ) × (number ≡ front ++ rest)
 number_cut t number rest e s = go s.front (sym e ∙ s.text_is) s.stuck
   where
-    go : (front : List ℕ) → 45 ∷ number ≡ front ++ rest
-        → ((c : ℕ) (cs ending : List ℕ) → rest ≡ c ∷ cs → IsSignedToken (front ++ (c ∷ ending)) → ⊥)
-        → (f : List ℕ) × (number ≡ f ++ rest)
+    go : (front : List ℕ) → 45 ∷ number ≡ front ++ rest → ((c : ℕ) (cs ending : List ℕ) → rest ≡ c ∷ cs → IsSignedToken
+        (front ++ (c ∷ ending)) → ⊥) → (f : List ℕ) × (number ≡ f ++ rest)
     go [] h stuck = absurd (stuck 45 number (49 ∷ []) (sym h) (inr (49 ∷ [], refl, refl, one_digit 49 refl)))
     go (c ∷ cs) h stuck = let same : 45 ∷ number ≡ c ∷ (cs ++ rest) = h in (cs, cc)
 

@@ -1,29 +1,11 @@
 -- A text has at most one flaw in Rust's grammar.
-use Rattle.rl_syntax.proofs.Common.{◌≡◌, ℕ, ◌+◌, true, false, ◌==◌, cond, List, [], ◌∷◌, ◌++◌, None, refl, sym, ap, subst, ◌∙◌, inl, inr, append_assoc, append_cancel_right, both_ways, or_parts, is_ascii_digit, Bool, Some}
-use Rattle.rl_lenient.proofs.Names.{Kind, byte_len, first_passes, truth_text}
-use Rattle.rl_strict.specs.declared.flaws.FlawKind.{FlawKind}
-use Rattle.rl_strict.specs.declared.flaws.FlawKind.TheVariants.{BadSuffix, Empty, Minus, NotALiteral, UnexpectedEnd}
-use Rattle.rl_lenient.specs.declared.quoted_forms.QuotedForm.{QuotedForm}
-use Rattle.rl_lenient.specs.declared.quoted_forms.QuotedForm.TheVariants.{Cooked as CookedForm, Raw as RawForm, Single as SingleForm}
-use Rattle.rl_strict.specs.Flaws.{StopsBefore, first_len, HasKind, IsPlaced}
-use Rattle.rl_lenient.specs.Forms.{form_opener, has_form}
-use Rattle.rl_strict.specs.OneFlaw.{HasOneFlaw}
-use Rattle.rl_strict.specs.StrictFlawKinds.{HasStrictQuotedFlaw, StrictQuotedFlaw}
-use Rattle.rl_strict.specs.StrictFlaws.{ExplainsStrictly, IsStrictFlawOf}
-use Rattle.rl_strict.specs.StrictNumberFlaws.{BeginsWord, IsStrictNumberFlaw, IsStrictWordFlaw}
-use Rattle.rl_strict.specs.StrictShapes.{IsToken}
-use Rattle.rl_lenient.specs.Mirrors.OpenerAt.{found_opener, opener_at}
-use Rattle.rl_lenient.proofs.FormLemmas.{front_complete}
+use Rattle.rl_strict.proofs.Names.{◌≡◌, ℕ, ◌+◌, true, false, ◌==◌, cond, List, [], ◌∷◌, ◌++◌, None, refl, sym, ap, subst, ◌∙◌, inl, inr, append_assoc, append_cancel_right, both_ways, or_parts, is_ascii_digit, Bool, Some, Kind, byte_len, first_passes, truth_text, FlawKind, BadSuffix, Empty, Minus, NotALiteral, UnexpectedEnd, QuotedForm, CookedForm, RawForm, SingleForm, StopsBefore, first_len, HasKind, IsPlaced, form_opener, has_form, HasOneFlaw, HasStrictQuotedFlaw, StrictQuotedFlaw, ExplainsStrictly, IsStrictFlawOf, BeginsWord, IsStrictNumberFlaw, IsStrictWordFlaw, IsToken, found_opener, opener_at, front_complete, front_not_quoted, Ending, Flaw, is_number_front}
 use Rattle.rl_strict.proofs.OneStrictRaw.{raw_once}
 use Rattle.rl_strict.proofs.OneStrictUnit.{cooked_once, single_once}
-use Rattle.rl_lenient.proofs.ReadingLemmas.{front_not_quoted}
 use Rattle.rl_strict.proofs.StrictExplainLemmas.{quoted_cut}
 use Rattle.rl_strict.proofs.StrictNumberKinds.{digit_kind}
 use Rattle.rl_strict.proofs.StrictTokens.{digit_front}
-use Rattle.rl_strict.specs.Mirrors.NumberRead.{Ending}
 use Rattle.rl_strict.proofs.ReadNumbers.{goes_on}
-use Rattle.rl_strict.specs.declared.flaws.Flaw.{Flaw}
-use Rattle.rl_lenient.specs.WholeShapes.{is_number_front}
 
 -- ---- the position of the flaw
 
@@ -56,9 +38,8 @@ not_before takes text r s a b c more e h = a.stuck c (more ++ s) (more ++ b.begi
     (subst takes (ap (λ z. z ++ b.begins.ending) e ∙ append_assoc a.front (c ∷ more) b.begins.ending) b.begins.is_taken)
 
 -- A text has exactly one longest prefix that can be completed.
-pub stops_once : (takes : List ℕ → Type 0) (text r s : List ℕ) (a : StopsBefore takes text r)
-    (b : StopsBefore takes text s)
-    → (a.front ≡ b.front) × (r ≡ s)
+pub stops_once : (takes : List ℕ → Type 0) (text r s : List ℕ) (a : StopsBefore takes text r) (b : StopsBefore takes
+    text s) → (a.front ≡ b.front) × (r ≡ s)
 stops_once takes text r s a b = go (meets a.front b.front r s (sym a.text_is ∙ b.text_is))
   where
     go : Meets a.front b.front r s → (a.front ≡ b.front) × (r ≡ s)
@@ -142,9 +123,8 @@ quoted_opener : (k : FlawKind) (t piece rest : List ℕ) (q : HasStrictQuotedFla
     ≡ found_opener q.form q.kind q.inside
 quoted_opener k t piece rest q = ap opener_at q.text_is ∙ front_complete q.form q.kind q.inside q.is_form
 
-quoted_once : (k l : FlawKind) (t pa pb rest : List ℕ) → HasStrictQuotedFlaw k t pa rest
-    → HasStrictQuotedFlaw l t pb rest
-    → (k ≡ l) × (pa ≡ pb)
+quoted_once : (k l : FlawKind) (t pa pb rest : List ℕ) → HasStrictQuotedFlaw k t pa rest → HasStrictQuotedFlaw l t pb
+    rest → (k ≡ l) × (pa ≡ pb)
 quoted_once k l t pa pb rest p q =
     let same = opener_same t q.form p.form q.kind p.kind q.inside p.inside (quoted_opener l t pb rest q)
     (quoted_opener k t pa rest p) in
@@ -164,9 +144,8 @@ front_opened k t front piece rest e q none =
 
 -- ---- numbers
 
-pub number_once : (k l : FlawKind) (front rest : List ℕ) → IsStrictNumberFlaw k front rest
-    → IsStrictNumberFlaw l front rest
-    → k ≡ l
+pub number_once : (k l : FlawKind) (front rest : List ℕ) → IsStrictNumberFlaw k front rest → IsStrictNumberFlaw l front
+    rest → k ≡ l
 number_once BadSuffix BadSuffix front rest p q = refl
 number_once BadSuffix l front rest p q = absurd (p.2 l q)
 number_once k BadSuffix front rest p q = absurd (q.2 k p)
@@ -227,16 +206,14 @@ kinds_once k l t pa pb rest s p q = go p q
         ∙ quoted_opener k t piece rest a in absurd
         (cc)
 
-    not_word : (k l : FlawKind) (piece : List ℕ) → HasStrictQuotedFlaw k t piece rest
-        → HasKind (IsStrictWordFlaw l) t rest
-        → ⊥
+    not_word : (k l : FlawKind) (piece : List ℕ) → HasStrictQuotedFlaw k t piece rest → HasKind (IsStrictWordFlaw l) t
+        rest → ⊥
     not_word k l piece a w = front_opened k t s.front piece rest s.text_is a
         (word_front l s.front rest (w s.front s.text_is)).no_opener
 
     neither : (l : FlawKind) → first_passes is_ascii_digit t ≡ true → HasKind (IsStrictWordFlaw l) t rest → ⊥
-    neither l h w = both_ways (first_passes is_ascii_digit s.front)
-        (no_digit s.front (word_front l s.front rest (w s.front s.text_is)))
-        (goes_on t s.front rest s.text_is s.stuck h)
+    neither l h w = both_ways (first_passes is_ascii_digit s.front) (no_digit s.front (word_front l s.front rest (w
+        s.front s.text_is))) (goes_on t s.front rest s.text_is s.stuck h)
 
     go : IsStrictFlawOf k t pa rest → IsStrictFlawOf l t pb rest → (k ≡ l) × (pa ≡ pb)
     go (inl a) (inl b) = quoted_once k l t pa pb rest a b

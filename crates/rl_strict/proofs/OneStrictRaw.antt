@@ -1,19 +1,5 @@
 -- At one position, a raw string has at most one flaw and one piece.
-use Rattle.rl_syntax.proofs.Common.{◌≡◌, ◌≢◌, ℕ, ◌&&◌, Bool, true, false, not, ◌==◌, cond, List, [], ◌∷◌, ◌++◌, replicate, refl, sym, ap, ◌∙◌, inl, inr, arith, append_assoc, append_cancel_right, nat_lt, and_parts, both_ways, eqb-true, or_from, list_all, zero, suc}
-use Rattle.rl_lenient.proofs.Names.{append_cancel_left, Kind, first_passes, after_run, is_hash}
-use Rattle.std.proofs.lemmas.Bool.{or_left}
-use Rattle.rl_syntax.specs.Texts.{begins}
-use Rattle.rl_syntax.proofs.Basics.{apart}
-use Rattle.rl_lexer.proofs.HashLemmas.{hashes_past}
-use Rattle.rl_syntax.proofs.StrictNumbers.{begins_front}
-use Rattle.rl_strict.specs.declared.flaws.FlawKind.{FlawKind}
-use Rattle.rl_strict.specs.declared.flaws.FlawKind.TheVariants.{UnexpectedEnd, NoQuote, Unclosed, Nul, NotAscii, TooManyHashes, CarriageReturn}
-use Rattle.rl_lenient.specs.declared.quoted_forms.QuotedForm.TheVariants.{Raw as RawForm}
-use Rattle.rl_strict.specs.FlawKinds.{IsUnopened, is_quote}
-use Rattle.rl_strict.specs.StrictFlawKinds.{IsOpen, StrictQuotedFlaw, StrictRawFlaw}
-use Rattle.rl_strict.specs.Mirrors.StrictAt.{is_raw_character}
-use Rattle.rl_strict.specs.Mirrors.StrictFlawAt.{raw_stop, raw_character_flaw_of}
-use Rattle.rl_strict.specs.Mirrors.UnitFlawAt.{spoiled_flaw_of}
+use Rattle.rl_strict.proofs.Names.{◌≡◌, ◌≢◌, ℕ, ◌&&◌, Bool, true, false, not, ◌==◌, cond, List, [], ◌∷◌, ◌++◌, replicate, refl, sym, ap, ◌∙◌, inl, inr, arith, append_assoc, append_cancel_right, nat_lt, and_parts, both_ways, eqb-true, or_from, list_all, zero, suc, append_cancel_left, Kind, first_passes, after_run, is_hash, or_left, begins, apart, hashes_past, begins_front, FlawKind, UnexpectedEnd, NoQuote, Unclosed, Nul, NotAscii, TooManyHashes, CarriageReturn, RawForm, IsUnopened, is_quote, IsOpen, StrictQuotedFlaw, StrictRawFlaw, is_raw_character, raw_stop, raw_character_flaw_of, spoiled_flaw_of}
 use Rattle.rl_strict.proofs.OneStrictUnit.{suffix_once}
 use Rattle.rl_strict.proofs.StrictRawFlaws.{ends_at, many_hashes, walk_halt}
 use Rattle.rl_strict.proofs.StrictRawLemmas.{NoCloser, inside_allowed, no_closer_at}

@@ -1,19 +1,9 @@
 -- At one position, a string with escapes and a character or byte literal have at most one flaw and one piece.
-use Rattle.rl_syntax.proofs.Common.{◌≡◌, ℕ, ◌⊎◌, ◌&&◌, Bool, true, false, ◌==◌, cond, List, [], ◌∷◌, ◌++◌, Option, Some, None, refl, sym, ap, subst, ◌∙◌, inl, inr, append_assoc, append-nil, append_cancel_right, and_from, and_parts, both_ways, eqb-true, flat_map, list_all}
-use Rattle.rl_lenient.proofs.Names.{Kind, Byte, Char, first_passes, is_single, is_string, is_line_end, StrictUnit, strict_text, is_strict_unit}
-use Rattle.std.proofs.lemmas.Bool.{and_right}
-use Rattle.rl_strict.specs.declared.flaws.FlawKind.{FlawKind}
-use Rattle.rl_strict.specs.declared.flaws.FlawKind.TheVariants.{Unclosed, UnknownEscape, NoUnicode, Nul, MustEscape, NoCharacter, TwoCharacters, BadSuffix, CarriageReturn, TextAfterQuote, ExtraHash, UnderscoreSuffix}
-use Rattle.rl_lenient.specs.declared.quoted_forms.QuotedForm.{QuotedForm}
-use Rattle.rl_lenient.specs.declared.quoted_forms.QuotedForm.TheVariants.{Cooked as CookedForm, Raw as RawForm, Single as SingleForm}
-use Rattle.rl_lenient.specs.StrictUnits.{BeginsStrictUnit, BeginsStrictUnits, BreaksEnd, HasNoStrictUnit}
-use Rattle.rl_strict.specs.StrictFlawKinds.{StrictCloserFlaw, StrictQuotedFlaw, StrictUnitFlaw, SuffixFlaw, form_quote, is_raw_form, suffix_piece}
-use Rattle.rl_strict.specs.Mirrors.StrictAt.{unit_rest}
-use Rattle.rl_strict.specs.Mirrors.UnitFlawAt.{character_flaw_of}
+use Rattle.rl_strict.proofs.Names.{◌≡◌, ℕ, ◌⊎◌, ◌&&◌, Bool, true, false, ◌==◌, cond, List, [], ◌∷◌, ◌++◌, Option, Some, None, refl, sym, ap, subst, ◌∙◌, inl, inr, append_assoc, append-nil, append_cancel_right, and_from, and_parts, both_ways, eqb-true, flat_map, list_all, Kind, first_passes, is_single, is_string, is_line_end, StrictUnit, strict_text, is_strict_unit, and_right, FlawKind, Unclosed, UnknownEscape, NoUnicode, Nul, MustEscape, NoCharacter, TwoCharacters, BadSuffix, CarriageReturn, TextAfterQuote, ExtraHash, UnderscoreSuffix, QuotedForm, CookedForm, SingleForm, BeginsStrictUnit, BeginsStrictUnits, BreaksEnd, HasNoStrictUnit, StrictCloserFlaw, StrictQuotedFlaw, StrictUnitFlaw, SuffixFlaw, form_quote, is_raw_form, suffix_piece, unit_rest, character_flaw_of, HasStrictUnits, not_both}
 use Rattle.rl_strict.proofs.OneUnitFlaw.{at_end, flaw_of, must_escape, spoils}
-use Rattle.rl_lenient.proofs.StrictBackLemmas.{HasStrictUnits}
 use Rattle.rl_strict.proofs.StrictRowLemmas.{quote_stops, quoted_string}
 use Rattle.rl_strict.proofs.StrictUnitLemmas.{unit_rest_complete, unit_rest_sound}
+use Rattle.rl_strict.proofs.ReadQuoted.{not_string}
 
 -- ---- one character or escape
 
@@ -33,18 +23,9 @@ record Told (kind : Kind) (k : FlawKind) (t : List ℕ) (c : ℕ) (cs : List ℕ
   text_is : t ≡ front ++ (c ∷ cs)
   kind_is : k ≡ strict_flaw_of kind front c
 
-no_single : (kind : Kind) → is_string kind ≡ true → is_single kind ≡ true → ⊥
-no_single Byte s o = absurd (cc)
-no_single Char s o = absurd (cc)
-no_single kind s o = absurd (cc)
-
 -- In a character or byte literal, the flaw of a CR isn't `CarriageReturn`.
 single_return : (kind : Kind) (c : ℕ) → is_single kind ≡ true → is_bad_return kind c ≡ false
-single_return kind c o = and_right (c == 13) (is_string kind) (not_string (is_string kind) refl)
-  where
-    not_string : (b : Bool) → is_string kind ≡ b → is_string kind ≡ false
-    not_string true h = absurd (no_single kind h o)
-    not_string false h = h
+single_return kind c o = and_right (c == 13) (is_string kind) (not_string kind o)
 
 -- The kinds of flaws that both grammars have don't apply to a CR in a string.
 no_must : (kind : Kind) (k : FlawKind) (t : List ℕ) (c : ℕ) (cs : List ℕ) → StrictUnitFlaw kind k t (c ∷ cs)
@@ -52,7 +33,7 @@ no_must : (kind : Kind) (k : FlawKind) (t : List ℕ) (c : ℕ) (cs : List ℕ) 
 no_must kind k t c cs h bad e =
     let p = and_parts (c == 13) (is_string kind) bad in
     let is : k ≡ MustEscape = e ∙ ap character_flaw_of (eqb-true c 13 p.0) in
-    no_single kind p.1 (subst (λ z. StrictUnitFlaw kind z t (c ∷ cs)) is h).0
+    not_both kind p.1 (subst (λ z. StrictUnitFlaw kind z t (c ∷ cs)) is h).0
 
 abbrev after_backslash : ℕ → FlawKind
 after_backslash c = cond (c == 117) NoUnicode (cond (c == 48) Nul UnknownEscape)
@@ -148,9 +129,8 @@ none_left k t q none = go (unit_rest k t) refl
         absurd (none r (record { unit = f.unit; is_unit = f.is_unit; ends = f.may_end; text_is = f.text_is }))
 
 -- The text after the first character or escape.
-first_left : (k : Kind) (u : StrictUnit) (us : List StrictUnit) (s : List ℕ) → list_all (is_strict_unit k) (u ∷ us)
-    ≡ true → BreaksEnd (u ∷ us) s → unit_rest k (flat_map strict_text (u ∷ us) ++ s)
-    ≡ Some (flat_map strict_text us ++ s)
+first_left : (k : Kind) (u : StrictUnit) (us : List StrictUnit) (s : List ℕ) → list_all (is_strict_unit k) (u ∷ us) ≡
+    true → BreaksEnd (u ∷ us) s → unit_rest k (flat_map strict_text (u ∷ us) ++ s) ≡ Some (flat_map strict_text us ++ s)
 first_left k u us s each ends =
     ap (unit_rest k) (append_assoc (strict_text u) (flat_map strict_text us) s)
     ∙ unit_rest_complete k u (flat_map strict_text us ++ s) (and_parts (is_strict_unit k u)
@@ -197,8 +177,7 @@ suffix_kind form front (c ∷ cs) = cond (is_raw_form form && (empty_front front
 
 quote_no_hash : (form : QuotedForm) → (form_quote form == 35) ≡ false
 quote_no_hash CookedForm = refl
-quote_no_hash RawForm = refl
-quote_no_hash SingleForm = refl
+quote_no_hash other = refl
 
 suffix_told : (form : QuotedForm) (k : FlawKind) (front rest : List ℕ) → SuffixFlaw form k front rest → k
     ≡ suffix_kind form front rest

@@ -1,15 +1,6 @@
 -- At one position, a character or escape of a quoted literal has at most one flaw.
-use Rattle.rl_syntax.proofs.Common.{◌≡◌, ℕ, ◌+◌, ◌*◌, ◌||◌, ◌&&◌, Bool, true, false, not, cond, eqb, ltb, List, [], ◌∷◌, ◌++◌, None, refl, sym, ap, subst, ◌∙◌, arith, digit_value, list_all, and_parts, eqb-true, lt-ltb, ne_eqb, not-true, or_parts}
-use Rattle.rl_lenient.proofs.Names.{le-ltb, Kind, first_passes, is_underscore, Zero, is_hex_digit}
-use Rattle.rl_syntax.proofs.Basics.{apart}
-use Rattle.rl_syntax.specs.Texts.{is_among}
-use Rattle.rl_strict.specs.declared.flaws.FlawKind.{FlawKind}
-use Rattle.rl_strict.specs.declared.flaws.FlawKind.TheVariants.{Unclosed, UnknownEscape, NoUnicode, NoHexDigit, NoBrace, EmptyBraces, TooManyDigits, HexEscapeOutOfRange, UnicodeEscapeOutOfRange, Surrogate, Nul, NotAscii, MustEscape, NoCharacter}
-use Rattle.rl_strict.specs.FlawKinds.{IsBraced, digit_count, number_of, FirstDigit, SecondDigit, AfterBrace, AfterDigits, IsNoCode, HasNoCode, AtBrace, AtSixth, AsItIs, ByLetter, ByDigits, ByNumber, UnitFlaw}
-use Rattle.rl_lenient.specs.Mirrors.UnitAt.{escape_at, hex_at, unit_at, unicode_at}
-use Rattle.rl_strict.specs.Mirrors.UnitFlawAt.{character_flaw_of, code_flaw_of}
-use Rattle.rl_lenient.proofs.UnitLemmas.{unit_nil}
-use Rattle.rl_lenient.proofs.CodeDigitLemmas.{unicode_digits_at, unicode_is}
+use Rattle.rl_strict.proofs.Names.{◌≡◌, ℕ, ◌+◌, ◌*◌, ◌||◌, ◌&&◌, Bool, true, false, not, cond, eqb, ltb, List, [], ◌∷◌, ◌++◌, None, refl, sym, ap, subst, ◌∙◌, arith, digit_value, list_all, and_parts, eqb-true, lt-ltb, ne_eqb, not-true, or_parts, le-ltb, Kind, first_passes, is_underscore, is_hex_digit, apart, is_among, FlawKind, Unclosed, UnknownEscape, NoUnicode, NoHexDigit, NoBrace, EmptyBraces, TooManyDigits, HexEscapeOutOfRange, UnicodeEscapeOutOfRange, Surrogate, Nul, NotAscii, MustEscape, NoCharacter, IsBraced, digit_count, number_of, FirstDigit, SecondDigit, AfterBrace, AfterDigits, IsNoCode, HasNoCode, AtBrace, AtSixth, AsItIs, ByLetter, ByDigits, ByNumber, UnitFlaw, escape_at, hex_at, unit_at, unicode_at, character_flaw_of, code_flaw_of, unit_nil, unicode_digits_at, unicode_is}
+use Rattle.rl_lenient.proofs.Names.{Zero}
 
 -- ---- the kind of flaw, by the text before the flaw and the character at the flaw
 

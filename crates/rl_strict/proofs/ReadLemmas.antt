@@ -1,32 +1,7 @@
 -- The parse result of a text is the one that the grammars define for the whole text.
-use Rattle.rl_syntax.proofs.Common.{◌≡◌, ℕ, Bool, true, false, List, ◌∷◌, refl, sym, ap, subst, ◌∙◌, inl, inr, both_ways, is_ascii_digit, IsTrue, IsUtf8}
-use Rattle.rl_lenient.proofs.Names.{◌↔◌, Kind, Str, Char, first_passes, is_string}
-use Rattle.std.specs.Prelude.{Result, Ok, Err, IfOk, IfErr, is_ok}
-use Rattle.std.specs.Str.{chars}
-use Rattle.rl_syntax.specs.Texts.{IsTail}
-use Rattle.rl_syntax.proofs.TailLemmas.{cut_boundary, cut_drop}
-use Rattle.rl_lenient.specs.declared.found.Body.{Body}
-use Rattle.rl_lenient.specs.declared.quoted_forms.QuotedForm.{QuotedForm}
-use Rattle.rl_lenient.specs.declared.quoted_forms.QuotedForm.TheVariants.{Cooked as CookedForm, Single as SingleForm}
-use Rattle.rl_lenient.specs.Founds.{IsFound, IsQuotedAt}
-use Rattle.rl_lenient.specs.Mirrors.OpenerAt.{found_opener, opener_at}
-use Rattle.rl_lenient.proofs.FormLemmas.{front_complete, front_sound}
-use Rattle.rl_lenient.proofs.FoundLemmas.{OfUnit, quoted_found}
-use Rattle.rl_lenient.proofs.SingleBodies.{no_unit}
-use Rattle.rl_strict.specs.StrictShapes.{ClosesForm, IsToken}
+use Rattle.rl_strict.proofs.Names.{◌≡◌, ℕ, Bool, true, false, List, ◌∷◌, refl, sym, ap, subst, ◌∙◌, inl, inr, both_ways, is_ascii_digit, IsTrue, IsUtf8, ◌↔◌, Kind, Str, Char, first_passes, is_string, Result, Ok, Err, IfOk, IfErr, is_ok, chars, IsTail, cut_boundary, cut_drop, Body, QuotedForm, CookedForm, SingleForm, IsFound, IsQuotedAt, found_opener, opener_at, front_complete, front_sound, OfUnit, quoted_found, no_unit, ClosesForm, IsToken, FlawKind, StopsIn, Flaw, Reading, Number, ExplainsStrictly, IsFloatRead, IsIntegerRead, IsNumberRead, IsStop, suffix_of, IsFlawAt, IsMinusStop, IsStrictReading, IsSignedRead, placed_in, NoNumber, UnexpectedEnd, end_flaw_at, found_flaw}
 use Rattle.rl_strict.proofs.StrictLemmas.{close_token, told_token}
-use Rattle.rl_strict.specs.declared.flaws.FlawKind.{FlawKind}
-use Rattle.rl_strict.specs.QuotedRead.{StopsIn}
-use Rattle.rl_strict.specs.declared.flaws.Flaw.{Flaw}
-use Rattle.rl_strict.specs.declared.strict_reading.Reading.{Reading}
-use Rattle.rl_strict.specs.declared.read_numbers.Number.{Number}
 use Rattle.rl_strict.specs.declared.read_numbers.Number.TheVariants.{Integer, Float}
-use Rattle.rl_strict.specs.StrictFlaws.{ExplainsStrictly}
-use Rattle.rl_strict.specs.StrictNumbersRead.{IsFloatRead, IsIntegerRead, IsNumberRead, IsStop, suffix_of}
-use Rattle.rl_strict.specs.StrictRead.{IsFlawAt, IsMinusStop, IsStrictReading, IsSignedRead, placed_in}
-use Rattle.rl_strict.specs.declared.flaws.FlawKind.TheVariants.{NoNumber, UnexpectedEnd}
-use Rattle.rl_strict.specs.Mirrors.WordFlawAt.{end_flaw_at}
-use Rattle.rl_strict.specs.Mirrors.UnitFlawAt.{found_flaw}
 use Rattle.rl_strict.proofs.SignedFlaws.{no_digit, number_of, number_stops}
 use Rattle.rl_strict.proofs.StrictTokens.{stops_token, strict_quoted_has}
 

@@ -1,22 +1,7 @@
 -- The code's parser of numbers returns what the grammar defines: a number, or the position where the text can't continue.
-use Rattle.rl_syntax.proofs.Common.{None, ◌≡◌, ◌≢◌, ◌||◌, ℕ, Bool, true, false, ◌==◌, cond, List, [], ◌∷◌, ◌++◌, Some, refl, ap, subst, sym, ◌∙◌, append_cancel_right, and_from, both_ways, is_ascii_digit}
-use Rattle.rl_lenient.proofs.Names.{first_passes}
-use Rattle.std.proofs.lemmas.Bool.{or_left}
-use Rattle.std.specs.Prelude.{Result, Ok, Err, IfOk, IfErr}
-use Rattle.std.specs.Str.{chars}
-use Rattle.rl_lenient.specs.Mirrors.NumberAt.{after_digits, radix_at}
-use Rattle.rl_lenient.specs.Mirrors.PlainAt.{is_some_text}
-use Rattle.rl_lenient.proofs.TestLemmas.{passes_more}
-use Rattle.rl_strict.specs.StrictShapes.{IsToken}
-use Rattle.rl_strict.specs.declared.flaws.FlawKind.{FlawKind}
-use Rattle.rl_strict.specs.declared.flaws.FlawKind.TheVariants.{BadSuffix, NoFractionDigit}
-use Rattle.rl_strict.specs.declared.read_numbers.Number.{Number}
+use Rattle.rl_strict.proofs.Names.{None, ◌≡◌, ◌≢◌, ◌||◌, ℕ, Bool, true, false, ◌==◌, cond, List, [], ◌∷◌, ◌++◌, Some, refl, ap, subst, sym, ◌∙◌, append_cancel_right, and_from, both_ways, is_ascii_digit, first_passes, or_left, Result, Ok, Err, IfOk, IfErr, chars, after_digits, radix_at, is_some_text, passes_more, IsToken, FlawKind, BadSuffix, NoFractionDigit, Number, IsDigitFlaw, IsStrictNumberFlaw, IsNumberRead, IsStop, suffix_rest, Ending, NumberRead, digits_end_at, ended, fraction_end_at, number_outcome, number_read_at, stopped, suffix_end_at}
 use Rattle.rl_strict.specs.declared.read_numbers.Number.TheVariants.{Integer, Float}
 use Rattle.rl_strict.specs.declared.read_numbers.Stop.{Stop}
-use Rattle.rl_strict.specs.StrictNumberFlaws.{IsDigitFlaw, IsStrictNumberFlaw}
-use Rattle.rl_strict.specs.StrictNumbersRead.{IsNumberRead, IsStop}
-use Rattle.rl_strict.specs.Mirrors.StrictFlawAt.{suffix_rest}
-use Rattle.rl_strict.specs.Mirrors.NumberRead.{Ending, NumberRead, digits_end_at, ended, fraction_end_at, number_outcome, number_read_at, stopped, suffix_end_at}
 use Rattle.rl_strict.proofs.NumberEnds.{Fails, Passes, decimal_is, end_of, is_read, number_end_at, whole_plain}
 use Rattle.rl_strict.proofs.NumberTokens.{number_passes}
 use Rattle.rl_strict.proofs.StrictNumberFlaws.{ReadJudged, Says, TailFlaw, number_is_token, number_judged}

@@ -1,57 +1,15 @@
 -- The code's parser of quoted literals returns what the grammars define.
-use Rattle.rl_syntax.proofs.Common.{◌≡◌, ◌≢◌, ◌+◌, ℕ, ◌&&◌, Bool, true, false, not, ◌==◌, cond, List, [], ◌∷◌, ◌++◌, length, Option, Some, None, refl, sym, ap, subst, ◌∙◌, arith, and_parts, both_ways, eqb-true, inl, inr, flat_map, list_all, AllByRecursion, IsUtf8}
-use Rattle.rl_lenient.proofs.Names.{after_run, first_passes, is_string, Kind, StrictUnit, Itself, QuoteEscape, PlainEscape, AsciiEscape, ByteEscape, UnicodeEscape, LineBreak, strict_text, is_dropped_blank, is_strict_unit, is_plain, is_single}
-use Rattle.std.specs.Str.{chars}
-use Rattle.rl_syntax.specs.Quoted.{QuotedUnit, IsUnit, texts, values}
-use Rattle.rl_syntax.proofs.StrictQuoted.{MayFollow, is_return, no_blank, no_return, stands}
-use Rattle.rl_lenient.specs.declared.found.Body.{Body}
-use Rattle.rl_lenient.specs.declared.quoted_forms.QuotedForm.{QuotedForm}
-use Rattle.rl_lenient.specs.declared.quoted_forms.QuotedForm.TheVariants.{Cooked as CookedForm, Raw as RawForm, Single as SingleForm}
-use Rattle.rl_lenient.specs.Forms.{is_plain_body}
-use Rattle.rl_lenient.specs.Founds.{IsQuotedAt, IsBodyWithin, body_in, suffix_in}
-use Rattle.rl_lenient.specs.Mirrors.OpenerAt.{found_opener, opener_at}
-use Rattle.rl_lenient.specs.Mirrors.PlainAt.{is_some_text}
+use Rattle.rl_strict.proofs.Names.{◌≡◌, ◌≢◌, ◌+◌, ℕ, ◌&&◌, Bool, true, false, not, ◌==◌, cond, List, [], ◌∷◌, ◌++◌, length, Option, Some, None, refl, sym, ap, subst, ◌∙◌, arith, and_parts, both_ways, eqb-true, inl, inr, flat_map, list_all, AllByRecursion, IsUtf8, after_run, first_passes, is_string, Kind, StrictUnit, Itself, QuoteEscape, PlainEscape, AsciiEscape, ByteEscape, UnicodeEscape, LineBreak, strict_text, is_dropped_blank, is_strict_unit, is_plain, is_single, chars, QuotedUnit, IsUnit, texts, values, MayFollow, is_return, no_blank, no_return, stands, Body, QuotedForm, CookedForm, RawForm, SingleForm, is_plain_body, IsQuotedAt, IsBodyWithin, body_in, suffix_in, found_opener, opener_at, is_some_text, BeginsStrictUnits, BreakEnds, BreaksEnd, cooked_found, single_found, form_at, ClosesUnits, ends_quoted, is_strict_suffix, unit_rest, FlawKind, ExtraHash, TwoCharacters, Unclosed, end_flaw_at, is_raw_form, suffix_piece, StopsIn, StopsBefore, raw_stop, ClosesForm, ClosesRaw, is_raw_character, is_hash, all_weaker, word_without, zero, suc, replicate, append_cancel_right, is_raw, IsStrictSuffix, Str, ByteStr, CStr, strict_unit_flaw_at, suffix_rest, suffix_read_at, FoundFlaw, found_flaw, option_map, ◌⊎◌, nat_lt, Byte, Char, and_right, content_of, is_line_end, is_bare_character, escape_at, line_feed_at, unit_at, escape_rest}
 use Rattle.rl_lenient.specs.UnitRuns.{BeginsRun, RunEnds}
-use Rattle.rl_lenient.specs.StrictUnits.{BeginsStrictUnits, BreakEnds, BreaksEnd}
-use Rattle.rl_lenient.proofs.FormLemmas.{cooked_found, single_found}
-use Rattle.rl_lenient.proofs.FoundLemmas.{form_at}
-use Rattle.rl_lenient.proofs.FrontLenLemmas.{opener_lo}
-use Rattle.rl_strict.specs.StrictShapes.{ClosesUnits}
-use Rattle.rl_strict.specs.Mirrors.StrictAt.{ends_quoted, is_strict_suffix, unit_rest}
-use Rattle.rl_strict.proofs.StrictRowLemmas.{bare_run, one_end, one_none, units_end}
+use Rattle.rl_lenient.proofs.FrontLenLemmas.{opener_lo, raw_lo}
+use Rattle.rl_strict.proofs.StrictRowLemmas.{bare_run, one_end, one_none, units_end, passes_seam}
 use Rattle.rl_strict.proofs.StrictUnitRows.{row_closes, row_none, row_run}
-use Rattle.rl_strict.specs.declared.flaws.FlawKind.{FlawKind}
-use Rattle.rl_strict.specs.declared.flaws.FlawKind.TheVariants.{ExtraHash, TwoCharacters, Unclosed}
-use Rattle.rl_strict.specs.Mirrors.WordFlawAt.{end_flaw_at}
-use Rattle.rl_strict.specs.StrictFlawKinds.{is_raw_form, suffix_piece}
-use Rattle.rl_strict.specs.QuotedRead.{StopsIn}
-use Rattle.rl_strict.specs.Flaws.{StopsBefore}
-use Rattle.rl_strict.proofs.StrictSuffixFlaws.{FlawInside}
+use Rattle.rl_strict.proofs.StrictSuffixFlaws.{FlawInside, Judges, same_flaw, suffix_judged}
 use Rattle.rl_strict.proofs.StrictRawFlaws.{hash_run, raw_body}
-use Rattle.rl_strict.specs.Mirrors.StrictFlawAt.{raw_stop}
-use Rattle.rl_strict.specs.StrictShapes.{ClosesForm, ClosesRaw}
-use Rattle.rl_strict.specs.Mirrors.StrictAt.{is_raw_character}
 use Rattle.rl_strict.proofs.StrictRawLemmas.{raw_unquoted}
 use Rattle.rl_strict.proofs.StrictWordLemmas.{strict_suffix_sound}
-use Rattle.rl_syntax.specs.Classes.{is_hash}
-use Rattle.rl_syntax.proofs.Basics.{all_weaker, word_without}
-use Rattle.rl_syntax.proofs.Common.{zero, suc, replicate, append_cancel_right}
-use Rattle.rl_syntax.specs.Quoted.{is_raw}
-use Rattle.rl_syntax.specs.Strict.{IsStrictSuffix}
-use Rattle.rl_lenient.proofs.Names.{Str, ByteStr, CStr}
 use Rattle.rl_lenient.proofs.RawLemmas.{opens, raw_found}
-use Rattle.rl_lenient.proofs.FrontLenLemmas.{raw_lo}
-use Rattle.rl_strict.specs.Mirrors.StrictFlawAt.{strict_unit_flaw_at, suffix_rest}
-use Rattle.rl_strict.specs.Mirrors.SuffixRead.{suffix_read_at}
-use Rattle.rl_strict.specs.Mirrors.UnitFlawAt.{FoundFlaw, found_flaw}
-use Rattle.std.specs.Prelude.{option_map, ◌⊎◌, nat_lt}
-use Rattle.rl_lenient.proofs.Names.{Byte, Char, and_right}
-use Rattle.rl_syntax.specs.Quoted.{content_of, is_line_end}
-use Rattle.rl_syntax.specs.Strict.{is_bare_character}
-use Rattle.rl_lenient.specs.Mirrors.UnitAt.{escape_at, line_feed_at, unit_at}
-use Rattle.rl_strict.specs.Mirrors.StrictAt.{escape_rest}
 use Rattle.rl_strict.proofs.StrictCookedFlaws.{cooked_unclosed, no_front, single_closed, single_open, single_unclosed, string_closed, string_open, unquoted_ends}
-use Rattle.rl_strict.proofs.StrictSuffixFlaws.{Judges, same_flaw, suffix_judged}
 
 -- ---- the suffix
 
@@ -104,21 +62,11 @@ pub record Lenient (k : Kind) (us : List StrictUnit) (rest : List ℕ) : Type 0 
   pub ends : RunEnds units rest
   pub text_is : texts units ≡ flat_map strict_text us
 
-seam : (test : ℕ → Bool) (a b : List ℕ) → first_passes test a ≡ false → first_passes test b ≡ false
-    → first_passes test (a ++ b) ≡ false
-seam test [] b h k = k
-seam test (c ∷ cs) b h k = h
-
 follows : (k : Kind) (s : StrictUnit) (us : List StrictUnit) (x : List ℕ) → list_all (is_strict_unit k) us ≡ true
     → BreakEnds s (flat_map strict_text us ++ (34 ∷ x)) → MayFollow s (flat_map strict_text us ++ (34 ∷ x))
 follows k (LineBreak blanks) us x h b = no_blank (flat_map strict_text us ++ (34 ∷ x)) b
-    (seam is_return (flat_map strict_text us) (34 ∷ x) (no_return k us h) refl)
-follows k (Itself c) us x h b = tt
-follows k (QuoteEscape c) us x h b = tt
-follows k (PlainEscape c) us x h b = tt
-follows k (AsciiEscape high low) us x h b = tt
-follows k (ByteEscape high low) us x h b = tt
-follows k (UnicodeEscape digits) us x h b = tt
+    (passes_seam is_return (flat_map strict_text us) (34 ∷ x) (no_return k us h) refl)
+follows k other us x h b = tt
 
 lenient : (k : Kind) (us : List StrictUnit) (x : List ℕ) → list_all (is_strict_unit k) us ≡ true
     → BreaksEnd us (34 ∷ x) → Lenient k us (34 ∷ x)
@@ -152,12 +100,11 @@ lenient_row k t closing x r e =
       },
     )
 
-pub cooked_at : (kind : Kind) (t inside closing suffix : List ℕ) (body : Body) → opener_at (chars t)
-    ≡ found_opener CookedForm kind (chars inside) → is_string kind ≡ true
-    → BeginsStrictUnits kind (chars inside) (chars closing) → chars closing ≡ 34 ∷ chars suffix → chars inside
-    ≡ chars (body_in t body) ++ chars closing → suffix_in t body ≡ suffix → IsBodyWithin t body → body.plain
-    ≡ is_plain_body CookedForm kind (chars (body_in t body)) → IsUtf8 t → IsUtf8 inside → body.lo + length inside
-    ≡ length t → IsQuotedAt kind t body
+pub cooked_at : (kind : Kind) (t inside closing suffix : List ℕ) (body : Body) → opener_at (chars t) ≡ found_opener
+    CookedForm kind (chars inside) → is_string kind ≡ true → BeginsStrictUnits kind (chars inside) (chars closing) →
+    chars closing ≡ 34 ∷ chars suffix → chars inside ≡ chars (body_in t body) ++ chars closing → suffix_in t body ≡
+    suffix → IsBodyWithin t body → body.plain ≡ is_plain_body CookedForm kind (chars (body_in t body)) → IsUtf8 t →
+    IsUtf8 inside → body.lo + length inside ≡ length t → IsQuotedAt kind t body
 cooked_at kind t inside closing suffix body front s r quote cut suffix_is stands plain ut ui lo =
     let row = lenient_row kind (chars inside) (chars closing) (chars suffix) r quote in
     form_at CookedForm kind t inside row.0 suffix body front
@@ -178,7 +125,7 @@ bad_front k c cs s e h = ap (λ b. cond b (escape_rest k cs) (cond (is_strict_un
     never Char s = h
     never kind s = absurd (cc)
 
-not_string : (k : Kind) → is_single k ≡ true → is_string k ≡ false
+pub not_string : (k : Kind) → is_single k ≡ true → is_string k ≡ false
 not_string Byte s = refl
 not_string Char s = refl
 not_string kind s = absurd (cc)
@@ -196,10 +143,9 @@ escape_same k (d ∷ ds) s = go (d == 10) refl (d == 13) refl
         → option_map (λ p. p.1) (escape_at k (e ∷ ds)) ≡ None
     ends e l x u = rw (x, u, l, not_string k s) refl
 
-    go : (b : Bool) → (d == 10) ≡ b → (g : Bool) → (d == 13) ≡ g
-        → option_map (λ p. p.1) (escape_at k (d ∷ ds))
-        ≡ cond b (cond (is_string k) (Some (after_run is_dropped_blank ds)) None)
-        (cond g None (option_map (λ p. p.1) (escape_at k (d ∷ ds))))
+    go : (b : Bool) → (d == 10) ≡ b → (g : Bool) → (d == 13) ≡ g → option_map (λ p. p.1) (escape_at k (d ∷ ds)) ≡ cond b
+        (cond (is_string k) (Some (after_run is_dropped_blank ds)) None) (cond g None (option_map (λ p. p.1) (escape_at
+        k (d ∷ ds))))
     go true e g f =
         let At : ℕ → Type 0 = λ z. option_map (λ p. p.1) (escape_at k (z ∷ ds)) ≡ None in
         subst At (sym (eqb-true d 10 e)) (ends 10 refl refl refl)
@@ -330,10 +276,6 @@ pub raw_ending : (k : Kind) (f : FlawKind) (t piece rest : List ℕ) → (Closes
     → FlawInside RawForm k f t piece rest → StopsIn RawForm k f t piece rest
 raw_ending k f t piece rest none flaw = record { none = none; stops = flaw.stops; has = flaw.has }
 
-pub in_same : (k : Kind) (f : FlawKind) (t w piece rest : List ℕ) → t ≡ w → StopsIn RawForm k f w piece rest
-    → StopsIn RawForm k f t piece rest
-in_same k f t w piece rest e h = subst (λ z. StopsIn RawForm k f z piece rest) (sym e) h
-
 pub raw_unopened_none : (k : Kind) (n : ℕ) (t rest : List ℕ) → t ≡ replicate n 35 ++ rest → rest ≡ [] → ClosesRaw k t
     → ⊥
 raw_unopened_none k n t rest text end y =
@@ -359,13 +301,12 @@ held_raw k body h = all_weaker (is_raw_character k) (is_raw k) (one k) body h
     one CStr c h = (and_parts (not (c == 0)) (not (c == 13)) h).0
     one kind c h = absurd (cc)
 
-pub raw_at : (kind : Kind) (n : ℕ) (t inside quote opened closing suffix hashes after : List ℕ) (c : ℕ) (body : Body)
-    → opener_at (chars t) ≡ found_opener RawForm kind (chars inside) → is_string kind ≡ true
-    → hashes ≡ replicate n 35 → chars inside ≡ hashes ++ quote → quote ≡ 34 ∷ chars opened
-    → chars closing ≡ raw_stop kind hashes (chars opened) → chars closing ≡ c ∷ after → c ≡ 34
-    → after ≡ hashes ++ chars suffix → is_strict_suffix (chars suffix) ≡ true
-    → chars opened ≡ chars (body_in t body) ++ chars closing → suffix_in t body ≡ suffix → IsBodyWithin t body → body.plain
-    ≡ true → IsUtf8 t → IsUtf8 opened → body.lo + length opened ≡ length t → IsQuotedAt kind t body
+pub raw_at : (kind : Kind) (n : ℕ) (t inside quote opened closing suffix hashes after : List ℕ) (c : ℕ) (body : Body) →
+    opener_at (chars t) ≡ found_opener RawForm kind (chars inside) → is_string kind ≡ true → hashes ≡ replicate n 35 →
+    chars inside ≡ hashes ++ quote → quote ≡ 34 ∷ chars opened → chars closing ≡ raw_stop kind hashes (chars opened) →
+    chars closing ≡ c ∷ after → c ≡ 34 → after ≡ hashes ++ chars suffix → is_strict_suffix (chars suffix) ≡ true → chars
+    opened ≡ chars (body_in t body) ++ chars closing → suffix_in t body ≡ suffix → IsBodyWithin t body → body.plain ≡
+    true → IsUtf8 t → IsUtf8 opened → body.lo + length opened ≡ length t → IsQuotedAt kind t body
 raw_at kind n t inside quote opened closing suffix hashes after c body front s are text quoted at is c_is more h cut
     suffix_is stands plain ut uo lo =
     let b : List ℕ = chars (body_in t body) in

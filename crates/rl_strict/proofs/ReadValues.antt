@@ -1,18 +1,5 @@
 -- The values of parsed texts, and integers above 128 bits.
-use Rattle.rl_syntax.proofs.Common.{◌≡◌, ℕ, ◌⊎◌, Bool, true, false, List, Option, Some, None, IfNone, IfSome, refl, sym, ap, subst, ◌∙◌, inl, inr, IsUtf8}
-use Rattle.rl_lenient.proofs.Names.{HasReading, IsPast}
-use Rattle.std.specs.Str.{chars}
-use Rattle.rl_strict.specs.declared.flaws.Flaw.{Flaw}
-use Rattle.rl_strict.specs.declared.line_ends.LineEnds.{LineEnds}
-use Rattle.rl_strict.specs.declared.line_ends.LineEnds.TheVariants.{Text, File}
-use Rattle.rl_strict.specs.declared.strict_reading.Reading.{Reading}
-use Rattle.rl_strict.specs.declared.strict_reading.Reading.TheVariants.{Text as AText, Unit, Integer, Float as AFloat, Truth}
-use Rattle.rl_strict.specs.Limits.{ExplainsLimit, IsFloatBySuffix, IsLimitFlaw, oversized_suffix_at}
-use Rattle.rl_strict.specs.LineEnds.{lf_text, read_of}
-use Rattle.rl_strict.specs.Readings.{ExplainsOf, ExplainsValueOf, HasValueOf, IsReadingOf, IsTokenIf, ReadsOf, lf_bytes}
-use Rattle.rl_strict.specs.SignedFlaws.{IsSignedToken}
-use Rattle.rl_strict.specs.StrictRead.{IsSignedRead}
-use Rattle.rl_strict.specs.StrictShapes.{IsToken}
+use Rattle.rl_strict.proofs.Names.{◌≡◌, ℕ, Bool, true, false, List, Option, Some, None, IfNone, IfSome, refl, sym, subst, inl, inr, IsUtf8, IsPast, chars, Flaw, LineEnds, Text, File, Reading, AText, Unit, Integer, AFloat, Truth, ExplainsLimit, IsFloatBySuffix, oversized_suffix_at, read_of, ExplainsOf, ExplainsValueOf, HasValueOf, IsReadingOf, IsTokenIf, ReadsOf, lf_bytes, IsSignedToken, IsSignedRead}
 use Rattle.rl_strict.proofs.FilePlaces.{lf_chars}
 use Rattle.rl_strict.proofs.LimitLemmas.{either, signed_within}
 
@@ -30,10 +17,7 @@ pub past_read : (how : LineEnds) (signed : Bool) (t : List ℕ) (r : Reading) (a
     → oversized_suffix_at r ≡ Some at → (read_of how (chars t) ≡ chars t) × IsSignedRead t r
 past_read Text signed t r at h e = (refl, signed_read signed t r h)
 past_read File signed t (Integer m k) at h e = (h.0, signed_read signed t (Integer m k) h.1)
-past_read File signed t (AText kind body) at h e = absurd (cc)
-past_read File signed t (Unit kind body unit) at h e = absurd (cc)
-past_read File signed t (AFloat k) at h e = absurd (cc)
-past_read File signed t (Truth truth) at h e = absurd (cc)
+past_read File signed t other at h e = absurd (cc)
 
 pub past_token : (how : LineEnds) (signed : Bool) (t : List ℕ) (r : Reading) (at : ℕ) → IsReadingOf how signed t r
     → oversized_suffix_at r ≡ Some at → IsTokenIf signed (read_of how (chars t)) → IsSignedToken (chars t)
@@ -67,13 +51,6 @@ has_value how signed t r u h e y = elim (either (read_of how (chars t)) (signed_
   | inl reads ↦ inl reads
   | inr p ↦ absurd (within how signed t r u h e p)
 ]
-
-pub past_values : (t : List ℕ) (r : Reading) (at : ℕ) (o : Option Flaw) → oversized_suffix_at r ≡ Some at
-    → IfNone o (IsFloatBySuffix (chars t))
-    → IfNone o ((how : LineEnds) (signed : Bool) → IsReadingOf how signed t r
-    → IsTokenIf signed (read_of how (chars t)) → HasValueOf how (chars t))
-past_values t r at None e f = λ how signed h y. past_value how signed t r at h e f
-past_values t r at (Some flaw) e f = tt
 
 -- ---- the reason why a text has no value
 

@@ -1,20 +1,9 @@
 -- The position where a text with a minus can't continue as a literal token or a negative number.
-use Rattle.rl_syntax.proofs.Common.{◌≡◌, ℕ, ◌==◌, true, false, List, [], ◌∷◌, ◌++◌, ◌+◌, length, refl, sym, ap, subst, ◌∙◌, inl, inr, both_ways, is_ascii_digit, IsUtf8}
-use Rattle.rl_lenient.proofs.Names.{byte_len, first_passes}
-use Rattle.std.specs.Str.{chars}
-use Rattle.rl_strict.specs.declared.flaws.Flaw.{Flaw}
-use Rattle.rl_strict.specs.declared.flaws.FlawKind.TheVariants.{NoNumber, UnexpectedEnd}
-use Rattle.rl_strict.specs.Flaws.{StopsBefore}
-use Rattle.rl_strict.specs.SignedFlaws.{ExplainsSigned, IsMinusFlawOf, IsSignedToken}
-use Rattle.rl_strict.specs.StrictFlaws.{ExplainsStrictly}
-use Rattle.rl_strict.specs.StrictShapes.{IsToken}
-use Rattle.rl_strict.specs.Mirrors.UnitFlawAt.{FoundFlaw}
+use Rattle.rl_strict.proofs.Names.{◌≡◌, ℕ, ◌==◌, true, false, List, [], ◌∷◌, ◌++◌, ◌+◌, length, refl, sym, ap, subst, ◌∙◌, inl, inr, both_ways, is_ascii_digit, IsUtf8, byte_len, first_passes, chars, NoNumber, UnexpectedEnd, StopsBefore, IsMinusFlawOf, IsSignedToken, IsToken, FoundFlaw, passes_more, end_flaw_at}
 use Rattle.rl_strict.proofs.StrictExplainLemmas.{cut_bytes}
 use Rattle.rl_strict.proofs.ReadNumbers.{goes_on as digit_goes_on, one_digit}
 use Rattle.rl_strict.proofs.StrictWordFlaws.{minus_no_token}
-use Rattle.rl_lenient.proofs.TestLemmas.{goes_on, passes_more}
-use Rattle.rl_strict.proofs.Stops.{Flawed, lifted, raised, stops_before}
-use Rattle.rl_strict.specs.Mirrors.WordFlawAt.{end_flaw_at}
+use Rattle.rl_strict.proofs.Stops.{Flawed, raised}
 
 -- ---- the text after a minus
 
@@ -67,29 +56,6 @@ pub unsigned : (t : List ℕ) → first_passes (λ c. c == 45) t ≡ false → I
 unsigned t n (inl c) = c
 unsigned t n (inr (m, e, d, c)) = absurd (both_ways (first_passes (λ c. c == 45) t) n
     (ap (first_passes (λ c. c == 45)) e))
-
-pub unsigned_explains : (t : List ℕ) (flaw : Flaw) → first_passes (λ c. c == 45) t ≡ false → ExplainsStrictly t flaw
-    → ExplainsSigned t flaw
-unfolding raised lifted stops_before
-unsigned_explains t flaw n x =
-    let s = x.place.stops in
-    record {
-      no_token = λ c. x.no_token (unsigned t n c);
-      place = record {
-        rest = x.place.rest;
-        stops = raised IsToken IsSignedToken [] t x.place.rest s inl
-            (λ c cs e h y. unsigned (s.front ++ (c ∷ e)) (goes_on (λ z. z == 45) s.front x.place.rest t c cs e s.text_is
-            h
-            n) y);
-        lo_is = x.place.lo_is;
-        hi_is = x.place.hi_is;
-      };
-      before = x.before;
-      piece = x.piece;
-      text_is = x.text_is;
-      from_is = x.from_is;
-      kind = inl (n, x.kind);
-    }
 
 -- ---- bytes
 

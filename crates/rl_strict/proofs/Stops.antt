@@ -1,6 +1,5 @@
 -- The position where a text can't continue, in the one form that the lemmas share.
-use Rattle.rl_syntax.proofs.Common.{◌≡◌, ℕ, List, ◌∷◌, ◌++◌, sym, ap, subst, ◌∙◌, append_assoc}
-use Rattle.rl_strict.specs.Flaws.{IsCompletable, StopsBefore}
+use Rattle.rl_strict.proofs.Names.{◌≡◌, ℕ, List, ◌∷◌, ◌++◌, sym, ap, subst, ◌∙◌, append_assoc, IsCompletable, StopsBefore}
 
 -- The text before the rest can be completed, and with the rest's first character it fails.
 pub record Stops (closes fails : List ℕ → Type 0) (text rest : List ℕ) : Type 0 where
@@ -16,9 +15,8 @@ pub record Flawed (takes : List ℕ → Type 0) (text rest : List ℕ) (says : T
 
 -- A text with another text before it stops at the end of its longest completable prefix too.
 unfoldable pub lifted : {closes fails more less : List ℕ → Type 0} (pre t rest : List ℕ) (s : Stops closes fails t rest)
-    → (closes (s.front ++ s.begins.ending) → more (pre ++ (s.front ++ s.begins.ending)))
-    → ((c : ℕ) (cs e : List ℕ) → rest ≡ c ∷ cs → fails (s.front ++ (c ∷ e)) → less (pre ++ (s.front ++ (c ∷ e))))
-    → Stops more less (pre ++ t) rest
+    → (closes (s.front ++ s.begins.ending) → more (pre ++ (s.front ++ s.begins.ending))) → ((c : ℕ) (cs e : List ℕ) →
+    rest ≡ c ∷ cs → fails (s.front ++ (c ∷ e)) → less (pre ++ (s.front ++ (c ∷ e)))) → Stops more less (pre ++ t) rest
 lifted {more} {less} pre t rest s good bad = record {
   front = pre ++ s.front;
   text_is = ap (λ z. pre ++ z) s.text_is ∙ sym (append_assoc pre s.front rest);
@@ -36,10 +34,9 @@ unfoldable pub stops_before : (takes : List ℕ → Type 0) (t rest : List ℕ) 
 stops_before takes t rest s = record { front = s.front; text_is = s.text_is; begins = s.begins; stuck = s.stuck }
 
 -- A text with another text before it stops in the second grammar where it stops in the first one.
-unfoldable pub raised : (takes more : List ℕ → Type 0) (pre t rest : List ℕ) (s : StopsBefore takes t rest)
-    → (takes (s.front ++ s.begins.ending) → more (pre ++ (s.front ++ s.begins.ending)))
-    → ((c : ℕ) (cs e : List ℕ) → rest ≡ c ∷ cs → more (pre ++ (s.front ++ (c ∷ e))) → takes (s.front ++ (c ∷ e)))
-    → StopsBefore more (pre ++ t) rest
+unfoldable pub raised : (takes more : List ℕ → Type 0) (pre t rest : List ℕ) (s : StopsBefore takes t rest) → (takes
+    (s.front ++ s.begins.ending) → more (pre ++ (s.front ++ s.begins.ending))) → ((c : ℕ) (cs e : List ℕ) → rest ≡ c ∷
+    cs → more (pre ++ (s.front ++ (c ∷ e))) → takes (s.front ++ (c ∷ e))) → StopsBefore more (pre ++ t) rest
 raised takes more pre t rest s good bad =
     let same : Stops takes (λ z. takes z → ⊥) t rest = record
     { front = s.front; text_is = s.text_is; begins = s.begins; stuck = s.stuck } in

@@ -1,24 +1,10 @@
 -- The flaws of strings with escapes and of character and byte literals, in Rust's grammar.
-use Rattle.rl_syntax.proofs.Common.{◌≡◌, ◌≢◌, ℕ, true, false, ◌==◌, List, [], ◌∷◌, ◌++◌, Some, None, refl, sym, ap, subst, ◌∙◌, inl, inr, append_assoc, both_ways, eqb-true, flat_map, AllByRecursion}
-use Rattle.rl_lenient.proofs.Names.{false_from_ne_true, IsScalar, Kind, Byte, Char, first_passes, is_single, is_string, StrictUnit, Itself, QuoteEscape, PlainEscape, AsciiEscape, ByteEscape, UnicodeEscape, LineBreak, strict_text, is_dropped_blank, is_strict_unit}
-use Rattle.std.proofs.lemmas.Bool.{and_left}
-use Rattle.rl_strict.specs.declared.flaws.FlawKind.{FlawKind}
-use Rattle.rl_strict.specs.declared.flaws.FlawKind.TheVariants.{Unclosed, TwoCharacters}
-use Rattle.rl_lenient.specs.declared.quoted_forms.QuotedForm.TheVariants.{Cooked as CookedForm, Single as SingleForm}
-use Rattle.rl_strict.specs.Flaws.{IsCompletable, StopsBefore}
-use Rattle.rl_lenient.specs.StrictUnits.{BeginsStrictUnit, BeginsStrictUnits, BreakEnds, HasNoStrictUnit}
-use Rattle.rl_strict.specs.StrictFlawKinds.{suffix_piece}
-use Rattle.rl_strict.specs.StrictShapes.{ClosesForm, ClosesUnits}
-use Rattle.rl_strict.specs.Mirrors.StrictAt.{ends_quoted, is_strict_suffix, unit_rest}
-use Rattle.rl_strict.specs.Mirrors.StrictFlawAt.{strict_unit_flaw_at}
-use Rattle.rl_strict.specs.Mirrors.UnitFlawAt.{FoundFlaw, found_flaw}
+use Rattle.rl_strict.proofs.Names.{◌≡◌, ◌≢◌, ℕ, true, false, ◌==◌, List, [], ◌∷◌, ◌++◌, Some, None, refl, sym, ap, subst, ◌∙◌, inl, inr, append_assoc, both_ways, eqb-true, flat_map, AllByRecursion, false_from_ne_true, IsScalar, Kind, Byte, Char, first_passes, is_single, is_string, StrictUnit, Itself, QuoteEscape, PlainEscape, AsciiEscape, ByteEscape, UnicodeEscape, LineBreak, strict_text, is_dropped_blank, is_strict_unit, and_left, FlawKind, Unclosed, TwoCharacters, CookedForm, SingleForm, IsCompletable, StopsBefore, BeginsStrictUnit, BeginsStrictUnits, BreakEnds, HasNoStrictUnit, suffix_piece, ClosesForm, ClosesUnits, ends_quoted, is_strict_suffix, unit_rest, strict_unit_flaw_at, FoundFlaw, found_flaw, goes_on, end_flaw_at}
 use Rattle.rl_strict.proofs.StrictRowLemmas.{one_end, one_none, quote_stops, quoted_single, units_end, units_step}
 use Rattle.rl_strict.proofs.StrictSuffixFlaws.{Closer, FlawInside, SuffixSpoiled, closed_flaw}
 use Rattle.rl_strict.proofs.StrictUnitFlaws.{HasStrictUnitFlaw, IsUnitText, strict_unit_spoils}
 use Rattle.rl_strict.proofs.StrictUnitLemmas.{StrictFront, unit_rest_complete, unit_rest_sound}
 use Rattle.rl_strict.proofs.StrictUnitRows.{breaks_to, row_closes}
-use Rattle.rl_lenient.proofs.TestLemmas.{goes_on}
-use Rattle.rl_strict.specs.Mirrors.WordFlawAt.{end_flaw_at}
 
 -- ---- characters and escapes, in the definitions and in the proofs
 
@@ -157,17 +143,11 @@ string_open k f t piece rest s r none unquoted same =
 -- ---- a character or byte literal
 
 -- The character or escape ends independently of the text after it.
-single_ends : (k : Kind) (u : StrictUnit) (r : List ℕ) → is_single k ≡ true → is_strict_unit k u ≡ true
-    → BreakEnds u r
+single_ends : (k : Kind) (u : StrictUnit) (r : List ℕ) → is_single k ≡ true → is_strict_unit k u ≡ true → BreakEnds u r
 single_ends Byte (LineBreak blanks) r s h = absurd (cc)
 single_ends Char (LineBreak blanks) r s h = absurd (cc)
 single_ends k (LineBreak blanks) r s h = absurd (cc)
-single_ends k (Itself c) r s h = tt
-single_ends k (QuoteEscape c) r s h = tt
-single_ends k (PlainEscape c) r s h = tt
-single_ends k (AsciiEscape high low) r s h = tt
-single_ends k (ByteEscape high low) r s h = tt
-single_ends k (UnicodeEscape digits) r s h = tt
+single_ends k other r s h = tt
 
 -- After its character or escape, the literal is closed by a quote and a suffix.
 single_quote : (k : Kind) (u : StrictUnit) (r : List ℕ) → is_single k ≡ true → is_strict_unit k u ≡ true
@@ -178,9 +158,8 @@ single_good : (k : Kind) (u : StrictUnit) (r : List ℕ) → is_single k ≡ tru
     → ends_quoted 39 r ≡ true → ClosesUnits k (strict_text u ++ r)
 single_good k u r s h q = (one_end k (ends_quoted 39 r) (strict_text u ++ r) r s (single_quote k u r s h) refl).0 q
 
-single_bad : (k : Kind) (u : StrictUnit) (r : List ℕ) → is_single k ≡ true → is_strict_unit k u ≡ true
-    → ends_quoted 39 r
-    ≡ false → ClosesUnits k (strict_text u ++ r) → ⊥
+single_bad : (k : Kind) (u : StrictUnit) (r : List ℕ) → is_single k ≡ true → is_strict_unit k u ≡ true → ends_quoted 39
+    r ≡ false → ClosesUnits k (strict_text u ++ r) → ⊥
 single_bad k u r s h q c = both_ways (ends_quoted 39 r) q
     ((one_end k (ends_quoted 39 r) (strict_text u ++ r) r s (single_quote k u r s h) refl).1 c)
 
@@ -193,10 +172,9 @@ single_closer k u s is =
       bad = λ x h c. single_bad k u (39 ∷ x) s is h (subst (ClosesUnits k) (append_assoc text (39 ∷ []) x) c);
     }
 
-pub single_closed : (k : Kind) (f : FlawKind) (t closing suffix piece rest : List ℕ) → is_single k ≡ true
-    → unit_rest k t
-    ≡ Some closing → closing ≡ 39 ∷ suffix → SuffixSpoiled SingleForm f suffix rest
-    → piece ≡ suffix_piece f closing suffix → FlawInside SingleForm k f t piece rest
+pub single_closed : (k : Kind) (f : FlawKind) (t closing suffix piece rest : List ℕ) → is_single k ≡ true → unit_rest k
+    t ≡ Some closing → closing ≡ 39 ∷ suffix → SuffixSpoiled SingleForm f suffix rest → piece ≡ suffix_piece f closing
+    suffix → FlawInside SingleForm k f t piece rest
 unfolding single_closer
 single_closed k f t closing suffix piece rest s h e found spoiled =
     let u = unit_rest_sound k t closing (quoted_single k s) h in
@@ -226,10 +204,9 @@ single_unclosed k f t closing piece rest s h none same whole =
     subst (λ (z : FoundFlaw). FlawInside SingleForm k z.0 t piece z.1) (sym same)
     (go closing (front_unit k t closing u) stops unquoted)
   where
-    go : (r : List ℕ) → BeginsStrictUnit k t r → StopsBefore (ClosesForm SingleForm k) t r
-        → first_passes (λ d. d == 39) r
-        ≡ false → FlawInside SingleForm k (end_flaw_at Unclosed TwoCharacters r).0 t piece
-        (end_flaw_at Unclosed TwoCharacters r).1
+    go : (r : List ℕ) → BeginsStrictUnit k t r → StopsBefore (ClosesForm SingleForm k) t r → first_passes (λ d. d == 39)
+        r ≡ false → FlawInside SingleForm k (end_flaw_at Unclosed TwoCharacters r).0 t piece (end_flaw_at Unclosed
+        TwoCharacters r).1
     go [] u stops q = record { stops = stops; has = inl (inr (u, refl), whole) }
     go (c ∷ cs) u stops q = record { stops = stops; has = inl (inr (u, (λ n. absurd (cc)), q), whole) }
 
@@ -261,5 +238,4 @@ single_open k f t piece rest s none same whole =
   where
     not_both : (k : Kind) → is_string k ≡ true → is_single k ≡ true → ⊥
     not_both Byte a b = absurd (cc)
-    not_both Char a b = absurd (cc)
     not_both kind a b = absurd (cc)

@@ -1,18 +1,6 @@
 -- The byte offsets of flaws in Rust's grammar.
-use Rattle.rl_syntax.proofs.Common.{◌≡◌, ℕ, List, [], ◌∷◌, ◌+◌, ◌++◌, length, replicate, refl, sym, ap, ◌∙◌, inl, inr, append_assoc, flat_map, IsUtf8, encode_utf8_all, encodes-append, encodes-chars}
-use Rattle.rl_lenient.proofs.Names.{byte_len, Kind, strict_text}
-use Rattle.std.specs.Str.{chars}
-use Rattle.rl_strict.specs.declared.flaws.FlawKind.{FlawKind}
-use Rattle.rl_strict.specs.declared.flaws.FlawKind.TheVariants.{UnexpectedEnd, NoQuote, Unclosed, Nul, NotAscii, TwoCharacters, TooManyHashes, CarriageReturn, TextAfterQuote, ExtraHash}
-use Rattle.rl_lenient.specs.declared.quoted_forms.QuotedForm.{QuotedForm}
-use Rattle.rl_lenient.specs.declared.quoted_forms.QuotedForm.TheVariants.{Cooked as CookedForm, Raw as RawForm, Single as SingleForm}
-use Rattle.rl_strict.specs.Flaws.{StopsBefore}
-use Rattle.rl_lenient.specs.Forms.{form_opener}
-use Rattle.rl_strict.specs.StrictFlawKinds.{ClosedFlaw, IsClosed, IsOpen, OpenFlaw, StrictCloserFlaw, StrictQuotedFlaw, StrictRawFlaw, suffix_piece}
-use Rattle.rl_strict.specs.StrictFlaws.{IsStrictFlawOf}
-use Rattle.rl_strict.specs.StrictShapes.{IsToken}
+use Rattle.rl_strict.proofs.Names.{◌≡◌, ℕ, List, [], ◌∷◌, ◌+◌, ◌++◌, length, replicate, refl, sym, ap, ◌∙◌, inl, inr, append_assoc, flat_map, IsUtf8, encode_utf8_all, encodes-append, encodes-chars, byte_len, Kind, strict_text, chars, FlawKind, UnexpectedEnd, NoQuote, Unclosed, Nul, NotAscii, TwoCharacters, TooManyHashes, CarriageReturn, TextAfterQuote, ExtraHash, QuotedForm, CookedForm, RawForm, SingleForm, StopsBefore, form_opener, ClosedFlaw, IsClosed, IsOpen, OpenFlaw, StrictCloserFlaw, StrictQuotedFlaw, StrictRawFlaw, suffix_piece, IsStrictFlawOf, IsToken, length-append}
 use Rattle.rl_strict.proofs.OneStrictUnit.{strict_unit_cut}
-use Rattle.std.proofs.lemmas.List.{length-append}
 
 -- The number of bytes of a prefix, and of the text after it.
 pub cut_bytes : (t rest front : List ℕ) → IsUtf8 t → IsUtf8 rest → chars t ≡ front ++ chars rest → length t
@@ -25,9 +13,8 @@ cut_bytes t rest front ut ur cut =
     ∙ ap (λ z. byte_len front + length z) (encodes-chars rest ur)
 
 -- The number of bytes of the text before an end of the text.
-pub front_bytes : (t rest : List ℕ) → IsUtf8 t → IsUtf8 rest → (s : StopsBefore IsToken (chars t) (chars rest))
-    → length t
-    ≡ byte_len s.front + length rest
+pub front_bytes : (t rest : List ℕ) → IsUtf8 t → IsUtf8 rest → (s : StopsBefore IsToken (chars t) (chars rest)) → length
+    t ≡ byte_len s.front + length rest
 front_bytes t rest ut ur s = cut_bytes t rest s.front ut ur s.text_is
 
 -- ---- a flaw's piece is an end of the text
@@ -53,9 +40,8 @@ raw_tail kind Nul t before inside piece rest e r h = (r.0, r.1 ∙ ap (λ z. r.0
 raw_tail kind NotAscii t before inside piece rest e r h = (r.0, r.1 ∙ ap (λ z. r.0 ++ z) (sym h.2))
 raw_tail kind k t before inside piece rest e r h = absurd h
 
-open_tail : (form : QuotedForm) (kind : Kind) (k : FlawKind) (t before inside piece rest : List ℕ) → t ≡ before
-    ++ inside
-    → Tail t rest → OpenFlaw form kind k inside piece rest → Tail t piece
+open_tail : (form : QuotedForm) (kind : Kind) (k : FlawKind) (t before inside piece rest : List ℕ) → t ≡ before ++
+    inside → Tail t rest → OpenFlaw form kind k inside piece rest → Tail t piece
 open_tail CookedForm kind k t before inside piece rest e r h = inside_tail t before inside piece e
     (flat_map strict_text h.0.units, h.0.text_is)
 open_tail SingleForm kind k t before inside piece rest e r h = (before, e ∙ ap (λ z. before ++ z) (sym h.1))

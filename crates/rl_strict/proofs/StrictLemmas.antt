@@ -1,22 +1,7 @@
 -- A literal token is a number, `true` or `false`, or a quoted literal: an opening delimiter and the text after it.
-use Rattle.rl_syntax.proofs.Common.{◌≡◌, ℕ, ◌⊎◌, ◌||◌, Bool, true, false, ◌==◌, List, [], ◌∷◌, ◌++◌, Some, None, refl, sym, ap, subst, ◌∙◌, inl, inr, append_assoc, is_ascii_digit, flat_map, IsTrue}
-use Rattle.rl_lenient.proofs.Names.{◌↔◌, Kind, Str, ByteStr, CStr, Byte, Char, Int, Float, BoolKind, NoSign, opener, raw_opener, Contents, Truth, truth_text, strict_text, strict_contents, strict_content_of}
-use Rattle.std.specs.Prelude.{replicate, codes, if◌then◌else◌}
-use Rattle.rl_syntax.specs.Strict.{StrictCooked, StrictRaw, StrictInt, StrictFloat, Strict, strict_opener, strict_raw_opener, strict_closer}
-use Rattle.rl_syntax.proofs.Basics.{apart}
-use Rattle.rl_syntax.proofs.OneNumber.{begins_number, float_front, int_front}
-use Rattle.rl_syntax.proofs.StrictNumbers.{strict_int, float_strict_reads}
-use Rattle.rl_syntax.proofs.StrictQuoted.{between}
-use Rattle.rl_lenient.specs.declared.quoted_forms.QuotedForm.{QuotedForm}
-use Rattle.rl_lenient.specs.declared.quoted_forms.QuotedForm.TheVariants.{Cooked as CookedForm, Raw as RawForm, Single as SingleForm}
-use Rattle.rl_lenient.specs.Forms.{has_form, form_opener}
-use Rattle.rl_lenient.specs.Mirrors.OpenerAt.{opener_at}
-use Rattle.rl_strict.specs.StrictShapes.{IsToken, ClosesUnits, ClosesRaw, ClosesForm}
-use Rattle.rl_lenient.proofs.FormLemmas.{front_complete, front_sound}
-use Rattle.rl_lenient.proofs.StrictBackLemmas.{HasStrictUnits}
+use Rattle.rl_strict.proofs.Names.{◌≡◌, ℕ, ◌⊎◌, ◌||◌, Bool, true, false, ◌==◌, List, [], ◌∷◌, ◌++◌, Some, None, refl, sym, ap, subst, ◌∙◌, inl, inr, append_assoc, is_ascii_digit, flat_map, IsTrue, ◌↔◌, Kind, Str, ByteStr, CStr, Byte, Char, Int, Float, BoolKind, NoSign, opener, raw_opener, Contents, truth_text, strict_text, strict_contents, strict_content_of, replicate, codes, if◌then◌else◌, StrictCooked, StrictRaw, StrictInt, StrictFloat, Strict, strict_opener, strict_raw_opener, strict_closer, apart, begins_number, float_front, int_front, strict_int, float_strict_reads, between, QuotedForm, CookedForm, RawForm, SingleForm, has_form, form_opener, opener_at, IsToken, ClosesUnits, ClosesRaw, ClosesForm, front_complete, front_sound, HasStrictUnits, word_has_none, quoted_contents}
+use Rattle.rl_lenient.proofs.Names.{Truth}
 use Rattle.rl_strict.proofs.StrictRowLemmas.{quoted_string, quoted_single}
-use Rattle.rl_lenient.proofs.OpenerLemmas.{word_has_none}
-use Rattle.rl_syntax.specs.Reading.{quoted_contents}
 
 -- The text is a number of Rust's grammar.
 abbrev pub IsStrictNumber : List ℕ → Type 0
@@ -29,24 +14,12 @@ IsStrictNumber text =
 -- The opening quotes are equal in both grammars.
 opener_is : (k : Kind) → opener k ≡ strict_opener k
 opener_is Str = refl
-opener_is ByteStr = refl
-opener_is CStr = refl
-opener_is Byte = refl
-opener_is Char = refl
-opener_is Int = refl
-opener_is Float = refl
-opener_is BoolKind = refl
+opener_is other = refl
 
 -- The prefixes of raw strings are equal in both grammars.
 raw_opener_is : (k : Kind) → raw_opener k ≡ strict_raw_opener k
 raw_opener_is Str = refl
-raw_opener_is ByteStr = refl
-raw_opener_is CStr = refl
-raw_opener_is Byte = refl
-raw_opener_is Char = refl
-raw_opener_is Int = refl
-raw_opener_is Float = refl
-raw_opener_is BoolKind = refl
+raw_opener_is other = refl
 
 -- ---- a quoted literal that is closed is a literal token
 
@@ -183,7 +156,7 @@ raw_seen k t v x has s =
     })
 
 -- The words `true` and `false` are equal in both definitions.
-truth_words : (b : Bool) → (if b then codes "true" else codes "false") ≡ truth_text b
+pub truth_words : (b : Bool) → (if b then codes "true" else codes "false") ≡ truth_text b
 truth_words true = refl
 truth_words false = refl
 

@@ -1,32 +1,11 @@
 -- The result of parsing a number: the number, or the position where the text can't continue as a number, and the reason.
-use Rattle.rl_syntax.proofs.Common.{◌≡◌, ◌≢◌, ℕ, ◌⊎◌, ◌||◌, ◌&&◌, Bool, true, false, not, ◌==◌, cond, List, [], ◌∷◌, ◌++◌, Option, Some, None, refl, sym, ap, subst, ◌∙◌, inl, inr, arith, append_assoc, append-nil, and_from, and_parts, both_ways, eqb-true, not_from_false, or_parts, or_right, is_ascii_digit, is_ascii_hexdigit, list_all, list_all-append, list_any}
-use Rattle.rl_lenient.proofs.Names.{and_right, cond_both, first_passes, is_underscore, Base, Binary, Octal, Decimal, Hexadecimal, radix, prefix, IsAfterPrefix, is_exponent_letter, Contents, Digits}
-use Rattle.std.proofs.lemmas.Bool.{or_left}
+use Rattle.rl_strict.proofs.Names.{◌≡◌, ◌≢◌, ℕ, ◌⊎◌, ◌||◌, ◌&&◌, Bool, true, false, not, ◌==◌, cond, List, [], ◌∷◌, ◌++◌, Option, Some, None, refl, sym, ap, subst, ◌∙◌, inl, inr, arith, append_assoc, append-nil, and_from, and_parts, both_ways, eqb-true, not_from_false, or_parts, or_right, is_ascii_digit, is_ascii_hexdigit, list_all, list_all-append, list_any, and_right, cond_both, first_passes, is_underscore, Base, Binary, Octal, Decimal, Hexadecimal, radix, prefix, IsAfterPrefix, is_exponent_letter, Contents, Digits, or_left, ⊤, is_continue, is_start, is_power_sign, dec, IsDigits, IsDecimalText, IsNumberSuffix, BasedPrefix, StrictInt, IsStrictExponent, IsDotAlone, IsPointed, IsScientific, StrictFloat, digit_is_ten, hex_is_sixteen, passes_same, after_digits, after_power_sign, capped, digit_run_at, has_digit_at, has_value, magnitude_at, radix_at, is_some_text, based, hex_stops, not_based, run_all, run_ends, run_join, front_passes, goes_on, is_number_suffix, is_strict_suffix, IsToken, FlawKind, NoExponentDigit, BadSuffix, NoDigits, InvalidDigit, BasedFloat, NoFractionDigit, goes_on_with_suffix, is_suffix_front, IsBasedRun, IsDigitFlaw, IsStrictFraction, is_float_mark, suffix_rest, Ending, NumberRead, as_float, as_integer, based_read_at, digits_end_at, fraction_end_at, number_read_at, power_end_at, stopped, suffix_end_at, whole_read_at, place_value, without_underscores}
 use Rattle.std.proofs.lemmas.List.Folds.{list_any-append}
-use Rattle.std.specs.Prelude.{⊤}
-use Rattle.rl_syntax.specs.Texts.{is_continue, is_start}
-use Rattle.rl_syntax.specs.Numbers.{is_power_sign}
-use Rattle.rl_syntax.specs.Strict.{dec, IsDigits, IsDecimalText, IsNumberSuffix, BasedPrefix, StrictInt, IsStrictExponent, IsDotAlone, IsPointed, IsScientific, StrictFloat}
-use Rattle.rl_syntax.proofs.Basics.{digit_is_ten, hex_is_sixteen, passes_same}
-use Rattle.rl_lenient.specs.Mirrors.NumberAt.{after_digits, after_power_sign, capped, digit_run_at, has_digit_at, has_value, magnitude_at, radix_at}
-use Rattle.rl_lenient.specs.Mirrors.PlainAt.{is_some_text}
-use Rattle.rl_lenient.proofs.IntegerLemmas.{based, hex_stops, not_based}
-use Rattle.rl_lenient.proofs.RunLemmas.{run_all, run_ends, run_join}
-use Rattle.rl_lenient.proofs.TestLemmas.{front_passes, goes_on}
-use Rattle.rl_strict.specs.Mirrors.StrictAt.{is_number_suffix, is_strict_suffix}
-use Rattle.rl_strict.specs.StrictShapes.{IsToken}
 use Rattle.rl_strict.proofs.StrictLemmas.{number_token}
 use Rattle.rl_strict.proofs.StrictWordLemmas.{number_suffix_sound}
-use Rattle.rl_strict.specs.declared.flaws.FlawKind.{FlawKind}
-use Rattle.rl_strict.specs.declared.flaws.FlawKind.TheVariants.{NoExponentDigit, BadSuffix, NoDigits, InvalidDigit, BasedFloat, NoFractionDigit}
-use Rattle.rl_strict.specs.StrictFlawKinds.{goes_on_with_suffix, is_suffix_front}
-use Rattle.rl_strict.specs.StrictNumberFlaws.{IsBasedRun, IsDigitFlaw, IsStrictFraction, is_float_mark}
-use Rattle.rl_strict.specs.Mirrors.StrictFlawAt.{suffix_rest}
-use Rattle.rl_strict.specs.Mirrors.NumberRead.{Ending, NumberRead, as_float, as_integer, based_read_at, digits_end_at, fraction_end_at, number_read_at, power_end_at, stopped, suffix_end_at, whole_read_at}
 use Rattle.rl_strict.proofs.NumberEnds.{Fails, IsSign, Passes, SignCut, based_is, both_fail, digits_plain, digits_power, each_fails, end_of, fraction_is, fraction_none, front_digits, in_base, in_row, is_read, is_sign, names, names_none, number_end_at, of_base, part_row, power_is, row_bare, row_part, row_plain, row_tail, sign_cut, some_value, suffix_reads, suffix_whole, ten_first, ten_is, whole_digits, whole_dot, whole_end_at, whole_plain}
 use Rattle.rl_strict.proofs.Stops.{Stops, lifted}
 use Rattle.rl_strict.proofs.StrictSuffixFlaws.{goes_on_first, suffix_cut, suffix_stuck}
-use Rattle.rl_syntax.specs.Spelling.{place_value, without_underscores}
 
 -- ---- a flaw after a prefix of a number
 
@@ -234,9 +213,8 @@ power_empty before cs sign run y c b l s each none stops text bare =
 power_judged : (before cs : List ℕ) (c : ℕ) → BeforePower before → is_exponent_letter c ≡ true
     → NextFlaw (PowerOf (c ∷ cs)) digits_end_at before (c ∷ cs) (power_end_at cs)
 unfolding power_end_at
-power_judged before cs c b l = cond_both (has_digit_at 10 u) _ _
-    (NextFlaw (PowerOf (c ∷ cs)) digits_end_at before (c ∷ cs))
-    digits (λ none. power_empty before cs s.sign run y c b l s.is_sign_of each none stops text bare)
+power_judged before cs c b l = cond_both (has_digit_at 10 u) _ _ (NextFlaw (PowerOf (c ∷ cs)) digits_end_at before (c ∷
+    cs)) digits (λ none. power_empty before cs s.sign run y c b l s.is_sign_of each none stops text bare)
   where
     u : List ℕ
     u = after_power_sign cs
@@ -400,9 +378,8 @@ first_some [] h = absurd (both_ways false refl h)
 first_some (c ∷ cs) h = or_left (has_value 10 c) (list_any (has_value 10) cs) (sym (digit_is_ten c) ∙ h)
 
 -- A decimal integer, from its parts.
-int_of : (t d x : List ℕ) (m : Option ℕ) → IsDigits d → IsDecimalText t → IsNumberSuffix x
-    → first_passes is_exponent_letter x ≡ false → t ≡ d ++ x → m ≡ capped (place_value 10 (without_underscores d))
-    → IntOf t m x
+int_of : (t d x : List ℕ) (m : Option ℕ) → IsDigits d → IsDecimalText t → IsNumberSuffix x → first_passes
+    is_exponent_letter x ≡ false → t ≡ d ++ x → m ≡ capped (place_value 10 (without_underscores d)) → IntOf t m x
 int_of t d x m h n s p text is = (
   place_value 10 (without_underscores d),
   record {
@@ -426,20 +403,17 @@ never_first [] = refl
 never_first (c ∷ cs) = refl
 
 -- The result after the whole part.
-whole_judged : (t d y : List ℕ) (m : Option ℕ) → IsDigits d → IsDecimalText t → t ≡ d ++ y
-    → first_passes in_row y ≡ false → m ≡ capped (place_value 10 (without_underscores d))
-    → ReadJudged t whole_end_at d y (whole_read_at m y)
+whole_judged : (t d y : List ℕ) (m : Option ℕ) → IsDigits d → IsDecimalText t → t ≡ d ++ y → first_passes in_row y ≡
+    false → m ≡ capped (place_value 10 (without_underscores d)) → ReadJudged t whole_end_at d y (whole_read_at m y)
 unfolding whole_read_at
 whole_judged t d y m h n text stops is = go y text stops
   where
     plain : (y : List ℕ) → t ≡ d ++ y → first_passes in_row y ≡ false → first_passes is_float_mark y ≡ false
         → ReadJudged t whole_end_at d y (as_integer m (suffix_end_at y))
-    plain y text stops mark = int_judged t m whole_end_at d y (suffix_end_at y)
-        (through (SuffixOf y) (IntOf t m) suffix_end_at whole_end_at is_float_mark d [] y y (suffix_end_at y) refl mark
-        whole_plain
-        (λ x s. int_of t d x m h n s.0 (sym (ap (first_passes is_exponent_letter) s.1)
-        ∙ (each_fails (λ c. c == 46) is_exponent_letter y mark).1) (text ∙ ap (λ z. d ++ z) s.1) is)
-        (suffix_judged (d ++ []) y (no_mark (has_value 10) y stops)))
+    plain y text stops mark = int_judged t m whole_end_at d y (suffix_end_at y) (through (SuffixOf y) (IntOf t m)
+        suffix_end_at whole_end_at is_float_mark d [] y y (suffix_end_at y) refl mark whole_plain (λ x s. int_of t d x m
+        h n s.0 (sym (ap (first_passes is_exponent_letter) s.1) ∙ (each_fails (λ c. c == 46) is_exponent_letter y
+        mark).1) (text ∙ ap (λ z. d ++ z) s.1) is) (suffix_judged (d ++ []) y (no_mark (has_value 10) y stops)))
 
     dot : (c : ℕ) (cs : List ℕ) → t ≡ d ++ (c ∷ cs) → (c == 46) ≡ true
         → ReadJudged t whole_end_at d (c ∷ cs) (as_float (fraction_end_at cs))
@@ -469,14 +443,12 @@ whole_judged t d y m h n text stops is = go y text stops
             (cond e (as_float (power_end_at cs)) (as_integer m (suffix_end_at (c ∷ cs)))))
         tests true b e l = dot c cs text b
         tests false b true l = power c cs text b l
-        tests false b false l = plain (c ∷ cs) text stops
-            (both_fail (λ c. c == 46) is_exponent_letter (c ∷ cs) b l)
+        tests false b false l = plain (c ∷ cs) text stops (both_fail (λ c. c == 46) is_exponent_letter (c ∷ cs) b l)
 
 -- The result for a text with another text before it.
-read_through : (t : List ℕ) (inner outer : List ℕ → Ending) (first : ℕ → Bool) (pre y u : List ℕ) (r : NumberRead)
-    → u ≡ pre ++ y → first_passes first y ≡ false
-    → ((x : List ℕ) → first_passes first x ≡ false → outer (pre ++ x) ≡ inner x) → ReadJudged t inner pre y r
-    → ReadJudged t outer [] u r
+read_through : (t : List ℕ) (inner outer : List ℕ → Ending) (first : ℕ → Bool) (pre y u : List ℕ) (r : NumberRead) → u ≡
+    pre ++ y → first_passes first y ≡ false → ((x : List ℕ) → first_passes first x ≡ false → outer (pre ++ x) ≡ inner x)
+    → ReadJudged t inner pre y r → ReadJudged t outer [] u r
 read_through t inner outer first pre y u (None, Some m, x) text ok same h = h
 read_through t inner outer first pre y u (None, None, x) text ok same h = h
 read_through t inner outer first pre y u (Some k, m, x) text ok same h = subst (λ z. TailFlaw outer [] z k x) (sym text)
@@ -502,9 +474,7 @@ decimal_judged t d n =
 
 one_of : (b : Base) → of_base b 49 ≡ true
 one_of Binary = refl
-one_of Octal = refl
-one_of Decimal = refl
-one_of Hexadecimal = refl
+one_of other = refl
 
 -- One more digit completes any sequence of digits after a base prefix.
 based_one : (b : Base) (w : List ℕ) → b ≢ Decimal → list_all (in_base b) w ≡ true
@@ -604,9 +574,8 @@ based_judged b t w other text = go (first_passes is_ascii_digit y) refl (list_an
     no_digit : first_passes (of_base b) y ≡ false
     no_digit = (each_fails (of_base b) is_underscore y stops).0
 
-    flaw : (k : FlawKind) → (k ≡ BadSuffix → ⊥)
-        → (first_passes is_ascii_digit y || (not (list_any (of_base b) run) || first_passes is_float_mark y)) ≡ true
-        → Says k (prefix b ++ run) y → TailFlaw number_end_at [] t k y
+    flaw : (k : FlawKind) → (k ≡ BadSuffix → ⊥) → (first_passes is_ascii_digit y || (not (list_any (of_base b) run) ||
+        first_passes is_float_mark y)) ≡ true → Says k (prefix b ++ run) y → TailFlaw number_end_at [] t k y
     flaw k not_suffix tests says = subst (λ z. TailFlaw number_end_at [] z k y) (sym whole)
         (based_flaw b run y k n each stops not_suffix tests says)
 

@@ -1,25 +1,13 @@
 -- The definitions of the kinds of flaws in numbers agree with the parser, so each kind excludes the others.
-use Rattle.rl_syntax.proofs.Common.{◌≡◌, ◌≢◌, ℕ, Bool, true, false, not, ◌==◌, cond, List, [], ◌∷◌, ◌++◌, refl, sym, ap, ◌∙◌, inl, inr, append_assoc, and_parts, both_ways, and_from, or_cases, or_from, or_right, eqb-true, is_ascii_digit, list_all, list_any}
-use Rattle.rl_lenient.proofs.Names.{and_right, false_from_ne_true, first_passes, is_underscore, Base, Binary, Octal, Decimal, Hexadecimal, is_exponent_letter}
-use Rattle.rl_syntax.specs.Numbers.{is_power_sign}
-use Rattle.rl_syntax.specs.Strict.{IsDigits}
-use Rattle.rl_syntax.proofs.Basics.{apart}
-use Rattle.rl_syntax.proofs.StrictNumbers.{letter_no_part}
-use Rattle.rl_lenient.specs.Mirrors.NumberAt.{has_value, radix_at, radix_of}
-use Rattle.rl_lenient.proofs.FloatLemmas.{letter_no_dot}
-use Rattle.rl_strict.specs.declared.flaws.FlawKind.{FlawKind}
-use Rattle.rl_strict.specs.declared.flaws.FlawKind.TheVariants.{NoExponentDigit, NoDigits, InvalidDigit, BasedFloat, NoFractionDigit}
-use Rattle.rl_strict.specs.StrictNumberFlaws.{EndsInPower, IsBasedRun, IsDigitFlaw, IsStrictFraction, is_float_mark}
-use Rattle.rl_strict.specs.Mirrors.NumberRead.{power_end_at, stopped}
+use Rattle.rl_strict.proofs.Names.{◌≡◌, ◌≢◌, ℕ, Bool, true, false, not, ◌==◌, cond, List, [], ◌∷◌, ◌++◌, refl, sym, ap, ◌∙◌, inl, inr, append_assoc, and_parts, both_ways, and_from, or_cases, or_from, or_right, eqb-true, is_ascii_digit, list_all, list_any, and_right, false_from_ne_true, first_passes, is_underscore, Base, Binary, Octal, Decimal, Hexadecimal, is_exponent_letter, is_power_sign, IsDigits, apart, letter_no_part, has_value, radix_at, radix_of, letter_no_dot, FlawKind, NoExponentDigit, NoDigits, InvalidDigit, BasedFloat, NoFractionDigit, EndsInPower, IsBasedRun, IsDigitFlaw, IsStrictFraction, is_float_mark, power_end_at, stopped}
 use Rattle.rl_strict.proofs.NumberEnds.{IsSign, based_is, decimal_is, digits_power, each_fails, fraction_is, fraction_none, in_base, in_row, is_sign, names, number_end_at, of_base, power_is, row_part, row_tail, whole_digits, whole_dot, whole_end_at}
 
 -- ---- numbers with a base prefix
 
 -- The result after a base prefix and a sequence of digits, by three tests of the digits and the text after them.
-row_is : (b : Base) (run front rest : List ℕ) (digit none mark : Bool) → IsBasedRun b run front
-    → first_passes (in_base b) rest ≡ false → first_passes is_ascii_digit rest ≡ digit
-    → not (list_any (of_base b) run) ≡ none → first_passes is_float_mark rest ≡ mark
-    → number_end_at (front ++ rest) ≡ row_tail digit none mark rest
+row_is : (b : Base) (run front rest : List ℕ) (digit none mark : Bool) → IsBasedRun b run front → first_passes (in_base
+    b) rest ≡ false → first_passes is_ascii_digit rest ≡ digit → not (list_any (of_base b) run) ≡ none → first_passes
+    is_float_mark rest ≡ mark → number_end_at (front ++ rest) ≡ row_tail digit none mark rest
 row_is b run front rest digit none mark r stops d n m =
     ap number_end_at (ap (λ z. z ++ rest) r.front_is) ∙ based_is b run rest r.not_decimal r.each stops
     ∙ ap (λ z. row_tail z (not (list_any (of_base b) run)) (first_passes is_float_mark rest) rest) d
@@ -36,9 +24,7 @@ no_digits b (c ∷ cs) h =
   where
     mark : (b : Base) → of_base b 95 ≡ false
     mark Binary = refl
-    mark Octal = refl
-    mark Decimal = refl
-    mark Hexadecimal = refl
+    mark other = refl
 
 -- A decimal digit isn't an underscore, and neither is a dot or an exponent's letter.
 no_underscore : (test : ℕ → Bool) (rest : List ℕ) → test 95 ≡ false → first_passes test rest ≡ true
@@ -149,9 +135,8 @@ power_kind front rest p stops bare = go p.fraction p.is_fraction p.front_is
         (λ e. marks_no_sign p.underscores rest p.all_underscores (λ n. bare (ap (λ z. z ++ p.underscores) e ∙ n)))
         (marks_row p.underscores p.all_underscores) (no_digits Decimal p.underscores p.all_underscores) stops
 
-    go : (fraction : List ℕ) → IsStrictFraction fraction → front
-        ≡ p.whole ++ (fraction ++ (p.letter ∷ (p.sign ++ p.underscores)))
-        → number_end_at (front ++ rest) ≡ stopped NoExponentDigit rest
+    go : (fraction : List ℕ) → IsStrictFraction fraction → front ≡ p.whole ++ (fraction ++ (p.letter ∷ (p.sign ++
+        p.underscores))) → number_end_at (front ++ rest) ≡ stopped NoExponentDigit rest
     go fraction (inl none) e =
         let text = joined p.whole (e ∙ ap (λ z. p.whole ++ (z ++ (p.letter ∷ (p.sign ++ p.underscores)))) none) in
         ap number_end_at text ∙ whole_is p.whole p.letter tail p.is_whole mark

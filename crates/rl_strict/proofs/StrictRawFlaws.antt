@@ -1,21 +1,5 @@
 -- The flaws of raw strings in Rust's grammar.
-use Rattle.rl_syntax.proofs.Common.{◌≡◌, ◌+◌, ℕ, zero, suc, Option, Some, None, ◌<◌, ◌≤◌, ◌||◌, ◌&&◌, Bool, true, false, not, ◌==◌, cond, List, [], ◌∷◌, ◌++◌, replicate, refl, sym, ap, subst, ◌∙◌, inl, inr, arith, append_assoc, nat_lt, and_from, and_parts, both_ways, cases_Bool, eqb-true, not-true, or_parts, or_from, append_cancel_right, ltb-true, ltb-false, ◌⊎◌, list_all, AllByRecursion}
-use Rattle.rl_lenient.proofs.Names.{cond_both, IsScalar, Kind, Str, ByteStr, CStr, first_passes, is_string, after_run, is_hash}
-use Rattle.std.proofs.lemmas.Bool.{and_left}
-use Rattle.std.specs.Option.{IfNone, IfSome, is_some}
-use Rattle.rl_syntax.specs.Texts.{begins}
-use Rattle.rl_syntax.proofs.Basics.{apart}
-use Rattle.rl_lexer.proofs.HashLemmas.{hashes_past}
-use Rattle.rl_syntax.proofs.StrictNumbers.{begins_front}
-use Rattle.rl_strict.specs.declared.flaws.FlawKind.{FlawKind}
-use Rattle.rl_strict.specs.declared.flaws.FlawKind.TheVariants.{UnexpectedEnd, NoQuote, Unclosed, TooManyHashes}
-use Rattle.rl_lenient.specs.declared.quoted_forms.QuotedForm.TheVariants.{Raw as RawForm}
-use Rattle.rl_strict.specs.Flaws.{StopsBefore}
-use Rattle.rl_strict.specs.StrictFlawKinds.{IsOpen, StrictRawFlaw, suffix_piece}
-use Rattle.rl_strict.specs.StrictShapes.{ClosesForm, ClosesRaw}
-use Rattle.rl_strict.specs.Mirrors.StrictAt.{ends_raw, is_inside, is_raw_character, is_strict_suffix}
-use Rattle.rl_strict.specs.Mirrors.StrictFlawAt.{raw_stop, raw_character_flaw_of}
-use Rattle.rl_strict.specs.Mirrors.UnitFlawAt.{spoiled_flaw_of}
+use Rattle.rl_strict.proofs.Names.{◌≡◌, ◌+◌, ℕ, zero, suc, Option, Some, None, ◌<◌, ◌≤◌, ◌||◌, ◌&&◌, Bool, true, false, not, ◌==◌, cond, List, [], ◌∷◌, ◌++◌, replicate, refl, sym, ap, subst, ◌∙◌, inl, inr, arith, append_assoc, nat_lt, and_from, and_parts, both_ways, cases_Bool, eqb-true, not-true, or_parts, or_from, append_cancel_right, ltb-true, ltb-false, ◌⊎◌, list_all, AllByRecursion, cond_both, IsScalar, Kind, Str, ByteStr, CStr, first_passes, is_string, after_run, is_hash, and_left, IfNone, IfSome, is_some, begins, apart, hashes_past, begins_front, FlawKind, UnexpectedEnd, NoQuote, Unclosed, TooManyHashes, RawForm, StopsBefore, IsOpen, StrictRawFlaw, suffix_piece, ClosesForm, ClosesRaw, ends_raw, is_inside, is_raw_character, is_strict_suffix, raw_stop, raw_character_flaw_of, spoiled_flaw_of}
 use Rattle.rl_strict.proofs.StrictRawLemmas.{NoCloser, inside_sound, none_before, nothing_inside, past_body, raw_close, raw_complete, raw_on, raw_sound}
 use Rattle.rl_strict.proofs.StrictSuffixFlaws.{Closer, FlawInside, SuffixSpoiled, closed_flaw, same_flaw}
 
@@ -63,8 +47,7 @@ unfolding raw_stop
 raw_halts k hashes [] cs c e = absurd (cc)
 raw_halts k hashes (d ∷ ds) cs c e = go (raw_halts k hashes ds cs c) (ends_at k hashes (d ∷ ds)) refl e
   where
-    go : (raw_stop k hashes ds ≡ c ∷ cs → ends_at k hashes (c ∷ cs) ≡ true) → (b : Bool) → ends_at k hashes (d ∷ ds)
-        ≡ b
+    go : (raw_stop k hashes ds ≡ c ∷ cs → ends_at k hashes (c ∷ cs) ≡ true) → (b : Bool) → ends_at k hashes (d ∷ ds) ≡ b
         → cond b (d ∷ ds) (raw_stop k hashes ds) ≡ c ∷ cs → ends_at k hashes (c ∷ cs) ≡ true
     go rec true h e = sym (ap (ends_at k hashes) e) ∙ h
     go rec false h e = rec e
@@ -107,9 +90,8 @@ walk_on k hashes t cs s c e h same =
 pub closer_test : {R : Type 0} (o : Option R) (text : R → List ℕ) (hashes after : List ℕ) (c : ℕ) (b : Bool)
     → IfSome o (λ r. (c ≡ 34) × (after ≡ hashes ++ text r)) → IfNone o ((c == 34 && begins hashes after) ≡ false) → b
     ≡ is_some o → b ≡ (c == 34 && begins hashes after)
-closer_test (Some r) text hashes after c b some none is = is
-    ∙ sym (and_from (c == 34) (begins hashes after) (ap (λ z. z == 34) some.0) (ap (begins hashes) some.1
-    ∙ begins_front hashes (text r)))
+closer_test (Some r) text hashes after c b some none is = is ∙ sym (and_from (c == 34) (begins hashes after) (ap (λ z. z
+    == 34) some.0) (ap (begins hashes) some.1 ∙ begins_front hashes (text r)))
 closer_test None text hashes after c b some none is = is ∙ sym none
 
 -- A sequence of hashes with one more hash.
@@ -277,9 +259,8 @@ module _ (k : Kind) (n : ℕ) (inside rest : List ℕ) (s : is_string k ≡ true
         (append_assoc before (34 ∷ hs) x) c);
   }
 
-  closed : (f : FlawKind) (suffix piece after : List ℕ) → rest ≡ 34 ∷ (hs ++ suffix)
-      → SuffixSpoiled RawForm f suffix after → piece ≡ suffix_piece f rest suffix
-      → FlawInside RawForm k f whole piece after
+  closed : (f : FlawKind) (suffix piece after : List ℕ) → rest ≡ 34 ∷ (hs ++ suffix) → SuffixSpoiled RawForm f suffix
+      after → piece ≡ suffix_piece f rest suffix → FlawInside RawForm k f whole piece after
   unfolding closer
   closed f suffix piece after at found spoils = closed_flaw RawForm k f whole rest suffix piece after closer
       (cut ∙ ap (λ z. before ++ z) at ∙ sym (append_assoc before (34 ∷ hs) suffix)) (n, opened, at) found spoils
@@ -287,9 +268,8 @@ module _ (k : Kind) (n : ℕ) (inside rest : List ℕ) (s : is_string k ≡ true
 -- ---- the flaw after the opening quote, by the result of the code
 
 -- The hashes, their number, and the text where the loop ends.
-found_walk : (k : Kind) (n : ℕ) (hashes inside rest : List ℕ) → hashes ≡ replicate n 35 → rest
-    ≡ raw_stop k hashes inside
-    → RawWalk k (replicate n 35) inside rest
+found_walk : (k : Kind) (n : ℕ) (hashes inside rest : List ℕ) → hashes ≡ replicate n 35 → rest ≡ raw_stop k hashes
+    inside → RawWalk k (replicate n 35) inside rest
 found_walk k n hashes inside rest e at = subst (RawWalk k (replicate n 35) inside)
     (sym (at ∙ ap (λ z. raw_stop k z inside) e)) (raw_walk k (replicate n 35) inside)
 
@@ -309,11 +289,10 @@ raw_ended k f n hashes inside rest q z s few e at end kind piece place =
     as_found k f Unclosed n hashes inside rest q rest z e kind piece place
     (ended k n inside rest s less (found_walk k n hashes inside rest e at) end)
 
-pub raw_spoiled : (k : Kind) (f : FlawKind) (n : ℕ) (hashes inside rest q z : List ℕ) (c : ℕ) (cs : List ℕ)
-    → is_string k
-    ≡ true → n ≤ 255 → hashes ≡ replicate n 35 → rest ≡ raw_stop k hashes inside → rest ≡ c ∷ cs
-    → (c == 34 && begins hashes cs) ≡ false → f ≡ raw_character_flaw_of k c → q ≡ rest → z ≡ rest
-    → FlawInside RawForm k f (hashes ++ (34 ∷ inside)) q z
+pub raw_spoiled : (k : Kind) (f : FlawKind) (n : ℕ) (hashes inside rest q z : List ℕ) (c : ℕ) (cs : List ℕ) → is_string
+    k ≡ true → n ≤ 255 → hashes ≡ replicate n 35 → rest ≡ raw_stop k hashes inside → rest ≡ c ∷ cs → (c == 34 && begins
+    hashes cs) ≡ false → f ≡ raw_character_flaw_of k c → q ≡ rest → z ≡ rest → FlawInside RawForm k f (hashes ++ (34 ∷
+    inside)) q z
 raw_spoiled k f n hashes inside rest q z c cs s few e at is no_closer kind piece place =
     let less : n < 256 = omega (arith, few) in
     let ends_raw_content = raw_halts k hashes inside cs c (sym at ∙ is) in

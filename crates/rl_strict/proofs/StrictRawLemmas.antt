@@ -1,13 +1,5 @@
 -- Raw strings of Rust's grammar: hashes, the content up to the first closing delimiter, and the suffix.
-use Rattle.rl_syntax.proofs.Common.{◌≡◌, ◌≢◌, ℕ, zero, suc, ◌⊎◌, ◌&&◌, ◌||◌, Bool, true, false, not, ◌==◌, cond, List, [], ◌∷◌, ◌++◌, length, drop, replicate, refl, sym, ap, subst, ◌∙◌, inl, inr, nat_lt, and_from, and_parts, both_ways, cases_Bool, eqb-true, list_all, IsTrue}
-use Rattle.rl_lenient.proofs.Names.{false_from_ne_true, drop-append_seam, ◌↔◌, Kind, Str, ByteStr, CStr, is_string, IsStrictSuffix, Marks, first_passes, is_other, after_run, is_hash}
-use Rattle.rl_syntax.specs.Texts.{begins}
-use Rattle.rl_syntax.specs.Strict.{IsRawInside}
-use Rattle.rl_syntax.proofs.StrictNumbers.{begins_front}
-use Rattle.rl_lexer.proofs.HashLemmas.{hashes_past}
-use Rattle.rl_strict.specs.Mirrors.StrictAt.{ends_raw, is_inside, is_raw_character, is_strict_suffix}
-use Rattle.rl_strict.specs.StrictShapes.{ClosesInside, ClosesRaw}
-use Rattle.rl_lenient.proofs.IntegerLemmas.{begins_is}
+use Rattle.rl_strict.proofs.Names.{◌≡◌, ◌≢◌, ℕ, zero, suc, ◌⊎◌, ◌&&◌, ◌||◌, Bool, true, false, not, ◌==◌, cond, List, [], ◌∷◌, ◌++◌, length, drop, replicate, refl, sym, ap, subst, ◌∙◌, inl, inr, nat_lt, and_from, and_parts, both_ways, cases_Bool, eqb-true, list_all, IsTrue, false_from_ne_true, drop-append_seam, ◌↔◌, Kind, Str, ByteStr, CStr, is_string, IsStrictSuffix, Marks, first_passes, is_other, after_run, is_hash, begins, IsRawInside, begins_front, hashes_past, ends_raw, is_inside, is_raw_character, is_strict_suffix, ClosesInside, ClosesRaw, begins_is, is_ascii_other, ◌≤◌, ◌<◌, arith}
 use Rattle.rl_strict.proofs.StrictWordLemmas.{all_both, all_apart, strict_suffix_complete, strict_suffix_sound}
 
 -- ---- the content of a raw string
@@ -114,9 +106,8 @@ no_closer_at n c cs z no_hash none = false_from_ne_true (c == 34 && begins (repl
     none [] b.0 (ap (λ q. q ∷ cs) (eqb-true c 34 p.0) ∙ ap (λ q. 34 ∷ q) b.1))
 
 -- The loop skips the content at once.
-pub past_body : (k : Kind) (n : ℕ) (body z : List ℕ) → list_all (is_raw_character k) body ≡ true
-    → NoCloser (replicate n 35) body → first_passes is_hash z ≡ false → ends_raw k (replicate n 35) (body ++ z)
-    ≡ ends_raw k (replicate n 35) z
+pub past_body : (k : Kind) (n : ℕ) (body z : List ℕ) → list_all (is_raw_character k) body ≡ true → NoCloser (replicate n
+    35) body → first_passes is_hash z ≡ false → ends_raw k (replicate n 35) (body ++ z) ≡ ends_raw k (replicate n 35) z
 past_body k n [] z each none no_hash = refl
 past_body k n (c ∷ cs) z each none no_hash =
     let p = and_parts (is_raw_character k c) (list_all (is_raw_character k) cs) each in
@@ -224,3 +215,48 @@ raw_unquoted k t r rest n = (
   λ c. absurd
       (n c.rest (rest ∙ ap (after_run is_hash) c.text_is ∙ hashes_past c.hashes c.rest)),
 )
+
+-- ---- the content of a raw byte string
+
+-- The bytes are ASCII, up to a quote or a CR.
+inside_one : (c : ℕ) → is_ascii_other (record { first = 34; second = 13; third = 13; fourth = 13 }) c ≡ true
+    → is_inside ByteStr c ≡ true
+inside_one c h = go (nat_lt c 128) (c == 34) (c == 13) h
+  where
+    go : (l q r : Bool) → (l && not (q || r || r || r)) ≡ true → (not q && (l && not r)) ≡ true
+    go true false false h = refl
+    go true true r h = absurd (cc)
+    go true false true h = absurd (cc)
+    go false q r h = absurd (cc)
+
+pub inside_run : (m : Marks) (run : List ℕ) → m ≡ record { first = 34; second = 13; third = 13; fourth = 13 }
+    → list_all (is_ascii_other m) run ≡ true → list_all (is_inside ByteStr) run ≡ true
+inside_run m run e each = go run (ap (λ n. list_all (is_ascii_other n) run) (sym e) ∙ each)
+  where
+    go : (cs : List ℕ) → list_all (is_ascii_other (record { first = 34; second = 13; third = 13; fourth = 13 })) cs
+        ≡ true → list_all (is_inside ByteStr) cs ≡ true
+    go [] h = refl
+    go (c ∷ cs) h =
+        let b = and_parts (is_ascii_other (record { first = 34; second = 13; third = 13; fourth = 13 }) c)
+        (list_all (is_ascii_other (record { first = 34; second = 13; third = 13; fourth = 13 })) cs) h in
+        and_from (is_inside ByteStr c) (list_all (is_inside ByteStr) cs) (inside_one c b.0) (go cs b.1)
+
+-- ---- hashes that no quote follows
+
+-- If a text is hashes and a quote, and also fewer hashes and another text, this other text begins with a hash.
+more_hashes : (m n : ℕ) (a b : List ℕ) → replicate n 35 ++ (34 ∷ a) ≡ replicate m 35 ++ b
+    → first_passes (λ c. c == 34) b ≡ false → (m < n) × (first_passes is_hash b ≡ true)
+more_hashes zero zero a b e q = absurd (both_ways true (ap (first_passes (λ c. c == 34)) e ∙ q) refl)
+more_hashes zero (suc n) a b e q = (omega arith, sym (ap (first_passes is_hash) e))
+more_hashes (suc m) zero a b e q = absurd (both_ways true (ap (first_passes (λ c. c == 34)) e) refl)
+more_hashes (suc m) (suc n) a b e q =
+    let p = more_hashes m n a b (ap (drop 1) e) q in
+    (omega (arith, p.0), p.1)
+
+-- If no quote follows all of at most 255 hashes, none follows fewer hashes or as many.
+pub raw_unopened : (inside quote : List ℕ) (m : ℕ) → m ≤ 255 → inside ≡ replicate m 35 ++ quote
+    → (m < 255 → first_passes is_hash quote ≡ false) → first_passes (λ c. c == 34) quote ≡ false
+    → (n : ℕ) (opened : List ℕ) → n ≤ 255 → inside ≡ replicate n 35 ++ (34 ∷ opened) → ⊥
+raw_unopened inside quote m few e last q n opened little is =
+    let z = more_hashes m n opened quote (sym is ∙ e) q in
+    both_ways (first_passes is_hash quote) (last (omega (arith, z.0, little))) z.1

@@ -1,14 +1,7 @@
 -- The characters and escapes of a quoted literal up to its closing quote, and the suffix after it.
-use Rattle.rl_syntax.proofs.Common.{◌≡◌, ℕ, Bool, true, false, cond, ◌==◌, List, [], ◌∷◌, ◌++◌, length, Some, None, refl, sym, ap, subst, ◌∙◌, arith, append_assoc, append-nil, and_from, and_parts, both_ways, eqb-true, list_all, flat_map, IsTrue}
-use Rattle.rl_lenient.proofs.Names.{◌↔◌, Kind, Str, ByteStr, CStr, Byte, Char, first_passes, is_plain, is_single, is_string, StrictUnit, Itself, QuoteEscape, PlainEscape, AsciiEscape, ByteEscape, UnicodeEscape, LineBreak, strict_text, is_dropped_blank, is_strict_unit, IsStrictSuffix}
-use Rattle.rl_syntax.proofs.Basics.{apart}
-use Rattle.rl_syntax.specs.Strict.{BlanksEnd, HasUnits, strict_closer}
-use Rattle.rl_strict.specs.Mirrors.StrictAt.{ends_quoted, escape_rest, is_strict_suffix, unit_rest}
-use Rattle.rl_strict.specs.StrictShapes.{ClosesUnits}
-use Rattle.rl_lenient.proofs.StrictBackLemmas.{HasStrictUnits, plain_is_bare}
+use Rattle.rl_strict.proofs.Names.{◌≡◌, ℕ, Bool, true, false, ◌==◌, List, [], ◌∷◌, ◌++◌, length, Some, None, refl, sym, ap, subst, ◌∙◌, append_assoc, append-nil, and_from, and_parts, both_ways, eqb-true, list_all, flat_map, IsTrue, ◌↔◌, Kind, Str, ByteStr, CStr, Byte, Char, first_passes, is_plain, is_single, is_string, StrictUnit, Itself, QuoteEscape, PlainEscape, AsciiEscape, ByteEscape, UnicodeEscape, LineBreak, strict_text, is_dropped_blank, is_strict_unit, IsStrictSuffix, BlanksEnd, HasUnits, strict_closer, ends_quoted, is_strict_suffix, unit_rest, ClosesUnits, HasStrictUnits, plain_is_bare, blanks_cons, blanks_after, one_unit}
 use Rattle.rl_strict.proofs.StrictUnitLemmas.{MayEnd, StrictFront, unit_rest_sound, unit_rest_complete}
 use Rattle.rl_strict.proofs.StrictWordLemmas.{strict_suffix_complete, strict_suffix_sound}
-use Rattle.rl_lenient.proofs.StrictBytesLemmas.{blanks_cons}
 
 -- ---- the content of each kind of literal
 
@@ -55,12 +48,12 @@ quote_stops kind x h = absurd (cc)
 -- ---- the white space of an escaped line end
 
 -- If the first character of a text fails a test, so does that of its prefix.
-passes_front : (test : ℕ → Bool) (a b : List ℕ) → first_passes test (a ++ b) ≡ false → first_passes test a ≡ false
+pub passes_front : (test : ℕ → Bool) (a b : List ℕ) → first_passes test (a ++ b) ≡ false → first_passes test a ≡ false
 passes_front test [] b h = refl
 passes_front test (c ∷ cs) b h = h
 
 -- If the first character of each of two texts fails a test, so does that of the concatenated text.
-passes_seam : (test : ℕ → Bool) (a b : List ℕ) → first_passes test a ≡ false → first_passes test b ≡ false
+pub passes_seam : (test : ℕ → Bool) (a b : List ℕ) → first_passes test a ≡ false → first_passes test b ≡ false
     → first_passes test (a ++ b) ≡ false
 passes_seam test [] b h k = k
 passes_seam test (c ∷ cs) b h k = h
@@ -68,33 +61,13 @@ passes_seam test (c ∷ cs) b h k = h
 -- An escaped line end that ends before the whole text also ends before a part of the text.
 may_end_front : (u : StrictUnit) (a b : List ℕ) → MayEnd u (a ++ b) → MayEnd u a
 may_end_front (LineBreak blanks) a b m = passes_front is_dropped_blank a b m
-may_end_front (Itself c) a b m = tt
-may_end_front (QuoteEscape c) a b m = tt
-may_end_front (PlainEscape c) a b m = tt
-may_end_front (AsciiEscape high low) a b m = tt
-may_end_front (ByteEscape high low) a b m = tt
-may_end_front (UnicodeEscape digits) a b m = tt
+may_end_front other a b m = tt
 
 -- An escaped line end that ends before characters and escapes also ends before these and a quote.
 may_end_seam : (u : StrictUnit) (us : List StrictUnit) (b : List ℕ) → first_passes is_dropped_blank b ≡ false
     → BlanksEnd (u ∷ us) → MayEnd u (flat_map strict_text us ++ b)
 may_end_seam (LineBreak blanks) us b n m = passes_seam is_dropped_blank (flat_map strict_text us) b m.0 n
-may_end_seam (Itself c) us b n m = tt
-may_end_seam (QuoteEscape c) us b n m = tt
-may_end_seam (PlainEscape c) us b n m = tt
-may_end_seam (AsciiEscape high low) us b n m = tt
-may_end_seam (ByteEscape high low) us b n m = tt
-may_end_seam (UnicodeEscape digits) us b n m = tt
-
--- The white space of escaped line ends, after the first character or escape is removed.
-blanks_after : (u : StrictUnit) (us : List StrictUnit) → BlanksEnd (u ∷ us) → BlanksEnd us
-blanks_after (LineBreak blanks) us b = b.1
-blanks_after (Itself c) us b = b
-blanks_after (QuoteEscape c) us b = b
-blanks_after (PlainEscape c) us b = b
-blanks_after (AsciiEscape high low) us b = b
-blanks_after (ByteEscape high low) us b = b
-blanks_after (UnicodeEscape digits) us b = b
+may_end_seam other us b n m = tt
 
 -- ---- the closing quote and the suffix
 
@@ -181,35 +154,8 @@ units_step k t r s h e same = (
 abbrev pub is_bare : Kind → ℕ → Bool
 is_bare k c = is_strict_unit k (Itself c)
 
-bare_backslash : (k : Kind) → is_string k ≡ true → is_bare k 92 ≡ false
-bare_backslash Str h = refl
-bare_backslash ByteStr h = refl
-bare_backslash CStr h = refl
-bare_backslash kind h = absurd (cc)
-
-bare_unit : (k : Kind) (c : ℕ) (cs : List ℕ) → is_string k ≡ true → is_bare k c ≡ true → unit_rest k (c ∷ cs) ≡ Some cs
-unfolding unit_rest
-bare_unit k c cs s h =
-    ap (λ z. cond z (escape_rest k cs) (cond (is_bare k c) (Some cs) None))
-    (apart (is_bare k) c 92 h (bare_backslash k s))
-    ∙ ap (λ z. cond z (Some cs) None) h
-
--- The loop skips a sequence of unescaped characters at once.
-pub units_run : (k : Kind) (run rest s : List ℕ) → is_string k ≡ true → list_all (is_bare k) run ≡ true
-    → (ClosesUnits k (run ++ rest) ↔ ClosesUnits k s) → ClosesUnits k rest ↔ ClosesUnits k s
-units_run k [] rest s h each same = same
-units_run k (c ∷ cs) rest s h each same =
-    let b = and_parts (is_bare k c) (list_all (is_bare k) cs) each in
-    units_run k cs rest s h b.1 (units_step k (c ∷ (cs ++ rest)) (cs ++ rest) s h (bare_unit k c (cs ++ rest) h b.0)
-    same)
-
-pub units_past : (k : Kind) (t x s : List ℕ) (run : List ℕ) → is_string k ≡ true → t ≡ run ++ x
-    → list_all (is_bare k) run ≡ true → (ClosesUnits k t ↔ ClosesUnits k s) → ClosesUnits k x ↔ ClosesUnits k s
-units_past k t x s run h e each same = units_run k run x s h each
-    (subst (λ z. ClosesUnits k z ↔ ClosesUnits k s) e same)
-
 -- An unescaped character of a string by `syn`'s grammar is one by Rust's grammar.
-no_char : (k : Kind) → is_string k ≡ true → k ≡ Char → ⊥
+pub no_char : (k : Kind) → is_string k ≡ true → k ≡ Char → ⊥
 no_char k h e = both_ways (is_string k) (ap is_string e) h
 
 pub bare_run : (k : Kind) (run : List ℕ) → is_string k ≡ true → list_all (is_plain k) run ≡ true
@@ -218,11 +164,6 @@ bare_run k [] h each = refl
 bare_run k (c ∷ cs) h each =
     let b = and_parts (is_plain k c) (list_all (is_plain k) cs) each in
     and_from (is_bare k c) (list_all (is_bare k) cs) (sym (plain_is_bare k c (no_char k h)) ∙ b.0) (bare_run k cs h b.1)
-
-pub bare_stops : (k : Kind) (t : List ℕ) → is_string k ≡ true → first_passes (is_plain k) t ≡ false
-    → first_passes (is_bare k) t ≡ false
-bare_stops k [] h stops = refl
-bare_stops k (c ∷ cs) h stops = sym (plain_is_bare k c (no_char k h)) ∙ stops
 
 -- If the text begins with no character or escape, it begins with the literal's end.
 stuck_down : (k : Kind) (t x : List ℕ) (us : List StrictUnit) → is_string k ≡ true → unit_rest k t ≡ None
@@ -250,12 +191,6 @@ units_end k b t s h e same is = (
 )
 
 -- ---- one character or escape
-
--- The content is exactly one character or escape.
-one_unit : (us : List StrictUnit) → length us ≡ 1 → (u : StrictUnit) × (us ≡ u ∷ [])
-one_unit [] h = absurd (omega arith)
-one_unit (u ∷ []) h = (u, refl)
-one_unit (u ∷ w ∷ us) h = absurd (omega arith)
 
 -- The text after the one character or escape of a character or byte literal.
 one_after : (k : Kind) (t : List ℕ) (c : ClosesUnits k t) → is_single k ≡ true → unit_rest k t ≡ Some (39 ∷ c.suffix)

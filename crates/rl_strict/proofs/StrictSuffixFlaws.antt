@@ -1,23 +1,5 @@
 -- The position where the suffix of a quoted literal can't continue, and the ways to complete its beginning.
-use Rattle.rl_syntax.proofs.Common.{Option, Some, None, ◌≡◌, ℕ, ◌||◌, ◌&&◌, Bool, true, false, not, ◌==◌, cond, List, [], ◌∷◌, ◌++◌, refl, sym, ap, subst, ◌∙◌, inl, inr, arith, append-nil, and_from, and_parts, both_ways, cases_Bool, eqb-true, list_all, list_all-append, AllByRecursion, is_xid_continue, is_xid_start}
-use Rattle.rl_lenient.proofs.Names.{and_right, cond_both, after_run, first_passes, IsScalar, Kind}
-use Rattle.std.proofs.lemmas.Bool.{and_left}
-use Rattle.unicode_ident.proofs.IdentLemmas.{is_xid_start-ascii, is_xid_continue-ascii}
-use Rattle.rl_syntax.specs.Texts.{is_continue, is_start, is_white}
-use Rattle.rl_strict.specs.declared.flaws.FlawKind.{FlawKind}
-use Rattle.rl_strict.specs.declared.flaws.FlawKind.TheVariants.{BadSuffix, TextAfterQuote, ExtraHash, UnderscoreSuffix}
-use Rattle.rl_lenient.specs.declared.quoted_forms.QuotedForm.{QuotedForm}
-use Rattle.rl_strict.specs.Flaws.{StopsBefore}
-use Rattle.rl_strict.specs.StrictFlawKinds.{IsClosed, StrictQuotedFlaw, SuffixFlaw, form_quote, goes_on_with_suffix, is_raw_form, is_suffix_front, suffix_piece}
-use Rattle.rl_strict.specs.StrictShapes.{ClosesForm}
-use Rattle.rl_lenient.specs.Mirrors.NumberAt.{run}
-use Rattle.rl_lenient.specs.Mirrors.PlainAt.{is_some_text}
-use Rattle.rl_strict.specs.Mirrors.StrictAt.{is_strict_suffix}
-use Rattle.rl_strict.specs.Mirrors.StrictFlawAt.{begins_hash, suffix_rest}
-use Rattle.rl_strict.specs.Mirrors.UnitFlawAt.{FoundFlaw, found_flaw}
-use Rattle.rl_strict.specs.Mirrors.SuffixRead.{is_lone_underscore, suffix_end_read, suffix_read_at}
-use Rattle.rl_lenient.proofs.RunLemmas.{run_all, run_ends, run_join}
-use Rattle.rl_lenient.proofs.TestLemmas.{all_breaks}
+use Rattle.rl_strict.proofs.Names.{Option, Some, None, ◌≡◌, ℕ, ◌||◌, ◌&&◌, Bool, true, false, not, ◌==◌, cond, List, [], ◌∷◌, ◌++◌, refl, sym, ap, subst, ◌∙◌, inl, inr, arith, append-nil, and_from, and_parts, both_ways, cases_Bool, eqb-true, list_all, list_all-append, AllByRecursion, is_xid_continue, is_xid_start, and_right, cond_both, after_run, first_passes, IsScalar, Kind, and_left, is_xid_start-ascii, is_xid_continue-ascii, is_continue, is_start, is_white, FlawKind, BadSuffix, TextAfterQuote, ExtraHash, UnderscoreSuffix, QuotedForm, StopsBefore, IsClosed, StrictQuotedFlaw, SuffixFlaw, form_quote, goes_on_with_suffix, is_raw_form, is_suffix_front, suffix_piece, ClosesForm, run, is_some_text, is_strict_suffix, begins_hash, suffix_rest, FoundFlaw, found_flaw, is_lone_underscore, suffix_end_read, suffix_read_at, run_all, run_ends, run_join, all_breaks}
 use Rattle.rl_strict.proofs.Stops.{Flawed, Stops, lifted, stops_before}
 
 -- ---- the first characters of a suffix
@@ -239,9 +221,8 @@ FlawInside form kind k inside piece rest =
 -- A flaw with equal kind, piece and rest is the flaw of the text too.
 pub same_flaw : (form : QuotedForm) (kind : Kind) (k l : FlawKind) (inside p q r z : List ℕ) → k ≡ l → q ≡ p → z ≡ r
     → FlawInside form kind l inside p r → FlawInside form kind k inside q z
-same_flaw form kind k l inside p q r z is piece place h = subst (λ y. FlawInside form kind y inside q z) (sym is)
-    (subst (λ y. FlawInside form kind l inside y z) (sym piece)
-    (subst (FlawInside form kind l inside p) (sym place) h))
+same_flaw form kind k l inside p q r z is piece place h = subst (λ y. FlawInside form kind y inside q z) (sym is) (subst
+    (λ y. FlawInside form kind l inside y z) (sym piece) (subst (FlawInside form kind l inside p) (sym place) h))
 
 -- The text before the suffix closes the literal, whatever suffix follows.
 pub record Closer (form : QuotedForm) (kind : Kind) : Type 0 where
@@ -250,10 +231,9 @@ pub record Closer (form : QuotedForm) (kind : Kind) : Type 0 where
   pub bad : (x : List ℕ) → is_strict_suffix x ≡ false → ClosesForm form kind (before ++ x) → ⊥
 
 -- The flaw of the literal is that of its suffix.
-pub closed_flaw : (form : QuotedForm) (kind : Kind) (k : FlawKind) (inside closing suffix piece rest : List ℕ)
-    (c : Closer form kind) → inside ≡ c.before ++ suffix → IsClosed form kind inside closing suffix
-    → SuffixSpoiled form k suffix rest → piece ≡ suffix_piece k closing suffix
-    → FlawInside form kind k inside piece rest
+pub closed_flaw : (form : QuotedForm) (kind : Kind) (k : FlawKind) (inside closing suffix piece rest : List ℕ) (c :
+    Closer form kind) → inside ≡ c.before ++ suffix → IsClosed form kind inside closing suffix → SuffixSpoiled form k
+    suffix rest → piece ≡ suffix_piece k closing suffix → FlawInside form kind k inside piece rest
 closed_flaw form kind k inside closing suffix piece rest c text closed f spoiled =
     let s = f.stops in
     record {

@@ -1,24 +1,9 @@
 -- A text that begins neither as a number nor as a quoted literal is a literal token only if it is `true` or `false`. A position
 -- in the text after an opening delimiter is a position in the whole text.
-use Rattle.rl_syntax.proofs.Common.{◌≡◌, ◌≢◌, ℕ, Bool, true, false, ◌==◌, List, [], ◌∷◌, ◌++◌, None, refl, sym, ap, subst, ◌∙◌, inl, inr, both_ways, or_right, is_ascii_digit, IsTrue}
-use Rattle.rl_lenient.proofs.Names.{Reads, Kind, Str, ByteStr, CStr, Byte, Char, Int, Float, BoolKind, first_passes, HasReading, truth_text}
-use Rattle.rl_syntax.specs.Strict.{Strict}
+use Rattle.rl_strict.proofs.Names.{◌≡◌, ◌≢◌, ℕ, Bool, true, false, ◌==◌, List, [], ◌∷◌, ◌++◌, None, refl, sym, ap, subst, ◌∙◌, inl, inr, both_ways, or_right, is_ascii_digit, IsTrue, Reads, Kind, Str, ByteStr, CStr, Byte, Char, Int, Float, BoolKind, first_passes, HasReading, truth_text, Strict, number_front, strict_float, strict_int, exponent_text, fraction_text, passes_more, FlawKind, QuotedForm, StopsBefore, form_opener, HasStrictQuotedFlaw, StrictQuotedFlaw, ClosesForm, IsToken, is_number_front, found_opener, opener_at, front_complete, front_sound, front_not_quoted}
 use Rattle.rl_syntax.proofs.Agreeing.{strict_reads}
-use Rattle.rl_syntax.proofs.StrictNumbers.{digit_front as number_front, strict_float, strict_int}
-use Rattle.rl_syntax.specs.Numbers.{exponent_text, fraction_text}
-use Rattle.rl_lenient.proofs.TestLemmas.{passes_more}
-use Rattle.rl_strict.specs.declared.flaws.FlawKind.{FlawKind}
-use Rattle.rl_lenient.specs.declared.quoted_forms.QuotedForm.{QuotedForm}
-use Rattle.rl_strict.specs.Flaws.{StopsBefore}
 use Rattle.rl_strict.proofs.Stops.{raised}
-use Rattle.rl_lenient.specs.Forms.{form_opener}
-use Rattle.rl_strict.specs.StrictFlawKinds.{HasStrictQuotedFlaw, StrictQuotedFlaw}
-use Rattle.rl_strict.specs.StrictShapes.{ClosesForm, IsToken}
-use Rattle.rl_lenient.specs.WholeShapes.{is_number_front}
-use Rattle.rl_lenient.specs.Mirrors.OpenerAt.{found_opener, opener_at}
-use Rattle.rl_lenient.proofs.FormLemmas.{front_complete, front_sound}
 use Rattle.rl_strict.proofs.StrictLemmas.{IsStrictNumber, Opened, close_token, seen, told_token}
-use Rattle.rl_lenient.proofs.ReadingLemmas.{front_not_quoted}
 
 -- ---- numbers begin with a digit
 
@@ -74,8 +59,7 @@ no_token t opener digit truth c =
 pub token_reads : (t : List ℕ) → first_passes is_ascii_digit t ≡ false → IsToken t → HasReading t
 token_reads t n c = (c.kind, (c.contents, c.suffix, go c.kind c.strict))
   where
-    go : (k : Kind) → Strict t k c.contents c.suffix
-        → Reads t k c.contents c.suffix
+    go : (k : Kind) → Strict t k c.contents c.suffix → Reads t k c.contents c.suffix
     go Str s = strict_reads t Str c.contents c.suffix s tt
     go ByteStr s = strict_reads t ByteStr c.contents c.suffix s tt
     go CStr s = strict_reads t CStr c.contents c.suffix s tt

@@ -1,25 +1,13 @@
 -- If a text begins with no valid character or escape of Rust's grammar, it can't continue at the position that the code finds,
 -- and has the flaw of the code's kind.
-use Rattle.rl_syntax.proofs.Common.{◌≡◌, ◌≢◌, ℕ, ◌||◌, ◌&&◌, Bool, true, false, not, ◌==◌, cond, ltb, List, [], ◌∷◌, ◌++◌, Option, Some, None, refl, sym, ap, subst, ◌∙◌, inl, inr, and_parts, both_ways, cases_Bool, eqb-true}
-use Rattle.rl_lenient.proofs.Names.{cond_both, Kind, Str, ByteStr, CStr, Byte, Char, first_passes, Letter, Named, LowerN, LowerR, LowerT, Backslash, Apostrophe, Quote, Zero, letter_text, is_string, is_line_end, Itself, is_dropped_blank, is_strict_unit, after_run}
+use Rattle.rl_strict.proofs.Names.{◌≡◌, ◌≢◌, ℕ, ◌||◌, ◌&&◌, Bool, true, false, not, ◌==◌, cond, ltb, List, [], ◌∷◌, ◌++◌, Option, Some, None, refl, sym, ap, subst, ◌∙◌, inl, inr, and_parts, both_ways, cases_Bool, eqb-true, cond_both, Kind, Str, ByteStr, CStr, Byte, Char, first_passes, Letter, Named, LowerN, LowerR, LowerT, Backslash, Apostrophe, Quote, letter_text, is_string, is_line_end, Itself, is_dropped_blank, is_strict_unit, after_run, and_left, FlawKind, UnknownEscape, Nul, NotAscii, MustEscape, NoCharacter, CarriageReturn, UnitFlaw, StrictUnitFlaw, escape_at, unit_at, escape_rest, unit_rest, FoundFlaw, found_flaw, character_flaw_of, escape_flaw_at, strict_escape_flaw_at, strict_unit_flaw_at, plain_is_bare, holds_more, unit_complete, goes_on, IsCompletable}
+use Rattle.rl_lenient.proofs.Names.{Zero}
 use Rattle.std.proofs.Common.{option_map}
-use Rattle.std.proofs.lemmas.Bool.{and_left}
-use Rattle.rl_strict.specs.declared.flaws.FlawKind.{FlawKind}
-use Rattle.rl_strict.specs.declared.flaws.FlawKind.TheVariants.{UnknownEscape, Nul, NotAscii, MustEscape, NoCharacter, CarriageReturn}
-use Rattle.rl_strict.specs.FlawKinds.{UnitFlaw}
-use Rattle.rl_strict.specs.StrictFlawKinds.{StrictUnitFlaw}
-use Rattle.rl_lenient.specs.Mirrors.UnitAt.{escape_at, unit_at}
-use Rattle.rl_strict.specs.Mirrors.StrictAt.{escape_rest, unit_rest}
-use Rattle.rl_strict.specs.Mirrors.UnitFlawAt.{FoundFlaw, found_flaw, character_flaw_of, escape_flaw_at}
-use Rattle.rl_strict.specs.Mirrors.StrictFlawAt.{strict_escape_flaw_at, strict_unit_flaw_at}
 use Rattle.rl_strict.proofs.EscapeLemmas.{Closes, Fails, IsQuotedKind, by_escape}
-use Rattle.rl_lenient.proofs.StrictBackLemmas.{plain_is_bare}
 use Rattle.rl_strict.proofs.StrictUnitLemmas.{itself_past}
 use Rattle.rl_strict.proofs.UnitFlawLemmas.{HasUnitFlaw, IsOpen, byte_has, escape_spoils, left_false, string_has}
-use Rattle.rl_lenient.proofs.UnitLemmas.{holds_more, unit_complete}
-use Rattle.rl_lenient.proofs.TestLemmas.{goes_on}
-use Rattle.rl_strict.specs.Flaws.{IsCompletable}
 use Rattle.rl_strict.proofs.Stops.{Stops}
+use Rattle.rl_strict.proofs.StrictRowLemmas.{no_char}
 
 -- ---- the character or escape at the beginning
 
@@ -99,9 +87,8 @@ shared k f t rest u = u
 -- ---- an escape
 
 -- A text after a backslash that begins with no line end has one flaw in both grammars.
-escape_flaw : (k : Kind) (t : List ℕ) (flaw : FoundFlaw) → first_passes (λ c. c == 10) t ≡ false
-    → first_passes (λ c. c == 13) t ≡ false → HasUnitFlaw k (escape_at k) (92 ∷ []) t flaw
-    → HasStrictUnitFlaw k (92 ∷ t) flaw
+escape_flaw : (k : Kind) (t : List ℕ) (flaw : FoundFlaw) → first_passes (λ c. c == 10) t ≡ false → first_passes (λ c. c
+    == 13) t ≡ false → HasUnitFlaw k (escape_at k) (92 ∷ []) t flaw → HasStrictUnitFlaw k (92 ∷ t) flaw
 escape_flaw k t flaw n m h = record {
   stops = record {
     front = 92 ∷ s.front;
@@ -131,21 +118,11 @@ escape_flaw k t flaw n m h = record {
 -- The letter of an escape isn't a line feed.
 feed_no_letter : (l : Letter) → 10 ≢ letter_text l
 feed_no_letter LowerN e = absurd (cc)
-feed_no_letter LowerR e = absurd (cc)
-feed_no_letter LowerT e = absurd (cc)
-feed_no_letter Backslash e = absurd (cc)
-feed_no_letter Apostrophe e = absurd (cc)
-feed_no_letter Quote e = absurd (cc)
-feed_no_letter Zero e = absurd (cc)
+feed_no_letter other e = absurd (cc)
 
 return_no_letter : (l : Letter) → 13 ≢ letter_text l
 return_no_letter LowerN e = absurd (cc)
-return_no_letter LowerR e = absurd (cc)
-return_no_letter LowerT e = absurd (cc)
-return_no_letter Backslash e = absurd (cc)
-return_no_letter Apostrophe e = absurd (cc)
-return_no_letter Quote e = absurd (cc)
-return_no_letter Zero e = absurd (cc)
+return_no_letter other e = absurd (cc)
 
 -- The flaw directly after the backslash.
 after_backslash : (k : Kind) (d : ℕ) (ds : List ℕ) (flaw : FlawKind) → ((e : List ℕ) → unit_rest k (92 ∷ d ∷ e) ≡ None)
@@ -237,8 +214,7 @@ strict_escape_spoils : (k : Kind) (t : List ℕ) → unit_rest k (92 ∷ t) ≡ 
 unfolding strict_escape_flaw_at escape_flaw_at
 strict_escape_spoils k [] none = record { stops = record { front = 92 ∷ []; text_is = refl; begins = backslash_completes k; stuck = λ c cs e h. absurd (cc) }; has = refl }
 strict_escape_spoils k (d ∷ ds) none = cond_both (d == 13 && is_string k) _ _ (HasStrictUnitFlaw k (92 ∷ d ∷ ds))
-    returns
-    (other_escape k d ds none)
+    returns (other_escape k d ds none)
   where
     returns : (d == 13 && is_string k) ≡ true → HasStrictUnitFlaw k (92 ∷ d ∷ ds) (found_flaw CarriageReturn (d ∷ ds))
     returns e =
@@ -274,9 +250,8 @@ char_has c cs p b = zero (c == 0) refl
     low true e q = (refl, refl, among (c == 10) (c == 13) (c == 9) (rw (q, b) at p))
     low false e q = absurd (both_ways (ltb c 128) e (few (c == 10) (c == 13) (c == 9) refl refl refl (rw (q, b) at p)))
 
-    apostrophe : (a : Bool) → (c == 39) ≡ a → StrictUnitFlaw Char
-        (cond a NoCharacter (cond (ltb c 128) MustEscape NotAscii))
-        (c ∷ cs) (c ∷ cs)
+    apostrophe : (a : Bool) → (c == 39) ≡ a → StrictUnitFlaw Char (cond a NoCharacter (cond (ltb c 128) MustEscape
+        NotAscii)) (c ∷ cs) (c ∷ cs)
     apostrophe true e = (refl, refl, e)
     apostrophe false e = low (ltb c 128) refl e
 
@@ -286,9 +261,6 @@ char_has c cs p b = zero (c == 0) refl
         ∙ p in absurd (cc)
     zero false e = apostrophe (c == 39) refl
 
-no_char : (k : Kind) → is_string k ≡ true → k ≡ Char → ⊥
-no_char k h e = both_ways (is_string k) (ap is_string e) h
-
 alone_has : (k : Kind) (c : ℕ) (cs : List ℕ) → IsQuotedKind k → IsOpen k (c ∷ cs) → (c == 92) ≡ false
     → (c == 13 && is_string k) ≡ false → is_strict_unit k (Itself c) ≡ false
     → StrictUnitFlaw k (character_flaw_of c) (c ∷ cs) (c ∷ cs)
@@ -296,8 +268,7 @@ alone_has k c cs (inl s) still a r bare =
     let return : (c == 13) ≡ false = left_false (c == 13) (is_string k) s r in
     shared k (character_flaw_of c) (c ∷ cs) (c ∷ cs) (string_has k c cs s
     (plain_is_bare k c (no_char k s) ∙ bare) (still s) a return)
-alone_has Byte c cs (inr s) still a r bare = shared Byte (character_flaw_of c) (c ∷ cs) (c ∷ cs)
-    (byte_has c cs bare a)
+alone_has Byte c cs (inr s) still a r bare = shared Byte (character_flaw_of c) (c ∷ cs) (c ∷ cs) (byte_has c cs bare a)
 alone_has Char c cs (inr s) still a r bare = char_has c cs bare a
 alone_has kind c cs (inr s) still a r bare = absurd (cc)
 

@@ -1,19 +1,7 @@
 -- A text begins with a character or escape of Rust's grammar if and only if `unit_rest` returns the text after it.
-use Rattle.rl_syntax.proofs.Common.{◌≡◌, ℕ, ◌||◌, Bool, true, false, not, ◌==◌, cond, List, [], ◌∷◌, ◌++◌, Option, Some, None, refl, sym, ap, subst, ◌∙◌, inl, inr, and_parts, both_ways, cases_Bool, eqb-true, or_from, list_all}
-use Rattle.rl_lenient.proofs.Names.{Kind, Str, ByteStr, CStr, Byte, Char, Int, Float, BoolKind, first_passes, QuotedUnit, Plain, CrLf, Named, Hex, Unicode, Continuation, unit_text, is_line_end, is_plain, is_string, IsUnit, StrictUnit, Itself, QuoteEscape, PlainEscape, AsciiEscape, ByteEscape, UnicodeEscape, LineBreak, strict_text, is_dropped_blank, is_strict_unit, after_run}
+use Rattle.rl_strict.proofs.Names.{◌≡◌, ℕ, ◌||◌, Bool, true, false, not, ◌==◌, cond, List, [], ◌∷◌, ◌++◌, Option, Some, None, refl, sym, ap, subst, ◌∙◌, inl, inr, and_parts, both_ways, cases_Bool, eqb-true, or_from, list_all, Kind, Str, ByteStr, CStr, Byte, Char, Int, Float, BoolKind, first_passes, QuotedUnit, Plain, CrLf, Named, Hex, Unicode, Continuation, unit_text, is_line_end, is_plain, is_string, IsUnit, StrictUnit, Itself, QuoteEscape, PlainEscape, AsciiEscape, ByteEscape, UnicodeEscape, LineBreak, strict_text, is_dropped_blank, is_strict_unit, after_run, is_plain_letter, apart, MayFollow, stands, run, unit_at, escape_rest, unit_rest, chosen_some, run_all, run_ends, run_join, run_past, Back, HasStrictUnits, named_escape, hex_escape, unicode_escape, unit_complete, unit_sound, backslash_not_plain, no_break_ends, line_allowed}
 use Rattle.std.proofs.Common.{option_map}
-use Rattle.rl_syntax.specs.Strict.{is_plain_letter}
-use Rattle.rl_syntax.proofs.Basics.{apart}
-use Rattle.rl_syntax.proofs.StrictQuoted.{MayFollow, stands}
 pub use Rattle.rl_lenient.specs.StrictUnits.{BreakEnds as MayEnd}
-use Rattle.rl_lenient.specs.Mirrors.NumberAt.{run}
-use Rattle.rl_lenient.specs.Mirrors.UnitAt.{unit_at}
-use Rattle.rl_strict.specs.Mirrors.StrictAt.{escape_rest, unit_rest}
-use Rattle.rl_lenient.proofs.IntegerLemmas.{chosen_some}
-use Rattle.rl_lenient.proofs.RunLemmas.{run_all, run_ends, run_join, run_past}
-use Rattle.rl_lenient.proofs.StrictBackLemmas.{Back, HasStrictUnits, named_escape, hex_escape, unicode_escape}
-use Rattle.rl_lenient.proofs.UnitLemmas.{unit_complete, unit_sound, backslash_not_plain}
-use Rattle.rl_lenient.proofs.StrictBytesLemmas.{no_break_ends, line_allowed}
 
 -- The text begins with a character or escape of the kind, and the rest follows it.
 pub record StrictFront (k : Kind) (t r : List ℕ) : Type 0 where
@@ -112,13 +100,7 @@ unit_rest_sound k (c ∷ cs) r q h =
 -- A literal with escapes can't contain an unescaped backslash.
 bare_backslash : (k : Kind) → is_strict_unit k (Itself 92) ≡ false
 bare_backslash Str = refl
-bare_backslash ByteStr = refl
-bare_backslash CStr = refl
-bare_backslash Byte = refl
-bare_backslash Char = refl
-bare_backslash Int = refl
-bare_backslash Float = refl
-bare_backslash BoolKind = refl
+bare_backslash other = refl
 
 -- An unescaped character is skipped.
 pub itself_past : (k : Kind) (c : ℕ) (r : List ℕ) → is_strict_unit k (Itself c) ≡ true → unit_rest k (c ∷ r) ≡ Some r

@@ -1,8 +1,5 @@
 -- Sequences of characters and escapes at the beginning of a text.
-use Rattle.rl_syntax.proofs.Common.{◌≡◌, ℕ, Bool, true, false, List, [], ◌∷◌, ◌++◌, refl, sym, ap, subst, ◌∙◌, append-nil, append_assoc, and_from, and_parts, flat_map, list_all, list_all-append}
-use Rattle.rl_lenient.proofs.Names.{flat_map-append, ◌↔◌, Kind, first_passes, is_string, StrictUnit, Itself, QuoteEscape, PlainEscape, AsciiEscape, ByteEscape, UnicodeEscape, LineBreak, strict_text, is_dropped_blank, is_strict_unit}
-use Rattle.rl_lenient.specs.StrictUnits.{BeginsStrictUnits, BreakEnds, BreaksEnd}
-use Rattle.rl_strict.specs.StrictShapes.{ClosesUnits}
+use Rattle.rl_strict.proofs.Names.{◌≡◌, ℕ, Bool, true, false, List, [], ◌∷◌, ◌++◌, refl, sym, ap, subst, ◌∙◌, append-nil, append_assoc, and_from, and_parts, flat_map, list_all, list_all-append, flat_map-append, ◌↔◌, Kind, first_passes, is_string, StrictUnit, Itself, QuoteEscape, PlainEscape, AsciiEscape, ByteEscape, UnicodeEscape, LineBreak, strict_text, is_dropped_blank, is_strict_unit, BeginsStrictUnits, BreakEnds, BreaksEnd, ClosesUnits}
 use Rattle.rl_strict.proofs.StrictRowLemmas.{units_step}
 use Rattle.rl_strict.proofs.StrictUnitLemmas.{StrictFront, unit_rest_complete}
 
@@ -17,12 +14,7 @@ seam test (x ∷ xs) a b f h = h
 break_to : (u : StrictUnit) (xs a b : List ℕ) → (first_passes is_dropped_blank a ≡ false
     → first_passes is_dropped_blank b ≡ false) → BreakEnds u (xs ++ a) → BreakEnds u (xs ++ b)
 break_to (LineBreak blanks) xs a b f h = seam is_dropped_blank xs a b f h
-break_to (Itself c) xs a b f h = tt
-break_to (QuoteEscape c) xs a b f h = tt
-break_to (PlainEscape c) xs a b f h = tt
-break_to (AsciiEscape high low) xs a b f h = tt
-break_to (ByteEscape high low) xs a b f h = tt
-break_to (UnicodeEscape digits) xs a b f h = tt
+break_to other xs a b f h = tt
 
 pub breaks_to : (us : List StrictUnit) (a b : List ℕ) → (first_passes is_dropped_blank a ≡ false
     → first_passes is_dropped_blank b ≡ false) → BreaksEnd us a → BreaksEnd us b
@@ -80,8 +72,7 @@ itself_row k (x ∷ xs) c h =
 
 pub row_run : (k : Kind) (a b c : List ℕ) (run : List ℕ) → BeginsStrictUnits k a b → b ≡ run ++ c
     → list_all (λ z. is_strict_unit k (Itself z)) run ≡ true → BeginsStrictUnits k a c
-row_run k a b c run r e h = row_join k a b c r
-    (subst (λ z. BeginsStrictUnits k z c) (sym e) (itself_row k run c h))
+row_run k a b c run r e h = row_join k a b c r (subst (λ z. BeginsStrictUnits k z c) (sym e) (itself_row k run c h))
 
 -- ---- the text after a sequence ends the string if and only if the whole text does
 

@@ -1,24 +1,10 @@
 -- The position where a text that begins neither with a digit nor as a quoted literal can't continue as a literal token.
-use Rattle.rl_syntax.proofs.Common.{◌≡◌, ◌≢◌, ℕ, Bool, true, false, ◌==◌, List, [], ◌∷◌, ◌++◌, None, refl, sym, ap, subst, ◌∙◌, inl, inr, both_ways, eqb-true, or_from, append_cancel_right, is_ascii_digit, AllByRecursion}
-use Rattle.rl_lenient.proofs.Names.{IsScalar, ByteStr, CStr, first_passes, truth_text}
-use Rattle.rl_strict.specs.declared.flaws.FlawKind.{FlawKind}
-use Rattle.rl_strict.specs.declared.flaws.FlawKind.TheVariants.{Empty, NotALiteral, UnexpectedEnd, Minus}
-use Rattle.rl_lenient.specs.declared.quoted_forms.QuotedForm.TheVariants.{Cooked as CookedForm}
-use Rattle.rl_strict.specs.Flaws.{IsCompletable, HasKind}
-use Rattle.rl_strict.specs.StrictNumberFlaws.{IsStrictWordFlaw, BeginsWord, IsWordFlaw}
-use Rattle.rl_strict.specs.StrictShapes.{IsToken}
-use Rattle.rl_lenient.specs.WholeShapes.{is_number_front}
-use Rattle.rl_lenient.specs.Mirrors.OpenerAt.{opener_at}
-use Rattle.rl_strict.specs.Mirrors.StrictAt.{is_strict_suffix}
-use Rattle.rl_strict.specs.Mirrors.UnitFlawAt.{FoundFlaw}
-use Rattle.rl_strict.specs.Mirrors.WordFlawAt.{word_flaw_at}
-use Rattle.rl_lenient.proofs.ReadingLemmas.{front_not_quoted}
+use Rattle.rl_strict.proofs.Names.{◌≡◌, ◌≢◌, ℕ, Bool, true, false, ◌==◌, List, [], ◌∷◌, ◌++◌, None, refl, sym, ap, subst, ◌∙◌, inl, inr, both_ways, eqb-true, or_from, append_cancel_right, is_ascii_digit, AllByRecursion, IsScalar, ByteStr, CStr, first_passes, truth_text, FlawKind, Empty, NotALiteral, UnexpectedEnd, Minus, CookedForm, IsCompletable, HasKind, IsStrictWordFlaw, BeginsWord, IsWordFlaw, IsToken, is_number_front, opener_at, is_strict_suffix, FoundFlaw, word_flaw_at, front_not_quoted, goes_on}
 use Rattle.rl_strict.proofs.StrictCookedFlaws.{quote_closes}
 use Rattle.rl_strict.proofs.Stops.{Flawed}
 use Rattle.rl_strict.proofs.StrictLemmas.{close_token, truth_token}
 use Rattle.rl_strict.proofs.StrictRowLemmas.{quote_stops}
 use Rattle.rl_strict.proofs.StrictTokens.{no_token, token_reads}
-use Rattle.rl_lenient.proofs.TestLemmas.{goes_on}
 use Rattle.rl_strict.proofs.WordFlawLemmas.{truth_characters, word_place}
 
 -- A text can't continue there, and has this flaw.
@@ -83,9 +69,8 @@ no_minus : (t : List ℕ) → first_passes is_ascii_digit t ≡ false → first_
 no_minus [] d m = refl
 no_minus (c ∷ cs) d m = or_from (c == 45) (is_ascii_digit c) m d
 
-pub strict_word : (t : List ℕ) (flaw : FoundFlaw) → first_passes is_ascii_digit t ≡ false
-    → first_passes (λ c. c == 45) t ≡ false → opener_at t ≡ None → flaw ≡ word_flaw_at t
-    → IsStrictFlaw IsStrictWordFlaw t flaw
+pub strict_word : (t : List ℕ) (flaw : FoundFlaw) → first_passes is_ascii_digit t ≡ false → first_passes (λ c. c == 45)
+    t ≡ false → opener_at t ≡ None → flaw ≡ word_flaw_at t → IsStrictFlaw IsStrictWordFlaw t flaw
 strict_word t flaw d m none same =
     let f = word_place t flaw (no_minus t d m) none same in
     let s = f.stops in

@@ -1,10 +1,5 @@
 -- The suffixes of literals in Rust's grammar are the texts that pass the code's tests.
-use Rattle.rl_syntax.proofs.Common.{◌≡◌, ◌≢◌, ℕ, ◌||◌, ◌&&◌, Bool, true, not, ◌==◌, cond, List, [], ◌∷◌, refl, ap, subst, sym, ◌∙◌, inl, inr, and_from, and_parts, both_ways, cases_Bool, eqb-true, not-true, not_from_false, list_all, is_xid_start, is_xid_continue}
-use Rattle.rl_lenient.proofs.Names.{is_underscore, first_passes, IsSuffix, IsStrictSuffix}
-use Rattle.rl_syntax.specs.Texts.{IsWord, is_white, is_continue, is_start}
-use Rattle.rl_syntax.specs.Strict.{IsNumberSuffix}
-use Rattle.rl_strict.specs.Mirrors.StrictAt.{is_number_suffix, is_strict_suffix}
-use Rattle.rl_lenient.specs.Mirrors.PlainAt.{is_some_text}
+use Rattle.rl_strict.proofs.Names.{◌≡◌, ◌≢◌, ℕ, ◌||◌, ◌&&◌, Bool, true, not, ◌==◌, cond, List, [], ◌∷◌, refl, ap, subst, sym, ◌∙◌, inl, inr, and_from, and_parts, both_ways, cases_Bool, eqb-true, not-true, not_from_false, list_all, is_xid_start, is_xid_continue, is_underscore, first_passes, IsStrictSuffix, IsWord, is_white, is_continue, is_start, IsNumberSuffix, is_number_suffix, is_strict_suffix, is_some_text}
 
 -- Characters that pass each of two tests pass both tests at once.
 pub all_both : (f g : ℕ → Bool) (cs : List ℕ) → list_all f cs ≡ true → list_all g cs ≡ true
@@ -95,8 +90,3 @@ pub number_suffix_sound : (x : List ℕ) → is_number_suffix x ≡ true → IsN
 number_suffix_sound x h =
     let p = and_parts (not (first_passes is_underscore x)) (is_strict_suffix x) h in
     (strict_suffix_sound x p.1, not-true (first_passes is_underscore x) p.0)
-
--- A number's suffix in Rust's grammar is one in `syn`'s grammar.
-pub lenient_suffix : (x : List ℕ) → IsNumberSuffix x → IsSuffix x
-lenient_suffix x (inl e, u) = (inl e, u)
-lenient_suffix x (inr w, u) = (inr w.identifier, u)

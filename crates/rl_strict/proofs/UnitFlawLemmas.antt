@@ -1,20 +1,11 @@
 -- If a text begins with no valid character or escape of a quoted literal, it can't continue at the position that the code
 -- finds, and has the flaw of the code's kind.
-use Rattle.rl_syntax.proofs.Common.{◌≡◌, ◌≢◌, ℕ, suc, ◌+◌, ◌*◌, ◌<◌, ◌≤◌, ◌||◌, ◌&&◌, Bool, true, false, not, cond, eqb, ltb, List, [], ◌∷◌, ◌++◌, length, Option, Some, None, refl, sym, ap, subst, ◌∙◌, inl, inr, arith, append_assoc, option_and_then, list_all, digit_value, scalar, and_from, and_parts, both_ways, cases_Bool, eqb-true, ltb-true, ltb-false, lt-ltb, not-true, not_from_false, list_all-append}
-use Rattle.rl_lenient.proofs.Names.{pow-suc, cond_both, Kind, Str, ByteStr, CStr, Byte, first_passes, is_underscore, Letter, Named, LowerN, LowerR, LowerT, Backslash, Apostrophe, Quote, Zero, letter_text, letter_value, hex_value, content_of, place_value, without_underscores, is_hex_digit, holds_characters, is_string, is_plain, is_line_end, allows_code, may_be_hex, has_unicode}
+use Rattle.rl_strict.proofs.Names.{◌≡◌, ◌≢◌, ℕ, suc, ◌+◌, ◌*◌, ◌<◌, ◌≤◌, ◌||◌, ◌&&◌, Bool, true, false, not, cond, eqb, ltb, List, [], ◌∷◌, ◌++◌, length, Option, Some, None, refl, sym, ap, subst, ◌∙◌, inl, inr, arith, append_assoc, option_and_then, list_all, digit_value, scalar, and_from, and_parts, both_ways, cases_Bool, eqb-true, ltb-true, ltb-false, lt-ltb, not-true, not_from_false, list_all-append, pow-suc, cond_both, Kind, Str, ByteStr, CStr, Byte, first_passes, is_underscore, Letter, Named, LowerN, LowerR, LowerT, Backslash, Apostrophe, Quote, letter_text, letter_value, hex_value, content_of, place_value, without_underscores, is_hex_digit, holds_characters, is_string, is_plain, is_line_end, allows_code, may_be_hex, has_unicode, apart, FlawKind, Unclosed, UnknownEscape, NoUnicode, NoHexDigit, NoBrace, EmptyBraces, TooManyDigits, HexEscapeOutOfRange, UnicodeEscapeOutOfRange, Surrogate, Nul, NotAscii, MustEscape, NoCharacter, IsBraced, digit_count, number_of, FirstDigit, SecondDigit, AfterBrace, AfterDigits, IsNoCode, HasNoCode, AtBrace, AtSixth, AsItIs, ByLetter, ByDigits, ByNumber, UnitFlaw, found, number_if, hex_at, unicode_at, after_blanks, named_at, escape_at, FoundFlaw, found_flaw, low_digit_flaw_at, hex_flaw_at, is_code, code_flaw_of, first_digit_flaw_at, unicode_flaw_at, escape_flaw_at, character_flaw_of, holds_more, two_digits, unit_complete, digit_apart, passes_more}
+use Rattle.rl_lenient.proofs.Names.{Zero}
 use Rattle.std.proofs.Common.{length-append}
-use Rattle.rl_syntax.proofs.Basics.{apart}
-use Rattle.rl_strict.specs.declared.flaws.FlawKind.{FlawKind}
-use Rattle.rl_strict.specs.declared.flaws.FlawKind.TheVariants.{Unclosed, UnknownEscape, NoUnicode, NoHexDigit, NoBrace, EmptyBraces, TooManyDigits, HexEscapeOutOfRange, UnicodeEscapeOutOfRange, Surrogate, Nul, NotAscii, MustEscape, NoCharacter}
-use Rattle.rl_strict.specs.FlawKinds.{IsBraced, digit_count, number_of, FirstDigit, SecondDigit, AfterBrace, AfterDigits, IsNoCode, HasNoCode, AtBrace, AtSixth, AsItIs, ByLetter, ByDigits, ByNumber, UnitFlaw}
-use Rattle.rl_lenient.specs.Mirrors.UnitAt.{found, number_if, hex_at, unicode_at, after_blanks, named_at, escape_at}
-use Rattle.rl_strict.specs.Mirrors.UnitFlawAt.{FoundFlaw, found_flaw, low_digit_flaw_at, hex_flaw_at, is_code, code_flaw_of, first_digit_flaw_at, unicode_flaw_at, escape_flaw_at, character_flaw_of}
-use Rattle.rl_lenient.proofs.UnitLemmas.{holds_more, two_digits, unit_complete}
 use Rattle.rl_strict.proofs.EscapeLemmas.{Closes, Completes, Fails, Reader, given, inner_none, only_zero, hex_read, hex_one, second, hex_second, never, no_low, no_high, past_hex, allowed, coded, closed_code, closed_bad, digit_on, digit_past, underscore_on, other_none, full_none, not_low, not_high, Spelled, room, closing, spelled_on, braced, braced_first, braced_none, first_spelled, braced_one, unicode_on, no_unicode_brace, unicode_one, unicode_never, escape_n, by_hex, by_unicode, same_escape, by_escape}
-use Rattle.rl_lenient.proofs.CodeDigitLemmas.{digit_apart}
 use Rattle.rl_strict.proofs.Stops.{Stops, lifted}
 use Rattle.rl_strict.proofs.CodeDigitFlaws.{digits_flaw_at, digits_flaw_is}
-use Rattle.rl_lenient.proofs.TestLemmas.{passes_more}
 
 -- ---- parsers of the beginning of a text
 
@@ -66,10 +57,9 @@ kept None = refl
 kept (Some p) = refl
 
 -- The flaw after this first character is that of the text after it, and the parse result is equal too.
-next_same : {V : Type 0} {kind : Kind} {before cs : List ℕ} {flaw : FoundFlaw} (inner outer : Reader V) (c x : ℕ) → c
-    ≡ x → ((u : List ℕ) → outer (x ∷ u) ≡ inner u) → outer (c ∷ cs) ≡ None
-    → (inner cs ≡ None → HasUnitFlaw kind inner (before ++ (x ∷ [])) cs flaw)
-    → HasUnitFlaw kind outer before (c ∷ cs) flaw
+next_same : {V : Type 0} {kind : Kind} {before cs : List ℕ} {flaw : FoundFlaw} (inner outer : Reader V) (c x : ℕ) → c ≡
+    x → ((u : List ℕ) → outer (x ∷ u) ≡ inner u) → outer (c ∷ cs) ≡ None → (inner cs ≡ None → HasUnitFlaw kind inner
+    (before ++ (x ∷ [])) cs flaw) → HasUnitFlaw kind outer before (c ∷ cs) flaw
 next_same inner outer c x is same none inside = next inner outer (λ v. v) c x is (λ u. same u ∙ kept (inner u)) none
     inside
 
@@ -94,9 +84,8 @@ small_enough : (b : Bool) (v d : ℕ) → (b && ltb 7 v) ≡ false → d < 16 �
 small_enough false v d h digit = refl
 small_enough true v d h digit = lt-ltb (v * 16 + d) 128 (let few : v ≤ 7 = ltb-false 7 v h in omega arith)
 
-low_spoils : (kind : Kind) (c : ℕ) (t : List ℕ) → is_hex_digit c ≡ true
-    → (holds_characters kind && ltb 7 (digit_value c)) ≡ false → second kind c t ≡ None
-    → HasUnitFlaw kind (second kind c) (92 ∷ 120 ∷ c ∷ []) t (low_digit_flaw_at t)
+low_spoils : (kind : Kind) (c : ℕ) (t : List ℕ) → is_hex_digit c ≡ true → (holds_characters kind && ltb 7 (digit_value
+    c)) ≡ false → second kind c t ≡ None → HasUnitFlaw kind (second kind c) (92 ∷ 120 ∷ c ∷ []) t (low_digit_flaw_at t)
 low_spoils kind c [] h low none = at_end (hex_second kind c h low)
 low_spoils kind c (d ∷ ds) h low none = cond_both (is_hex_digit d) _ _
     (HasUnitFlaw kind (second kind c) (92 ∷ 120 ∷ c ∷ []) (d ∷ ds)) both one
@@ -298,9 +287,8 @@ module _ (kind : Kind) (ds : List ℕ) (v n c : ℕ) (cs : List ℕ) (s : Stands
       (subst (IsNoCode kind k) s.value_is h)))
 
   mark_more : eqb c 95 ≡ true → P (digits_flaw_at kind v n cs)
-  mark_more d = next_same (coded kind v n) (coded kind v n) c c refl
-      (λ u. ap (λ x. coded kind v n (x ∷ u)) (eqb-true c 95 d) ∙ underscore_on kind v n u) none
-      (later (ds ++ (c ∷ [])) v n (stands_underscore kind ds v n c s d))
+  mark_more d = next_same (coded kind v n) (coded kind v n) c c refl (λ u. ap (λ x. coded kind v n (x ∷ u)) (eqb-true c
+      95 d) ∙ underscore_on kind v n u) none (later (ds ++ (c ∷ [])) v n (stands_underscore kind ds v n c s d))
 
   other_here : is_hex_digit c ≡ false → eqb c 125 ≡ false → eqb c 95 ≡ false → P (found_flaw NoHexDigit (c ∷ cs))
   other_here a b d = stuck NoHexDigit (λ r. other_none kind v n c r a b d)
@@ -308,10 +296,9 @@ module _ (kind : Kind) (ds : List ℕ) (v n c : ℕ) (cs : List ℕ) (s : Stands
 
   spoils_here : P (digits_flaw_at kind v n (c ∷ cs))
   unfolding digits_flaw_at
-  spoils_here = cond_both (is_hex_digit c) _ _ P
-      (λ e. cond_both (eqb n 6) _ _ P (seventh e) (λ short. cond_both (eqb n 5 && not (is_code kind w)) _ _ P (sixth e)
-      (digit_more e short)))
-      (λ a. cond_both (eqb c 125) _ _ P closed_here (λ b. cond_both (eqb c 95) _ _ P mark_more (other_here a b)))
+  spoils_here = cond_both (is_hex_digit c) _ _ P (λ e. cond_both (eqb n 6) _ _ P (seventh e) (λ short. cond_both (eqb n
+      5 && not (is_code kind w)) _ _ P (sixth e) (digit_more e short))) (λ a. cond_both (eqb c 125) _ _ P closed_here (λ
+      b. cond_both (eqb c 95) _ _ P mark_more (other_here a b)))
 
 digits_spoil : (kind : Kind) (t ds : List ℕ) (v n : ℕ) → Stands kind ds v n → coded kind v n t ≡ None
     → HasUnitFlaw kind (coded kind v n) (braced_front ds) t (digits_flaw_at kind v n t)
@@ -407,40 +394,34 @@ pub escape_spoils : (kind : Kind) (t : List ℕ) → escape_at kind t ≡ None
     → HasUnitFlaw kind (escape_at kind) (92 ∷ []) t (escape_flaw_at kind t)
 unfolding escape_flaw_at
 escape_spoils kind [] none = at_end (escape_n kind)
-escape_spoils kind (c ∷ cs) none = cond_both (eqb c 120) _ _ P by_x
-    (λ a. cond_both (eqb c 117) _ _ P (λ e. cond_both (has_unicode kind) _ _ P (by_u e) (no_u e))
-    (λ b. cond_both (eqb c 48) _ _ P (zero a b) (unknown a b)))
+escape_spoils kind (c ∷ cs) none = cond_both (eqb c 120) _ _ P by_x (λ a. cond_both (eqb c 117) _ _ P (λ e. cond_both
+    (has_unicode kind) _ _ P (by_u e) (no_u e)) (λ b. cond_both (eqb c 48) _ _ P (zero a b) (unknown a b)))
   where
     P : FoundFlaw → Type 0
     P = HasUnitFlaw kind (escape_at kind) (92 ∷ []) (c ∷ cs)
 
-    by_x : eqb c 120 ≡ true → HasUnitFlaw kind (escape_at kind) (92 ∷ []) (c ∷ cs) (hex_flaw_at kind cs)
+    by_x : eqb c 120 ≡ true → P (hex_flaw_at kind cs)
     by_x e = next (hex_at kind) (escape_at kind) (λ n. n ∷ []) c 120 (eqb-true c 120 e) (by_hex kind) none
         (hex_spoils kind cs)
 
-    by_u : eqb c 117 ≡ true → has_unicode kind ≡ true → HasUnitFlaw kind (escape_at kind) (92 ∷ []) (c ∷ cs)
-        (unicode_flaw_at kind cs)
+    by_u : eqb c 117 ≡ true → has_unicode kind ≡ true → P (unicode_flaw_at kind cs)
     by_u e u = next (unicode_at kind) (escape_at kind) (λ n. content_of kind (n ∷ [])) c 117 (eqb-true c 117 e)
         (by_unicode kind) none (unicode_spoils kind cs u)
 
-    once : (flaw : FlawKind) → ((r : List ℕ) → escape_at kind (c ∷ r) ≡ None)
-        → UnitFlaw kind flaw (92 ∷ c ∷ cs) (c ∷ cs) → HasUnitFlaw kind (escape_at kind) (92 ∷ []) (c ∷ cs)
-        (found_flaw flaw (c ∷ cs))
+    once : (flaw : FlawKind) → ((r : List ℕ) → escape_at kind (c ∷ r) ≡ None) → UnitFlaw kind flaw (92 ∷ c ∷ cs) (c ∷
+        cs) → P (found_flaw flaw (c ∷ cs))
     once flaw h has = here c cs flaw (escape_n kind) h has
 
-    no_u : eqb c 117 ≡ true → has_unicode kind ≡ false → HasUnitFlaw kind (escape_at kind) (92 ∷ []) (c ∷ cs)
-        (found_flaw NoUnicode (c ∷ cs))
+    no_u : eqb c 117 ≡ true → has_unicode kind ≡ false → P (found_flaw NoUnicode (c ∷ cs))
     no_u e u = once NoUnicode (λ r. ap (λ x. escape_at kind (x ∷ r)) (eqb-true c 117 e) ∙ by_unicode kind r
         ∙ ap (option_and_then (λ p. found (content_of kind (p.0 ∷ [])) p.1)) (unicode_never kind r u)) (u, refl, e)
 
-    zero : eqb c 120 ≡ false → eqb c 117 ≡ false → eqb c 48 ≡ true
-        → HasUnitFlaw kind (escape_at kind) (92 ∷ []) (c ∷ cs) (found_flaw Nul (c ∷ cs))
+    zero : eqb c 120 ≡ false → eqb c 117 ≡ false → eqb c 48 ≡ true → P (found_flaw Nul (c ∷ cs))
     zero a b z =
         let stuck = ap (λ x. escape_at kind (x ∷ cs)) (sym (eqb-true c 48 z)) ∙ none in
         once Nul (λ r. same_escape kind c cs r a b none) (c_string kind 0 (no_zero kind cs stuck), ByLetter refl z)
 
-    unknown : eqb c 120 ≡ false → eqb c 117 ≡ false → eqb c 48 ≡ false
-        → HasUnitFlaw kind (escape_at kind) (92 ∷ []) (c ∷ cs) (found_flaw UnknownEscape (c ∷ cs))
+    unknown : eqb c 120 ≡ false → eqb c 117 ≡ false → eqb c 48 ≡ false → P (found_flaw UnknownEscape (c ∷ cs))
     unknown a b z = once UnknownEscape (λ r. same_escape kind c cs r a b none) (
       refl,
       record {
@@ -468,9 +449,8 @@ high_has kind c cs u h =
     rw (other 0 refl, other 39 refl, h) (u, refl, high)
 
 -- The flaw of a character in a string, other than its closing quote.
-pub string_has : (kind : Kind) (c : ℕ) (cs : List ℕ) → is_string kind ≡ true → is_plain kind c ≡ false → eqb c 34
-    ≡ false
-    → eqb c 92 ≡ false → eqb c 13 ≡ false → Alone kind c cs (character_flaw_of c)
+pub string_has : (kind : Kind) (c : ℕ) (cs : List ℕ) → is_string kind ≡ true → is_plain kind c ≡ false → eqb c 34 ≡
+    false → eqb c 92 ≡ false → eqb c 13 ≡ false → Alone kind c cs (character_flaw_of c)
 string_has Str c cs s p q b r = let e : true ≡ false = rw (q, b, r) at p in absurd (cc)
 string_has ByteStr c cs s p q b r = go (ltb c 128) refl (rw (q, b, r) at p)
   where

@@ -1,19 +1,12 @@
 -- The characters and escapes of a quoted literal, in order, as they are read.
-use Rattle.rl_syntax.proofs.Common.{◌≡◌, ℕ, Bool, true, false, ◌==◌, cond, List, [], ◌∷◌, Option, Some, None, refl, sym, ap, subst, ◌∙◌, arith, ltb-false, option_map}
-use Rattle.std.specs.Char.{is_ascii}
+use Rattle.rl_strict.proofs.Names.{◌≡◌, ℕ, Bool, true, false, ◌==◌, cond, List, [], ◌∷◌, Option, Some, None, refl, sym, ap, subst, ◌∙◌, arith, ltb-false, option_map, is_ascii, Kind, after_run, first_passes, is_dropped_blank, is_string, escape_at, unit_at, escape_rest, unit_rest, LineEnds, Text, File, IsRestOf, drops, lf_text, read_of}
 use Rattle.rl_syntax.proofs.LowBytes.{not_equal}
 use Rattle.rl_lenient.proofs.AsciiLemmas.{no_escape}
-use Rattle.rl_lenient.proofs.Names.{Kind, after_run, first_passes, is_dropped_blank, is_string}
-use Rattle.rl_lenient.specs.Mirrors.UnitAt.{escape_at, unit_at}
-use Rattle.rl_strict.specs.Mirrors.StrictAt.{escape_rest, unit_rest}
 use Rattle.rl_strict.proofs.StrictRowLemmas.{is_bare}
-use Rattle.rl_strict.specs.declared.line_ends.LineEnds.{LineEnds}
-use Rattle.rl_strict.specs.declared.line_ends.LineEnds.TheVariants.{Text, File}
-use Rattle.rl_strict.specs.LineEnds.{IsRestOf, drops, lf_text, read_of}
 use Rattle.rl_strict.proofs.FileTextLemmas.{other_kept, rest_kept, rest_line, when_kept}
-use Rattle.rl_strict.proofs.FileUnits as file
 use Rattle.rl_strict.proofs.EndLemmas.{first_of, free_in, loose, nil_of, step_in}
 use Rattle.rl_strict.proofs.WalkForms.{quote_read}
+use Rattle.rl_strict.proofs.FileUnits as file
 
 -- ---- the first character
 
@@ -54,19 +47,17 @@ blanks_stop t rest e = file.blanks_stop t rest e
 
 pub blanks_first : (how : LineEnds) (t rest : List ℕ) → rest ≡ after_run is_dropped_blank t
     → after_run is_dropped_blank (read_of how rest) ≡ after_run is_dropped_blank (read_of how t)
-blanks_first Text t rest e = sym (stop_run is_dropped_blank rest (blanks_stop t rest e)) ∙ e
+blanks_first Text t rest e = sym (stop_run is_dropped_blank rest (file.blanks_stop t rest e)) ∙ e
 blanks_first File t rest e = file.blanks_first t rest e
 
-pub blanks_on : (how : LineEnds) (t rest after next : List ℕ) → after_run is_dropped_blank (read_of how rest)
-    ≡ after_run is_dropped_blank (read_of how t) → read_of how rest ≡ 10 ∷ read_of how after
-    → next ≡ after_run is_dropped_blank after
-    → after_run is_dropped_blank (read_of how next) ≡ after_run is_dropped_blank (read_of how t)
+pub blanks_on : (how : LineEnds) (t rest after next : List ℕ) → after_run is_dropped_blank (read_of how rest) ≡
+    after_run is_dropped_blank (read_of how t) → read_of how rest ≡ 10 ∷ read_of how after → next ≡ after_run
+    is_dropped_blank after → after_run is_dropped_blank (read_of how next) ≡ after_run is_dropped_blank (read_of how t)
 blanks_on how t rest after next same e is = blanks_first how after next is ∙ sym (ap (after_run is_dropped_blank) e) ∙ same
 
-pub blanks_end : (how : LineEnds) (t rest : List ℕ) → after_run is_dropped_blank (read_of how rest)
-    ≡ after_run is_dropped_blank (read_of how t) → first_passes is_dropped_blank rest ≡ false
-    → ((c : ℕ) (following : List ℕ) → rest ≡ c ∷ following → drops how c following ≡ false)
-    → read_of how rest ≡ after_run is_dropped_blank (read_of how t)
+pub blanks_end : (how : LineEnds) (t rest : List ℕ) → after_run is_dropped_blank (read_of how rest) ≡ after_run
+    is_dropped_blank (read_of how t) → first_passes is_dropped_blank rest ≡ false → ((c : ℕ) (following : List ℕ) → rest
+    ≡ c ∷ following → drops how c following ≡ false) → read_of how rest ≡ after_run is_dropped_blank (read_of how t)
 blanks_end Text t rest same stops none = stop_run is_dropped_blank rest stops ∙ same
 blanks_end File t rest same stops none = file.blanks_end t rest same stops none
 
@@ -84,13 +75,11 @@ blanks_more how t rest after next r line is = step_in how t rest next r
 pub line_break : (how : LineEnds) (k : Kind) (t blanks rest : List ℕ) → is_string k ≡ true
     → read_of how t ≡ 10 ∷ read_of how blanks → read_of how rest ≡ after_run is_dropped_blank (read_of how blanks)
     → Some (read_of how rest) ≡ escape_rest k (read_of how t)
-line_break how k t blanks rest s e is = ap Some is
-    ∙ sym (ap (escape_rest k) e
-    ∙ ap (λ b. cond {A = Option (List ℕ)} b (Some (after_run is_dropped_blank (read_of how blanks))) None) s)
+line_break how k t blanks rest s e is = ap Some is ∙ sym (ap (escape_rest k) e ∙ ap (λ b. cond {A = Option (List ℕ)} b
+    (Some (after_run is_dropped_blank (read_of how blanks))) None) s)
 
-pub break_of : (how : LineEnds) (k : Kind) (t blanks rest : List ℕ) → is_string k ≡ true → t ≡ 10 ∷ blanks
-    → read_of how rest ≡ after_run is_dropped_blank (read_of how blanks)
-    → Some (read_of how rest) ≡ escape_rest k (read_of how t)
+pub break_of : (how : LineEnds) (k : Kind) (t blanks rest : List ℕ) → is_string k ≡ true → t ≡ 10 ∷ blanks → read_of how
+    rest ≡ after_run is_dropped_blank (read_of how blanks) → Some (read_of how rest) ≡ escape_rest k (read_of how t)
 break_of how k t blanks rest s e is = line_break how k t blanks rest s (quote_read how t blanks 10 e refl).0 is
 
 pub break_in : (how : LineEnds) (t blanks rest : List ℕ) → t ≡ 10 ∷ blanks → IsRestOf how blanks rest
@@ -158,10 +147,9 @@ pub feed_of : (how : LineEnds) (k : Kind) (t after : List ℕ) → is_string k �
     → read_of how t ≡ 10 ∷ read_of how after → Some (read_of how after) ≡ unit_rest k (read_of how t)
 feed_of how k t after s e = sym (ap (unit_rest k) e ∙ file.feed_unit k (read_of how after) s)
 
-pub no_escaped : (how : LineEnds) (k : Kind) (t : List ℕ) → first_passes (is_bare k) t ≡ false
-    → first_passes (λ c. c == 92) t ≡ false
-    → ((c : ℕ) (following : List ℕ) → t ≡ c ∷ following → drops how c following ≡ false)
-    → None ≡ unit_rest k (read_of how t)
+pub no_escaped : (how : LineEnds) (k : Kind) (t : List ℕ) → first_passes (is_bare k) t ≡ false → first_passes (λ c. c ==
+    92) t ≡ false → ((c : ℕ) (following : List ℕ) → t ≡ c ∷ following → drops how c following ≡ false) → None ≡
+    unit_rest k (read_of how t)
 unfolding unit_rest
 no_escaped how k [] h n kept = sym (ap (unit_rest k) (nil_of how [] refl))
 no_escaped how k (c ∷ cs) h n kept = sym (ap (unit_rest k) (kept_permissions how c cs (kept c cs refl))

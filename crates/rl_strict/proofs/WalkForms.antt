@@ -1,37 +1,16 @@
 -- Quoted literals as they are read: the position where their valid content ends, and the reason.
-use Rattle.rl_syntax.proofs.Common.{◌≡◌, ◌≢◌, ℕ, ◌<◌, ◌≤◌, Bool, true, false, not, ◌==◌, ◌&&◌, ◌||◌, List, [], ◌∷◌, ◌++◌, Option, Some, None, refl, sym, ap, subst, ◌∙◌, both_ways, flat_map, list_all, option_map, replicate}
-use Rattle.rl_lexer.specs.Sources.{is_apostrophe}
-use Rattle.rl_lenient.proofs.Names.{Kind, Str, ByteStr, CStr, first_passes, is_hash, is_plain, is_single, is_string, strict_text}
-use Rattle.rl_syntax.specs.Texts.{begins}
-use Rattle.rl_syntax.proofs.Basics.{apart}
-use Rattle.rl_lenient.specs.Mirrors.PlainAt.{is_some_text}
-use Rattle.rl_lenient.specs.declared.quoted_forms.QuotedForm.{QuotedForm}
-use Rattle.rl_lenient.specs.declared.quoted_forms.QuotedForm.TheVariants.{Cooked as CookedForm, Raw as RawForm, Single as SingleForm}
-use Rattle.rl_lenient.specs.StrictUnits.{BeginsStrictUnits}
-use Rattle.rl_strict.specs.Mirrors.StrictAt.{is_inside, is_raw_character, is_strict_suffix, unit_rest}
-use Rattle.rl_strict.specs.StrictShapes.{ClosesForm}
+use Rattle.rl_strict.proofs.Names.{◌≡◌, ◌≢◌, ℕ, ◌<◌, ◌≤◌, true, false, not, ◌==◌, ◌&&◌, ◌||◌, List, [], ◌∷◌, ◌++◌, Some, None, refl, sym, ap, subst, ◌∙◌, both_ways, list_all, option_map, replicate, is_apostrophe, Kind, first_passes, is_hash, is_plain, is_single, is_string, begins, apart, is_some_text, QuotedForm, CookedForm, RawForm, SingleForm, BeginsStrictUnits, is_inside, is_raw_character, is_strict_suffix, unit_rest, ClosesForm, FlawKind, TextAfterQuote, ExtraHash, NoQuote, TooManyHashes, TwoCharacters, Unclosed, UnexpectedEnd, LineEnds, Text, File, chars, IsRestOf, StopsAsRead, read_of, StopsIn, suffix_piece, raw_character_flaw_of, raw_stop, strict_unit_flaw_at, suffix_read_at, FoundFlaw, found_flaw, end_flaw_at}
 use Rattle.rl_strict.proofs.StrictUnitRows.{row_join, row_none}
 use Rattle.rl_lenient.proofs.PlainLemmas.{no_run, one_run}
 use Rattle.rl_strict.specs.declared.flaws.FlawAt.{FlawAt}
-use Rattle.rl_strict.specs.declared.flaws.FlawKind.{FlawKind}
-use Rattle.rl_strict.specs.declared.flaws.FlawKind.TheVariants.{TextAfterQuote, ExtraHash, NoQuote, TooManyHashes, TwoCharacters, Unclosed, UnexpectedEnd}
-use Rattle.rl_strict.specs.declared.line_ends.LineEnds.{LineEnds}
-use Rattle.rl_strict.specs.declared.line_ends.LineEnds.TheVariants.{Text, File}
-use Rattle.std.specs.Str.{chars}
-use Rattle.rl_strict.specs.LineEnds.{IsRestOf, StopsAsRead, read_of}
-use Rattle.rl_strict.specs.QuotedRead.{StopsIn}
-use Rattle.rl_strict.specs.StrictFlawKinds.{suffix_piece}
-use Rattle.rl_strict.specs.Mirrors.StrictFlawAt.{raw_character_flaw_of, raw_stop, strict_unit_flaw_at}
-use Rattle.rl_strict.specs.Mirrors.SuffixRead.{suffix_read_at}
-use Rattle.rl_strict.specs.Mirrors.UnitFlawAt.{FoundFlaw, found_flaw}
-use Rattle.rl_strict.specs.Mirrors.WordFlawAt.{end_flaw_at}
 use Rattle.rl_strict.proofs.FileTextLemmas.{lacks_cr}
-use Rattle.rl_strict.proofs.FileUnits.{bare_in, bare_row, hashes_free, inside_free, not_string}
+use Rattle.rl_strict.proofs.FileUnits.{bare_in, bare_row, hashes_free, inside_free}
 use Rattle.rl_strict.proofs.EndLemmas.{closer_of, end_of, first_of, form_in, free_in, free_of, loose, nil_of, read_flaw, self_in, single_of, groups_if_any, step_in, stuck_of, suffix_in, suffix_of, unit_flaw_of, unit_in}
-use Rattle.rl_strict.proofs.ReadQuoted.{cooked_open, cooked_suffix, empty_rest, judged_by, plain_row, raw_ending, raw_going, raw_unopened_none, single_closes, single_open_stops, single_suffix, single_unquoted_stops}
+use Rattle.rl_strict.proofs.ReadQuoted.{cooked_open, cooked_suffix, empty_rest, judged_by, plain_row, raw_ending, raw_going, raw_unopened_none, single_closes, single_open_stops, single_suffix, single_unquoted_stops, not_string}
 use Rattle.rl_strict.proofs.StrictCookedFlaws.{cooked_closes, no_front}
 use Rattle.rl_strict.proofs.StrictRawFlaws.{raw_closed, raw_closes, raw_end_none, raw_ended, raw_many_hashes, raw_no_quote, raw_off, raw_spoiled, raw_unfinished, walk_past}
 use Rattle.rl_strict.proofs.StrictSuffixFlaws.{Judges}
+use Rattle.rl_strict.proofs.StrictRowLemmas.{quote_stops}
 
 -- The flaw that a function call returned.
 abbrev pub flaw_of : FlawAt → FoundFlaw
@@ -55,23 +34,21 @@ judged_some how form t f e = judged_by form (read_of how t) (Some (read_flaw how
 piece_read : (how : LineEnds) (k : FlawKind) (closing suffix : List ℕ) → read_of how (suffix_piece k closing suffix)
     ≡ suffix_piece k (read_of how closing) (read_of how suffix)
 piece_read how ExtraHash closing suffix = refl
-piece_read how TextAfterQuote closing suffix = refl
 piece_read how k closing suffix = refl
 
-piece_place : (how : LineEnds) (k : FlawKind) (closing suffix : List ℕ) → IsRestOf how closing suffix
+pub piece_place : (how : LineEnds) (k : FlawKind) (closing suffix : List ℕ) → IsRestOf how closing suffix
     → IsRestOf how closing (suffix_piece k closing suffix)
 piece_place how ExtraHash closing suffix r = self_in how closing
 piece_place how TextAfterQuote closing suffix r = self_in how closing
 piece_place how k closing suffix r = r
 
 -- A flaw after the closing delimiter of a literal is the flaw of the whole text as it is read.
-after_closer : (how : LineEnds) (form : QuotedForm) (k : Kind) (whole t closing suffix : List ℕ) (f : FlawAt)
-    → IsRestOf how t closing → IsRestOf how closing suffix → Some (flaw_of f) ≡ suffix_read_at form suffix
-    → chars f.piece.now ≡ suffix_piece f.kind closing suffix
-    → (Judges form (read_of how suffix) (Some (flaw_read how f))
-    → read_of how (chars f.piece.now) ≡ suffix_piece f.kind (read_of how closing) (read_of how suffix)
-    → StopsIn form k f.kind whole (read_of how (chars f.piece.now)) (read_of how (chars f.rest.now)))
-    → StopsAsRead how form k f.kind whole t (chars f.piece.now) (chars f.rest.now)
+after_closer : (how : LineEnds) (form : QuotedForm) (k : Kind) (whole t closing suffix : List ℕ) (f : FlawAt) → IsRestOf
+    how t closing → IsRestOf how closing suffix → Some (flaw_of f) ≡ suffix_read_at form suffix → chars f.piece.now ≡
+    suffix_piece f.kind closing suffix → (Judges form (read_of how suffix) (Some (flaw_read how f)) → read_of how (chars
+    f.piece.now) ≡ suffix_piece f.kind (read_of how closing) (read_of how suffix) → StopsIn form k f.kind whole (read_of
+    how (chars f.piece.now)) (read_of how (chars f.rest.now))) → StopsAsRead how form k f.kind whole t (chars
+    f.piece.now) (chars f.rest.now)
 after_closer how form k whole t closing suffix f r q e piece says = record {
   stops = says (judged_some how form suffix (flaw_of f) e) (ap (read_of how) piece ∙ piece_read how f.kind closing suffix);
   piece_in = step_in how t closing (chars f.piece.now) r
@@ -128,9 +105,8 @@ cooked_stuck how k f t closing piece rest s run r stuck none same is =
 
 -- ---- a character or byte literal
 
-pub single_good : (how : LineEnds) (k : Kind) (t closing suffix : List ℕ) → is_single k ≡ true
-    → unit_rest k t ≡ Some closing → closing ≡ 39 ∷ suffix → None ≡ suffix_read_at SingleForm suffix
-    → ClosesForm SingleForm k (read_of how t)
+pub single_good : (how : LineEnds) (k : Kind) (t closing suffix : List ℕ) → is_single k ≡ true → unit_rest k t ≡ Some
+    closing → closing ≡ 39 ∷ suffix → None ≡ suffix_read_at SingleForm suffix → ClosesForm SingleForm k (read_of how t)
 single_good how k t closing suffix s unit quote e = single_closes k (read_of how t) (read_of how closing)
     (read_of how suffix) s (single_of how k t s ∙ ap (option_map (read_of how)) unit)
     (quote_read how closing suffix 39 quote refl).0 (judged_none how SingleForm suffix e)
@@ -212,12 +188,11 @@ pub good_suffix : (how : LineEnds) (form : QuotedForm) (suffix : List ℕ) → N
     → is_strict_suffix (read_of how suffix) ≡ true
 good_suffix how form suffix flaw = judged_none how form suffix flaw
 
-pub raw_bad : (how : LineEnds) (k : Kind) (n c : ℕ) (hashes t closing after suffix : List ℕ) (f : FlawAt)
-    → is_string k ≡ true → n ≤ 255 → hashes ≡ replicate n 35
-    → read_of how closing ≡ raw_stop k hashes (read_of how t) → IsRestOf how t closing
-    → read_of how closing ≡ c ∷ read_of how after → IsRestOf how closing after → c ≡ 34 → after ≡ hashes ++ suffix
-    → Some (flaw_of f) ≡ suffix_read_at RawForm suffix → chars f.piece.now ≡ suffix_piece f.kind closing suffix
-    → StopsAsRead how RawForm k f.kind (hashes ++ (34 ∷ read_of how t)) t (chars f.piece.now) (chars f.rest.now)
+pub raw_bad : (how : LineEnds) (k : Kind) (n c : ℕ) (hashes t closing after suffix : List ℕ) (f : FlawAt) → is_string k
+    ≡ true → n ≤ 255 → hashes ≡ replicate n 35 → read_of how closing ≡ raw_stop k hashes (read_of how t) → IsRestOf how
+    t closing → read_of how closing ≡ c ∷ read_of how after → IsRestOf how closing after → c ≡ 34 → after ≡ hashes ++
+    suffix → Some (flaw_of f) ≡ suffix_read_at RawForm suffix → chars f.piece.now ≡ suffix_piece f.kind closing suffix →
+    StopsAsRead how RawForm k f.kind (hashes ++ (34 ∷ read_of how t)) t (chars f.piece.now) (chars f.rest.now)
 raw_bad how k n c hashes t closing after suffix f s few h at r is more c_is text flaw piece =
     after_closer how RawForm k (hashes ++ (34 ∷ read_of how t)) t closing suffix f r
     (raw_suffix_in how n hashes closing after suffix h more text) flaw piece (λ judged as_read.
@@ -364,9 +339,8 @@ plain_not how k t run following rest r text stops more body cut = no_run (is_pla
 -- The text from the hashes on, by the text after the opening quote.
 pub opened_read : (how : LineEnds) (n : ℕ) (hashes inside opened : List ℕ) → hashes ≡ replicate n 35
     → inside ≡ hashes ++ (34 ∷ opened) → read_of how inside ≡ hashes ++ (34 ∷ read_of how opened)
-opened_read how n hashes inside opened h e = ap (read_of how) e
-    ∙ free_of how hashes (34 ∷ opened) (ap lacks_cr h ∙ hashes_free n)
-    ∙ ap (λ z. hashes ++ z) (quote_read how (34 ∷ opened) opened 34 refl refl).0
+opened_read how n hashes inside opened h e = ap (read_of how) e ∙ free_of how hashes (34 ∷ opened) (ap lacks_cr h ∙
+    hashes_free n) ∙ ap (λ z. hashes ++ z) (quote_read how (34 ∷ opened) opened 34 refl refl).0
 
 pub opened_in : (how : LineEnds) (n : ℕ) (hashes inside opened rest : List ℕ) → hashes ≡ replicate n 35
     → inside ≡ hashes ++ (34 ∷ opened) → IsRestOf how opened rest → IsRestOf how inside rest
@@ -374,10 +348,9 @@ opened_in how n hashes inside opened rest h e r = step_in how inside (34 ∷ ope
     (free_in how inside hashes (34 ∷ opened) e (ap lacks_cr h ∙ hashes_free n))
     (step_in how (34 ∷ opened) opened rest (quote_read how (34 ∷ opened) opened 34 refl refl).1 r)
 
-pub opened_stops : (how : LineEnds) (k : Kind) (f : FlawKind) (n : ℕ) (hashes inside opened piece rest : List ℕ)
-    → hashes ≡ replicate n 35 → inside ≡ hashes ++ (34 ∷ opened)
-    → StopsAsRead how RawForm k f (hashes ++ (34 ∷ read_of how opened)) opened piece rest
-    → StopsAsRead how RawForm k f (read_of how inside) inside piece rest
+pub opened_stops : (how : LineEnds) (k : Kind) (f : FlawKind) (n : ℕ) (hashes inside opened piece rest : List ℕ) →
+    hashes ≡ replicate n 35 → inside ≡ hashes ++ (34 ∷ opened) → StopsAsRead how RawForm k f (hashes ++ (34 ∷ read_of
+    how opened)) opened piece rest → StopsAsRead how RawForm k f (read_of how inside) inside piece rest
 opened_stops how k f n hashes inside opened piece rest h e s = record {
   stops = subst (λ z. StopsIn RawForm k f z (read_of how piece) (read_of how rest))
       (sym (opened_read how n hashes inside opened h e)) s.stops;
@@ -391,24 +364,12 @@ pub opened_closes : (how : LineEnds) (k : Kind) (n : ℕ) (hashes inside opened 
 opened_closes how k n hashes inside opened h e c = subst (ClosesForm RawForm k)
     (sym (opened_read how n hashes inside opened h e)) c
 
--- The text after the characters and escapes, outside files.
-pub units_rest : (k : Kind) (t rest : List ℕ) → BeginsStrictUnits k t rest → IsRestOf Text t rest
-units_rest k t rest r = record { front = flat_map strict_text r.units; text_is = r.text_is; seam = refl }
-
 -- ---- the flaws at the end of the valid content
-
--- No character or escape of a string begins with its closing quote.
-quote_alone : (k : Kind) (x : List ℕ) → is_string k ≡ true → unit_rest k (34 ∷ x) ≡ None
-unfolding unit_rest
-quote_alone Str x s = refl
-quote_alone ByteStr x s = refl
-quote_alone CStr x s = refl
-quote_alone k x s = absurd (cc)
 
 pub quote_stuck : (how : LineEnds) (k : Kind) (t suffix : List ℕ) → is_string k ≡ true → t ≡ 34 ∷ suffix
     → unit_rest k (read_of how t) ≡ None
 quote_stuck how k t suffix s e = ap (unit_rest k) (quote_read how t suffix 34 e refl).0
-    ∙ quote_alone k (read_of how suffix) s
+    ∙ quote_stops k (read_of how suffix) s
 
 pub unit_over : (k : Kind) (f : FlawKind) (t rest : List ℕ) → found_flaw f rest ≡ strict_unit_flaw_at k t → t ≡ []
     → f ≡ Unclosed

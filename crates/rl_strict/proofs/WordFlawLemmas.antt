@@ -1,18 +1,6 @@
 -- The position where a text that begins neither as a number nor as a quoted literal can't continue as `true` or `false`.
-use Rattle.rl_syntax.proofs.Common.{◌≡◌, ◌≢◌, ℕ, Bool, true, false, cond, ◌||◌, ◌==◌, List, [], ◌∷◌, ◌++◌, None, Some, inl, inr, refl, sym, ap, subst, ◌∙◌, append-nil, AllByRecursion, both_ways, cases_Bool, eq-eqb, eqb-true, or_parts, append_cancel_right}
-use Rattle.rl_lenient.proofs.Names.{IsScalar, cond_both, append_cancel_left, Kind, BoolKind, Byte, ByteStr, Char, CStr, Str, is_string, opener, HasContents, HasNoTruth, HasReading, Truth, quoted_contents, truth_text, first_passes}
-use Rattle.rl_strict.specs.Flaws.{StopsBefore, HasKind}
-use Rattle.rl_lenient.specs.declared.quoted_forms.QuotedForm.{QuotedForm}
-use Rattle.rl_lenient.specs.declared.quoted_forms.QuotedForm.TheVariants.{Cooked as CookedForm, Raw as RawForm, Single as SingleForm}
-use Rattle.rl_lenient.specs.WholeShapes.{is_number_front}
-use Rattle.rl_strict.specs.declared.flaws.FlawKind.TheVariants.{UnexpectedEnd, NotALiteral}
-use Rattle.rl_lenient.specs.Mirrors.OpenerAt.{FoundOpener, byte_opener_at, found_opener, opener_at, string_opener_at}
-use Rattle.rl_strict.specs.Mirrors.UnitFlawAt.{FoundFlaw, found_flaw}
-use Rattle.rl_strict.specs.Mirrors.WordFlawAt.{after_letters, word_flaw_at, end_flaw_at}
-use Rattle.rl_lenient.proofs.FormLemmas.{no_front}
-use Rattle.rl_lenient.proofs.ReadingLemmas.{no_front_number, no_reading}
-use Rattle.rl_strict.specs.declared.flaws.FlawKind.{FlawKind}
-use Rattle.rl_strict.specs.StrictNumberFlaws.{BeginsWord, IsWordFlaw}
+use Rattle.rl_strict.proofs.Names.{◌≡◌, ◌≢◌, ℕ, Bool, true, false, cond, ◌||◌, ◌==◌, List, [], ◌∷◌, ◌++◌, None, Some, inl, inr, refl, sym, ap, subst, ◌∙◌, append-nil, AllByRecursion, both_ways, cases_Bool, eq-eqb, eqb-true, or_parts, append_cancel_right, IsScalar, cond_both, append_cancel_left, Kind, BoolKind, Byte, ByteStr, Char, CStr, Str, is_string, opener, HasContents, HasNoTruth, HasReading, quoted_contents, truth_text, first_passes, StopsBefore, HasKind, QuotedForm, CookedForm, RawForm, SingleForm, is_number_front, UnexpectedEnd, NotALiteral, FoundOpener, byte_opener_at, found_opener, opener_at, string_opener_at, FoundFlaw, found_flaw, after_letters, word_flaw_at, end_flaw_at, no_front, no_front_number, no_reading, FlawKind, BeginsWord, IsWordFlaw}
+use Rattle.rl_lenient.proofs.Names.{Truth}
 use Rattle.rl_strict.proofs.Stops.{Flawed}
 
 -- The text has a flaw of this kind at this position.
@@ -256,9 +244,8 @@ word_flaw [] number none = record {
   };
   has = λ front is. (sym (is ∙ append-nil front), refl);
 }
-word_flaw (c ∷ cs) number none = cond_both (c == 98 || c == 99) _ _ P prefixed
-    (λ e. cond_both (c == 116) _ _ P (worded true 116 true_flaw)
-    (λ t. cond_both (c == 102) _ _ P (worded false 102 false_flaw) (other e t)))
+word_flaw (c ∷ cs) number none = cond_both (c == 98 || c == 99) _ _ P prefixed (λ e. cond_both (c == 116) _ _ P (worded
+    true 116 true_flaw) (λ t. cond_both (c == 102) _ _ P (worded false 102 false_flaw) (other e t)))
   where
     P : FoundFlaw → Type 0
     P = IsFlaw IsWordFlaw (c ∷ cs)

@@ -92,8 +92,7 @@ UnitFlaw kind UnknownEscape text rest = (text ≡ codes "\\" ++ rest) × BeginsN
 UnitFlaw kind NoUnicode text rest =
     IsFalse (has_unicode kind) × (text ≡ codes "\\" ++ rest) × Begins (λ c. c == code "u") rest
 UnitFlaw kind NoHexDigit text rest = MissesDigit text rest
-UnitFlaw kind NoBrace text rest =
-    (text ≡ codes "\\u" ++ rest) × Begins (λ c. not (c == code "{")) rest
+UnitFlaw kind NoBrace text rest = (text ≡ codes "\\u" ++ rest) × Begins (λ c. not (c == code "{")) rest
 UnitFlaw kind EmptyBraces text rest = (text ≡ codes "\\u{" ++ rest) × Begins is_brace rest
 UnitFlaw kind TooManyDigits text rest =
     (digits : List ℕ) × IsBraced digits text rest × (digit_count digits ≡ 6)
@@ -104,10 +103,8 @@ UnitFlaw kind HexEscapeOutOfRange text rest =
 UnitFlaw kind UnicodeEscapeOutOfRange text rest = HasNoCode kind UnicodeEscapeOutOfRange text rest
 UnitFlaw kind Surrogate text rest = HasNoCode kind Surrogate text rest
 UnitFlaw kind Nul text rest = (kind ≡ CStr) × IsNul kind text rest
-UnitFlaw kind NotAscii text rest =
-    IsFalse (has_unicode kind) × (text ≡ rest) × Begins (λ c. not (nat_lt c 128)) rest
-UnitFlaw kind MustEscape text rest =
-    IsTrue (is_single kind) × (text ≡ rest) × Begins (is_among (codes "\n\r\t")) rest
+UnitFlaw kind NotAscii text rest = IsFalse (has_unicode kind) × (text ≡ rest) × Begins (λ c. not (nat_lt c 128)) rest
+UnitFlaw kind MustEscape text rest = IsTrue (is_single kind) × (text ≡ rest) × Begins (is_among (codes "\n\r\t")) rest
 UnitFlaw kind NoCharacter text rest = IsTrue (is_single kind) × (text ≡ rest) × Begins is_apostrophe rest
 UnitFlaw kind _ text rest = ⊥
 

@@ -17,5 +17,4 @@ BeginsAs text (Quote inside) = chars text ≡ code "\"" ∷ chars inside.now
 BeginsAs text (Bare c) = IsBare text c
 BeginsAs text (Apostrophe inside) = (chars text ≡ code "'" ∷ chars inside.now) × ((c : ℕ) → IsBare text c → ⊥)
 BeginsAs text Digit = IsTrue (first_passes is_ascii_digit (chars text))
-BeginsAs text Other =
-    IsFalse (first_passes (λ c. c == code "\"" || c == code "'" || is_ascii_digit c) (chars text))
+BeginsAs text Other = IsFalse (first_passes (λ c. c == code "\"" || c == code "'" || is_ascii_digit c) (chars text))

@@ -1,8 +1,8 @@
 -- The parse results and flaws of a text, with CR LF read as LF or not, and with a minus before a number allowed or not. Texts
 -- of parse results are bytes. Other texts are lists of characters.
 use Rattle.std.specs.Prelude.{◌≡◌, ◌⊎◌, ℕ, Bool, true, false, List, drop, encode_utf8_all}
-use Rattle.std.specs.Str.{chars, IsCharBoundary}
-use Rattle.rl_syntax.specs.Reading.{HasReading, IsPast}
+use Rattle.std.specs.Str.{chars}
+use Rattle.rl_syntax.specs.Reading.{HasReading}
 use Rattle.rl_lenient.specs.declared.found.Body.{Body}
 use Rattle.rl_lenient.specs.Founds.{suffix_in}
 use Rattle.rl_syntax.specs.Texts.{byte_len}
@@ -11,7 +11,7 @@ use Rattle.rl_strict.specs.declared.flaws.FlawKind.{FlawKind}
 use Rattle.rl_strict.specs.declared.line_ends.LineEnds.{LineEnds}
 use Rattle.rl_strict.specs.declared.line_ends.LineEnds.TheVariants.{Text as InText, File as InFile}
 use Rattle.rl_strict.specs.declared.strict_reading.Reading.{Reading}
-use Rattle.rl_strict.specs.declared.strict_reading.Reading.TheVariants.{Text, Unit, Integer, Float, Truth}
+use Rattle.rl_strict.specs.declared.strict_reading.Reading.TheVariants.{Text}
 use Rattle.rl_strict.specs.FileTexts.{ExplainsInFile, ExplainsSignedInFile, ExplainsSignedValueInFile, ExplainsValueInFile, IsPlaceInFile}
 use Rattle.rl_strict.specs.Flaws.{StopsBefore}
 use Rattle.rl_strict.specs.Limits.{ExplainsLimit, ExplainsValue, IsFloatBySuffix}
@@ -51,14 +51,7 @@ pub record IsBodyInFile (text : List ℕ) (read body : Body) : Type 0 where
 abbrev pub IsReadingInFile : Bool → List ℕ → Reading → Type 0
 IsReadingInFile signed text (Text kind body) =
     (read : Body) × IsStrictReading (lf_bytes text) (Text kind read) × IsBodyInFile text read body
-IsReadingInFile signed text (Unit kind body unit) =
-    (lf_text (chars text) ≡ chars text) × ReadsOf signed text (Unit kind body unit)
-IsReadingInFile signed text (Integer magnitude suffix_at) =
-    (lf_text (chars text) ≡ chars text) × ReadsOf signed text (Integer magnitude suffix_at)
-IsReadingInFile signed text (Float suffix_at) =
-    (lf_text (chars text) ≡ chars text) × ReadsOf signed text (Float suffix_at)
-IsReadingInFile signed text (Truth truth) =
-    (lf_text (chars text) ≡ chars text) × ReadsOf signed text (Truth truth)
+IsReadingInFile signed text reading = (lf_text (chars text) ≡ chars text) × ReadsOf signed text reading
 
 -- The parse result of a literal's text, outside files or in a file.
 abbrev pub IsReadingOf : LineEnds → Bool → List ℕ → Reading → Type 0

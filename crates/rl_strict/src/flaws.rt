@@ -1,9 +1,8 @@
 //! The kinds of flaws (errors in the text of a literal), and a flaw's byte range.
 
-ghost use Rattle.std.specs.Prelude.{◌≡◌, ◌≤◌, ◌+◌, ◌-◌, length};
+ghost use Rattle.std.specs.Prelude.{◌≡◌};
 ghost use Rattle.std.specs.Str.{chars};
-ghost use Rattle.rl_strict.specs.Flaws.{first_len, place_in};
-ghost use Rattle.rl_strict.specs.declared.flaws.FlawKind.TheVariants.{UnexpectedEnd, NotALiteral};
+ghost use Rattle.rl_strict.specs.Flaws.{place_in};
 ghost use Rattle.rl_strict.specs.Mirrors.UnitFlawAt.{found_flaw};
 ghost use Rattle.rl_strict.specs.Mirrors.WordFlawAt.{after_letters, end_flaw_at, word_flaw_at};
 
@@ -235,24 +234,6 @@ impl<'t> FlawAt<'t> {
             rest: self.rest,
         }
     }
-
-    /// Converts the flaw's two texts, which are ends of `text`, to byte offsets in `text`.
-    pub(crate) fn in_text(self, text: &str) -> Flaw
-        requires rest { length self.rest.now ≤ length text.now }
-        requires piece { length self.piece.now ≤ length text.now }
-        ensures kind { result.kind ≡ self.entry.kind }
-        ensures from { result.from ≡ length text.now - length self.entry.piece.now }
-        ensures lo { result.lo ≡ length text.now - length self.entry.rest.now }
-        ensures hi { result.hi ≡ result.lo + first_len (chars self.entry.rest.now) }
-    {
-        let lo = text.len() - self.rest.len();
-        Flaw {
-            kind: self.kind,
-            from: text.len() - self.piece.len(),
-            lo,
-            hi: lo + first_len(self.rest),
-        }
-    }
 }
 
 /// One error in the text of a literal: its kind, its byte range, and the piece of the text to show.
@@ -344,18 +325,6 @@ fn skip_letters<'t>(word: &str, text: &'t str) -> &'t str
     rest
 }
 
-/// Returns the flaw of `text`, which begins with the first letter of `word` but isn't `word`.
-fn letters_flaw<'t>(word: &str, text: &'t str) -> FlawAt<'t>
-    ensures { found_flaw result.kind (chars result.rest.now)
-        ≡ end_flaw_at UnexpectedEnd NotALiteral (after_letters (chars word.now) (chars text.now)) }
-{
-    end_flaw(
-        FlawKind::UnexpectedEnd,
-        FlawKind::NotALiteral,
-        skip_letters(word, text),
-    )
-}
-
 /// Returns the flaw of a text that begins neither as a number nor as a quoted literal.
 #[tactic(auto, unfolding(crate::specs::Mirrors::WordFlawAt::word_flaw_at))]
 pub fn first_flaw(text: &str) -> FlawAt<'_>
@@ -364,19 +333,16 @@ pub fn first_flaw(text: &str) -> FlawAt<'_>
     match split_char(text) {
         None => make_flaw(FlawKind::Empty, text),
         Some(('b' | 'c', rest)) => end_flaw(FlawKind::UnexpectedEnd, FlawKind::NotALiteral, rest),
-        Some(('t', _)) => letters_flaw("true", text),
-        Some(('f', _)) => letters_flaw("false", text),
+        Some(('t', _)) => end_flaw(
+            FlawKind::UnexpectedEnd,
+            FlawKind::NotALiteral,
+            skip_letters("true", text),
+        ),
+        Some(('f', _)) => end_flaw(
+            FlawKind::UnexpectedEnd,
+            FlawKind::NotALiteral,
+            skip_letters("false", text),
+        ),
         Some(_) => make_flaw(FlawKind::NotALiteral, text),
-    }
-}
-
-/// Returns the number of bytes of the text's first character, or 0 if the text is empty.
-fn first_len(text: &str) -> usize
-    ensures len { result ≡ first_len (chars text.now) }
-    ensures within { result ≤ length text.now }
-{
-    match split_char(text) {
-        Some((_, after)) => text.len() - after.len(),
-        None => 0,
     }
 }

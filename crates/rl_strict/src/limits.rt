@@ -3,13 +3,14 @@
 ghost use Rattle.std.specs.Prelude.{◌≡◌, ◌↔◌, Bool, IfNone, IfSome, IsTrue, drop};
 ghost use Rattle.std.specs.Str.{chars, IsCharBoundary};
 ghost use Rattle.rl_syntax.specs.Reading.{IsPast};
-ghost use Rattle.rl_strict.specs.Limits.{ExplainsLimit, IsFloatBySuffix, IsFloatSuffix, IsLimitFlaw, oversized_suffix_at};
+ghost use Rattle.rl_strict.specs.Limits.{ExplainsLimit, IsFloatBySuffix, IsLimitFlaw, oversized_suffix_at};
 ghost use Rattle.rl_strict.specs.LineEnds.{read_of};
 ghost use Rattle.rl_strict.specs.Readings.{HasValueOf, IsReadingOf, IsTokenIf};
-ghost use Rattle.rl_strict.specs.declared.line_ends.LineEnds.{LineEnds};
+ghost use Rattle.rl_strict.specs.declared.line_ends.LineEnds.{LineEnds as AnyEnds};
 
 use crate::flaws::{Flaw, FlawKind, make_flaw};
-use crate::strict_reading::Reading;
+use crate::line_ends::LineEnds;
+use crate::strict_reading::{Reading, place_flaw};
 use rl_lenient::digit_runs::{after_minus, begins_digit, skip_digits};
 
 /// Returns the byte offset of the suffix if `reading` is an integer above 128 bits, and `None` otherwise.
@@ -22,13 +23,6 @@ pub fn oversized_suffix_at(reading: Reading) -> Option<usize>
     }
 }
 
-/// Whether the suffix is `f32` or `f64`.
-fn is_float_suffix(suffix: &str) -> bool
-    ensures { IsTrue result ↔ IsFloatSuffix (chars suffix.now) }
-{
-    matches!(suffix, "f32" | "f64")
-}
-
 /// Returns `true` if Rust reads the text as a float because of its suffix: decimal digits, optionally after a minus, and `f32`
 /// or `f64`.
 ///
@@ -38,7 +32,7 @@ pub fn is_float_by_suffix(text: &str) -> bool
 {
     let number = after_minus(text);
     if begins_digit(number) {
-        is_float_suffix(skip_digits(number).rest)
+        matches!(skip_digits(number).rest, "f32" | "f64")
     } else {
         false
     }
@@ -52,35 +46,26 @@ pub fn limit_flaw(text: &str, suffix_at: usize) -> Flaw
     ensures { IsLimitFlaw (chars text.now) result }
 {
     let found = make_flaw(FlawKind::TooLarge, &text[suffix_at..]).in_piece(text);
-    found.in_text(text)
-}
-
-/// Returns the flaw of an integer above 128 bits, whose suffix begins at the byte offset `suffix_at`, or `None` if the suffix
-/// makes the number a float.
-pub fn limit_flaw_unless_float(text: &str, suffix_at: usize) -> Option<Flaw>
-    requires boundary { IsCharBoundary text.now suffix_at }
-    requires past { (past : IsPast (chars text.now)) × (past.suffix ≡ chars (drop suffix_at text.now)) }
-    ensures none { IfNone result (IsFloatBySuffix (chars text.now)) }
-    ensures some { IfSome result (λ flaw. IsLimitFlaw (chars text.now) flaw × (IsFloatBySuffix (chars text.now) → ⊥)) }
-{
-    if is_float_by_suffix(text) {
-        None
-    } else {
-        Some(limit_flaw(text, suffix_at))
-    }
+    place_flaw(LineEnds::Text, found, text)
 }
 
 /// Returns the flaw of `text` if `reading`, its parse result, is an integer above 128 bits that its suffix doesn't make a
 /// float.
 pub fn limit_of(text: &str, reading: Reading) -> Option<Flaw>
-    requires { (ends : LineEnds) × (signed : Bool) × IsReadingOf ends signed text.now reading
+    requires { (ends : AnyEnds) × (signed : Bool) × IsReadingOf ends signed text.now reading
         × IsTokenIf signed (read_of ends (chars text.now)) }
-    ensures none { IfNone result ((ends : LineEnds) (signed : Bool) → IsReadingOf ends signed text.now reading
+    ensures none { IfNone result ((ends : AnyEnds) (signed : Bool) → IsReadingOf ends signed text.now reading
         → IsTokenIf signed (read_of ends (chars text.now)) → HasValueOf ends (chars text.now)) }
     ensures some { IfSome result (ExplainsLimit (chars text.now)) }
 {
     match oversized_suffix_at(reading) {
-        Some(suffix_at) => limit_flaw_unless_float(text, suffix_at),
+        Some(suffix_at) => {
+            if is_float_by_suffix(text) {
+                None
+            } else {
+                Some(limit_flaw(text, suffix_at))
+            }
+        }
         None => None,
     }
 }

@@ -2,7 +2,7 @@
 
 ghost use Rattle.std.specs.Prelude.{◌≡◌, drop};
 ghost use Rattle.std.specs.Str.{chars, IsCharBoundary};
-ghost use Rattle.rl_strict.specs.Mirrors.UnitFlawAt.{character_flaw_of, code_flaw_of, code_flaw_at, escape_flaw_at, first_digit_flaw_at, found_flaw, hex_flaw_at, is_code, low_digit_flaw_at, unicode_flaw_at, spoiled_flaw_of};
+ghost use Rattle.rl_strict.specs.Mirrors.UnitFlawAt.{character_flaw_of, code_flaw_of, code_flaw_at, escape_flaw_at, first_digit_flaw_at, found_flaw, hex_flaw_at, is_code, low_digit_flaw_at};
 ghost use Rattle.rl_lenient.specs.Mirrors.UnitAt.{code_digits};
 
 use crate::flaws::{FlawAt, FlawKind, make_flaw};
@@ -95,21 +95,8 @@ fn first_digit_flaw(kind: Kind, text: &str) -> FlawAt<'_>
     }
 }
 
-/// Returns the first flaw after `\u`.
-#[tactic(auto, unfolding(crate::specs::Mirrors::UnitFlawAt::unicode_flaw_at))]
-fn unicode_flaw(kind: Kind, text: &str) -> FlawAt<'_>
-    ensures { found_flaw result.kind (chars result.rest.now)
-        ≡ unicode_flaw_at kind (chars text.now) }
-{
-    match split_char(text) {
-        None => make_flaw(FlawKind::Unclosed, text),
-        Some(('{', inside)) => first_digit_flaw(kind, inside),
-        Some(_) => make_flaw(FlawKind::NoBrace, text),
-    }
-}
-
 /// Returns the first flaw after a backslash.
-#[tactic(auto, unfolding(crate::specs::Mirrors::UnitFlawAt::escape_flaw_at))]
+#[tactic(auto, unfolding(crate::specs::Mirrors::UnitFlawAt::escape_flaw_at, crate::specs::Mirrors::UnitFlawAt::unicode_flaw_at))]
 pub(crate) fn escape_flaw(kind: Kind, text: &str) -> FlawAt<'_>
     ensures { found_flaw result.kind (chars result.rest.now)
         ≡ escape_flaw_at kind (chars text.now) }
@@ -118,10 +105,13 @@ pub(crate) fn escape_flaw(kind: Kind, text: &str) -> FlawAt<'_>
         None => make_flaw(FlawKind::Unclosed, text),
         Some(('x', digits)) => hex_flaw(kind, digits),
         Some(('u', braces)) => {
-            if has_unicode(kind) {
-                unicode_flaw(kind, braces)
-            } else {
-                make_flaw(FlawKind::NoUnicode, text)
+            if !has_unicode(kind) {
+                return make_flaw(FlawKind::NoUnicode, text);
+            }
+            match split_char(braces) {
+                None => make_flaw(FlawKind::Unclosed, braces),
+                Some(('{', inside)) => first_digit_flaw(kind, inside),
+                Some(_) => make_flaw(FlawKind::NoBrace, braces),
             }
         }
         Some(('0', _)) => make_flaw(FlawKind::Nul, text),
@@ -137,16 +127,6 @@ pub(crate) fn character_flaw(c: char) -> FlawKind
         '\0' => FlawKind::Nul,
         '\'' => FlawKind::NoCharacter,
         c if c.is_ascii() => FlawKind::MustEscape,
-        _ => FlawKind::NotAscii,
-    }
-}
-
-/// Returns the flaw of a character other than CR that a raw string of the kind `kind` can't contain.
-pub(crate) fn spoiled_flaw(kind: Kind) -> FlawKind
-    ensures { result ≡ spoiled_flaw_of kind }
-{
-    match kind {
-        Kind::CStr => FlawKind::Nul,
         _ => FlawKind::NotAscii,
     }
 }

@@ -10,11 +10,11 @@ ghost use Rattle.rl_lenient.specs.Forms.{has_form};
 ghost use Rattle.rl_strict.specs.StrictFlawKinds.{StrictQuotedFlaw, form_quote, suffix_piece};
 ghost use Rattle.rl_strict.specs.StrictShapes.{ClosesForm};
 ghost use Rattle.rl_strict.specs.Mirrors.StrictAt.{is_raw_character};
-ghost use Rattle.rl_strict.specs.Mirrors.StrictFlawAt.{suffix_rest, suffix_end_flaw_at, begins_hash, raw_character_flaw_of, strict_escape_flaw_at, strict_unit_flaw_at};
+ghost use Rattle.rl_strict.specs.Mirrors.StrictFlawAt.{suffix_rest, suffix_end_flaw_at, begins_hash, raw_character_flaw_of, strict_unit_flaw_at};
 ghost use Rattle.rl_strict.specs.Mirrors.UnitFlawAt.{found_flaw};
 
 use crate::flaws::{FlawAt, FlawKind, make_flaw};
-use crate::quoted_flaws::{character_flaw, escape_flaw, spoiled_flaw};
+use crate::quoted_flaws::{character_flaw, escape_flaw};
 use crate::strict::{after_closer, is_raw_character};
 use rl_lenient::quoted_forms::QuotedForm;
 use rl_syntax::Kind;
@@ -40,25 +40,17 @@ pub(crate) fn begins_hash(form: QuotedForm, text: &str) -> bool
     }
 }
 
-/// Returns the first flaw after a backslash that begins no escape of Rust's grammar.
-#[tactic(auto, unfolding(crate::specs::Mirrors::StrictFlawAt::strict_escape_flaw_at))]
-fn strict_escape_flaw(kind: Kind, text: &str) -> FlawAt<'_>
-    ensures { found_flaw result.kind (chars result.rest.now) ≡ strict_escape_flaw_at kind (chars text.now) }
-{
-    match split_char(text) {
-        Some(('\r', _)) if kind.is_string() => make_flaw(FlawKind::CarriageReturn, text),
-        _ => escape_flaw(kind, text),
-    }
-}
-
 /// Returns the flaw of a text that begins with neither a character nor an escape that a literal of the kind `kind` may contain.
-#[tactic(auto, unfolding(crate::specs::Mirrors::StrictFlawAt::strict_unit_flaw_at))]
+#[tactic(auto, unfolding(crate::specs::Mirrors::StrictFlawAt::strict_unit_flaw_at, crate::specs::Mirrors::StrictFlawAt::strict_escape_flaw_at))]
 pub fn unit_flaw(kind: Kind, text: &str) -> FlawAt<'_>
     ensures { found_flaw result.kind (chars result.rest.now) ≡ strict_unit_flaw_at kind (chars text.now) }
 {
     match split_char(text) {
         None => make_flaw(FlawKind::Unclosed, text),
-        Some(('\\', rest)) => strict_escape_flaw(kind, rest),
+        Some(('\\', rest)) => match split_char(rest) {
+            Some(('\r', _)) if kind.is_string() => make_flaw(FlawKind::CarriageReturn, rest),
+            _ => escape_flaw(kind, rest),
+        },
         Some(('\r', _)) if kind.is_string() => make_flaw(FlawKind::CarriageReturn, text),
         Some((first, _)) => make_flaw(character_flaw(first), text),
     }
@@ -78,7 +70,10 @@ pub fn raw_character_flaw(kind: Kind, c: char) -> FlawKind
 {
     match c {
         '\r' => FlawKind::CarriageReturn,
-        _ => spoiled_flaw(kind),
+        _ => match kind {
+            Kind::CStr => FlawKind::Nul,
+            _ => FlawKind::NotAscii,
+        },
     }
 }
 

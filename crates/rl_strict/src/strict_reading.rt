@@ -269,9 +269,11 @@ fn signed_at(text: &str, ends: LineEnds, signed: bool) -> Result<Reading, FlawAt
 }
 
 /// Returns the text after its first character, or an empty text. In a file a CR LF is one character.
-fn after_first(ends: LineEnds, text: &str) -> &str
+#[tactic(auto, using(rl_syntax::proofs::TailLemmas::tail_step, rl_syntax::proofs::TailLemmas::tail_self))]
+pub fn after_first(ends: LineEnds, text: &str) -> &str
     ensures rest { IsRestOf ends (chars text.now) (chars result.now) }
     ensures read { read_of ends (chars result.now) ≡ drop 1 (read_of ends (chars text.now)) }
+    ensures following { IsTail text.now result.now }
     ensures shorter { length result.now ≤ length text.now }
 {
     match split(ends, text) {

@@ -204,17 +204,6 @@ impl<'t> FlawAt<'t> {
             rest: self.rest,
         }
     }
-
-    /// Converts the flaw's two texts, which are ends of `text`, to byte offsets in `text`.
-    pub(crate) fn in_text(self, text: &str) -> Flaw {
-        let lo = text.len() - self.rest.len();
-        Flaw {
-            kind: self.kind,
-            from: text.len() - self.piece.len(),
-            lo,
-            hi: lo + first_len(self.rest),
-        }
-    }
 }
 
 /// One error in the text of a literal: its kind, its byte range, and the piece of the text to show.
@@ -280,30 +269,21 @@ fn skip_letters<'t>(word: &str, text: &'t str) -> &'t str {
     rest
 }
 
-/// Returns the flaw of `text`, which begins with the first letter of `word` but isn't `word`.
-fn letters_flaw<'t>(word: &str, text: &'t str) -> FlawAt<'t> {
-    end_flaw(
-        FlawKind::UnexpectedEnd,
-        FlawKind::NotALiteral,
-        skip_letters(word, text),
-    )
-}
-
 /// Returns the flaw of a text that begins neither as a number nor as a quoted literal.
 pub fn first_flaw(text: &str) -> FlawAt<'_> {
     match split_char(text) {
         None => make_flaw(FlawKind::Empty, text),
         Some(('b' | 'c', rest)) => end_flaw(FlawKind::UnexpectedEnd, FlawKind::NotALiteral, rest),
-        Some(('t', _)) => letters_flaw("true", text),
-        Some(('f', _)) => letters_flaw("false", text),
+        Some(('t', _)) => end_flaw(
+            FlawKind::UnexpectedEnd,
+            FlawKind::NotALiteral,
+            skip_letters("true", text),
+        ),
+        Some(('f', _)) => end_flaw(
+            FlawKind::UnexpectedEnd,
+            FlawKind::NotALiteral,
+            skip_letters("false", text),
+        ),
         Some(_) => make_flaw(FlawKind::NotALiteral, text),
-    }
-}
-
-/// Returns the number of bytes of the text's first character, or 0 if the text is empty.
-fn first_len(text: &str) -> usize {
-    match split_char(text) {
-        Some((_, after)) => text.len() - after.len(),
-        None => 0,
     }
 }

@@ -2,7 +2,8 @@
 //! Integers above 128 bits, which are literal tokens without a value.
 
 use crate::rl_strict::flaws::{Flaw, FlawKind, make_flaw};
-use crate::rl_strict::strict_reading::Reading;
+use crate::rl_strict::line_ends::LineEnds;
+use crate::rl_strict::strict_reading::{Reading, place_flaw};
 use crate::rl_lenient::digit_runs::{after_minus, begins_digit, skip_digits};
 
 /// Returns the byte offset of the suffix if `reading` is an integer above 128 bits, and `None` otherwise.
@@ -13,11 +14,6 @@ pub fn oversized_suffix_at(reading: Reading) -> Option<usize> {
     }
 }
 
-/// Whether the suffix is `f32` or `f64`.
-fn is_float_suffix(suffix: &str) -> bool {
-    matches!(suffix, "f32" | "f64")
-}
-
 /// Returns `true` if Rust reads the text as a float because of its suffix: decimal digits, optionally after a minus, and `f32`
 /// or `f64`.
 ///
@@ -25,7 +21,7 @@ fn is_float_suffix(suffix: &str) -> bool {
 pub fn is_float_by_suffix(text: &str) -> bool {
     let number = after_minus(text);
     if begins_digit(number) {
-        is_float_suffix(skip_digits(number).rest)
+        matches!(skip_digits(number).rest, "f32" | "f64")
     } else {
         false
     }
@@ -35,24 +31,20 @@ pub fn is_float_by_suffix(text: &str) -> bool {
 /// start of `text`.
 pub fn limit_flaw(text: &str, suffix_at: usize) -> Flaw {
     let found = make_flaw(FlawKind::TooLarge, &text[suffix_at..]).in_piece(text);
-    found.in_text(text)
-}
-
-/// Returns the flaw of an integer above 128 bits, whose suffix begins at the byte offset `suffix_at`, or `None` if the suffix
-/// makes the number a float.
-pub fn limit_flaw_unless_float(text: &str, suffix_at: usize) -> Option<Flaw> {
-    if is_float_by_suffix(text) {
-        None
-    } else {
-        Some(limit_flaw(text, suffix_at))
-    }
+    place_flaw(LineEnds::Text, found, text)
 }
 
 /// Returns the flaw of `text` if `reading`, its parse result, is an integer above 128 bits that its suffix doesn't make a
 /// float.
 pub fn limit_of(text: &str, reading: Reading) -> Option<Flaw> {
     match oversized_suffix_at(reading) {
-        Some(suffix_at) => limit_flaw_unless_float(text, suffix_at),
+        Some(suffix_at) => {
+            if is_float_by_suffix(text) {
+                None
+            } else {
+                Some(limit_flaw(text, suffix_at))
+            }
+        }
         None => None,
     }
 }

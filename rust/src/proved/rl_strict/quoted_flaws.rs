@@ -72,25 +72,19 @@ fn first_digit_flaw(kind: Kind, text: &str) -> FlawAt<'_> {
     }
 }
 
-/// Returns the first flaw after `\u`.
-fn unicode_flaw(kind: Kind, text: &str) -> FlawAt<'_> {
-    match split_char(text) {
-        None => make_flaw(FlawKind::Unclosed, text),
-        Some(('{', inside)) => first_digit_flaw(kind, inside),
-        Some(_) => make_flaw(FlawKind::NoBrace, text),
-    }
-}
-
 /// Returns the first flaw after a backslash.
 pub(crate) fn escape_flaw(kind: Kind, text: &str) -> FlawAt<'_> {
     match split_char(text) {
         None => make_flaw(FlawKind::Unclosed, text),
         Some(('x', digits)) => hex_flaw(kind, digits),
         Some(('u', braces)) => {
-            if has_unicode(kind) {
-                unicode_flaw(kind, braces)
-            } else {
-                make_flaw(FlawKind::NoUnicode, text)
+            if !has_unicode(kind) {
+                return make_flaw(FlawKind::NoUnicode, text);
+            }
+            match split_char(braces) {
+                None => make_flaw(FlawKind::Unclosed, braces),
+                Some(('{', inside)) => first_digit_flaw(kind, inside),
+                Some(_) => make_flaw(FlawKind::NoBrace, braces),
             }
         }
         Some(('0', _)) => make_flaw(FlawKind::Nul, text),
@@ -104,14 +98,6 @@ pub(crate) fn character_flaw(c: char) -> FlawKind {
         '\0' => FlawKind::Nul,
         '\'' => FlawKind::NoCharacter,
         c if c.is_ascii() => FlawKind::MustEscape,
-        _ => FlawKind::NotAscii,
-    }
-}
-
-/// Returns the flaw of a character other than CR that a raw string of the kind `kind` can't contain.
-pub(crate) fn spoiled_flaw(kind: Kind) -> FlawKind {
-    match kind {
-        Kind::CStr => FlawKind::Nul,
         _ => FlawKind::NotAscii,
     }
 }

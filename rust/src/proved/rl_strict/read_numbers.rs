@@ -34,16 +34,12 @@ pub(crate) fn skip_suffix(text: &str) -> &str {
     }
 }
 
-/// Whether the byte is an ASCII letter, an ASCII digit or an underscore.
-#[inline(always)]
-fn is_suffix_byte(byte: &u8) -> bool {
-    byte.is_ascii_alphanumeric() || *byte == b'_'
-}
-
 /// Whether each byte is an ASCII letter, an ASCII digit or an underscore.
 #[inline(always)]
 fn are_suffix_bytes(bytes: &[u8]) -> bool {
-    bytes.iter().all(is_suffix_byte)
+    bytes
+        .iter()
+        .all(|byte| byte.is_ascii_alphanumeric() || *byte == b'_')
 }
 
 /// Whether the text is an ASCII letter, followed by ASCII letters, digits and underscores only.
@@ -138,7 +134,7 @@ fn read_whole(run: DigitRun<'_>) -> Result<Number<'_>, Stop<'_>> {
 }
 
 /// Whether the text continues a number as only a float does: with a dot, `e` or `E`.
-fn begins_float(text: &str) -> bool {
+pub fn begins_float(text: &str) -> bool {
     matches!(split_char(text), Some(('.' | 'e' | 'E', _)))
 }
 

@@ -2,7 +2,7 @@
 //! The flaws of quoted literals: invalid characters and escapes, and invalid text after the closing quote.
 
 use crate::rl_strict::flaws::{FlawAt, FlawKind, make_flaw};
-use crate::rl_strict::quoted_flaws::{character_flaw, escape_flaw, spoiled_flaw};
+use crate::rl_strict::quoted_flaws::{character_flaw, escape_flaw};
 use crate::rl_strict::strict::{after_closer, is_raw_character};
 use crate::rl_lenient::quoted_forms::QuotedForm;
 use crate::rl_syntax::Kind;
@@ -24,19 +24,14 @@ pub(crate) fn begins_hash(form: QuotedForm, text: &str) -> bool {
     }
 }
 
-/// Returns the first flaw after a backslash that begins no escape of Rust's grammar.
-fn strict_escape_flaw(kind: Kind, text: &str) -> FlawAt<'_> {
-    match split_char(text) {
-        Some(('\r', _)) if kind.is_string() => make_flaw(FlawKind::CarriageReturn, text),
-        _ => escape_flaw(kind, text),
-    }
-}
-
 /// Returns the flaw of a text that begins with neither a character nor an escape that a literal of the kind `kind` may contain.
 pub fn unit_flaw(kind: Kind, text: &str) -> FlawAt<'_> {
     match split_char(text) {
         None => make_flaw(FlawKind::Unclosed, text),
-        Some(('\\', rest)) => strict_escape_flaw(kind, rest),
+        Some(('\\', rest)) => match split_char(rest) {
+            Some(('\r', _)) if kind.is_string() => make_flaw(FlawKind::CarriageReturn, rest),
+            _ => escape_flaw(kind, rest),
+        },
         Some(('\r', _)) if kind.is_string() => make_flaw(FlawKind::CarriageReturn, text),
         Some((first, _)) => make_flaw(character_flaw(first), text),
     }
@@ -52,7 +47,10 @@ pub fn ends_raw_content(kind: Kind, hashes: &str, c: char, after: &str) -> bool 
 pub fn raw_character_flaw(kind: Kind, c: char) -> FlawKind {
     match c {
         '\r' => FlawKind::CarriageReturn,
-        _ => spoiled_flaw(kind),
+        _ => match kind {
+            Kind::CStr => FlawKind::Nul,
+            _ => FlawKind::NotAscii,
+        },
     }
 }
 

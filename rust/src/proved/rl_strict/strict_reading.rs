@@ -207,7 +207,7 @@ fn signed_at(text: &str, ends: LineEnds, signed: bool) -> Result<Reading, FlawAt
 }
 
 /// Returns the text after its first character, or an empty text. In a file a CR LF is one character.
-fn after_first(ends: LineEnds, text: &str) -> &str {
+pub fn after_first(ends: LineEnds, text: &str) -> &str {
     match split(ends, text) {
         Some((_, rest)) => rest,
         None => text,

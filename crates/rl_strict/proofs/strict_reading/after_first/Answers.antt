@@ -1,4 +1,4 @@
-use Rattle.rl_syntax.proofs.Common.{◌∙◌, ap, drop, sym}
+use Rattle.rl_strict.proofs.Names.{◌∙◌, ap, drop, sym}
 use Rattle.rl_strict.proofs.EndLemmas.{nil_of, self_in}
 use Rattle.rl_strict.proofs.strict_reading.after_first.Goals as goal
 

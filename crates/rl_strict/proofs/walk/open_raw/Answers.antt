@@ -1,7 +1,7 @@
 use Rattle.rl_syntax.proofs.Common.{◌==◌, ◌∙◌, ap, append_cancel_right, ne_eqb, sym}
 use Rattle.std.specs.Str.{chars}
 use Rattle.rl_syntax.specs.Texts.{first_passes}
-use Rattle.rl_strict.proofs.OpenRaw.{raw_unopened}
+use Rattle.rl_strict.proofs.StrictRawLemmas.{raw_unopened}
 use Rattle.rl_strict.proofs.WalkForms.{opened_text, raw_bare, raw_many, raw_short}
 use Rattle.rl_strict.proofs.walk.open_raw.Goals as goal
 
