@@ -2,10 +2,10 @@
 differences.
 
 A comparison is a file beside this one. It generates texts from a seed, runs a program of this repository and another program or the
-model on them, and reports each difference. Every comparison takes `--seed S`, `--show N` (differences printed), `--save FILE`
-(appends each difference as a JSON line) and `--row` (prints the end of a line for oracle/compared.tsv). Most take `--count N`
-(generated texts). The programs of this repository are rl_rows, rl_tool and rl_scan as Cargo builds them. With `--proved` they are
-crates/NAME/out/NAME. `--rl-scan PROGRAM` and similar options name others. The status is 0 if every difference is explained.
+model on them, and reports each difference. Every comparison takes `--seed S`, `--show N` (differences printed) and `--row` (prints
+the end of a line for oracle/compared.tsv). Most take `--count N` (generated texts). The programs of this repository are rl_rows,
+rl_tool and rl_scan as Cargo builds them. With `--proved` they are crates/NAME/out/NAME. `--rl-scan PROGRAM` and similar options name
+others. The status is 0 if every difference is explained.
 """
 import argparse
 import collections
@@ -24,18 +24,18 @@ import programs  # noqa: E402
 
 # The number of texts that a program receives at a time.
 BATCH = 200_000
-# The commands of rl_rows and of oracle/reader whose result is several lines, ended by a line with a full stop.
+# The commands of rl_rows and of reader (oracle/rustc) whose result is several lines, ended by a line with a full stop.
 POINTED = ('read', 'spans', 'attr', 'source')
 
 
-def arguments(words, *places, ours=(), **options):
-    """Parses the arguments of a comparison. A place is the name of a positional argument, with `?`, `*` or `+` after it if it is
-    optional or has several values. An option has its default. `words` is the text of --help, and `ours` names the programs of this
-    repository that the comparison runs."""
+def run(compare, words, *places, what='texts', ours=(), **options):
+    """Runs a comparison as a script. `compare` gets the arguments and the report, and returns the number of texts, whose name is
+    `what`. `words` is the text of --help. A place is the name of a positional argument, with `?`, `*` or `+` after it if it is
+    optional or has several values. An option has its default. `ours` names the programs of this repository that the comparison runs."""
     parser = argparse.ArgumentParser(description=words, formatter_class=argparse.RawDescriptionHelpFormatter)
     for place in places:
         parser.add_argument(place.rstrip('?*+'), nargs=place[-1] if place[-1] in '?*+' else None)
-    for name, default in {'seed': 1, 'show': 20, 'save': '', 'row': False, **options}.items():
+    for name, default in {'seed': 1, 'show': 20, 'row': False, **options}.items():
         how = {'action': 'store_true'} if default is False else {'type': type(default), 'default': default}
         parser.add_argument(f'--{name.replace("_", "-")}', **how)
     for name in ours:
@@ -45,13 +45,6 @@ def arguments(words, *places, ours=(), **options):
     asked = parser.parse_args()
     for name in ours:
         setattr(asked, name, programs.chosen(name, getattr(asked, name), asked.proved))
-    return asked
-
-
-def run(compare, words, *places, what='texts', **options):
-    """Runs a comparison as a script. `compare` gets the arguments and the report, and returns the number of texts, whose name is
-    `what`."""
-    asked = arguments(words, *places, **options)
     report = Report(asked)
     sys.exit(report.end(compare(asked, report), what))
 
@@ -94,6 +87,14 @@ def answers_of(command, data, texts, is_pointed=False):
 def of_rows(program, word, texts):
     """Returns the results of rl_rows, or of another program with the same input, for a command."""
     return answers_of([program], ''.join(f'{word} {it.hex()}\n' for it in texts).encode(), texts, word in POINTED)
+
+
+def text_of(data):
+    """Returns the text, or None if it isn't UTF-8."""
+    try:
+        return data.decode()
+    except UnicodeDecodeError:
+        return None
 
 
 def scanned(program, data, *words):
@@ -146,9 +147,6 @@ class Report:
         if self.unexplained <= self.asked.show:
             shown = [it.decode(errors='replace')[:300] for it in (data, theirs, ours)]
             print('UNEXPLAINED %s %r\n   theirs %s\n   ours   %s' % (name, *shown), flush=True)
-        if self.asked.save:
-            with open(self.asked.save, 'a', encoding='utf-8') as file:
-                file.write(json.dumps({'name': name, 'input': data.hex(), 'theirs': theirs.hex(), 'ours': ours.hex()}) + '\n')
 
     def judge(self, name, data, theirs, ours, known=None):
         """Counts a pair of results: as equal, as a difference with the reason `known`, or as an unexplained difference."""

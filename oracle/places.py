@@ -23,12 +23,13 @@ import os
 import random
 import re
 import subprocess
+import sys
 
 import frame
 import rustc
 import texts
-from model.flaws import COOKED
-from model.literals import CHARACTERS, OPENERS, RAW_KINDS, RAW_OPENERS, Unit, quoted
+from model.literals import CHARACTERS, OPENERS, RAW_OPENERS, Unit, quoted
+from style_rows import long_texts
 
 
 # ---- the model
@@ -72,41 +73,10 @@ def answer(text):
 
 # ---- the texts
 
-ESCAPES = {
-    'Str': ['\\x00', '\\x41', '\\x7f', '\\0', '\\u{0}', '\\u{1F_600}', '\\u{7ff}', '\\u{800}', '\\u{e4}', '\\u{0_0_0_0_0_1__}', '\\u{10FFFF}'],
-    'ByteStr': ['\\x00', '\\xfF', '\\x80', '\\0'],
-    'CStr': ['\\x01', '\\xfF', '\\x80', '\\u{1}', '\\u{ff}', '\\u{1F_600}', '\\u{20ac}'],
-}
-NAMES = ['\\n', '\\r', '\\t', '\\\\', "\\'", '\\"']
-LINES = ['\r\n', '\n', '\\\n', '\\\r', '\\\n  \t', '\\\r\n\r \n', '\\\n\\\n']
-PLAINS = ['a', 'bc', ' ', '{', '}', "'", '#', '\t', '(1', ')', ', ', '"', 'x' * 17, 'y' * 64]
-WIDE = ['\u00e9', '\u20ac', '\U0001f600', '\u00a0', '\u00df' * 9]
 # The pieces of format strings.
 PIECES = ['a', 'é', '語', '😀', '\\n', '\\t', '\\\\', '\\"', "\\'", '\\0', '\\x41', '\\x7f', '\\u{e9}', '\\u{1F600}', '\\u{4_1}',
           '\\\n   ', '\\\n\t\n  ', '\n', '{{', '}}', ' ', 'x']
 RAW_PIECES = ['a', 'é', '\\n', '語', '😀', '{{', '"x', '\n']
-
-
-def body(source, kind):
-    """Returns a text to put between quotes."""
-    pieces = PLAINS + NAMES + LINES + ESCAPES[kind] * 2 + ([] if kind == 'ByteStr' else WIDE)
-    return ''.join(source.choice(pieces) for _ in range(source.choice((0, 1, 1, 2, 3, 5, 8, 13))))
-
-
-def literal(source):
-    """Returns a text that is mostly a quoted literal, of any kind."""
-    suffix = source.choice(('', '', '', 'u8', '_x', '\u00e9'))
-    form = source.randrange(4)
-    if form == 0:
-        opener, kind = source.choice(list(RAW_KINDS.items()))
-        hashes = '#' * source.choice((0, 0, 1, 2, 5))
-        return opener + hashes + '"' + body(source, kind) + '"' + hashes + suffix
-    if form == 1:
-        opener, kind = source.choice((("'", 'Str'), ("b'", 'ByteStr')))
-        pieces = PLAINS[:12] + NAMES + ESCAPES[kind] + ([] if kind == 'ByteStr' else WIDE[:4])
-        return opener + source.choice(pieces) + "'" + suffix
-    opener, kind = source.choice([(opener, kind) for kind, opener in COOKED.items()])
-    return opener + body(source, kind).replace('"', source.choice(('', '\\"'))) + '"' + suffix
 
 
 def format_string(source):
@@ -142,8 +112,8 @@ def compare_rustc(report, literals, answers):
 
 def compare(asked, report):
     source = random.Random(asked.seed)
-    made = [texts.random_quoted, texts.random_raw]
-    every = [(made[at % 10 - 8] if at % 10 >= 8 else literal)(source) for at in range(asked.count)] + texts.literals_of(asked.folders)
+    every = [*itertools.islice(filter(quoted, long_texts(source, sys.maxsize)), asked.count * 8 // 10), *texts.literals_of(asked.folders),
+             *(made(source) for made in (texts.random_quoted, texts.random_raw) for _ in range(asked.count // 10))]
     formats = [format_string(source) for _ in range(asked.formats)]
     answers = answers_of(asked.lines, every + formats)
     for text, its in zip(every, answers):

@@ -7,7 +7,7 @@ By its command, a result is compared with that of
 
     text, int, float, skip, value   `syn`'s own parsing code: PATH is a program with it (docs/COMPARISON.md). `PATH --len` (and `--int`,
                                     `--float`, `--skip`) reads texts, each after its length, and prints a line for each
-    read                            proc_macro2's lexer and that code (oracle/reader)
+    read                            proc_macro2's lexer and that code (`reader` of oracle/rustc)
     strict, spans, attr             rustc's own lexer (the macros of oracle/rustc)
 
 The first five are the default. Other options: frame.py. `--rl-rows` may name the package's example `lines`. A million
@@ -23,7 +23,7 @@ import texts
 
 
 def syn(path, command, data, is_package=False):
-    """Returns the lines that syn's parsing code prints for a command. For `read`, the path is that of oracle/reader."""
+    """Returns the lines that syn's parsing code prints for a command. For `read`, the path is that of `reader`."""
     if command == 'value':
         return [listed.value_line(text, line, is_package) for text, line in zip(data, syn(path, 'text', data))]
     return frame.by_length([path, '--len'] + ([] if command == 'text' else [f'--{command}']), data, command == 'read')
@@ -33,7 +33,7 @@ def other(asked, command):
     """Returns the function that returns the other program's results for the command."""
     if command in listed.OF_RUSTC:
         return functools.partial(rustc.Lexer().answers, command)
-    path = os.path.join(frame.helper('reader'), 'reader') if command == 'read' else asked.path
+    path = os.path.join(frame.helper('rustc'), 'reader') if command == 'read' else asked.path
     return functools.partial(syn, path, command, is_package=os.path.basename(asked.rl_rows) == 'lines')
 
 

@@ -4,10 +4,9 @@ rustc and litrs.
 
     oracle/reasons.py [--families worked,cuts,..] [--rustc] [--litrs] [--alone N] ..    a minute for 1,000 random texts, with --rustc ten
 
-The texts are those of oracle/sample.jsonl and of the rows of rl_rows, and generated ones. With --rustc, rustc lexes many texts in
+The texts are those of oracle/stored.rs and of the rows of rl_rows, and generated ones. With --rustc, rustc lexes many texts in
 one source if they leave no quote, comment or group open, and N of the others each alone; --alone sets N. --litrs uses oracle/litrs.
-Tables then show the relation of rustc's or litrs' errors to ours. With --model the model's results are compared with rustc's and
-litrs' instead. Other options: frame.py.
+Tables then show the relation of rustc's or litrs' errors to ours. Other options: frame.py.
 """
 import collections
 import itertools
@@ -19,11 +18,11 @@ import listed
 import rustc
 import texts as families
 from model import flaws
+from model.sources import cut_source
 from rustc import CUT, EARLIER, kinds, short
 
 # The commands, and the model's function that returns the line for each.
 COMMANDS = {'explain': flaws.line, 'explain-value': flaws.value_line}
-STORED = ('oracle/sample.jsonl', 'crates/rl_rows/stdin')
 Flaw = collections.namedtuple('Flaw', 'kind begin low high')
 # A text with one of these flaws doesn't begin a literal. So rustc lexes its start as an identifier, punctuation or a comment, and
 # continues.
@@ -45,20 +44,16 @@ UNCLOSED = re.compile('unterminated (double quote|character literal|byte constan
 # After these messages, rustc reports no error in the following text.
 STOPS = re.compile('unterminated (?!unicode)|found invalid character|too many `#` symbols|.*delimiter|expected item')
 LIFETIME = re.compile("'(?:r#)?[A-Za-z_\u00e9]")
-# A token of rustc's lexer, in a sketch, that leaves nothing open. Delimiters and the start of a block comment aren't included.
-TOKEN = re.compile(r"""//[^\n]*+|(?:[bc]?"(?:[^"\\]|\\.)*+"|(?:br|cr|r)(?P<h>\#{0,255})"(?:(?!"(?P=h)).)*+"(?P=h)|b'(?:[^\\]'|(?:[^'\\/\n]|\n(?=')|\\.)*+')
-|'[^\\]'|'(?:[^'\\/\nA-Za-z0-9_\u00e9]|\\.)(?:[^'\\/\n]|\n(?=')|\\.)*+'|'(?:r\#)?[0-9A-Za-z_\u00e9]AFTER*+'?+)(?:WORD)?+|''(?!')|[0-9]AFTER*+
-|(?!(?:r|br|cr)["\#]|b['"]|c")(?:r\#(?=[A-Za-z_\u00e9]))?WORD|[^'"\\(){}\[\]/0-9A-Za-z_\u00e9]|/(?![/*])"""
-                   .replace('WORD', flaws.WORD + '+').replace('AFTER*+', flaws.AFTER + '+'), re.S | re.X)
+# Tokens that leave something open; and words after which a hash without a quote ends rustc's lexer.
+ENDING, RAW = ('(', ')', '[', ']', '{', '}', '\\'), ('r', 'br', 'cr')
 RUSTC_TEXTS = 400
 
 
 def leaves_nothing_open(text):
     """Whether rustc's lexer continues after the text, so that other texts can follow it in one source."""
-    drawn, at = flaws.sketch(text), 0
-    while at < len(drawn) and (token := TOKEN.match(drawn, at)):
-        at = token.end()
-    return at == len(drawn)
+    cut = cut_source('\n' + text)
+    raw = any(one.text in RAW and other.text == '#' and one.hi == other.lo for one, other in zip(cut.tokens, cut.tokens[1:]))
+    return not (cut.error or raw or re.search('r#{256}', text) or any(token.text in ENDING for token in cut.tokens))
 
 
 def rustc_errors(texts):
@@ -209,7 +204,7 @@ def compare_model(asked, report, answers, data):
     texts = [text.decode() for text in data]
     for command, line_of in COMMANDS.items():
         models = [line_of(text) for text in texts]
-        lines = models if asked.model else frame.of_rows(asked.rl_rows, command, data)
+        lines = frame.of_rows(asked.rl_rows, command, data)
         for text, it, model, line in zip(texts, data, models, lines):
             report.judge(command, it, model, line, listed.NEWER if model != line and listed.newer(text) else None)
         if command == 'explain':
@@ -217,15 +212,11 @@ def compare_model(asked, report, answers, data):
 
 
 def stored_texts():
-    """Returns the texts that stored rows contain as hexadecimal digits."""
-    for path in STORED:
-        with open(os.path.join(frame.TOP, path), 'rb') as file:
-            words = re.findall(rb'(?<![0-9a-f])(?:[0-9a-f]{2})+(?![0-9a-f])', file.read())
-        for word in words:
-            try:
-                yield bytes.fromhex(word.decode()).decode()
-            except UnicodeDecodeError:
-                continue
+    """Returns the texts with stored results, and those that the rows of rl_rows contain as hexadecimal digits."""
+    yield from (text for pairs in families.STORED.values() for text, _ in pairs)
+    with open(os.path.join(frame.TOP, 'crates/rl_rows/stdin'), 'rb') as file:
+        words = re.findall(rb'(?<![0-9a-f])(?:[0-9a-f]{2})+(?![0-9a-f])', file.read())
+    yield from (text for word in words if (text := frame.text_of(bytes.fromhex(word.decode()))) is not None)
 
 
 def compare(asked, report):
@@ -243,5 +234,4 @@ def compare(asked, report):
 
 
 if __name__ == '__main__':
-    frame.run(compare, __doc__, ours=['rl_rows'], count=500_000, families='worked,cuts,edits,random', alone=2_000, rustc=False, litrs=False,
-              model=False)
+    frame.run(compare, __doc__, ours=['rl_rows'], count=500_000, families='worked,cuts,edits,random', alone=2_000, rustc=False, litrs=False)

@@ -30,139 +30,81 @@ GAPS = ['', '', ' ', ' ', '\n', '/* a */', '// b\n', ' /*,*/', '/*{*/ ', ' //::\
 ATTRIBUTES = ['', '', '', '', '#[cfg(all())]', '#[allow(unused)] ', '#[allow(unused)]#[cfg(not(any()))]', '/// a\n', '/** : */', '/// b\n #[cfg(all())]']
 
 
-# The parts of a value, by its name. A word with `#` is a number, and one with `=` is the name of a field. Words in upper case are
-# the functions below.
-VALUES = {
-    'number': 'NUMBER', 'path': 'PATH', 'field': 'r . FIELD', 'tuple': '( VALUE , #10 ) . 0', 'array': '[ VALUE , #12 ] [ 0 ]',
-    'block': '{ #100 ; VALUE }', 'match': 'match LAST { #10 => VALUE , #12 ..= #14 => #15 , _ => 0 }', 'range': '( #10 .. #20 ) . start',
-    'call': '( | a : u8 , b : [ u8 ; #11 ] | a ) ( VALUE , [ 0 ; #11 ] )', 'word': 'r . 0'}
-STATEMENTS = [
-    'let x = ROW2 ;', 'let x : Pair = PAIR ;', 'let ROW_PATTERN = r ;', 'if let Pair { =10 : OPEN_PATTERN , .. } = p { #1000 ; }',
-    'let #10 : u8 = ( VALUE ) else { return } ;', 'match r { OPEN_PATTERN => #32 , _ => #64 } ;',
-    'let f = | ROW_PATTERN : Row , n : u8 | #10 ; let n : i32 = f ( ROW1 , #20 ) ;', 'let x = [ #10 , #11 , r . =10 ] ;']
+# The texts that each word in upper case stands for: values, numbers, and patterns, which may fail to match if they are open. `#10` is
+# a number, `=10` the name of a field, and FIELDS:WORD some fields with that word. Without depth, a VALUE is one of SIMPLE.
+SIMPLE = ['NUMBER', 'PATH', 'r . FIELD', 'r . 0']
+WORDS = {
+    'VALUE': [*SIMPLE, '( VALUE , #10 ) . 0', '[ VALUE , #12 ] [ 0 ]', '{ #100 ; VALUE }', '( #10 .. #20 ) . start',
+              'match SIMPLE { #10 => VALUE , #12 ..= #14 => #15 , _ => 0 }',
+              '( | a : u8 , b : [ u8 ; #11 ] | a ) ( VALUE , [ 0 ; #11 ] )'],
+    'SIMPLE': SIMPLE, 'NUMBER': ['#0', '#7', '#10', '#99', '#128', '#255'], 'FIELD': ['=0', '=9', '=10', '=11', '=64', '=127'],
+    'PATH': ['::core::primitive::u8::MAX', 'u8::MIN', 'core::primitive::u8::MAX'], 'ROW': ['Row { FIELDS:VALUE .. r }'],
+    'ROW_PATTERN': ['Row { FIELDS:_ .. }'], 'OPEN_PATTERN': ['Row { FIELDS:BYTE .. }'],
+    'BYTE': ['#10 | #11', '#10 ..= #200', 'NAME @ #17', '_', '_'],
+    'STATEMENT': [
+        'let x = ROW ;', 'let x : Pair = Pair { =10 : ROW , =3 : ROW , .. p } ;', 'let ROW_PATTERN = r ;',
+        'if let Pair { =10 : OPEN_PATTERN , .. } = p { #1000 ; }', 'let #10 : u8 = ( VALUE ) else { return } ;',
+        'match r { OPEN_PATTERN => #32 , _ => #64 } ;', 'let x = [ #10 , #11 , r . =10 ] ;',
+        'let f = | ROW_PATTERN : Row , n : u8 | #10 ; let n : i32 = f ( ROW , #20 ) ;'],
+    'FUNCTION': ['fn NAME ( ROW_PATTERN : Row , r : Row , p : Pair ) { ' + 'STATEMENT ' * 6 + '}'],
+}
+
+
+def expanded(chance, text, depth):
+    """Iterates over the words of a text. Those in upper case are expanded, up to this depth of values in values."""
+    for word in text.split():
+        if word.startswith('FIELDS:'):
+            for name in chance.sample(['9', '10', '11', '99', '100', str(chance.randrange(12, 99))], chance.randrange(4)):
+                yield chance.choice(ATTRIBUTES)
+                yield from expanded(chance, f'={name} : {word[7:]} ,', depth)
+        elif word in WORDS:
+            word = 'SIMPLE' if word == 'VALUE' and not depth else word
+            yield from expanded(chance, chance.choice(WORDS[word]), depth - (word == 'VALUE'))
+        else:
+            yield word
 
 
 class Source:
     """A source that is being generated: the old text, and the text that rewriting must produce."""
 
     def __init__(self, chance):
-        self.chance = chance
-        self.old, self.new = [HEAD], [HEAD]
-        self.fields = self.others = 0
-
-    def put(self, text):
-        """Appends a text after a gap. Identifiers are separated by white space."""
-        gap = self.chance.choice(GAPS)
-        is_word = re.match(r'\w', text) and re.search(r'[\w.]\Z', self.old[-1])
-        # `::` must not follow `:` directly, and a slash must not follow a slash.
-        gap = gap or (' ' if is_word or text.startswith(('::', '/')) or self.old[-1].endswith('/') else '')
-        self.old.append(gap + text)
-        self.new.append(gap + text)
-
-    def number(self, value):
-        """Appends a number that isn't the name of a field."""
-        self.put(value)
-        self.new[-1] = self.new[-1][:-len(value)] + '_'.join(value)
-        self.others += len(value) > 1
-
-    def field(self, name):
-        """Appends the name of a field, which must stay unchanged."""
-        self.fields += len(name) > 1
-        self.put(name)
-
-    def attributes(self):
-        """Appends attributes and doc comments, or nothing."""
-        if text := self.chance.choice(ATTRIBUTES):
-            self.put(text)
-
-    def write(self, words, depth=0):
-        """Appends words, with values at this depth of nesting."""
-        for word in words.split():
-            if word in FUNCTIONS:
-                FUNCTIONS[word](self, depth)
-            elif word[0] == '#':
-                self.number(word[1:])
-            elif word[0] == '=' and word[1:].isdigit():
-                self.field(word[1:])
-            else:
-                self.put(word)
-
-
-def value(it, depth):
-    """Appends a value of type `u8`."""
-    it.write(VALUES[it.chance.choice([*VALUES] if depth else ['number', 'path', 'field', 'word'])], depth)
-
-
-def fields(it, head, names, inside, tail, depth=0):
-    """Appends a value or a pattern of a struct, with words inside each of the fields with these names."""
-    it.write(head + ' {')
-    for name in dict.fromkeys(names):
-        it.attributes()
-        it.write(f'={name} : {inside} ,', depth)
-    it.write(tail + ' }')
-
-
-def row(it, depth):
-    """Appends a `Row` with some of its fields."""
-    names = [str(it.chance.choice([9, 10, 11, 100, it.chance.randrange(FIELDS)])) for _ in range(it.chance.randrange(4))]
-    fields(it, 'Row', names, 'VALUE', '.. r', depth + 1)
-
-
-def row_pattern(it, inside):
-    """Appends a pattern of a `Row`."""
-    names = it.chance.sample(['9', '10', '11', '99', '100', str(it.chance.randrange(12, 99))], it.chance.randrange(4))
-    fields(it, 'Row', names, inside, '..')
-
-
-FUNCTIONS = {
-    'VALUE': lambda it, depth: value(it, depth - 1), 'LAST': lambda it, _: value(it, 0),
-    'NUMBER': lambda it, _: it.number(str(it.chance.choice([0, 7, 10, 99, 128, 255]))),
-    'PATH': lambda it, _: it.put(it.chance.choice(['::core::primitive::u8::MAX', 'u8::MIN', 'core::primitive::u8::MAX'])),
-    'FIELD': lambda it, _: it.field(str(it.chance.choice([0, 9, 10, 11, it.chance.randrange(FIELDS)]))),
-    'ROW1': lambda it, _: row(it, 1), 'ROW2': lambda it, _: row(it, 2),
-    'PAIR': lambda it, _: fields(it, 'Pair', it.chance.sample(['10', '11', '3'], 2), 'ROW1', '.. p'),
-    # An open pattern may fail to match.
-    'ROW_PATTERN': lambda it, _: row_pattern(it, '_'), 'OPEN_PATTERN': lambda it, _: row_pattern(it, 'BYTE_PATTERN'),
-    'BYTE_PATTERN': lambda it, _: it.write(it.chance.choice(['#10 | #11', '#10 ..= #200', f'x{len(it.old)} @ #17', '_', '_']))}
-
-
-def made(chance):
-    """Generates a source with some functions."""
-    it = Source(chance)
-    for at in range(4):
-        it.write(f'fn f{at} ( ROW_PATTERN : Row , r : Row , p : Pair ) {{')
-        for _ in range(6):
-            it.write(STATEMENTS[chance.randrange(8)], 2)
-        it.put('}')
-    return it
+        self.old, self.new, self.fields, self.others, last = HEAD, HEAD, 0, 0, HEAD
+        for at, word in enumerate(filter(None, expanded(chance, 'FUNCTION ' * 4, 2))):
+            is_number, is_field = (word[0] == sign and word[1:].isdigit() for sign in '#=')
+            text = word[1:] if is_number or is_field else f'x{at}' if word == 'NAME' else word
+            self.fields, self.others = self.fields + (is_field and len(text) > 1), self.others + (is_number and len(text) > 1)
+            # Identifiers are separated by white space, `::` must not follow `:` directly, and a slash must not follow a slash.
+            is_apart = re.match(r'\w', text) and re.search(r'[\w.]\Z', last) or text.startswith(('::', '/')) or last.endswith('/')
+            last = (chance.choice(GAPS) or (' ' if is_apart else '')) + text
+            self.old += last
+            self.new += last[:-len(text)] + ('_'.join(text) if is_number else text)
 
 
 def tried(program, it, room):
     """Returns a description of the error for a source, or an empty text if there is none."""
     path, style = Path(room, 'source.rs'), Path(room, 'style')
-    old, new = ''.join(it.old), ''.join(it.new)
-    path.write_text(old)
+    path.write_text(it.old)
     style.write_text(STYLE)
-    if found := rustc.errors(old.encode()):
-        sys.exit(f'rustc rejects what was made:\n{old}\n{found}')
+    if found := rustc.errors(it.old.encode()):
+        sys.exit(f'rustc rejects what was made:\n{it.old}\n{found}')
     ended = subprocess.run([program, '--fix', '--style', style, path], capture_output=True, text=True, check=False)
     written = path.read_text()
     if ended.returncode or ended.stderr:
         return f'{program} ends with {ended.returncode}: {ended.stderr}'
     if found := rustc.errors(written.encode()):
         return f'rustc rejects what was written:\n{found}'
-    pairs = zip(written.splitlines(), new.splitlines())
-    return '' if written == new else next((f'{one!r}, not {other!r}' for one, other in pairs if one != other), 'longer or shorter')
+    pairs = zip(written.splitlines(), it.new.splitlines())
+    return '' if written == it.new else next((f'{one!r}, not {other!r}' for one, other in pairs if one != other), 'longer or shorter')
 
 
 def compare(asked, report):
     chance = random.Random(asked.seed)
     with tempfile.TemporaryDirectory() as room:
         for _ in range(asked.count):
-            it = made(chance)
+            it = Source(chance)
             report.agreeing['fields', 'names of two digits or more'] += it.fields
             report.agreeing['fields', 'other such numbers'] += it.others
-            report.judge('sources', ''.join(it.old).encode(), '', tried(asked.rl_scan, it, room))
+            report.judge('sources', it.old.encode(), '', tried(asked.rl_scan, it, room))
     return asked.count
 
 

@@ -128,19 +128,13 @@ def compare_batch(report, program, library, style, texts):
 def compare_files(asked, report, program, room):
     """Compares whole files, and the pairs of literals, each once. Returns the number of different files that are UTF-8."""
     library, literals = library_of('2021', room), set()
-    texts = [data.decode() for data in frame.contents(frame.sources_below(asked.folders, ('.rs',))) if is_text(data)]
+    datas = frame.contents(frame.sources_below(asked.folders, ('.rs',)))
+    texts = [text for text in map(frame.text_of, datas) if text is not None]
     for style, batch in itertools.product(WHOLE, frame.batches(texts, *FILES)):
         literals |= compare_batch(report, program, library, style, batch)
     for old, new in sorted(literals):
         report.judge('pairs of literals', old.encode(), True, is_same(old, new) or new)
     return len(texts)
-
-
-def is_text(data):
-    try:
-        return data.decode() is not None
-    except UnicodeDecodeError:
-        return False
 
 
 # ---- literals between other texts

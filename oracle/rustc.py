@@ -109,7 +109,7 @@ class Lexer:
         None. If an error stops rustc, the texts without an error are lexed again."""
         if not texts:
             return []
-        begins, line, pieces = [], 2, [b'answers::%s!(\n' % command.encode()]
+        begins, line, pieces = [], 2, [b'answers::lines!(%s\n' % command.encode()]
         for text in texts:
             begins.append(line)
             # A CR at the end of the text must not be directly before the LF.
@@ -147,44 +147,31 @@ class Lexer:
 EARLIER = ('NoUnicode', 'UnicodeEscapeOutOfRange', 'Surrogate', 'Nul', 'TooManyDigits', 'HexEscapeOutOfRange')
 # If a text has one of these flaws, all the text before its position is a token, or all except the dot.
 CUT = ('BadSuffix', 'TextAfterQuote', 'ExtraHash', 'NoFractionDigit')
-# For the start of each message of rustc, the kinds of flaws with the same meaning.
-KINDS = {
-    'bare CR not allowed in raw string': ['CarriageReturn'],
-    'bare CR not allowed in string, use ': ['CarriageReturn'],
-    'binary float literal is not supported': ['BasedFloat', 'InvalidDigit'],
-    'octal float literal is not supported': ['BasedFloat', 'InvalidDigit'],
-    'hexadecimal float literal is not supported': ['BasedFloat'],
-    'byte constant must be escaped': ['MustEscape', 'NoCharacter'],
-    'character constant must be escaped': ['MustEscape', 'NoCharacter'],
-    'character literal may only contain one codepoint': ['TwoCharacters', 'MustEscape'],
-    'empty character literal': ['NoCharacter'],
-    'empty unicode escape': ['EmptyBraces', 'NoUnicode'],
-    'expected at least one digit in exponent': ['NoExponentDigit', 'BasedFloat', 'InvalidDigit'],
-    'found invalid character; only ': ['NoQuote', 'UnexpectedEnd', 'TooManyHashes'],
-    'too many ': ['TooManyHashes'],
-    'incorrect unicode escape sequence': ['NoBrace', 'NoUnicode'],
-    'invalid character in numeric character escape': ['NoHexDigit'],
-    'invalid character in unicode escape': ['NoHexDigit'],
-    'integer literal is too large': ['TooLarge'],
-    'invalid digit for a base 2 literal': ['InvalidDigit'],
-    'invalid digit for a base 8 literal': ['InvalidDigit'],
-    'invalid start of unicode escape': ['NoHexDigit'],
-    'invalid unicode character escape': ['UnicodeEscapeOutOfRange', 'Surrogate'],
-    'lifetimes cannot start with a number': ['TwoCharacters', 'Unclosed', *CUT],
-    'no valid digits found for number': ['NoDigits'],
-    'non-ASCII character in byte literal': ['NotAscii'],
-    'non-ASCII character in byte string literal': ['NotAscii'],
-    'non-ASCII character in raw byte string literal': ['NotAscii'],
-    'null characters in C string literals are not supported': ['Nul'],
-    'numeric character escape is too short': ['NoHexDigit', 'HexEscapeOutOfRange'],
-    'out of range hex escape': ['HexEscapeOutOfRange'],
-    'overlong unicode escape': ['TooManyDigits', *EARLIER],
-    'underscore literal suffix is not allowed': ['UnderscoreSuffix', 'BadSuffix', 'TextAfterQuote'],
-    'unicode escape in byte string': ['NoUnicode'],
-    'unknown byte escape': ['UnknownEscape'],
-    'unknown character escape': ['UnknownEscape'],
-    'unterminated unicode escape': ['NoHexDigit', *EARLIER],
-}
+# Kinds of flaws, and the starts of rustc's messages with the same meaning.
+MEANINGS = [
+    (['CarriageReturn'], ['bare CR not allowed in raw string', 'bare CR not allowed in string, use ']),
+    (['BasedFloat', 'InvalidDigit'], ['binary float literal is not supported', 'octal float literal is not supported']),
+    (['BasedFloat'], ['hexadecimal float literal is not supported']),
+    (['MustEscape', 'NoCharacter'], ['byte constant must be escaped', 'character constant must be escaped']),
+    (['TwoCharacters', 'MustEscape'], ['character literal may only contain one codepoint']), (['NoCharacter'], ['empty character literal']),
+    (['EmptyBraces', 'NoUnicode'], ['empty unicode escape']), (['NoBrace', 'NoUnicode'], ['incorrect unicode escape sequence']),
+    (['NoExponentDigit', 'BasedFloat', 'InvalidDigit'], ['expected at least one digit in exponent']),
+    (['NoQuote', 'UnexpectedEnd', 'TooManyHashes'], ['found invalid character; only ']), (['TooManyHashes'], ['too many ']),
+    (['NoHexDigit'], ['invalid character in numeric character escape', 'invalid character in unicode escape',
+                      'invalid start of unicode escape']),
+    (['TooLarge'], ['integer literal is too large']), (['NoDigits'], ['no valid digits found for number']),
+    (['InvalidDigit'], ['invalid digit for a base 2 literal', 'invalid digit for a base 8 literal']),
+    (['UnicodeEscapeOutOfRange', 'Surrogate'], ['invalid unicode character escape']),
+    (['TwoCharacters', 'Unclosed', *CUT], ['lifetimes cannot start with a number']),
+    (['NotAscii'], [f'non-ASCII character in {kind} literal' for kind in ('byte', 'byte string', 'raw byte string')]),
+    (['Nul'], ['null characters in C string literals are not supported']),
+    (['NoHexDigit', 'HexEscapeOutOfRange'], ['numeric character escape is too short']),
+    (['HexEscapeOutOfRange'], ['out of range hex escape']), (['TooManyDigits', *EARLIER], ['overlong unicode escape']),
+    (['UnderscoreSuffix', 'BadSuffix', 'TextAfterQuote'], ['underscore literal suffix is not allowed']),
+    (['NoUnicode'], ['unicode escape in byte string']), (['UnknownEscape'], ['unknown byte escape', 'unknown character escape']),
+    (['NoHexDigit', *EARLIER], ['unterminated unicode escape']),
+]
+KINDS = {start: kinds for kinds, starts in MEANINGS for start in starts}
 
 
 def short(message):

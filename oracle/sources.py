@@ -1,14 +1,14 @@
 #!/usr/bin/env python3
 """Compares the output of rl_scan for Rust sources with rustc's own lexer, with the model and with `syn`'s own parsing code.
 
-    oracle/sources.py PATH FOLDER.. [--jobs N] [--model] ..       half an hour for 300 MB of sources
-    oracle/sources.py PATH --count N [--size N] [--model] ..      a minute with `--count 1000 --size 10000`
+    oracle/sources.py PATH FOLDER.. [--jobs N] ..       half an hour for 300 MB of sources
+    oracle/sources.py PATH --count N [--size N] ..      a minute with `--count 1000 --size 10000`
 
 With FOLDERs, a process of rl_scan reads each file below them, also with options. Then each literal of these files is read by rl_rows,
 by `syn`'s code with the commands text, int, float and value, and by rustc with strict. Without a FOLDER the sources are generated
 (source_texts.py): hostile ones of N bytes, small ones cut off at each byte, first lines for interpreters, and random sequences of
-pieces. PATH is a program with `syn`'s code, and rustc runs the macros of oracle/rustc (docs/COMPARISON.md). With --model the
-model's results are compared with rustc's. Other options: frame.py.
+pieces. PATH is a program with `syn`'s code, and rustc runs the macros of oracle/rustc (docs/COMPARISON.md). Other options:
+frame.py.
 
 The result for a source is a list of lines on either side: the lines of its literals, and last the line of an error, if there is
 one.
@@ -38,14 +38,6 @@ WORDS = (('--lines',), ('--lines', '--no-stray', '--only', 'int,FLOAT,Verbatim')
 OLDER = '2018'
 
 
-def text_of(data):
-    """Returns the text, or None if it isn't UTF-8."""
-    try:
-        return data.decode()
-    except UnicodeDecodeError:
-        return None
-
-
 class Model:
     """The model's results: how it lexes a source, and for each literal's text the line of `syn`'s parsing code."""
 
@@ -54,7 +46,7 @@ class Model:
 
     def cuts(self, datas):
         """Returns how each source is lexed, or None for a source that isn't UTF-8. Asks syn's code about new literals."""
-        cuts = [None if text is None else cut_source(text) for text in map(text_of, datas)]
+        cuts = [None if text is None else cut_source(text) for text in map(frame.text_of, datas)]
         new = dict.fromkeys(token.text for cut in cuts if cut for token in cut.literals() if token.text not in self.known)
         self.known.update({text: listed.verbatim(text) for text in new if listed.is_long_past(text)})
         asked = [text for text in new if text not in self.known]
@@ -80,7 +72,7 @@ class Theirs:
     def answers(self, datas):
         """Returns, for each source, its lines and the edition that accepted it, or None and the start of rustc's first message."""
         answers = [(None, 'not UTF-8')] * len(datas)
-        asked = [at for at, data in enumerate(datas) if text_of(data) is not None]
+        asked = [at for at, data in enumerate(datas) if frame.text_of(data) is not None]
         fronts = {at: front_of(datas[at]) for at in asked}
         told = self.lexer.literals([datas[at][fronts[at]:] for at in asked])
         for at, (lines, words) in zip(asked, told):
@@ -216,10 +208,8 @@ class Sides:
         with concurrent.futures.ThreadPoolExecutor(self.asked.jobs) as pool:
             return list(pool.map(functools.partial(scanned, self.asked.rl_scan, words), datas))
 
-    def ours(self, datas, cuts, each):
-        """Returns the results of rl_scan, of rl_rows, or of the model."""
-        if self.asked.model:
-            return list(map(self.model.lines, cuts))
+    def ours(self, datas, each):
+        """Returns the results of rl_scan, or of rl_rows."""
         if each:
             return self.scanned(datas)
         return [answer.split(b'\n') if answer else [] for answer in frame.of_rows(self.asked.rl_rows, 'source', datas)]
@@ -227,12 +217,12 @@ class Sides:
     def compare(self, datas, names, each=False, rustc=True):
         """Compares the results for these sources, with a process of rl_scan for each, or in bulk."""
         cuts = self.model.cuts(datas)
-        our = self.ours(datas, cuts, each)
+        our = self.ours(datas, each)
         newer = lambda data, applies=True: listed.NEWER if applies and listed.newer(data.decode(errors='replace')) else None
         for name, data, cut, answer in zip(names, datas, cuts, our):
             self.sources, self.report.compared = self.sources + 1, self.report.compared + sum(line[:1].isdigit() for line in answer)
             self.judge('model', name, data, self.model.lines(cut), answer, lambda: newer(data))
-        for words in WORDS if each and not self.asked.model else ():
+        for words in WORDS if each else ():
             side, wide = 'rl_scan ' + ' '.join(words), '--no-stray' in words
             for name, data, cut, answer, lines in zip(names, datas, cuts, our, self.scanned(datas, *words)):
                 self.judge(side, name, data, under(words, data, answer, cut), lines, lambda: newer(data, wide), by_line=False)
@@ -240,8 +230,7 @@ class Sides:
             if their is None:
                 self.report.agreeing['rustc', 'rejected: ' + told_words(edition)] += 1
             else:
-                known = lambda: newer(data, self.asked.model) or cut_listed(data, edition, their, answer)
-                self.judge('rustc, edition ' + edition, name, data, their, answer, known)
+                self.judge('rustc, edition ' + edition, name, data, their, answer, lambda: cut_listed(data, edition, their, answer))
 
     def compare_front(self, text):
         """Compares a first line, which rustc may treat as a line for an interpreter. An attribute in the first line would remove the
@@ -260,7 +249,7 @@ def compare_files(asked, report):
     sides = Sides(asked, report, len(found))
     for batch in frame.batches(found, *AT_ONCE):
         sides.compare(batch, [found[data] for data in batch], each=True)
-    literals = [] if asked.model else [text.encode() for text in sides.model.known]
+    literals = [text.encode() for text in sides.model.known]
     print('%d files, %d lines; %d different literals' % (sides.sources, report.compared, len(literals)), flush=True)
     for batch, command in itertools.product(frame.batches(literals), ('text', 'int', 'float', 'value', 'strict')):
         theirs = sides.rustc.lexer.answers(command, batch) if command == 'strict' else syn(asked.path, command, batch)
@@ -294,5 +283,4 @@ def compare(asked, report):
 
 
 if __name__ == '__main__':
-    frame.run(compare, __doc__, 'path', 'folders*', what='sources', ours=['rl_rows', 'rl_scan'], count=500_000, size=1_000_000, jobs=2,
-              model=False)
+    frame.run(compare, __doc__, 'path', 'folders*', what='sources', ours=['rl_rows', 'rl_scan'], count=500_000, size=1_000_000, jobs=2)

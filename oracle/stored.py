@@ -1,18 +1,16 @@
 #!/usr/bin/env python3
 """Compares stored results with those of other programs: of `syn`'s own parsing code and of models.
 
-    oracle/stored.py PATH [FILE..] ..      a minute and a half
+    oracle/stored.py PATH ..               a minute and a half
 
 1. The stored results of rl_rows for its plain rows `cut` and `long`, in crates/rl_rows/stdin and stdout. A row `cut` is a text that is
    cut off at each of its characters. A row `long` is a piece of text, repeated many times. PATH is a program with `syn`'s code
    (docs/COMPARISON.md), for the results of `Lit::new`. The model has the results of `skip`, `lex`, `read_all` and `is_token`.
-2. The calls of rl_tool in the FILEs, by default in oracle/sample.jsonl, which has results of `syn` and of an independent model. A call
-   is a JSON line with id, args, input and stdout in hexadecimal, stderr and status.
+2. The results of rl_tool for the texts of oracle/stored.rs, which has the results of `syn` and of an independent model.
 
 Other options: frame.py.
 """
 import collections
-import json
 import os
 import subprocess
 
@@ -21,11 +19,14 @@ import listed
 from model.flaws import is_token
 from model.sources import DOC_BLOCK, START_FORM, after_trivia, cut_one
 from readings import syn
+from texts import STORED
 
 REJECTED = {'doc': 'doc comment is not carried', 'raw_identifier': 'raw identifier is not carried', 'lifetime': 'lifetime is not carried',
             'stray': 'stray character'}
 CLOSERS = {'(': ')', '[': ']', '{': '}'}
 MOST_GROUPS = 128
+# For each command a text that isn't UTF-8.
+NOT_TEXT = {'text': b'/* \xfe */', 'read': b'1\xc3', 'attr': b'\x80'}
 PICTURES = {0x240A: '\n', 0x240D: '\r', 0x2409: '\t', 0x2400: '\0'}
 
 
@@ -153,16 +154,20 @@ def compare_rows(asked, report):
     return len(rows)
 
 
+def ending(line):
+    """Returns the status, the output and the error output for a stored line."""
+    printed = f'{line}\n'.encode() if line else b''
+    return (1, b'', printed) if line.startswith('error') else (0, printed, b'')
+
+
 def compare_calls(asked, report):
     """Compares rl_tool's results with the stored ones."""
-    files = map(os.path.abspath, asked.files) if asked.files else ['oracle/sample.jsonl']
-    cases = [json.loads(line) for file in files for line in lines_of(file) if line]
-    for case in cases:
-        data = bytes.fromhex(case['input'])
-        ended = subprocess.run([asked.rl_tool, *case['args']], input=data, capture_output=True, check=False)
-        wanted = case['status'], bytes.fromhex(case['stdout']), case['stderr'].encode()
-        report.judge('calls', data, wanted, (ended.returncode, ended.stdout, ended.stderr))
-    return len(cases)
+    calls = [(command, text.encode(), line) for command, pairs in STORED.items() for text, line in pairs]
+    calls += [(command, data, 'error: input is not UTF-8') for command, data in NOT_TEXT.items()]
+    for command, data, line in calls:
+        ended = subprocess.run([asked.rl_tool, command], input=data, capture_output=True, check=False)
+        report.judge('calls', data, ending(line), (ended.returncode, ended.stdout, ended.stderr))
+    return len(calls)
 
 
 def compare(asked, report):
@@ -170,4 +175,4 @@ def compare(asked, report):
 
 
 if __name__ == '__main__':
-    frame.run(compare, __doc__, 'path', 'files*', what='rows and calls', ours=['rl_tool'])
+    frame.run(compare, __doc__, 'path', what='rows and calls', ours=['rl_tool'])

@@ -1,25 +1,21 @@
 #!/usr/bin/env python3
 """Compares the package's `rewrite` and `rewrite_in_context` with the model, on many literals.
 
-    oracle/style_rows.py [--pairs N] [--jobs J] [--minutes M] ..      some 15 s for 100,000 pairs on one processor
-    oracle/style_rows.py --write N ..                                 writes rust/tests/style.txt, some 10 s
+    oracle/style_rows.py [--pairs N] ..      some 15 s for 100,000 pairs
+    oracle/style_rows.py --write N ..        writes rust/tests/style.txt, some 10 s
 
 A pair is a text and a style with one rule or several rules. The texts are all short ones over small alphabets, every character of
 Unicode by itself and as an escape, and longer random ones, until N pairs have a literal. The package and the model must return the
-same text, or both must reject it. The package must leave its own result unchanged (oracle/restyled). After M minutes no more pairs
-are run.
+same text, or both must reject it. The package must leave its own result unchanged (oracle/restyled).
 
 A row has a style as letters (model/style.py), the text before the literal, the literal, and the rewritten literal. The three texts
 are in hexadecimal. `-` is an empty style or text, `=` is an unchanged literal, and `!` is written if the text isn't a literal. With
 --write, the model writes the rows of N short texts and as many long ones, with which rust/tests/style.rs tests the package.
 """
-import array
-import concurrent.futures
 import functools
 import itertools
 import os
 import random
-import time
 
 import frame
 from model import style as model
@@ -32,6 +28,9 @@ PIECES = ['a', ' ', '\n', "'", '"', "\\'", '\\"', '\\\\', '\\n', '\\0', '\\x41',
           '\\xfF', '\\u{41}', '\\u{0000e9}', '\\u{E_9_}', '\\u{202E}', '\\u{D}', '\\u{aBcD}', '\\x09', '\\u{5c}', '\\x5C', '\\x20',
           '\\u{22}', '\\u{7f}', '\\u{141}', '\\xc1', '\\u{0_0}', '\\u{0_1_0}', '\\u{000041}', '\\\n', '\\\n \t', 'é', '\u202e', '1', 'x',
           '{', '\t', '\x00', '\x1b', '\x7f', '\x0c', '\x80', '\u200d', '\ufe0f', '\U000e0041']
+# Pieces of longer texts: also line ends, the first characters of each length in UTF-8, and texts as long as vectors.
+LONG_PIECES = PIECES + ['\r\n', '\\\r', '\\\r\n\r \n', '\\\n\\\n', '\\r', '\\t', '\\x01', '\\x80', '\\u{7ff}', '\\u{800}', '\\u{1F_600}',
+                        '\\u{10FFFF}', '\\u{0_0_0_0_0_1__}', '\u20ac', '\U0001f600', '}', '#', '(1', ')', ', ', 'x' * 17, 'y' * 64, '\u00df' * 9]
 RAW_PIECES = ['"', '"#', '#', 'a', '\\', '\n', '"##', ' ', 'é', '"#"', '\u202e', '\x1b', '\t', '\0']
 FRONTS = ['', '', '', '#', '.', '1.', '.#', '#.', '# ', '. ', 'é', 'a', '(', '\n']
 # Rules of one group exclude each other.
@@ -82,7 +81,7 @@ def long_texts(dice, count):
         elif way == 2:
             opener = dice.choice(list(OPENERS.values()))
             units = 1 if opener[-1] == "'" else dice.randrange(9)
-            yield opener + ''.join(dice.choice(PIECES) for _ in range(units)) + opener[-1] + suffix
+            yield opener + ''.join(dice.choice(LONG_PIECES) for _ in range(units)) + opener[-1] + suffix
         else:
             hashes = '#' * dice.randrange(6)
             inside = ''.join(dice.choice(RAW_PIECES) for _ in range(dice.randrange(9)))
@@ -114,12 +113,10 @@ def rows(texts, dice, count):
             yield from ((letters, front, text) for front, text in zip(fronts, batch))
 
 
-def every_row(share, jobs, dice):
-    """Returns the rows of a share, without an end."""
-    part = lambda texts: itertools.islice(texts, share, None, jobs)
-    yield from rows(part(short_texts()), dice, STYLES)
-    # Each share goes through the characters in the same order.
-    yield from rows(part(characters(random.Random(0))), dice, 1)
+def every_row(dice):
+    """Returns rows without an end."""
+    yield from rows(short_texts(), dice, STYLES)
+    yield from rows(characters(random.Random(0)), dice, 1)
     while True:
         yield from rows(long_texts(dice, TEXTS), dice, STYLES)
 
@@ -143,24 +140,6 @@ def answers_of(program, rows):
     return frame.output_of([program], ''.join(line_of(*row) + '\n' for row in rows).encode()).decode().split('\n')[:-1]
 
 
-def compared(program, share, jobs, pairs, seed, end):
-    """Compares the rows of a share. Returns the number of rows with literals, the number of changed literals, the number of
-    rejected ones, the hashes of the literals, and the first rows that differ."""
-    # The same characters and escapes are rewritten many times, so their results are cached.
-    model.unit = functools.lru_cache(1 << 16)(model.unit)
-    found, hashes, wrong = [0, 0, 0], array.array('q'), []
-    source = every_row(share, jobs, random.Random(f'{seed} {share}'))
-    while found[0] < pairs and len(wrong) < 20 and time.time() < end:
-        asked = list(itertools.islice(source, AT_ONCE))
-        said, wanted = answers_of(program, asked), [said_of(row) for row in asked]
-        wrong += [(*row, one, other) for row, one, other in zip(asked, said, wanted, strict=True) if one != other]
-        rejected = wanted.count('!')
-        literals = len(asked) - rejected
-        found = [old + new for old, new in zip(found, (literals, literals - wanted.count('='), rejected))]
-        hashes.extend(hash(row[2]) for row, word in zip(asked, wanted) if word != '!')
-    return found, hashes, wrong
-
-
 def write_rows(dice, count):
     """Writes rows of `count` short texts and as many long ones."""
     texts = dict.fromkeys([*dice.sample(sorted(set(short_texts())), count), *long_texts(dice, count)])
@@ -175,21 +154,21 @@ def write_rows(dice, count):
 def compare(asked, report):
     if asked.write:
         return write_rows(random.Random(asked.seed), asked.write)
-    hashes, program = array.array('q'), f'{frame.helper("restyled")}/restyle'
-    share = functools.partial(compared, program, jobs=asked.jobs, pairs=-(-asked.pairs // asked.jobs), seed=asked.seed,
-                              end=time.time() + 60 * asked.minutes)
-    with concurrent.futures.ProcessPoolExecutor(asked.jobs) as pool:
-        shares = list(pool.map(share, range(asked.jobs)))
-    for found, some, differs in shares:
-        hashes.extend(some)
-        report.compared += found[0]
-        report.agreeing['pairs', 'changed literals'] += found[1]
-        report.agreeing['pairs', 'texts that are no literal, which are not counted'] += found[2]
-        for letters, front, text, one, other in differs:
-            report.differs(f'{letters} after {front!r}', text.encode(), other.encode(), one.encode())
-    # The number of different hashes, in parts that need less memory.
-    return sum(len({it for it in hashes if it & 15 == low}) for low in range(16))
+    # The same characters and escapes are rewritten many times, so their results are cached.
+    model.unit = functools.lru_cache(1 << 16)(model.unit)
+    source, program, literals = every_row(random.Random(asked.seed)), f'{frame.helper("restyled")}/restyle', set()
+    while report.compared < asked.pairs:
+        asked_rows = list(itertools.islice(source, AT_ONCE))
+        for row, wanted, said in zip(asked_rows, map(said_of, asked_rows), answers_of(program, asked_rows), strict=True):
+            if wanted == said == '!':
+                report.agreeing['pairs', 'texts that are no literal, which are not counted'] += 1
+                continue
+            letters, front, text = row
+            report.judge(f'{letters} after {front!r}' if wanted != said else 'pairs', text.encode(), wanted, said)
+            report.agreeing['pairs', 'changed literals'] += wanted != '='
+            literals.add(hash(text))
+    return len(literals)
 
 
 if __name__ == '__main__':
-    frame.run(compare, __doc__, what='literals', pairs=10_000_000, jobs=2, minutes=10_000.0, write=0)
+    frame.run(compare, __doc__, what='literals', pairs=10_000_000, write=0)

@@ -25,10 +25,11 @@ TYPES = re.compile(r'invalid (suffix|width|base prefix)|literal out of range|int
 CUT = re.compile(r'(binary|octal|hexadecimal) float literal is not supported|too many `#` when terminating raw string|found invalid character; only')
 # A quote before no character or several characters is a lifetime or an open quote here, and the quote after them is left open.
 LIFETIME = re.compile(r'(character literal may only contain one codepoint|empty character literal|lifetimes cannot start with a number)')
-# rustc 1.63 warns about the suffix `_`, and later versions reject it.
-HEAD = re.compile(r'(?:error(?:\[E\d+\])?|warning(?=: underscore literal suffix)): (.*)')
+# An error on a page of rustc's output: its message, file, line and column, and the underlining below it. rustc 1.63 warns about the
+# suffix `_`, and later versions reject it.
+ERROR = re.compile(r'^(?:error(?:\[E\d+\])?|warning(?=: underscore literal suffix)): (.*)\n(?:.*\n)?? *--> \$DIR/(\S+?):(\d+):(\d+)'
+                   r'(?:(?=\n(?:.*\n){0,3}? *\| *(\^+))|)', re.M)
 TYPED_FLOAT = re.compile('0[xob][0-9A-Fa-f_]*f(?:32|64)')
-AT = re.compile(r' *--> \$DIR/(\S+?):(\d+):(\d+)')
 # Messages of rustc 1.63 that have other words, or are about more kinds of errors, than those of later versions.
 OLDER = [('unicode escape', 'NoUnicode'), ('invalid character in numeric', 'HexEscapeOutOfRange'), ('non-ASCII character in byte', 'NotAscii'),
          ('raw byte string must be ASCII', 'NotAscii')]
@@ -49,15 +50,7 @@ IDS = dict(re.findall(r'FlawKind::(\w+) => "([a-z-]+)"', text_of(f'{frame.TOP}/c
 
 def errors_in(page, name):
     """Returns the errors on a page of rustc's output that are in this file, each with the end of the underlined text."""
-    found, rows = [], page.split('\n')
-    for at, row in enumerate(rows):
-        head = HEAD.match(row)
-        place = head and next((AT.match(it) for it in rows[at + 1:at + 3] if AT.match(it)), None)
-        if place and place[1] == name:
-            line, column = int(place[2]), int(place[3])
-            under = next((re.match(r' *\|( *)(\^+)', it) for it in rows[at + 2:at + 6] if re.match(r' *\| *\^', it)), None)
-            found.append(Theirs(head[1], line, column, column + (len(under[2]) if under else 1)))
-    return found
+    return [Theirs(it[1], int(it[3]), int(it[4]), int(it[4]) + len(it[5] or '^')) for it in ERROR.finditer(page) if it[2] == name]
 
 
 @functools.cache
@@ -114,17 +107,12 @@ def open_at(their):
     return (their.line, their.column - ('byte' in opens[0])) if opens else None
 
 
-def is_of_types(their, rows):
-    """Whether an error of rustc is about a token that its grammar accepts. The rows are those of the file."""
-    row = rows[their.line - 1] if their.line <= len(rows) else ''
-    return bool(TYPES.match(their.message) or CUT.match(their.message) and TYPED_FLOAT.match(row[their.column - 1:]))
-
-
 def of_theirs(their, ours, end, rows):
-    """Classifies an error of rustc by the matching output of rl_scan."""
+    """Classifies an error of rustc by the matching output of rl_scan. The rows are those of the file."""
     if any(agrees(their, our) for our in ours) or end and end == open_at(their):
         return 'the same error'
-    if is_of_types(their, rows):
+    row = rows[their.line - 1] if their.line <= len(rows) else ''
+    if TYPES.match(their.message) or CUT.match(their.message) and TYPED_FLOAT.match(row[their.column - 1:]):
         return 'a rule of types, not of tokens'
     if CUT.match(their.message):
         return 'what is more than one token here'

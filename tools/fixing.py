@@ -49,6 +49,11 @@ class Fixing(unittest.TestCase):
         self.assertEqual((done.returncode, words in done.stderr.decode()), (status, True), done.stderr)
         return done.stdout
 
+    def left(self, path, words, text=OLD, **how):
+        """Checks that the program leaves the only file, with this text, and ends with status 2 and these words."""
+        self.fix(path, status=2, words=words, **how)
+        self.expect(**{path.stem: text})
+
     def write(self, name="a.rs", text=OLD, mode=0o644):
         path = self.folder / name
         path.write_bytes(text)
@@ -79,7 +84,8 @@ class Fixing(unittest.TestCase):
         self.expect(a=NEW, b=NEW)
 
     def test_nothing_to_change(self):
-        path = self.write(text=NEW)
+        path = self.write()
+        self.fix(path)
         os.utime(path, ns=(1, 1))
         before = path.stat()
         self.fix(path)
@@ -91,13 +97,6 @@ class Fixing(unittest.TestCase):
         self.expect(a=text)
         self.assertEqual(self.fix(words="left alone", input=text, stdout=subprocess.PIPE), text)
 
-    def test_twice(self):
-        path = self.write()
-        self.fix(path)
-        before = path.stat()
-        self.fix(path)
-        self.assertEqual(before.st_ino, path.stat().st_ino)
-
     def test_a_closed_output(self):
         self.write("a.rs")
         second = self.write("b.rs")
@@ -108,10 +107,11 @@ class Fixing(unittest.TestCase):
         self.assertEqual(second.read_bytes(), OLD)
 
     def test_permissions_stay(self):
-        for mode in (0o640, 0o600, 0o755, 0o666, 0o200 | 0o444):
+        # The bits above the permissions go, such as setuid.
+        for mode in (0o640, 0o600, 0o755, 0o666, 0o644, 0o6755):
             path = self.write(mode=mode)
             self.fix(path, umask=0o077)
-            self.assertEqual(stat.S_IMODE(path.stat().st_mode), mode)
+            self.assertEqual(stat.S_IMODE(path.stat().st_mode), mode & 0o777)
 
     @unittest.skipUnless(IS_ROOT, "not root")
     def test_the_owner_stays(self):
@@ -128,22 +128,15 @@ class Fixing(unittest.TestCase):
         for user, group in ((1234, 2345), (NOBODY["user"], 2345), (1234, NOBODY["group"])):
             path = self.write(mode=0o666)
             os.chown(path, user, group)
-            self.fix(path, status=2, words="its owner or group would change", **NOBODY)
+            self.left(path, "its owner or group would change", **NOBODY)
             self.assertEqual((path.stat().st_uid, path.stat().st_gid), (user, group))
-            self.expect(a=OLD)
 
     @unittest.skipUnless(IS_ROOT, "not root")
     def test_a_file_that_the_user_may_not_write(self):
         self.folder.chmod(0o777)
         path = self.write(mode=0o644)
         os.chown(path, 1234, 2345)
-        self.fix(path, status=2, words="permission denied", **NOBODY)
-        self.expect(a=OLD)
-
-    def test_setuid_goes(self):
-        path = self.write(mode=0o6755)
-        self.fix(path)
-        self.assertEqual(stat.S_IMODE(path.stat().st_mode), 0o755)
+        self.left(path, "permission denied", **NOBODY)
 
     def test_links_are_followed(self):
         inner, first, second = (self.folder / name for name in ("in", "b.rs", "c.rs"))
@@ -163,15 +156,13 @@ class Fixing(unittest.TestCase):
         self.expect(a=NEW, b=OLD)
 
     def test_a_file_that_nobody_may_write(self):
-        self.fix(self.write(mode=0o444), status=2, words="permission denied")
-        self.expect(a=OLD)
+        self.left(self.write(mode=0o444), "permission denied")
 
     def test_a_folder_that_may_not_be_written(self):
         path = self.write(mode=0o666)
         self.folder.chmod(0o555)
         # Permissions don't restrict root, so the program runs as another user.
-        self.fix(path, status=2, words="no permission to write in its directory", **(NOBODY if IS_ROOT else {}))
-        self.expect(a=OLD)
+        self.left(path, "no permission to write in its directory", **(NOBODY if IS_ROOT else {}))
 
     def test_a_folder_that_root_may_not_write(self):
         path = self.write()
@@ -179,34 +170,28 @@ class Fixing(unittest.TestCase):
         if not is_there or subprocess.run(["chattr", "+i", self.folder], capture_output=True, check=False).returncode:
             self.skipTest("no chattr")
         self.addCleanup(subprocess.run, ["chattr", "-i", self.folder], check=True)
-        self.fix(path, status=2, words="no permission to write in its directory")
-        self.expect(a=OLD)
+        self.left(path, "no permission to write in its directory")
 
     def test_a_full_disk(self):
         self.mount("-o", "size=64k")
         text = OLD * (40_000 // len(OLD))
-        self.fix(self.write(text=text), status=2, words="no space left")
-        self.expect(a=text)
+        self.left(self.write(text=text), "no space left", text)
 
     def test_a_disk_that_is_only_read(self):
         self.mount()
         path = self.write()
         subprocess.run(["mount", "-o", "remount,ro", self.folder], check=True)
-        self.fix(path, status=2, words="read-only file system")
-        self.expect(a=OLD)
+        self.left(path, "read-only file system")
 
     def test_a_file_that_may_not_grow(self):
         def limit():
             signal.signal(signal.SIGXFSZ, signal.SIG_IGN)
             resource.setrlimit(resource.RLIMIT_FSIZE, (1_000, 1_000))
 
-        self.fix(self.write(text=LONG_OLD), status=2, words="write failed", preexec_fn=limit)
-        self.expect(a=LONG_OLD)
+        self.left(self.write(text=LONG_OLD), "write failed", LONG_OLD, preexec_fn=limit)
 
     def test_a_name_that_gets_too_long(self):
-        name = "a" * 250
-        self.fix(self.write(f"{name}.rs"), status=2, words="path too long")
-        self.expect(**{name: OLD})
+        self.left(self.write(f"{'a' * 250}.rs"), "path too long")
 
     def test_leftovers_stay(self):
         path = self.write()
@@ -258,8 +243,7 @@ class Fixing(unittest.TestCase):
             # Only calls for the new file fail, and not those for the program's output.
             new = self.folder / "a.rs.rl_scan-0"
             before = self.strace("-P", new, "-e", f"trace={fails.split(':')[0]}", "-e", f"inject={fails}")
-            self.fix(self.write(), status=2, before=before)
-            self.expect(a=OLD)
+            self.left(self.write(), "", before=before)
         # If the new file can't be removed either, it stays.
         path = self.write()
         self.fix(path, status=2, before=self.strace("-e", "trace=fsync,unlink", "-e", "inject=fsync,unlink:error=EIO"))

@@ -16,7 +16,7 @@ import sys
 from pathlib import Path
 
 LIST = Path(__file__).resolve().parent / "inlining.txt"
-ENTRY = re.compile(r"(\+ )?(\S+) (\w+|\*): (\S.*)")
+ENTRY = re.compile(r"(\+ )?(\S+) ((?:\w+|\*)(?:, \w+)*): \S.*")
 
 # The largest number of lines in the body of a small function. In unoptimized builds a limit of four lines gives 0.85 of the code
 # and up to 1.12 times the instructions of a limit of eight, and a limit of none gives 0.75 and up to 1.33. Inlining all functions
@@ -37,7 +37,8 @@ def listed():
     name. For all functions of a file, the name is `*`."""
     lines = [line for line in LIST.read_text().split("\n") if line and not line.startswith("#")]
     entries = [ENTRY.fullmatch(line) or fail(f"no entry: {line}") for line in lines]
-    return [{(entry[2], entry[3]) for entry in entries if bool(entry[1]) == by_callers} for by_callers in (False, True)]
+    return [{(entry[2], name) for entry in entries if bool(entry[1]) == by_callers for name in entry[3].split(", ")}
+            for by_callers in (False, True)]
 
 
 def compiled_by_callers(text, function):

@@ -22,75 +22,52 @@ LINE, BARE = 'crates/rl_program/src/line.rt', 'bytes.iter().all('
 IDENT, ALL = 'crates/rl_syntax/src/ident.rt', 'text.chars().all('
 UNCALLED, INLINING = 'tools/uncalled.txt', 'tools/inlining.txt'
 # A file, a text in it, the text that replaces it, and a word of the error (None: the change is accepted).
-TRIED = [
-    (LINE, BARE, BARE, None),
-    (LINE, BARE, 'bytes.to_vec().iter().all(', 'to_vec'),
-    (LINE, BARE, 'bytes.frobnicate().iter().all(', 'frobnicate'),
-    (LINE, BARE, 'bytes.clone().iter().all(', 'clone'),
-    (LINE, BARE, 'u8::from_str_radix(bytes).iter().all(', 'u8::from_str_radix'),
-    (LINE, BARE, 'Box::new(bytes).iter().all(', 'Box'),
-    (IDENT, ALL, ALL, None),
-    (IDENT, ALL, 'text.to_lowercase().chars().all(', 'to_lowercase'),
-    (IDENT, ALL, 'String::new(text).chars().all(', 'String'),
-    # Entries of the list of uncalled items whose file, function, method, module or variant doesn't exist; and a line that isn't an entry.
-    (UNCALLED, 'body_unit', 'body_unit', None),
-    (UNCALLED, 'rl_syntax/kind.rs Kind::word', 'rl_syntax/kinds.rs Kind::word', 'kinds.rs'),
-    (UNCALLED, 'Kind::word', 'Kind::words', 'Kind::words'),
-    (UNCALLED, 'Kind::word', 'Sort::word', 'Sort::word'),
-    (UNCALLED, 'contents.rs body_unit', 'contents.rs body_units', 'body_units'),
-    (UNCALLED, '- rl_strict/flaws.rs Flaw::piece_in_span', '- rl_strict/flaws.rs Flaw::text_in_span', 'text_in_span'),
-    (UNCALLED, 'rl_syntax/span.rs *', 'rl_syntax/spans.rs *', 'spans.rs'),
-    (UNCALLED, 'LexKind::{Memory}', 'LexKind::{Room}', 'Room'),
-    (UNCALLED, 'LexKind::{Memory}', 'Lex::{Memory}', 'Lex::'),
-    (UNCALLED, 'Kind::word: ', 'Kind::word ', 'no entry'),
-    (UNCALLED, 'lanes.rs * with sources or settings', 'lanes.rs * with sources, settings', 'no entry'),
-    (UNCALLED, 'classes.rs run_class with', 'classes.rs run_classes with', 'run_classes'),
-    # Entries of the list of inlined functions whose file or function doesn't exist, or isn't always inlined; and a line that isn't an entry.
-    (INLINING, 'skip_inside', 'skip_inside', None),
-    (INLINING, 'strict.rs skip_inside', 'strictly.rs skip_inside', 'strictly.rs'),
-    (INLINING, 'strict.rs skip_inside', 'strict.rs skip_outside', 'skip_outside'),
-    (INLINING, 'strict.rs skip_inside', 'strict.rs skip_units', 'skip_units'),
-    (INLINING, 'skip_inside: ', 'skip_inside ', 'no entry'),
-    # Functions that their callers compile: the file, the crate or the function doesn't exist, or the function is inlined already.
-    (INLINING, '+ rl_lenient/ranges.rs *', '+ rl_lenient/range.rs *', 'range.rs'),
-    (INLINING, '+ rl_settings/ *', '+ rl_setting/ *', 'rl_setting/'),
-    (INLINING, 'found.rs find_number', 'found.rs find_numbers', 'find_numbers'),
-    (INLINING, 'strict_reading.rs read_rare', 'strict_reading.rs read_next', 'read_next'),
-    (INLINING, 'strict_reading.rs read_rare', 'strict_reading.rs number_at', 'number_at'),
-]
+TRIED = [(LINE, BARE, f'bytes{call}.iter().all(', word) for call, word in [
+    ('', None), ('.to_vec()', 'to_vec'), ('.frobnicate()', 'frobnicate'), ('.clone()', 'clone')]]
+TRIED += [(LINE, BARE, f'{call}(bytes).iter().all(', word) for call, word in [('u8::from_str_radix', 'u8::from_str_radix'), ('Box::new', 'Box')]]
+TRIED += [(IDENT, ALL, f'{text}.chars().all(', word) for text, word in [
+    ('text', None), ('text.to_lowercase()', 'to_lowercase'), ('String::new(text)', 'String')]]
+# Entries of the list of uncalled items whose file, function, method, module or variant doesn't exist; and lines that aren't entries.
+TRIED += [(UNCALLED, *change) for change in [
+    ('body_unit', 'body_unit', None), ('kind.rs Kind::word', 'kinds.rs Kind::word', 'kinds.rs'), ('Kind::word', 'Kind::words', 'Kind::words'),
+    ('Kind::word', 'Sort::word', 'Sort::word'), ('char_of_body, body_unit', 'char_of_body, body_units', 'body_units'),
+    ('- rl_strict/flaws.rs Flaw::piece_in_span', '- rl_strict/flaws.rs Flaw::text_in_span', 'text_in_span'),
+    ('rl_syntax/span.rs *', 'rl_syntax/spans.rs *', 'spans.rs'), ('LexKind::{Memory}', 'LexKind::{Room}', 'Room'),
+    ('LexKind::{Memory}', 'Lex::{Memory}', 'Lex::'), ('Kind::struct_name: ', 'Kind::struct_name ', 'no entry'),
+    ('Kind::word, ', 'Kind::word; ', 'no entry'), ('lanes.rs * with sources or settings', 'lanes.rs * with sources, settings', 'no entry'),
+    ('run_class, ', 'run_classes, ', 'run_classes'), ('skip_word with', 'skip_words with', 'skip_words'),
+]]
+# Entries of the list of inlined functions whose file or function doesn't exist, or isn't always inlined; and a line that isn't an
+# entry. After a plus: functions that their callers compile, where the file, the crate or the function doesn't exist, or the function
+# is inlined already.
+TRIED += [(INLINING, *change) for change in [
+    ('skip_inside', 'skip_inside', None), ('strict.rs skip_inside', 'strictly.rs skip_inside', 'strictly.rs'),
+    ('strict.rs skip_inside', 'strict.rs skip_outside', 'skip_outside'), ('strict.rs skip_inside', 'strict.rs skip_units', 'skip_units'),
+    ('skip_inside: ', 'skip_inside ', 'no entry'), ('+ rl_lenient/ranges.rs *', '+ rl_lenient/range.rs *', 'range.rs'),
+    ('+ rl_settings/ *', '+ rl_setting/ *', 'rl_setting/'), ('found.rs find_number, ', 'found.rs find_numbers, ', 'find_numbers'),
+    ('strict_reading.rs read_rare', 'strict_reading.rs read_next', 'read_next'),
+    ('strict_reading.rs read_rare', 'strict_reading.rs number_at', 'number_at'),
+]]
 
 # The texts before which items are inserted, in a file of the core and in one above it.
 CORE_PLACE, PLACE = 'fn all_continue(', 'fn is_bare'
 # Items whose meaning, memory, linkage or layout rustc decides. The word of each item is rejected wherever it occurs.
 WORDS = {
-    'dyn': 'fn odd(it: &dyn Fn()) {}',
-    'unsafe': 'unsafe fn odd() {}',
-    'extern': 'extern fn odd() {}',
-    'static': 'static ODD: u8 = 1;',
-    'union': 'union Odd { odd: u8 }',
-    'async': 'async fn odd() {}',
-    'await': 'fn odd() { odd.await }',
-    'macro_rules': 'macro_rules! odd { () => {} }',
-    'size_of': 'const ODD: usize = size_of::<u8>();',
-    'align_of': 'const ODD: usize = align_of::<u8>();',
-    'transmute': 'const ODD: usize = transmute(1);',
+    'dyn': 'fn odd(it: &dyn Fn()) {}', 'unsafe': 'unsafe fn odd() {}', 'extern': 'extern fn odd() {}', 'static': 'static ODD: u8 = 1;',
+    'union': 'union Odd { odd: u8 }', 'async': 'async fn odd() {}', 'await': 'fn odd() { odd.await }',
+    'macro_rules': 'macro_rules! odd { () => {} }', 'transmute': 'const ODD: usize = transmute(1);',
+    'size_of': 'const ODD: usize = size_of::<u8>();', 'align_of': 'const ODD: usize = align_of::<u8>();',
 }
 CORE_MEMORY = ['Allocator', 'AllocError', 'Global', 'String', 'Vec', 'Box']
 RUSTS_OWN = ['Box', 'Rc', 'Arc', 'Cow', 'ToString', 'ToOwned']
 CORE_MACROS = ['assert', 'format', 'write', 'vec', 'include', 'panic', 'println', 'prove']
 MACROS = ['assert', 'include', 'panic', 'println', 'dbg', 'env']
 CORE_IMPLS = {
-    'Clone': 'impl Clone for Odd {\n}',
-    'Drop': 'impl<T> core::ops::Drop for Odd<T> {\n}',
-    'From': 'impl From<u8> for Odd {\n}',
-    'PartialEq': 'impl<T: Fn(u8) -> u8> PartialEq<Odd<T>> for Odd<T> {\n}',
-    'Add': 'impl<T>\nops::Add<T>\nfor Odd {\n}',
+    'Clone': 'impl Clone for Odd {\n}', 'Drop': 'impl<T> core::ops::Drop for Odd<T> {\n}', 'From': 'impl From<u8> for Odd {\n}',
+    'PartialEq': 'impl<T: Fn(u8) -> u8> PartialEq<Odd<T>> for Odd<T> {\n}', 'Add': 'impl<T>\nops::Add<T>\nfor Odd {\n}',
 }
 LEFT = {
-    "{'ghost'}": 'fn ghost() {}',
-    "{'requires'}": 'fn requires() {}',
-    "{'ensures'}": 'fn ensures() {}',
-    "{'Model'}": 'fn odd(it: Model) {}',
+    **{f"{{'{word}'}}": f'fn {word}() {{}}' for word in ('ghost', 'requires', 'ensures')}, "{'Model'}": 'fn odd(it: Model) {}',
     'True': 'fn \u00e9() {}',
 }
 # Items that aren't rejected, in the core and above it.
@@ -99,21 +76,17 @@ CORE_FINE = ['fn odd() -> bool { matches!(1, 1) }', 'impl fmt::Display for Odd {
 FINE = ['trait Odd {}', 'impl From<u8> for Odd {\n}', 'fn odd() { write!(format!(in 1; "")) }', 'fn odd(it: String, all: Vec<Global>) {}']
 
 # The changes that insert an item into a file, each with the reason why it is rejected.
+BOTH = [*((item, f"rejected: {{'{word}'}}") for word, item in WORDS.items()), *((item, f'left: {words}') for words, item in LEFT.items())]
 TRIED += [(IDENT, CORE_PLACE, f'{item}\n\n{CORE_PLACE}', said) for item, said in [
-    *((item, f"rejected: {{'{word}'}}") for word, item in WORDS.items()),
-    ('trait Odd {}', "rejected: {'trait'}"),
+    *BOTH, ('trait Odd {}', "rejected: {'trait'}"), *((item, None) for item in CORE_FINE),
     *((f'fn odd(it: {word}) {{}}', f"takes memory: {{'{word}'}}") for word in CORE_MEMORY),
     *((f'fn odd() {{ {word}!(1) }}', f"macros: {{'{word}'}}") for word in CORE_MACROS),
     *((item, f"impls: {{'{word}'}}") for word, item in CORE_IMPLS.items()),
-    *((item, f'left: {words}') for words, item in LEFT.items()),
-    *((item, None) for item in CORE_FINE),
 ]]
 TRIED += [(LINE, PLACE, f'{item}\n\n{PLACE}', said) for item, said in [
-    *((item, f"rejected: {{'{word}'}}") for word, item in WORDS.items()),
+    *BOTH, *((item, None) for item in FINE),
     *((f'fn odd(it: {word}) {{}}', f"rejected: {{'{word}'}}") for word in RUSTS_OWN),
     *((f'fn odd() {{ {word}!(1) }}', f"macros: {{'{word}'}}") for word in MACROS),
-    *((item, f'left: {words}') for words, item in LEFT.items()),
-    *((item, None) for item in FINE),
 ]]
 
 # An output of the last eraser, and the reason why it is rejected.
@@ -125,15 +98,10 @@ ERASERS = [
 ]
 
 
-def path_elsewhere(folder):
-    """Makes one module of the folder come from another file."""
+def change_modules(folder, change):
+    """Changes the list of modules of the folder."""
     path = folder / 'mod.rs'
-    path.write_text(path.read_text().replace('pub mod', '#[path = "../odd/mod.rs"]\npub mod', 1))
-
-
-def without_module(folder):
-    path = folder / 'mod.rs'
-    path.write_text(path.read_text().rsplit('pub mod', 1)[0])
+    path.write_text(change(path.read_text()))
 
 
 def linked(folder):
@@ -153,8 +121,9 @@ FOLDERS = [
     (lambda folder: (folder / 'mod.rs').unlink(), 'mod.rs'),
     (lambda folder: next(folder.glob('*/mod.rs')).unlink(), 'mod.rs'),
     (lambda folder: next(folder.glob('*/mod.rs')).write_text(''), 'mod.rs'),
-    (path_elsewhere, 'mod.rs'),
-    (without_module, 'mod.rs'),
+    # One module comes from another file, and the last module is missing.
+    (lambda folder: change_modules(folder, lambda text: text.replace('pub mod', '#[path = "../odd/mod.rs"]\npub mod', 1)), 'mod.rs'),
+    (lambda folder: change_modules(folder, lambda text: text.rsplit('pub mod', 1)[0]), 'mod.rs'),
     (linked, 'mod.rs'),
 ]
 

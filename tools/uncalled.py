@@ -14,7 +14,8 @@ from typing import NamedTuple
 
 LIST = Path(__file__).resolve().parent / "uncalled.txt"
 CRATE = re.compile(r"(\w+)/ with (\w+(?: or \w+)*)")
-ENTRY = re.compile(r"(- )?(\S+) (\*|impl \w+ for \w+|\w+|\w+::\w+|\w+::\{\w+(?:, \w+)*\})(?: with (\w+(?: or \w+)*))?: (\S.*)")
+ITEM = r"\w+(?:::\w+)?(?=[,: ])"
+ENTRY = re.compile(rf"(- )?(\S+) (\*|impl \w+ for \w+|\w+::\{{\w+(?:, \w+)*\}}|{ITEM}(?:, {ITEM})*)(?: with (\w+(?: or \w+)*))?: (\S.*)")
 
 # The feature of the programs, which enables all others.
 PROGRAMS = "__rendered"
@@ -52,14 +53,13 @@ def listed():
     """Returns the entries of the list."""
     entries = []
     for line in LIST.read_text().split("\n"):
-        if CRATE.fullmatch(line):
+        if not line or line.startswith("#") or CRATE.fullmatch(line):
             continue
         entry = ENTRY.fullmatch(line)
-        if entry and not (entry[1] and re.search(r"[*{]", entry[3])):
-            by = tuple((entry[4] or PROGRAMS).split(" or "))
-            entries.append(Entry(entry[2], entry[3], by, entry[5], bool(entry[1])))
-        elif line and not line.startswith("#"):
+        if not entry or entry[1] and re.search(r"[*{]", entry[3]):
             fail(f"no entry: {line}")
+        by = tuple((entry[4] or PROGRAMS).split(" or "))
+        entries += [Entry(entry[2], item, by, entry[5], bool(entry[1])) for item in ([entry[3]] if "{" in entry[3] else entry[3].split(", "))]
     return entries
 
 
@@ -77,18 +77,11 @@ def front_of(text, at, form):
 
 def span_of(text, entry):
     """Returns the start of the entry's function, struct or impl, with its attributes, and its end, by the layout of its file."""
-    trait = re.fullmatch(r"impl (\w+) for (\w+)", entry.item)
-    if trait:
-        found = re.search(rf"^impl(?:<[^{{]*?>)? {trait[1]} for {trait[2]}(?:<[^{{]*?>)? \{{\n", text, re.M)
-        if not found:
-            fail(f"{entry.file} has no {entry.item}")
-        return front_of(text, found.start(), r"#\[.*\]"), re.compile(r"^\}\n", re.M).search(text, found.end()).end()
     owner, _, name = entry.item.rpartition("::")
-    indent = " " * 4 * bool(owner)
-    impl = rf"^impl(?:<[^{{]*?>)? {owner}(?:<[^{{]*?>)? \{{\n(?:(?!\}}).*\n)*?" * bool(owner)
-    found = re.search(rf"{impl}^(?P<head>{indent}(?:pub(?:\(crate\))? )?(?:fn|struct) {name}\b)", text, re.M)
-    if not found:
-        fail(f"{entry.file} has no function or struct {entry.item}")
+    indent, types = " " * 4 * bool(owner), r"(?:<[^{]*?>)?"
+    impl = rf"^impl{types} {owner}{types} \{{\n(?:(?!\}}).*\n)*?" * bool(owner)
+    head = rf"impl{types} {name[5:]}{types} \{{" if name.startswith("impl ") else rf"(?:pub(?:\(crate\))? )?(?:fn|struct) {name}\b"
+    found = re.search(rf"{impl}^(?P<head>{indent}{head})", text, re.M) or fail(f"{entry.file} has no {entry.item}")
     end = re.compile(rf"^{indent}\}}\n", re.M).search(text, found.end()).end()
     return front_of(text, found.start("head"), r" *#\[.*\]"), end
 

@@ -1,7 +1,6 @@
-//! `cut!()` writes the tokens of texts by rustc's own lexer. The texts are in the file that `ANSWERS_TEXTS` names, each after its
-//! length. A line of the file `ANSWERS_OUT` has the tokens of a text as words, or is `unread`. A word begins with a letter for the
-//! token's form, and a literal follows in hexadecimal. Before each text the macro prints `@` and the text's number to standard
-//! error. rustc's messages after it are about this text.
+//! `cut!()` writes the tokens of texts (`texts.rs`) by rustc's own lexer. A line has the tokens of a text as words, or is `unread`. A
+//! word begins with a letter for the token's form, and a literal follows in hexadecimal. Before each text the macro prints `@` and
+//! the text's number to standard error. rustc's messages after it are about this text.
 
 // This library is also built with the edition 2015, which needs this line.
 extern crate proc_macro;
@@ -10,9 +9,7 @@ extern crate proc_macro;
 mod texts;
 
 use proc_macro::{TokenStream, TokenTree};
-use std::io::{BufWriter, Write};
 use std::panic::{catch_unwind, set_hook};
-use std::{env, fs};
 
 /// Appends the words of the tokens to `out`. A group is represented by its opening and its closing token.
 fn push_words(stream: TokenStream, out: &mut String) {
@@ -38,19 +35,13 @@ fn push_words(stream: TokenStream, out: &mut String) {
 #[proc_macro]
 pub fn cut(_: TokenStream) -> TokenStream {
     set_hook(Box::new(|_| {}));
-    let data = fs::read(env::var("ANSWERS_TEXTS").expect("a path")).expect("texts");
-    let file = fs::File::create(env::var("ANSWERS_OUT").expect("a path")).expect("a file");
-    let mut out = BufWriter::new(file);
-    for (at, text) in texts::split(&data).enumerate() {
+    texts::write(texts::given().enumerate().map(|(at, text)| {
         eprintln!("@{at}");
         let words = catch_unwind(|| {
             let mut words = String::new();
             push_words(text.parse().ok()?, &mut words);
             Some(words)
         });
-        let words = words.unwrap_or(None).unwrap_or("unread".to_owned());
-        writeln!(out, "{}", words.trim_end()).expect("room for the answers");
-    }
-    out.flush().expect("room for the answers");
-    TokenStream::new()
+        format!("{}\n", words.unwrap_or(None).unwrap_or("unread".to_owned()).trim_end())
+    }))
 }

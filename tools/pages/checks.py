@@ -6,8 +6,7 @@ import re
 import textwrap
 
 from .graph import graph
-from .items import (
-    TOP, code_files, core, definition_files, libraries, pages, paths, prose_pages, public_items, read, signature_end)
+from .items import TOP, code_files, core, definition_files, libraries, pages, paths, prose_pages, public_items, read, signature_end
 from .snippets import EXAMPLE, VALUE, Source, blanked, whole_items
 from .style import DEFINED, check_habits, check_public_names
 
@@ -16,17 +15,13 @@ RUST = re.compile(r'```rust\n(.*?) *```', re.S)
 # The first items that a newcomer meets. Each has an example of at most 30 lines, or names the item that has it.
 EXAMPLES = {
     'rl_tokens': """
-        Kind Span Literal CString Ident Punct Group TokenTree TokenStream Tokens Sources LexError Error
-        ErrorKind Kept ParseBuffer Parse Parser Token ToTokens lex parse_all attempt skip xid_ok
-        ParseBuffer::peek ParseBuffer::parse""",
+        Kind Span Literal CString Ident Punct Group TokenTree TokenStream Tokens Sources LexError Error ErrorKind Kept ParseBuffer
+        Parse Parser Token ToTokens lex parse_all attempt skip xid_ok ParseBuffer::peek ParseBuffer::parse""",
     'rl_grammar': 'Parts shape is_token str_of is_plain explain',
     'rl_quoted': """
-        LitStr LitByteStr LitCStr LitByte LitChar LitStr::new LitStr::value LitStr::value_ref
-        LitByteStr::value LitByteStr::value_ref LitCStr::value LitByte::value LitChar::value
-        LitStr::parse LitStr::parse_with""",
-    'rust_literals': """
-        Lit Lit::new LitInt LitFloat LitBool Number::base10_digits
-        Number::base10_parse read_all read_next""",
+        LitStr LitByteStr LitCStr LitByte LitChar LitStr::new LitStr::value LitStr::value_ref LitByteStr::value
+        LitByteStr::value_ref LitCStr::value LitByte::value LitChar::value LitStr::parse LitStr::parse_with""",
+    'rust_literals': 'Lit Lit::new LitInt LitFloat LitBool Number::base10_digits Number::base10_parse read_all read_next',
     'rl_attributes': 'Attrs Attrs::get read',
 }
 # Words that other projects define, and names that no crate has.
@@ -37,7 +32,8 @@ OF_OTHERS = ['docs/DIFFERENCES.md', 'docs/COMPARISON.md', 'docs/PERFORMANCE.md']
 
 
 def check_items(tell):
-    """Checks the documentation of the public items. Returns their number."""
+    """Checks that each public item has documentation, that an item that returns a Result has `# Errors`, and that the items of
+    EXAMPLES have an example with a value, or name the item that has it. Returns the number of public items."""
     public = {crate: public_items(crate) for crate in libraries()}
     shown = {item.name for items in public.values() for _, item in items if item.examples()}
     for crate, items in public.items():
@@ -79,7 +75,7 @@ def words_of(definitions):
 
 
 def check_definitions(tell):
-    """Checks that each definition on a page is in a crate."""
+    """Checks that each definition on a page is in a crate, comments and white space aside. An empty line separates definitions."""
     found = [words_of(read(it)) for it in definition_files()]
     for page in pages():
         for piece in re.split(r'\n\s*\n', '\n\n'.join(re.findall(r'```antt\n(.*?)```', read(page), re.S))):
@@ -107,7 +103,9 @@ def shown_snippets():
 
 
 def check_snippets(tell):
-    """Checks that each shown snippet of Rust consists of whole items of a crate, and that its values are in the rows."""
+    """Checks that each shown snippet of Rust consists of whole items of one file, so that shown code is compiled and proved; that it
+    imports the names that it uses and contains the other items of that file that it uses, so that it can be pasted; and that the
+    result in each line `// CALL == VALUE` is in the rows."""
     sources = [Source(read(it)) for it in code_files() + paths('rust/examples/*.rs')]
     printed = {line.removeprefix('> ') for line in read('rust/programs/rows/tests/calls/uses.rows').split('\n')}
     for where, block in shown_snippets():
@@ -135,6 +133,7 @@ def is_there(path, page):
 
 
 def check_paths(tell):
+    """Checks that each link and path of a page names an existing file or folder, and so does each name of a `.rt` or `.antt` file."""
     sources = {os.path.basename(it) for it in [*code_files(), *definition_files()]}
     folder = r'(?:docs|tools|oracle|crates|bench|\.ci|rl_\w+|rust_literals)'
     bare_path = re.compile(rf'(?<![\w/.-])({folder}/[\w./-]*[\w/])')

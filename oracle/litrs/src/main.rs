@@ -5,7 +5,6 @@
 mod texts;
 
 use litrs::Literal;
-use std::io::{self, BufWriter, Read, Write};
 use std::panic;
 
 /// Returns the kind of an error, which litrs only shows in its `Debug` output.
@@ -25,14 +24,7 @@ fn line(text: &str) -> String {
     }
 }
 
-fn main() -> io::Result<()> {
+fn main() -> std::io::Result<()> {
     panic::set_hook(Box::new(|_| {}));
-    let mut data = Vec::new();
-    io::stdin().read_to_end(&mut data)?;
-    let mut out = BufWriter::new(io::stdout().lock());
-    for text in texts::split(&data) {
-        let answer = panic::catch_unwind(|| line(text)).unwrap_or("panic".to_string());
-        writeln!(out, "{answer}")?;
-    }
-    out.flush()
+    texts::print(|text| panic::catch_unwind(|| line(text)).unwrap_or("panic".to_string()) + "\n")
 }

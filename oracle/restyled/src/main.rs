@@ -38,19 +38,20 @@ fn row(front: &str, text: &str, style: Style) -> String {
 }
 
 fn main() -> io::Result<()> {
-    let (mut data, mut out) = (Vec::new(), BufWriter::new(io::stdout().lock()));
-    io::stdin().read_to_end(&mut data)?;
     if let Some(letters) = std::env::args().nth(1) {
-        for text in texts::split(&data) {
+        let (mut input, mut output) = (Vec::new(), BufWriter::new(io::stdout().lock()));
+        io::stdin().read_to_end(&mut input)?;
+        for text in texts::split(&input) {
             let new = rewrite_source(text, style_of(&letters)).apply().unwrap_or(Cow::Borrowed(text));
-            out.write_all(&(new.len() as u32).to_le_bytes())?;
-            out.write_all(new.as_bytes())?;
+            output.write_all(&(new.len() as u32).to_le_bytes())?;
+            output.write_all(new.as_bytes())?;
         }
-        return out.flush();
+        return output.flush();
     }
-    for line in std::str::from_utf8(&data).expect("rows").lines() {
+    for line in io::stdin().lines() {
+        let line = line?;
         let [letters, front, text] = line.split(' ').collect::<Vec<_>>()[..] else { panic!("three words, not {line}") };
-        writeln!(out, "{}", row(&decoded(front), &decoded(text), style_of(letters)))?;
+        println!("{}", row(&decoded(front), &decoded(text), style_of(letters)));
     }
-    out.flush()
+    Ok(())
 }

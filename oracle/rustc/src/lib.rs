@@ -1,7 +1,4 @@
-//! Macros that write the results of rustc's own lexer for texts to a file, while rustc expands them.
-//!
-//! Environment variables name the files: `ANSWERS_TEXTS` (texts, each after its length: four bytes, the lowest first) and
-//! `ANSWERS_OUT`.
+//! Macros that write the results of rustc's own lexer for texts to a file (`texts.rs`), while rustc expands them.
 //!
 //! syn's own parsing code parses each literal. The code that goes through the token trees is written here.
 #![feature(proc_macro_span)]
@@ -13,32 +10,8 @@ mod trees;
 
 use crate::trees::{Cut, Rejection, is_token, lexes};
 use proc_macro::{TokenStream, TokenTree};
-use std::io::{BufWriter, Write};
-use std::panic::catch_unwind;
+use std::panic::{self, catch_unwind};
 use std::sync::LazyLock;
-use std::{env, fs, panic};
-
-/// Returns the value of an environment variable.
-fn said(name: &str) -> String {
-    env::var(name).unwrap_or_else(|_| panic!("the variable {name}"))
-}
-
-/// Returns the texts.
-fn given() -> Vec<&'static str> {
-    static DATA: LazyLock<Vec<u8>> = LazyLock::new(|| fs::read(said("ANSWERS_TEXTS")).expect("texts"));
-    texts::split(&DATA).collect()
-}
-
-/// Writes the result of each text.
-fn write_answers(answers: impl Iterator<Item = String>) -> TokenStream {
-    let file = fs::File::create(said("ANSWERS_OUT")).expect("a file for the answers");
-    let mut out = BufWriter::new(file);
-    for answer in answers {
-        out.write_all(answer.as_bytes()).expect("room for the answers");
-    }
-    out.flush().expect("room for the answers");
-    TokenStream::new()
-}
 
 /// `judged!(strict)` writes for each text whether it is one literal token without an error, including `true` and `false`.
 /// `judged!(lexes)` writes whether a text can be divided into token trees without an error. A result is a line `true` or `false`.
@@ -47,14 +20,14 @@ pub fn judged(command: TokenStream) -> TokenStream {
     let judge: fn(&str) -> bool = if command.to_string() == "strict" { is_token } else { lexes };
     panic::set_hook(Box::new(|_| {}));
     // An error that stops rustc's lexer at once, such as a quote that isn't closed, is a panic here.
-    write_answers(given().into_iter().map(|text| format!("{}\n", catch_unwind(|| judge(text)).unwrap_or(false))))
+    texts::write(texts::given().map(|text| format!("{}\n", catch_unwind(|| judge(text)).unwrap_or(false))))
 }
 
 /// `tried!(N)` lexes the text with this number, so that rustc reports the text's errors at the line of the call. If the text can't
 /// be lexed, an error is always reported there.
 #[proc_macro]
 pub fn tried(number: TokenStream) -> TokenStream {
-    static TEXTS: LazyLock<Vec<&str>> = LazyLock::new(given);
+    static TEXTS: LazyLock<Vec<&str>> = LazyLock::new(|| texts::given().collect());
     let number: usize = number.to_string().parse().expect("a number");
     panic::set_hook(Box::new(|_| {}));
     if catch_unwind(|| lexes(TEXTS[number])).unwrap_or(false) {
@@ -64,9 +37,17 @@ pub fn tried(number: TokenStream) -> TokenStream {
     "compile_error! { \"groups do not match\" }".parse().expect("a call")
 }
 
-/// Writes the lines that the function returns for each group's text, and a line with a full stop after each text.
-fn write_groups(groups: TokenStream, lines: fn(&Cut<'_>) -> Result<String, Rejection>) -> TokenStream {
-    write_answers(given().into_iter().zip(groups).map(|(text, tree)| {
+/// `lines!(COMMAND {text} {text} ..)` gets the same texts as the file. It writes the lines of each text's literals (`spans`: kind, byte
+/// range and text; `sources`: also those inside groups) or attributes (`attr`), and a line with a full stop after each text.
+#[proc_macro]
+pub fn lines(tokens: TokenStream) -> TokenStream {
+    let mut groups = tokens.into_iter();
+    let lines = match groups.next().expect("a command").to_string().as_str() {
+        "spans" => lists::spans,
+        "attr" => lists::attributes,
+        _ => trees::all_literals,
+    };
+    texts::write(texts::given().zip(groups).map(|(text, tree)| {
         let TokenTree::Group(group) = tree else { panic!("a text outside braces") };
         match lines(&Cut::of(text, group)) {
             Ok(lines) => format!("{lines}.\n"),
@@ -74,23 +55,4 @@ fn write_groups(groups: TokenStream, lines: fn(&Cut<'_>) -> Result<String, Rejec
             Err(Rejection::At(lo, hi, message)) => format!("error at {lo}..{hi}: {message}\n.\n"),
         }
     }))
-}
-
-/// `spans!({text} {text} ..)` gets the same texts as the file. It writes the lines of each text's literals: kind, byte range and
-/// text.
-#[proc_macro]
-pub fn spans(groups: TokenStream) -> TokenStream {
-    write_groups(groups, lists::spans)
-}
-
-/// `attr!({text} {text} ..)` gets the same texts as the file. It writes the lines of each text's attributes.
-#[proc_macro]
-pub fn attr(groups: TokenStream) -> TokenStream {
-    write_groups(groups, lists::attributes)
-}
-
-/// `sources!({text} {text} ..)` gets the same texts as the file. It writes the lines of each text's literals.
-#[proc_macro]
-pub fn sources(groups: TokenStream) -> TokenStream {
-    write_groups(groups, trees::all_literals)
 }

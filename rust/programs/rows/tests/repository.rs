@@ -1,24 +1,10 @@
-//! Compares the package with other files of the repository: the messages of flaws, and the stored cases of `oracle/sample.jsonl`
-//! with a single text as input. A case has the kind, the value and the suffix as `rl_tool text` prints them.
+//! Compares the package with other files of the repository: the messages of flaws, and the single texts of `oracle/stored.rs`, each
+//! with the kind, the value and the suffix as `rl_tool text` prints them.
 
 use navyspindle::{write_byte_str, write_c_str, write_str, Lit, ParseErrorKind};
 use std::collections::HashSet;
 use std::ffi::CString;
 use std::fs;
-
-/// Returns the value of a JSON field that is a text without escapes.
-fn field<'t>(line: &'t str, name: &str) -> Option<&'t str> {
-    let (_, rest) = line.split_once(&format!("\"{name}\": \""))?;
-    Some(rest.split_once('"')?.0)
-}
-
-fn bytes(hex: &str) -> Vec<u8> {
-    let digits: Vec<u32> = hex.chars().filter_map(|c| c.to_digit(16)).collect();
-    digits
-        .chunks(2)
-        .map(|pair| (pair[0] * 16 + pair[1]) as u8)
-        .collect()
-}
 
 /// Whether `rl_tool` prints a suffix unchanged, because it is an identifier. The character `·` isn't a letter, but can continue an
 /// identifier.
@@ -66,37 +52,19 @@ fn line_of(text: &str) -> String {
 }
 
 #[test]
-fn stored_cases() {
-    let stored = concat!(env!("CARGO_MANIFEST_DIR"), "/../../../oracle/sample.jsonl");
-    let (mut tried, mut wrong) = (0, Vec::new());
-    for line in fs::read_to_string(stored)
-        .expect("the stored cases")
-        .lines()
-    {
-        if !line.contains("\"args\": [\"text\"]") || !line.contains("\"status\": 0") {
-            continue;
-        }
-        let (Some(input), Some(stdout)) = (field(line, "input"), field(line, "stdout")) else {
-            continue;
-        };
-        let Ok(text) = String::from_utf8(bytes(input)) else {
-            continue;
-        };
-        let expected = String::from_utf8(bytes(stdout)).expect("lines are UTF-8");
-        tried += 1;
-        if line_of(&text) != expected.trim_end() {
-            wrong.push(format!(
-                "{text:?}: {} for {}",
-                line_of(&text),
-                expected.trim_end()
-            ));
-        }
-    }
-    assert!(tried > 100, "{tried} cases");
+fn stored_lines() {
+    let (texts, _, _) = include!("../../../../oracle/stored.rs");
+    let wrong: Vec<_> = texts
+        .iter()
+        .filter(|(text, line)| line_of(text) != *line)
+        .map(|(text, line)| format!("{text:?}: {} for {line}", line_of(text)))
+        .collect();
+    assert!(texts.len() > 100, "{} texts", texts.len());
     assert!(
         wrong.is_empty(),
-        "{} of {tried}: {:#?}",
+        "{} of {}: {:#?}",
         wrong.len(),
+        texts.len(),
         &wrong[..wrong.len().min(12)]
     );
 }
