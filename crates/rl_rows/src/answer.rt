@@ -1,16 +1,18 @@
 //! Prints the result of a test on a text.
 
+use crate::Page;
 use crate::flaws::put_flaw;
-use crate::lists::{put_list, put_spans};
-use crate::literals::{call_literal, call_of};
-use crate::segments::segments;
+use crate::lists::{put_lines, put_spans};
+use crate::literals::{call, call_literal};
+use crate::pairs::pairs;
 use crate::sources::put_source;
-use crate::{Page, words};
-use rl_attributes::read;
+use crate::turns::turns;
+use crate::values::equal;
+use rl_commands::Command;
 use rl_grammar::strict::is_token;
 use rl_grammar::{LineEnds, explain, explain_value};
 use rl_tokens::{Error, ErrorKind, Span, whitespace};
-use rust_literals::{Lit, LitFloat, LitInt, read_all};
+use rust_literals::{Lit, LitFloat, LitInt};
 
 /// Prints the result of the test `name` on a text.
 ///
@@ -18,35 +20,42 @@ use rust_literals::{Lit, LitFloat, LitInt, read_all};
 /// - `int` and `float` print the output line of the number, or `None` for another text, or `TooLarge`.
 /// - `skip` prints the number of bytes after white space and comments.
 /// - `strict` prints whether the text is a token of Rust.
-/// - `segments` prints the segments of a quoted literal.
 /// - `explain` prints the reason why the text isn't a token of Rust, and its range, or `None`. `explain-value` prints the reason
 ///   why it has no value.
-/// - `read`, `spans`, `attr` and `source` print lines, and then a line with a full stop.
+/// - `read`, `spans`, `attr` and `source` print lines, and then a line with a full stop. `read` and `attr` are the commands of
+///   `rl_tool`.
 ///
-/// Other names are tests of the module `words`.
+/// - `equal`, `pairs` and `turns` are tests of two literals, described with their functions.
+///
+/// Any other name prints an error.
 pub(crate) fn told(name: &str, text: &str, out: &mut Page) {
-    let alloc = out.alloc();
     match name {
         "text" | "value" => call_literal(name, text, out),
-        "int" => put_number(LitInt::new(alloc, text, Span::call_site()), out),
-        "float" => put_number(LitFloat::new(alloc, text, Span::call_site()), out),
+        "int" => put_number(LitInt::new(out.alloc, text, Span::call_site()), out),
+        "float" => put_number(LitFloat::new(out.alloc, text, Span::call_site()), out),
         "skip" => out.show(&whitespace::skip(text).len(), "\n"),
         "strict" => out.show(&is_token(text), "\n"),
-        "read" => put_list(read_all(alloc, text, 0), out),
-        "spans" => put_spans(alloc, text, out),
-        "attr" => put_list(read(alloc, text, 0), out),
-        "source" => put_source(alloc, text, out),
-        "segments" => segments(text, out),
+        "read" => put_lines(Command::Read, text, out),
+        "spans" => put_spans(text, out),
+        "attr" => put_lines(Command::Attr, text, out),
+        "source" => put_source(text, out),
         "explain" => put_flaw(explain(text), out),
         "explain-value" => put_flaw(explain_value(text, LineEnds::Text, true), out),
-        _ => words::told(name, text, out),
+        "equal" => equal(text, out),
+        "pairs" => pairs(text, out),
+        "turns" => turns(text, out),
+        _ => out.put("error: no call\n"),
     }
 }
 
 /// Prints the output line of a number, or the reason why the text isn't one.
 fn put_number<T: Into<Lit> + Drop>(made: Result<T, Error>, out: &mut Page) {
     match made {
-        Ok(number) => call_of(Some(number.into()), "text", out),
+        Ok(number) => {
+            let literal = number.into();
+            call(&literal, "text", out);
+            drop(literal)
+        }
         Err(error) => put_rejected(error, out),
     }
 }
@@ -56,7 +65,7 @@ fn put_rejected(error: Error, out: &mut Page) {
     match &error.kind {
         ErrorKind::NotInteger | ErrorKind::NotFloat => out.put("None\n"),
         ErrorKind::TooLarge => out.put("TooLarge\n"),
-        _ => out.fail(),
+        _ => out.is_short = true,
     }
     drop(error)
 }

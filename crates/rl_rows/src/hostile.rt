@@ -2,7 +2,7 @@
 //! attributes with many names.
 
 use crate::Page;
-use crate::literals::{Called, call_literal};
+use crate::literals::{call_literal, put_brief};
 use crate::noted::{parts_of, put_places};
 use rl_attributes::read;
 use rl_grammar::strict;
@@ -10,22 +10,8 @@ use rl_program::Rejection;
 use rl_tokens::{lex, whitespace};
 use rust_literals::{Lit, read_all};
 
-/// The maximum length of an output line that is printed. A longer line is printed as its length.
-const LONGEST: usize = 100;
-
 /// The maximum number of literals of a list that are printed.
 const MOST: usize = 4;
-
-/// Prints the output line of a literal without its line end. For a long line it prints the kind and the number of bytes.
-pub(crate) fn put_brief(line: &str, out: &mut Page) {
-    let (line, _) = parts_of(line, '\n');
-    if line.len() <= LONGEST {
-        return out.put(line);
-    }
-    let (kind, _) = parts_of(line, ' ');
-    out.say(kind, " in a line of ");
-    out.put_number(line.len())
-}
 
 /// Prints a line for a text: its length, and the results of `skip`, `lex`, `is_token`, `read_all` and `Lit::new`.
 fn put_text(text: &str, out: &mut Page) {
@@ -45,21 +31,21 @@ fn put_text(text: &str, out: &mut Page) {
 
 /// Prints the result of `lex`: the number of token trees, or an error and its position.
 fn put_lexed(text: &str, out: &mut Page) {
-    match lex(out.alloc(), text, 0) {
-        Ok(stream) => out.put_number(stream.trees().len()),
+    match lex(out.alloc, text, 0) {
+        Ok(stream) => out.show(&stream.trees().len(), ""),
         Err(error) => {
             out.show(&error.kind, " ");
-            out.put_shown(&error.at)
+            out.show(&error.at, "")
         }
     }
 }
 
 /// Prints the result of `read_all`: the number of literals and the first of them with their ranges, or an error and its range.
 fn put_read(text: &str, out: &mut Page) {
-    match read_all(out.alloc(), text, 0) {
+    match read_all(out.alloc, text, 0) {
         Ok(literals) => put_first(literals.as_slice(), out),
         Err(error) => {
-            out.put_shown(&error);
+            out.show(&error, "");
             put_places(" ", error.span, out);
             drop(error)
         }
@@ -68,51 +54,33 @@ fn put_read(text: &str, out: &mut Page) {
 
 /// Prints the number of literals, and the first of them with their ranges.
 fn put_first(literals: &[Lit], out: &mut Page) {
-    out.put_number(literals.len());
+    out.show(&literals.len(), "");
     for literal in literals.get(..MOST).unwrap_or(literals) {
         out.put(", ");
-        literal.call("brief", out);
+        put_brief(literal, out);
         put_places(" ", literal.span(), out)
     }
 }
 
-/// Returns the control character that a character like `␊` represents, or the character itself.
-fn unpictured(c: char) -> char {
-    match c {
-        '␊' => '\n',
-        '␍' => '\r',
-        '␉' => '\t',
-        '␀' => '\0',
-        c => c,
-    }
-}
-
-/// Appends a text in which characters like `␊` are replaced by the control characters that they represent.
-pub(crate) fn put_unpictured(text: &str, out: &mut Page) {
+/// Prints a line for each prefix of a text, as `put_text`.
+pub(crate) fn cuts(text: &str, out: &mut Page) {
+    let mut front = Page::new(out.alloc);
     for c in text.chars() {
-        out.put_char(unpictured(c))
+        put_text(front.text.as_str(), out);
+        front.show(&c, "")
     }
-}
-
-/// Prints a line for each prefix of a text, as `put_text`. In the row, characters like `␊` represent control characters.
-pub(crate) fn cuts(row: &str, out: &mut Page) {
-    let mut text = out.another();
-    for c in row.chars() {
-        put_text(text.text(), out);
-        text.put_char(unpictured(c))
-    }
-    put_text(text.text(), out)
+    put_text(text, out)
 }
 
 /// Prints a line for a long text, as `put_text`. The row has the parts of the text, with tabs between. Each part is a number, a
 /// space, and a text that is repeated as often.
 pub(crate) fn long(row: &str, out: &mut Page) {
-    let mut text = out.another();
+    let mut text = Page::new(out.alloc);
     for part in row.split('\t') {
         let (count, piece) = parts_of(part, ' ');
         put_times(number_of(count), piece, &mut text)
     }
-    put_text(text.text(), out)
+    put_text(text.text.as_str(), out)
 }
 
 /// Returns the number that `word` is in base ten, or 0.
@@ -136,13 +104,13 @@ const FIRST: usize = 10_000_000;
 /// The row has the number of attributes, a space, and the start of their names. A number follows the start in each name.
 pub(crate) fn names(row: &str, out: &mut Page) {
     let (count, front) = parts_of(row, ' ');
-    let mut text = out.another();
+    let mut text = Page::new(out.alloc);
     for number in FIRST..FIRST.saturating_add(number_of(count)) {
         put_setting(front, number, &mut text)
     }
-    put_attributes(text.text(), out);
+    put_attributes(text.text.as_str(), out);
     put_setting(front, FIRST, &mut text);
-    put_attributes(text.text(), out)
+    put_attributes(text.text.as_str(), out)
 }
 
 /// Appends an attribute with the value 1. Its name is `front` and the number.
@@ -154,7 +122,7 @@ fn put_setting(front: &str, number: usize, text: &mut Page) {
 /// Parses attributes, and prints a line with their number, or with the error.
 fn put_attributes(text: &str, out: &mut Page) {
     out.put("  ");
-    match read(out.alloc(), text, 0) {
+    match read(out.alloc, text, 0) {
         Ok(attrs) => out.show(&attrs.entries().len(), "\n"),
         Err(error) => {
             out.show(&Rejection(&error), "\n");

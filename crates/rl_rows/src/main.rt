@@ -15,12 +15,10 @@ mod page;
 mod pairs;
 mod plain;
 mod row;
-mod segments;
 mod sources;
 mod streams;
 mod turns;
 mod values;
-mod words;
 
 pub use crate::failing::Failing;
 pub use crate::page::Page;

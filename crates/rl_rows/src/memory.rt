@@ -6,6 +6,6 @@ mod held;
 mod inside;
 mod made;
 pub(crate) mod rows;
-pub(crate) mod runs;
+mod runs;
 mod tokens;
 mod trial;

@@ -21,7 +21,7 @@ pub(crate) fn noted<T, E: Drop>(answer: Result<T, E>, out: &mut Page) -> Option<
     match answer {
         Ok(value) => Some(value),
         Err(_) => {
-            out.fail();
+            out.is_short = true;
             None
         }
     }
@@ -29,13 +29,13 @@ pub(crate) fn noted<T, E: Drop>(answer: Result<T, E>, out: &mut Page) -> Option<
 
 /// Parses a text as a literal with the span `span`. A failed allocation is recorded in `out`.
 pub(crate) fn literal_of(text: &str, span: Span, out: &mut Page) -> Option<Lit> {
-    let token = noted(Literal::from_text(out.alloc(), text, span), out)?;
-    noted(Lit::new(out.alloc(), token), out)
+    let token = noted(Literal::from_text(out.alloc, text, span), out)?;
+    noted(Lit::new(out.alloc, token), out)
 }
 
 /// Prints the text `front`, and the byte range of a span.
 pub(crate) fn put_places(front: &str, span: Span, out: &mut Page) {
     out.put(front);
     out.show(&span.lo, "..");
-    out.put_shown(&span.hi)
+    out.show(&span.hi, "")
 }

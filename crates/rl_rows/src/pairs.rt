@@ -1,7 +1,6 @@
 //! Tests of two literals with a separator between them.
 
 use crate::Page;
-use crate::lists::Lines;
 use crate::noted::{noted, parts_of};
 use rust_literals::read_all;
 
@@ -37,22 +36,22 @@ fn agreeing(first: &str, gap: &str, backs: &str, number: usize, out: &mut Page) 
 /// Whether two texts with the separator `gap` between them are parsed to the same literals as both texts alone, and to at least
 /// one.
 fn agrees(first: &str, gap: &str, second: &str, out: &Page) -> bool {
-    let mut whole = out.another();
+    let mut whole = Page::new(out.alloc);
     whole.say(first, gap);
     whole.put(second);
-    let mut alone = out.another();
+    let mut alone = Page::new(out.alloc);
     put_read(first, &mut alone);
     put_read(second, &mut alone);
-    let mut found = out.another();
-    put_read(whole.text(), &mut found);
-    !found.text().is_empty() && found.text() == alone.text()
+    let mut found = Page::new(out.alloc);
+    put_read(whole.text.as_str(), &mut found);
+    found.text.as_str() != "" && found.text.as_str() == alone.text.as_str()
 }
 
-/// Parses a text as a list of literals, and prints their output lines.
+/// Parses a text as a list of literals, and prints their `Debug` output.
 fn put_read(text: &str, out: &mut Page) {
-    if let Some(literals) = noted(read_all(out.alloc(), text, 0), out) {
-        if let Some(lines) = noted(literals.lines(out.alloc()), out) {
-            out.put(lines.as_str())
+    if let Some(literals) = noted(read_all(out.alloc, text, 0), out) {
+        for literal in literals.as_slice() {
+            out.debug(literal, "\n")
         }
     }
 }

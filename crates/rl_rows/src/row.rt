@@ -2,7 +2,7 @@
 //! a space, and a row of plain text.
 
 use crate::noted::parts_of;
-use crate::{Page, answer, plain, streams, values};
+use crate::{Page, answer, plain, streams};
 use rl_program::decoded;
 use std::alloc::{AllocError, Global};
 
@@ -13,7 +13,10 @@ pub(crate) fn told(alloc: Global, line: &[u8]) -> Result<String, AllocError> {
         Ok(row) => append_row(row, &mut out),
         Err(_) => out.put("error: line is not UTF-8\n"),
     }
-    out.finished()
+    if out.is_short {
+        return Err(AllocError);
+    }
+    Ok(out.text)
 }
 
 /// Runs the test of a row, and prints its result. If a row has no pairs of hexadecimal digits, it prints an error.
@@ -22,25 +25,20 @@ fn append_row(row: &str, out: &mut Page) {
     if name == "plain" {
         return plain::told(rest, out);
     }
-    match decoded(out.alloc(), rest.as_bytes()) {
+    match decoded(out.alloc, rest.as_bytes()) {
         Ok(Some(bytes)) => append_bytes(name, bytes.as_slice(), out),
         Ok(None) => out.put("error: input is not hexadecimal\n"),
-        Err(_) => out.fail(),
+        Err(_) => out.is_short = true,
     }
 }
 
-/// Runs the test `name` on bytes, and prints its result. Most tests need the bytes as text.
+/// Runs the test `name` on bytes, and prints its result. Most tests need the bytes as text. If the bytes of such a test aren't
+/// UTF-8, it prints an error.
 fn append_bytes(name: &str, bytes: &[u8], out: &mut Page) {
     let (word, words) = parts_of(name, ':');
-    match word {
-        "run" => streams::told(words, bytes, out),
-        "bytes" => values::bytes(bytes, out),
-        _ => append_text(name, bytes, out),
+    if word == "run" {
+        return streams::told(words, bytes, out);
     }
-}
-
-/// Runs the test `name` on the bytes as text, and prints its result. If the bytes aren't UTF-8, it prints an error.
-fn append_text(name: &str, bytes: &[u8], out: &mut Page) {
     match std::str::from_utf8(bytes) {
         Ok(text) => answer::told(name, text, out),
         Err(_) => out.put("error: input is not UTF-8\n"),

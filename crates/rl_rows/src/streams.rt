@@ -63,7 +63,7 @@ pub(crate) fn told(words: &str, bytes: &[u8], out: &mut Page) {
     let (name, rest) = parts_of(words, ':');
     let (readable, rest) = parts_of(rest, ':');
     let (writable, end) = parts_of(rest, ':');
-    let mut held = Vec::new(out.alloc());
+    let mut held = Vec::new(out.alloc);
     let mut input = Input {
         bytes,
         left: limit_of(readable),
@@ -74,7 +74,7 @@ pub(crate) fn told(words: &str, bytes: &[u8], out: &mut Page) {
         is_full: end == "full",
     };
     if let Some(command) = Command::from_name(name) {
-        let answer = run(out.alloc(), command, &mut input, &mut output);
+        let answer = run(out.alloc, command, &mut input, &mut output);
         put_bytes(held.as_slice(), out);
         put_ended(answer, out)
     }

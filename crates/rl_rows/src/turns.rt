@@ -2,13 +2,13 @@
 
 use crate::Page;
 use crate::noted::noted;
-use rl_tokens::{ParseBuffer, Punct, Span, lex};
+use rl_tokens::{ParseBuffer, Span, lex};
 use rust_literals::Lit;
 
 /// Parses the token trees of a text by the parser of literals and by `punct` in turn, and prints the results. Then prints whether
 /// the buffer is empty.
 pub(crate) fn turns(text: &str, out: &mut Page) {
-    if let Some(stream) = noted(lex(out.alloc(), text, 0), out) {
+    if let Some(stream) = noted(lex(out.alloc, text, 0), out) {
         let mut input = ParseBuffer::new(stream.trees(), Span::call_site());
         for _ in stream.trees() {
             if !input.is_empty() {
@@ -19,17 +19,13 @@ pub(crate) fn turns(text: &str, out: &mut Page) {
     }
 }
 
-/// Prints the next literal, and then the result of `punct`.
+/// Prints the next literal, and then the result of `punct`: the punctuation character, or `none` without one.
 fn put_turn(input: &mut ParseBuffer<'_>, out: &mut Page) {
-    if let Some(literal) = noted(input.parse::<Lit>(out.alloc()), out) {
-        out.show(&literal, " ")
+    if let Some(literal) = noted(input.parse::<Lit>(out.alloc), out) {
+        out.show(&literal, " ");
+        drop(literal)
     }
-    put_mark(input.punct(), out)
-}
-
-/// Prints a punctuation character, or `none` without one.
-fn put_mark(mark: Option<&Punct>, out: &mut Page) {
-    match mark {
+    match input.punct() {
         Some(mark) => out.show(&mark.as_char(), " "),
         None => out.put("none "),
     }

@@ -30,7 +30,7 @@ pub(crate) fn format_result<T: FormatResult + Drop, E: FormatResult + Drop>(
 /// Appends a span: its file and its range.
 fn format_span(span: Span, page: &mut Page) {
     page.put(" ");
-    page.put_shown(&span.file);
+    page.show(&span.file, "");
     put_places(":", span, page)
 }
 
@@ -49,13 +49,13 @@ impl FormatResult for () {
 
 impl FormatResult for bool {
     fn append_result(&self, page: &mut Page) {
-        page.put_shown(self)
+        page.show(self, "")
     }
 }
 
 impl FormatResult for i8 {
     fn append_result(&self, page: &mut Page) {
-        page.put_shown(self)
+        page.show(self, "")
     }
 }
 
@@ -67,13 +67,13 @@ impl<A: Allocator> FormatResult for String<A> {
 
 impl<A: Allocator> FormatResult for Vec<u8, A> {
     fn append_result(&self, page: &mut Page) {
-        page.put_debug(&self.as_slice())
+        page.debug(&self.as_slice(), "")
     }
 }
 
 impl<A: Allocator> FormatResult for CString<A> {
     fn append_result(&self, page: &mut Page) {
-        page.put_debug(&self.as_bytes())
+        page.debug(&self.as_bytes(), "")
     }
 }
 
@@ -91,28 +91,28 @@ impl<A: Allocator> FormatResult for Ident<A> {
 
 impl<K: QuotedKind, A: Allocator> FormatResult for Quoted<K, A> {
     fn append_result(&self, page: &mut Page) {
-        page.put_debug(self);
+        page.debug(self, "");
         format_span(self.span(), page)
     }
 }
 
 impl<K: NumberKind, A: Allocator> FormatResult for Number<K, A> {
     fn append_result(&self, page: &mut Page) {
-        page.put_debug(self);
+        page.debug(self, "");
         format_span(self.span(), page)
     }
 }
 
 impl FormatResult for LitBool {
     fn append_result(&self, page: &mut Page) {
-        page.put_debug(self);
+        page.debug(self, "");
         format_span(self.span(), page)
     }
 }
 
 impl<A: Allocator> FormatResult for Lit<A> {
     fn append_result(&self, page: &mut Page) {
-        page.put_debug(self);
+        page.debug(self, "");
         format_span(self.span(), page)
     }
 }
@@ -142,7 +142,7 @@ impl FormatResult for AllocError {
 
 impl<A: Allocator> FormatResult for Error<A> {
     fn append_result(&self, page: &mut Page) {
-        page.put_shown(self);
+        page.show(self, "");
         format_span(self.span, page)
     }
 }
@@ -150,13 +150,13 @@ impl<A: Allocator> FormatResult for Error<A> {
 impl FormatResult for LexError {
     fn append_result(&self, page: &mut Page) {
         page.show(&self.kind, " ");
-        page.put_shown(&self.at)
+        page.show(&self.at, "")
     }
 }
 
 impl<A: Allocator> FormatResult for ProgramError<A> {
     fn append_result(&self, page: &mut Page) {
-        page.put_shown(self)
+        page.show(self, "")
     }
 }
 
@@ -194,7 +194,7 @@ pub(crate) fn format_trees<A: Allocator>(trees: &[TokenTree<A>], page: &mut Page
 fn format_tree<A: Allocator>(tree: &TokenTree<A>, page: &mut Page) {
     match tree {
         TokenTree::Group(group) => {
-            page.put_debug(&group.delimiter());
+            page.debug(&group.delimiter(), "");
             format_span(group.span(), page)
         }
         TokenTree::Ident(ident) => {
@@ -202,7 +202,7 @@ fn format_tree<A: Allocator>(tree: &TokenTree<A>, page: &mut Page) {
             format_token(ident.text(), ident.span(), page)
         }
         TokenTree::Punct(punct) => {
-            page.put_char(punct.as_char());
+            page.show(&punct.as_char(), "");
             format_span(punct.span(), page)
         }
         TokenTree::Literal(literal) => format_token(literal.text(), literal.span(), page),
@@ -217,13 +217,13 @@ impl<A: Allocator> FormatResult for TokenTree<A> {
 
 impl FormatResult for Page {
     fn append_result(&self, page: &mut Page) {
-        page.put(self.text())
+        page.put(self.text.as_str())
     }
 }
 
 impl<A: Allocator> FormatResult for Attrs<A> {
     fn append_result(&self, page: &mut Page) {
-        page.put_number(self.entries().len())
+        page.show(&self.entries().len(), "")
     }
 }
 

@@ -27,9 +27,9 @@ fn contents_of<A: Scarce>(scant: A, text: &str, page: &mut Page) {
             Kind::Str => format_result(str_of(scant, text), page),
             Kind::ByteStr | Kind::CStr => format_result(bytes_of(scant, text), page),
             Kind::Int | Kind::Float => format_result(digits_of(scant, parts.kind, text), page),
-            _ => page.fail(),
+            _ => page.is_short = true,
         },
-        None => page.fail(),
+        None => page.is_short = true,
     }
 }
 
@@ -43,8 +43,8 @@ fn spans<A: Scarce>(scant: A, text: &str, page: &mut Page) {
 
 /// Scans a source with `scan`, and appends the result and the number of written bytes.
 fn scanned<A: Scarce>(scant: A, text: &str, page: &mut Page) {
-    let mut written = Vec::new(page.alloc());
+    let mut written = Vec::new(page.alloc);
     format_result(scan(scant, Options::default(), text, &mut written), page);
     page.put("; wrote ");
-    page.put_number(written.len())
+    page.show(&written.len(), "")
 }

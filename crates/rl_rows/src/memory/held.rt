@@ -6,7 +6,7 @@ use crate::memory::inside;
 use crate::memory::trial::{Scarce, Trial, format_borrowed, formatted};
 use crate::noted::{HERE, noted};
 use rl_quoted::{Quoted, QuotedKind};
-use rl_tokens::{Parse, ParseBuffer, ToTokens, Token, TokenStream};
+use rl_tokens::{Parse, ParseBuffer, ToTokens, Token};
 use rust_literals::{Lit, LitBool, Number, NumberKind};
 
 /// A literal that the called functions borrow.
@@ -28,16 +28,13 @@ pub(crate) fn run_held<T: Held<A> + Drop, A: Scarce>(
     page: &mut Page,
 ) {
     match T::of_text(trial, text, page) {
-        Some(value) => call_held(&value, name, trial, page),
-        None => page.fail(),
+        Some(value) => {
+            let before = formatted(&value, page);
+            value.call(name, trial, page);
+            format_borrowed(&value, &before, page)
+        }
+        None => page.is_short = true,
     }
-}
-
-/// Calls the function with the name on a value, and appends its result. Then appends whether the value is unchanged.
-fn call_held<T: Held<A>, A: Scarce>(value: &T, name: &str, trial: &Trial<A>, page: &mut Page) {
-    let before = formatted(value, page);
-    value.call(name, trial, page);
-    format_borrowed(value, &before, page)
 }
 
 impl<K: QuotedKind, A: Scarce> Held<A> for Quoted<K, A> {
@@ -111,18 +108,8 @@ const FULL: &str = "(1) a 2 +";
 fn appended<T: ToTokens, A: Scarce>(literal: &T, name: &str, trial: &Trial<A>, page: &mut Page) {
     let trees = if name == "to_tokens" { FULL } else { "" };
     if let Some(mut stream) = trial.trees(trees, page) {
-        append_to(literal, &mut stream, trial, page)
+        let before = formatted(&stream, page);
+        format_result(literal.to_tokens(trial.begins(), &mut stream), page);
+        format_borrowed(&stream, &before, page)
     }
-}
-
-/// Calls `to_tokens` with a stream of token trees, and appends the result. Then appends whether the stream is unchanged.
-fn append_to<T: ToTokens, A: Scarce>(
-    literal: &T,
-    stream: &mut TokenStream<A>,
-    trial: &Trial<A>,
-    page: &mut Page,
-) {
-    let before = formatted(stream, page);
-    format_result(literal.to_tokens(trial.begins(), stream), page);
-    format_borrowed(stream, &before, page)
 }

@@ -60,7 +60,7 @@ pub(crate) fn call<A: Scarce>(literal: &Lit<A>, name: &str, scant: A, page: &mut
         Lit::Str(string) => in_string(string, name, scant, page),
         Lit::ByteStr(string) => format_result(string.value(scant), page),
         Lit::CStr(string) => format_result(string.value(scant), page),
-        _ => page.fail(),
+        _ => page.is_short = true,
     }
 }
 
@@ -71,16 +71,13 @@ fn in_string<A: Scarce>(string: &LitStr<A>, name: &str, scant: A, page: &mut Pag
         "parse" => format_result(string.parse::<Lit<A>, _>(scant), page),
         "parse_int" => format_result(string.parse::<LitInt<A>, _>(scant), page),
         "parse_attrs" => format_result(string.parse::<Attrs<A>, _>(scant), page),
-        "parse_group" => in_group(string, scant, page),
+        "parse_group" => {
+            let parser = GroupTold {
+                page: Page::new(page.alloc),
+            };
+            format_result(string.parse_with(scant, parser), page)
+        }
         "parse_with" => format_result(string.parse_with(scant, CopyOfToken), page),
         _ => format_result(string.parse_in_file(scant, CopyOfToken), page),
     }
-}
-
-/// Parses the group that a string contains, and appends the result.
-fn in_group<A: Scarce>(string: &LitStr<A>, scant: A, page: &mut Page) {
-    let parser = GroupTold {
-        page: page.another(),
-    };
-    format_result(string.parse_with(scant, parser), page)
 }

@@ -5,7 +5,6 @@ use crate::memory::format_results::format_result;
 use crate::memory::tokens::{c_string_of, first_byte, first_character};
 use crate::memory::trial::{Scarce, Trial};
 use crate::noted::HERE;
-use rl_tokens::Literal;
 use rust_literals::{Lit, LitByte, LitByteStr, LitCStr, LitChar, LitFloat, LitInt, LitStr};
 
 /// Calls `new` of the type `of`, and appends the result. Its argument is the text, its bytes, its first byte or character, or the
@@ -34,15 +33,11 @@ fn c_string<A: Scarce>(scant: A, text: &str, page: &mut Page) {
 /// Calls `from_token` of `LitInt` or `LitFloat`, or `Lit::new`, with the text as a token, and appends the result.
 pub(crate) fn from_token<A: Scarce>(of: &str, trial: &Trial<A>, text: &str, page: &mut Page) {
     if let Some(token) = trial.token(text, page) {
-        of_token(of, trial.begins(), token, page)
-    }
-}
-
-/// Calls `from_token` of `LitInt` or `LitFloat`, or `Lit::new`, with a token, and appends the result.
-fn of_token<A: Scarce>(of: &str, scant: A, token: Literal<A>, page: &mut Page) {
-    match of {
-        "LitInt" => format_result(LitInt::from_token(scant, token), page),
-        "LitFloat" => format_result(LitFloat::from_token(scant, token), page),
-        _ => format_result(Lit::new(scant, token), page),
+        let scant = trial.begins();
+        match of {
+            "LitInt" => format_result(LitInt::from_token(scant, token), page),
+            "LitFloat" => format_result(LitFloat::from_token(scant, token), page),
+            _ => format_result(Lit::new(scant, token), page),
+        }
     }
 }

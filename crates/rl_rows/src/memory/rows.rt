@@ -1,7 +1,7 @@
 //! Runs tests of calls whose allocations fail. A row of such a test has a type, the name of a function, and a text, with spaces
 //! between.
 
-use crate::hostile::{put_times, put_unpictured};
+use crate::hostile::put_times;
 use crate::memory::held::{Held, run_held};
 use crate::memory::tokens::parsed;
 use crate::memory::trial::{Scarce, Trial};
@@ -14,32 +14,32 @@ use rust_literals::{
 use std::cell::Cell;
 
 /// A row of a test: a function to call, and the text that it is called with.
-#[derive(Clone, Copy)]
+#[derive(Drop)]
 pub(crate) struct Row<'t> {
     /// The type of the function.
-    pub(crate) of: &'t str,
+    of: &'t str,
     /// The name of the function.
-    pub(crate) call: &'t str,
+    call: &'t str,
     /// The text that the function is called with.
-    pub(crate) text: &'t str,
+    text: &'t str,
 }
 
 impl<'t> Row<'t> {
-    /// Creates a row without the name of a function.
-    pub(crate) fn of_text(of: &'t str, text: &'t str) -> Row<'t> {
-        Row { of, call: "", text }
-    }
-
-    /// Parses a row: a type, the name of a function, and a text, with spaces between.
+    /// Parses a row: a type, the name of a function, and a text, with spaces between. A row of the parser of attributes has no
+    /// name of a function.
     pub(crate) fn of_words(words: &'t str) -> Row<'t> {
         let (of, rest) = parts_of(words, ' ');
-        let (call, text) = parts_of(rest, ' ');
+        let (call, text) = if of == "attributes" {
+            ("", rest)
+        } else {
+            parts_of(rest, ' ')
+        };
         Row { of, call, text }
     }
 }
 
 /// Calls the function of a row once, and appends its result.
-fn run<A: Scarce>(row: Row<'_>, trial: &Trial<A>, page: &mut Page) {
+fn run<A: Scarce>(row: &Row<'_>, trial: &Trial<A>, page: &mut Page) {
     match row.of {
         "free" => free::call(row.call, trial, row.text, page),
         "run" => runs::command(row.call, trial, row.text, page),
@@ -52,7 +52,7 @@ fn run<A: Scarce>(row: Row<'_>, trial: &Trial<A>, page: &mut Page) {
 }
 
 /// Calls a function of a literal once, by the function's name, and appends its result.
-fn run_named<A: Scarce>(row: Row<'_>, trial: &Trial<A>, page: &mut Page) {
+fn run_named<A: Scarce>(row: &Row<'_>, trial: &Trial<A>, page: &mut Page) {
     match row.call {
         "new" => made::new(row.of, trial, row.text, page),
         "from_token" => made::from_token(row.of, trial, row.text, page),
@@ -63,7 +63,7 @@ fn run_named<A: Scarce>(row: Row<'_>, trial: &Trial<A>, page: &mut Page) {
 }
 
 /// Calls a function of a literal once, by the literal's type, and appends its result.
-fn run_literal<A: Scarce>(row: Row<'_>, trial: &Trial<A>, page: &mut Page) {
+fn run_literal<A: Scarce>(row: &Row<'_>, trial: &Trial<A>, page: &mut Page) {
     let (call, text) = (row.call, row.text);
     match row.of {
         "LitInt" => run_type::<LitInt<A>, A>(call, trial, text, page),
@@ -94,9 +94,9 @@ fn run_type<T: Held<A> + Drop, A: Scarce>(
 
 /// Returns the result of a row's call while the allocations from `first` to `last` fail. `asked` receives the number of requested
 /// allocations.
-pub(crate) fn tried(row: Row<'_>, first: u64, last: u64, asked: &Cell<u64>, page: &Page) -> Page {
-    let failing = Failing::new(page.alloc());
-    let mut told = page.another();
+fn tried(row: &Row<'_>, first: u64, last: u64, asked: &Cell<u64>, page: &Page) -> Page {
+    let failing = Failing::new(page.alloc);
+    let mut told = Page::new(page.alloc);
     let trial = Trial {
         scant: &failing,
         first,
@@ -110,6 +110,38 @@ pub(crate) fn tried(row: Row<'_>, first: u64, last: u64, asked: &Cell<u64>, page
     told
 }
 
+/// Appends `front`, a result and a line end.
+fn put_line(front: &str, told: &Page, page: &mut Page) {
+    page.put(front);
+    page.say(told.text.as_str(), "\n")
+}
+
+/// Appends a line with the result of a row's call while the allocations from `first` to `last` fail. Returns the number of requested
+/// allocations.
+fn put_result(row: &Row<'_>, first: u64, last: u64, page: &mut Page) -> u64 {
+    let asked = Cell::new(0);
+    let told = tried(row, first, last, &asked, page);
+    put_line("  ", &told, page);
+    asked.get()
+}
+
+/// Prints the result of a row's call without failures.
+pub(crate) fn put_ample(words: &str, page: &mut Page) {
+    put_result(&Row::of_words(words), 1, 0, page);
+}
+
+/// Prints the result of a row's call without failures. Then prints it for each allocation, while this one and all later ones fail.
+/// For the parser of attributes, each allocation also fails by itself.
+pub(crate) fn put_results(words: &str, page: &mut Page) {
+    let row = Row::of_words(words);
+    for n in 1..=put_result(&row, 1, 0, page) {
+        if row.of == "attributes" {
+            put_result(&row, n, n, page);
+        }
+        put_result(&row, n, u64::MAX, page);
+    }
+}
+
 /// Whether a result is a failed allocation that left all borrowed values unchanged.
 fn is_failure(told: &str) -> bool {
     told.starts_with("out of memory") && !told.contains("; now") && !told.contains("; kept")
@@ -117,62 +149,48 @@ fn is_failure(told: &str) -> bool {
 
 /// Appends a line with the result of a row's call while the allocations from `first` to `last` fail, unless `page` has that line.
 /// `ample` is the result without failures.
-pub(crate) fn put_tried(row: Row<'_>, first: u64, last: u64, ample: &str, page: &mut Page) {
+fn put_failure(row: &Row<'_>, first: u64, last: u64, ample: &str, page: &mut Page) {
     let told = tried(row, first, last, &Cell::new(0), page);
-    let mut line = page.another();
-    if told.text() == ample {
+    let mut line = Page::new(page.alloc);
+    if told.text.as_str() == ample {
         line.put("  failed: the same answer\n")
-    } else if is_failure(told.text()) {
-        put_line("  failed: ", told.text(), &mut line)
+    } else if is_failure(told.text.as_str()) {
+        put_line("  failed: ", &told, &mut line)
     } else {
-        put_line("  OTHER: ", told.text(), &mut line)
+        put_line("  OTHER: ", &told, &mut line)
     }
-    if !page.text().contains(line.text()) {
-        page.put(line.text())
+    if !page.text.as_str().contains(line.text.as_str()) {
+        page.put(line.text.as_str())
     }
-}
-
-/// Appends `front`, the result and a line end.
-pub(crate) fn put_line(front: &str, told: &str, page: &mut Page) {
-    page.put(front);
-    page.say(told, "\n")
 }
 
 /// Prints the result of a row's call without failures, and then while each allocation fails: this one only, and this one with all
 /// later ones. Equal results are printed once.
-pub(crate) fn told(words: &str, page: &mut Page) {
+pub(crate) fn put_failures(words: &str, page: &mut Page) {
     let row = Row::of_words(words);
     let asked = Cell::new(0);
-    let ample = tried(row, 1, 0, &asked, page);
-    put_line("  ample: ", ample.text(), page);
+    let ample = tried(&row, 1, 0, &asked, page);
+    put_line("  ample: ", &ample, page);
     for n in 1..=asked.get().max(1) {
-        put_tried(row, n, n, ample.text(), page);
-        put_tried(row, n, u64::MAX, ample.text(), page)
+        put_failure(&row, n, n, ample.text.as_str(), page);
+        put_failure(&row, n, u64::MAX, ample.text.as_str(), page)
     }
 }
 
 /// Prints the length of the value of a string, whose body is the text repeated ten thousand times. All allocations except the first
 /// fail.
 pub(crate) fn lent(text: &str, page: &mut Page) {
-    let mut quoted = page.another();
+    let mut quoted = Page::new(page.alloc);
     quoted.put("\"");
     put_times(10_000, text, &mut quoted);
     quoted.put("\"");
     let row = Row {
         of: "LitStr",
         call: "value",
-        text: quoted.text(),
+        text: quoted.text.as_str(),
     };
-    let ample = tried(row, 1, 0, &Cell::new(0), page);
+    let ample = tried(&row, 1, 0, &Cell::new(0), page);
     page.put("  ");
-    page.show(&ample.text().len(), " bytes\n");
-    put_tried(row, 2, u64::MAX, ample.text(), page)
-}
-
-/// Prints the result of a row's call without failures. In the row, characters like `␊` represent control characters.
-pub(crate) fn ample(words: &str, page: &mut Page) {
-    let mut text = page.another();
-    put_unpictured(words, &mut text);
-    let row = Row::of_words(text.text());
-    runs::put_tried(row, 1, 0, &Cell::new(0), page)
+    page.show(&ample.text.as_str().len(), " bytes\n");
+    put_failure(&row, 2, u64::MAX, ample.text.as_str(), page)
 }

@@ -26,23 +26,18 @@ pub(crate) fn literal_call<A: Scarce>(name: &str, trial: &Trial<A>, text: &str, 
 /// Calls `clone` or `after_minus` on the text as a token, and appends its result. Then appends whether the token is unchanged.
 fn of_token<A: Scarce>(name: &str, trial: &Trial<A>, text: &str, page: &mut Page) {
     if let Some(token) = trial.token(text, page) {
-        copied(name, &token, trial, page)
+        let before = formatted(&token, page);
+        match name {
+            "clone" => format_result(token.clone(trial.begins()), page),
+            _ => format_result(token.after_minus(trial.begins(), HERE), page),
+        }
+        format_borrowed(&token, &before, page)
     }
-}
-
-/// Calls `clone` or `after_minus` on a token, and appends its result. Then appends whether the token is unchanged.
-fn copied<A: Scarce>(name: &str, token: &Literal<A>, trial: &Trial<A>, page: &mut Page) {
-    let before = formatted(token, page);
-    match name {
-        "clone" => format_result(token.clone(trial.begins()), page),
-        _ => format_result(token.after_minus(trial.begins(), HERE), page),
-    }
-    format_borrowed(token, &before, page)
 }
 
 /// Returns the bytes of the text as a C string, or `None` if an allocation fails or the text contains a NUL.
 pub(crate) fn c_string_of(text: &str, page: &mut Page) -> Option<CString> {
-    let bytes = noted(Vec::from_slice(page.alloc(), text.as_bytes()), page)?;
+    let bytes = noted(Vec::from_slice(page.alloc, text.as_bytes()), page)?;
     noted(CString::new(bytes), page)
 }
 
@@ -74,24 +69,17 @@ pub(crate) fn word<A: Scarce>(trial: &Trial<A>, text: &str, page: &mut Page) {
 pub(crate) fn stream_call<A: Scarce>(name: &str, trial: &Trial<A>, text: &str, page: &mut Page) {
     match name {
         "two_files" => two_files(trial, text, page),
-        _ => on_stream(name, trial, text, page),
+        "respan" => respanned(trial, text, page),
+        _ => append_last(trial, text, page),
     }
 }
 
-/// Lexes the text, and calls `respan` or `append` on the stream of its token trees.
-fn on_stream<A: Scarce>(name: &str, trial: &Trial<A>, text: &str, page: &mut Page) {
+/// Calls `TokenStream::respan` on the stream of the text's token trees, and appends them.
+fn respanned<A: Scarce>(trial: &Trial<A>, text: &str, page: &mut Page) {
     if let Some(mut stream) = trial.trees(text, page) {
-        match name {
-            "respan" => respanned(&mut stream, page),
-            _ => append_last(trial, &mut stream, page),
-        }
+        stream.respan(HERE);
+        format_trees(stream.trees(), page)
     }
-}
-
-/// Calls `TokenStream::respan`, and appends the token trees.
-fn respanned<A: Scarce>(stream: &mut TokenStream<A>, page: &mut Page) {
-    stream.respan(HERE);
-    format_trees(stream.trees(), page)
 }
 
 /// Parses a literal from a minus in one file and a number in another file, and appends the result.
@@ -110,13 +98,14 @@ fn append_number<A: Scarce>(scant: A, number: &str, stream: &mut TokenStream<A>,
     }
 }
 
-/// Calls `TokenStream::append` with a literal, and appends its result. Then appends whether the stream is unchanged.
-fn append_last<A: Scarce>(trial: &Trial<A>, stream: &mut TokenStream<A>, page: &mut Page) {
-    if let Some(last) = trial.token("last", page) {
-        let before = formatted(stream, page);
+/// Calls `TokenStream::append` with a literal on the stream of the text's token trees, and appends its result. Then appends whether
+/// the stream is unchanged.
+fn append_last<A: Scarce>(trial: &Trial<A>, text: &str, page: &mut Page) {
+    if let (Some(mut stream), Some(last)) = (trial.trees(text, page), trial.token("last", page)) {
+        let before = formatted(&stream, page);
         trial.begins();
         format_result(stream.append(TokenTree::Literal(last)), page);
-        format_borrowed(stream, &before, page)
+        format_borrowed(&stream, &before, page)
     }
 }
 
@@ -142,7 +131,7 @@ fn parsed_of<T: Held<A> + Drop, A: Scarce>(
     let before = formatted(&trees, page);
     let mut input = ParseBuffer::new(trees, HERE);
     if call == "peek" {
-        page.put_shown(&input.peek::<T>())
+        page.show(&input.peek::<T>(), "")
     } else {
         format_result(input.parse::<T>(trial.begins()), page)
     }

@@ -55,7 +55,7 @@ impl<A: Scarce> Trial<A> {
 
 /// Returns the printed form of a borrowed value.
 pub(crate) fn formatted<T: FormatResult>(borrowed: &T, page: &Page) -> Page {
-    let mut told = page.another();
+    let mut told = Page::new(page.alloc);
     borrowed.append_result(&mut told);
     told
 }
@@ -63,9 +63,9 @@ pub(crate) fn formatted<T: FormatResult>(borrowed: &T, page: &Page) -> Page {
 /// Appends whether the printed form of a borrowed value is still `before`, and the new form if not.
 pub(crate) fn format_borrowed<T: FormatResult>(borrowed: &T, before: &Page, page: &mut Page) {
     let after = formatted(borrowed, page);
-    if after.text() == before.text() {
+    if after.text.as_str() == before.text.as_str() {
         page.put("; same")
     } else {
-        page.say("; now", after.text())
+        page.say("; now", after.text.as_str())
     }
 }

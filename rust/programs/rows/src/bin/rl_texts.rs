@@ -9,7 +9,7 @@ use navyspindle_rows::{settings, texts};
 use std::env;
 use std::io::{self, BufWriter, Write};
 
-const COMMANDS: [&str; 13] = [
+const COMMANDS: [&str; 12] = [
     "text",
     "value",
     "int",
@@ -22,7 +22,6 @@ const COMMANDS: [&str; 13] = [
     "spans",
     "attr",
     "source",
-    "segments",
 ];
 
 /// Writes a row: a command, and the bytes of a text as hexadecimal digits.

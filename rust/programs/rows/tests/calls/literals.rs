@@ -1,15 +1,15 @@
 //! Tests calls on a single literal.
 
 use crate::rows::{check, check_headings};
-use crate::shown::{at, error, literal_of, spanned, trees, value_or_error, whole, HERE, THERE};
+use crate::shown::{
+    at, error, hash_of, literal_of, spanned, trees, value_or_error, whole, HERE, THERE,
+};
 use navyspindle_programs::rattle_std::alloc::Global;
 use navyspindle_programs::rl_tokens::{ParseBuffer, Span, ToTokens, TokenStream};
 use navyspindle_programs::rust_literals::Lit;
 use navyspindle_rows::rl_uses::rewritten;
-use std::collections::hash_map::DefaultHasher;
 use std::collections::HashMap;
 use std::fmt::Display;
-use std::hash::{Hash, Hasher};
 
 const TABLE: &str = include_str!("literals.rows");
 
@@ -93,12 +93,6 @@ fn displayed_with_a_width() {
         };
         padded(&literal) + &own
     });
-}
-
-fn hash_of<T: Hash>(value: &T) -> u64 {
-    let mut state = DefaultHasher::new();
-    value.hash(&mut state);
-    state.finish()
 }
 
 /// Shows whether two literals with different spans are equal, and have equal hashes. Each literal is a line of the row.

@@ -1,7 +1,9 @@
 //! Tests integers and floats, and numbers that are parsed from a literal's digits.
 
 use crate::rows::{check, check_headings};
-use crate::shown::{at, debug_or_error, error, literal_of, value_or_error, whole, HERE, THERE};
+use crate::shown::{
+    at, debug_or_error, error, hash_of, literal_of, value_or_error, whole, HERE, THERE,
+};
 use navyspindle_programs::rattle_std::alloc::Global;
 use navyspindle_programs::rl_tokens::{Error, ErrorKind, Literal};
 use navyspindle_programs::rust_literals::{
@@ -95,13 +97,39 @@ fn kept() {
     });
 }
 
-/// Shows whether the text as an integer literal is equal to the text as a float literal.
+/// Shows whether the text as an integer literal is equal to the text as a float literal, and whether their hashes are equal.
 #[test]
 fn across() {
     check(TABLE, "across", |text| {
+        let integer = Lit::Int(LitInt::new(Global, text, HERE).unwrap());
+        let float = Lit::Float(LitFloat::new(Global, text, HERE).unwrap());
+        format!(
+            "{} {}",
+            integer == float,
+            hash_of(&integer) == hash_of(&float)
+        )
+    });
+}
+
+/// Shows an integer as an `i8`, as a `u8` and as a `u16`. If a type doesn't have the number, `none` is shown.
+#[test]
+fn small() {
+    check(TABLE, "small", |text| {
         let integer = LitInt::new(Global, text, HERE).unwrap();
-        let float = LitFloat::new(Global, text, HERE).unwrap();
-        (Lit::Int(integer) == Lit::Float(float)).to_string()
+        let numbers = [
+            integer
+                .base10_parse::<i8, Global>(Global)
+                .map(|it| it.to_string()),
+            integer
+                .base10_parse::<u8, Global>(Global)
+                .map(|it| it.to_string()),
+            integer
+                .base10_parse::<u16, Global>(Global)
+                .map(|it| it.to_string()),
+        ];
+        numbers
+            .map(|it| it.unwrap_or_else(|_| "none".to_owned()))
+            .join(" ")
     });
 }
 

@@ -4,7 +4,9 @@ use navyspindle_programs::rattle_std::alloc::Global;
 use navyspindle_programs::rl_commands::line_of;
 use navyspindle_programs::rl_tokens::{lex, Error, Literal, Span, TokenStream, TokenTree};
 use navyspindle_programs::rust_literals::Lit;
+use std::collections::hash_map::DefaultHasher;
 use std::fmt::Debug;
+use std::hash::{Hash, Hasher};
 
 /// A span that callers pass, and that no call creates by itself.
 pub const HERE: Span = Span {
@@ -102,4 +104,11 @@ pub fn trees(trees: &[TokenTree]) -> String {
         .iter()
         .map(|tree| format!("{} {}; ", form(tree), at(tree.span())));
     trees.collect::<String>() + "\n"
+}
+
+/// Returns the hash of a value.
+pub fn hash_of<T: Hash>(value: &T) -> u64 {
+    let mut state = DefaultHasher::new();
+    value.hash(&mut state);
+    state.finish()
 }

@@ -172,6 +172,19 @@ fn c_string() {
     });
 }
 
+/// Shows the given bytes as a byte string literal. They contain a NUL, so they aren't a C string: shows its offset, and the bytes that
+/// the error returns.
+#[test]
+fn zero_bytes() {
+    check_bytes(TABLE, "zero_bytes", |bytes| {
+        let literal = LitByteStr::new(Global, bytes, HERE).unwrap();
+        let rejected = CString::new(Bytes::from_slice(Global, bytes).unwrap()).unwrap_err();
+        let at = rejected.nul_position();
+        let held = rejected.into_vec();
+        format!("{} zero at {at} of {:?}", literal.text(), held.as_slice())
+    });
+}
+
 /// Shows each byte as a literal, and as a token.
 #[test]
 fn bytes() {
