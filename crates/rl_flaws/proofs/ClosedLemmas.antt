@@ -1,32 +1,7 @@
 -- The flaw of a character or byte literal's suffix, after a flaw before its closing quote.
-use Rattle.rl_syntax.proofs.Common.{◌≡◌, ◌+◌, ℕ, Bool, Bor, true, false, List, [], ◌∷◌, ◌++◌, codes, None, Some, drop, length, refl, sym, ap, subst, inr, ◌∙◌, append_assoc, both_ways, IsUtf8}
-use Rattle.std.specs.Str.{chars}
-use Rattle.rl_syntax.specs.Texts.{first_passes}
-use Rattle.rl_lenient.proofs.Names.{Byte, Char, Itself, Kind, is_single, is_strict_unit, opener}
-use Rattle.rl_lenient.specs.declared.quoted_forms.QuotedForm.TheVariants.{Single as SingleForm}
-use Rattle.rl_lexer.specs.Sources.{is_apostrophe}
-use Rattle.rl_lexer.proofs.Pieces.{is_equal}
-use Rattle.rl_strict.specs.LineEnds.{IsRestOf, read_of}
-use Rattle.rl_strict.specs.declared.flaws.FlawAt.{FlawAt}
-use Rattle.rl_strict.specs.declared.flaws.FlawKind.{FlawKind}
-use Rattle.rl_strict.specs.declared.flaws.FlawKind.TheVariants.{TextAfterQuote, ExtraHash}
-use Rattle.rl_strict.specs.declared.line_ends.LineEnds.{LineEnds}
-use Rattle.rl_strict.specs.Mirrors.StrictAt.{unit_rest}
-use Rattle.rl_strict.specs.Mirrors.SuffixRead.{suffix_read_at}
-use Rattle.rl_strict.specs.Mirrors.UnitFlawAt.{found_flaw}
-use Rattle.rl_strict.specs.StrictFlawKinds.{suffix_piece}
-use Rattle.rl_strict.specs.StrictRead.{IsFlawAt}
-use Rattle.rl_strict.specs.StrictShapes.{IsToken}
-use Rattle.rl_strict.proofs.EndLemmas.{free_of, self_in, step_in, suffix_in}
-use Rattle.rl_strict.proofs.StrictUnitLemmas.{unit_rest_complete}
-use Rattle.rl_strict.proofs.WalkForms.{quote_read, single_bad, single_good}
-use Rattle.rl_flaws.specs.BadPieces.{after_bad_piece, is_flaw_of_unit}
-use Rattle.rl_flaws.specs.Flawed.{EndsWhere, HasNoFlaw, ReadsFrom, TakesFlaw}
-use Rattle.rl_flaws.specs.Left.{state_of}
-use Rattle.rl_flaws.specs.declared.invalid_piece.InvalidPiece.{InvalidPiece}
-use Rattle.rl_flaws.specs.declared.flaws.Left.TheVariants.{Closed, Nothing}
+use Rattle.rl_flaws.proofs.Names.{◌≡◌, ◌+◌, ℕ, Bool, Bor, true, false, List, [], ◌∷◌, ◌++◌, codes, None, Some, drop, length, refl, sym, ap, subst, inr, ◌∙◌, append_assoc, both_ways, IsUtf8, chars, first_passes, Byte, Char, Itself, Kind, is_single, is_strict_unit, opener, SingleForm, is_apostrophe, is_equal, IsRestOf, read_of, FlawAt, FlawKind, LineEnds, unit_rest, suffix_read_at, found_flaw, suffix_piece, IsFlawAt, IsToken, free_of, step_in, suffix_in, unit_rest_complete, quote_read, single_bad, single_good, piece_place, after_bad_piece, is_flaw_of_unit, EndsWhere, HasNoFlaw, ReadsFrom, TakesFlaw, state_of, InvalidPiece, Closed, Nothing, close_token}
 use Rattle.rl_flaws.proofs.PlaceLemmas.{place_at, place_in}
-use Rattle.rl_flaws.proofs.WalkLemmas.{flaw_after, no_unit_suffix, token_after}
+use Rattle.rl_flaws.proofs.WalkLemmas.{flaw_after, no_unit_suffix}
 
 -- ---- the closing quote, and the text after it
 
@@ -62,26 +37,19 @@ pub closed_token : (how : LineEnds) (k : Kind) (closing suffix : List ℕ) → i
     → closing ≡ 39 ∷ suffix → None ≡ suffix_read_at SingleForm suffix
     → IsToken ((opener k ++ codes "x") ++ read_of how closing)
 closed_token how k closing suffix s quote none =
-    token_after SingleForm k ((opener k ++ codes "x") ++ read_of how closing) (read_of how (120 ∷ closing)) s
+    close_token SingleForm k ((opener k ++ codes "x") ++ read_of how closing) (read_of how (120 ∷ closing)) s
     (after_opener how k closing)
     (single_good how k (120 ∷ closing) closing suffix s (good_unit k closing s) quote none)
 
 -- ---- the piece and the flaw are in the unchecked text
 
-piece_in : (how : LineEnds) (k : FlawKind) (closing suffix : List ℕ) → IsRestOf how closing suffix
-    → IsRestOf how closing (suffix_piece k closing suffix)
-piece_in how ExtraHash closing suffix r = self_in how closing
-piece_in how TextAfterQuote closing suffix r = self_in how closing
-piece_in how k closing suffix r = r
-
 pub closed_piece : (how : LineEnds) (closing suffix piece : List ℕ) (k : FlawKind) → closing ≡ 39 ∷ suffix
     → piece ≡ suffix_piece k closing suffix → IsRestOf how closing piece
 closed_piece how closing suffix piece k quote is =
-    subst (IsRestOf how closing) (sym is) (piece_in how k closing suffix (quote_read how closing suffix 39 quote refl).1)
+    subst (IsRestOf how closing) (sym is) (piece_place how k closing suffix (quote_read how closing suffix 39 quote refl).1)
 
-pub closed_stop : (how : LineEnds) (closing suffix : List ℕ) (f : FlawAt) → closing ≡ 39 ∷ suffix
-    → Some (found_flaw f.kind (chars f.rest.now)) ≡ suffix_read_at SingleForm suffix
-    → IsRestOf how closing (chars f.rest.now)
+pub closed_stop : (how : LineEnds) (closing suffix : List ℕ) (f : FlawAt) → closing ≡ 39 ∷ suffix → Some (found_flaw
+    f.kind (chars f.rest.now)) ≡ suffix_read_at SingleForm suffix → IsRestOf how closing (chars f.rest.now)
 closed_stop how closing suffix f quote flaw =
     step_in how closing suffix (chars f.rest.now) (quote_read how closing suffix 39 quote refl).1
     (suffix_in how SingleForm suffix (found_flaw f.kind (chars f.rest.now)) flaw)
@@ -92,16 +60,14 @@ no_unit_end : (u : Bool) (GoesOnAt : ℕ → Type 0) (hi end : ℕ) → (u ≡ t
 no_unit_end true GoesOnAt hi end none e = absurd (none refl)
 no_unit_end false GoesOnAt hi end none e = e
 
-pub closed_takes : (how : LineEnds) (k : Kind) (closing : Bor (List ℕ)) (suffix : List ℕ) (len q : ℕ) (f : FlawAt)
-    (bad : InvalidPiece)
-    → is_single k ≡ true → chars closing.now ≡ 39 ∷ suffix → IsUtf8 f.piece.now → IsUtf8 f.rest.now
-    → Some (found_flaw f.kind (chars f.rest.now)) ≡ suffix_read_at SingleForm suffix
-    → chars f.piece.now ≡ suffix_piece f.kind (chars closing.now) suffix
-    → bad.flaw.kind ≡ f.kind → bad.flaw.from + length f.piece.now ≡ len → bad.flaw.lo + length f.rest.now ≡ len
-    → ReadsFrom how len (chars f.rest.now) (drop 1 (read_of how (chars f.rest.now))) bad.flaw.hi
-    → EndsWhere (is_flaw_of_unit bad.flaw.kind) (ReadsFrom how len (chars f.piece.now)
-    (after_bad_piece q (read_of how (chars f.piece.now)))) bad.flaw.hi bad.end
-    → TakesFlaw (state_of how len (Closed k closing)) bad (state_of how len Nothing)
+pub closed_takes : (how : LineEnds) (k : Kind) (closing : Bor (List ℕ)) (suffix : List ℕ) (len q : ℕ) (f : FlawAt) (bad
+    : InvalidPiece) → is_single k ≡ true → chars closing.now ≡ 39 ∷ suffix → IsUtf8 f.piece.now → IsUtf8 f.rest.now →
+    Some (found_flaw f.kind (chars f.rest.now)) ≡ suffix_read_at SingleForm suffix → chars f.piece.now ≡ suffix_piece
+    f.kind (chars closing.now) suffix → bad.flaw.kind ≡ f.kind → bad.flaw.from + length f.piece.now ≡ len → bad.flaw.lo
+    + length f.rest.now ≡ len → ReadsFrom how len (chars f.rest.now) (drop 1 (read_of how (chars f.rest.now)))
+    bad.flaw.hi → EndsWhere (is_flaw_of_unit bad.flaw.kind) (ReadsFrom how len (chars f.piece.now) (after_bad_piece q
+    (read_of how (chars f.piece.now)))) bad.flaw.hi bad.end → TakesFlaw (state_of how len (Closed k closing)) bad
+    (state_of how len Nothing)
 closed_takes how k closing suffix len q f bad s quote up ur flaw piece kind from lo hi end =
     let text : List ℕ = chars closing.now in
     let read : List ℕ = read_of how (chars f.piece.now) in

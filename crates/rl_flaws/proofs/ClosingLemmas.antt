@@ -1,16 +1,8 @@
 -- The search for the closing quote of a character or byte literal, step by step.
-use Rattle.rl_syntax.proofs.Common.{◌≡◌, ◌≢◌, ◌⊎◌, ◌==◌, ◌&&◌, ◌||◌, ℕ, Bool, true, false, not, List, [], ◌∷◌, ◌++◌, refl, sym, ap, subst, ◌∙◌, inl, inr, both_ways, ne_eqb}
-use Rattle.rl_syntax.specs.Texts.{begins_char, first_passes}
-use Rattle.rl_lenient.proofs.Names.{◌↔◌}
+use Rattle.rl_flaws.proofs.Names.{◌≡◌, ◌≢◌, ◌⊎◌, ◌==◌, ◌&&◌, ◌||◌, ℕ, Bool, true, false, not, List, [], ◌∷◌, ◌++◌, refl, sym, ap, subst, ◌∙◌, inl, inr, both_ways, ne_eqb, first_passes, ◌↔◌, is_apostrophe, is_equal, read_of, LineEnds, first_of, quote_read, IsClosedBy, ClosesBy, ReachesQuote, begins_two_quotes}
+use Rattle.rl_syntax.specs.Texts.{begins_char}
 use Rattle.rl_lexer.specs.BadQuotes.{IsQuoteBody}
 use Rattle.rl_lexer.specs.Lexemes.{BodyPart, PlainPart, EscapedPart, body_text}
-use Rattle.rl_lexer.specs.Sources.{is_apostrophe}
-use Rattle.rl_lexer.proofs.Pieces.{is_equal}
-use Rattle.rl_strict.specs.LineEnds.{read_of}
-use Rattle.rl_strict.specs.declared.line_ends.LineEnds.{LineEnds}
-use Rattle.rl_strict.proofs.EndLemmas.{first_of}
-use Rattle.rl_strict.proofs.WalkForms.{quote_read}
-use Rattle.rl_flaws.specs.Closings.{IsClosedBy, ClosesBy, ReachesQuote, begins_two_quotes}
 
 no_empty : (test : ℕ → Bool) (t : List ℕ) → t ≡ [] → first_passes test t ≡ true → ⊥
 no_empty test t e h = both_ways (first_passes test t) (ap (first_passes test) e) h
@@ -38,8 +30,7 @@ pub none_at_end : (t closing : List ℕ) → t ≡ [] → ReachesQuote t closing
 none_at_end t closing e r = go r.parts refl
   where
     go : (parts : List BodyPart) → r.parts ≡ parts → ⊥
-    go [] p = no_empty is_apostrophe closing
-        (sym (r.inside_is ∙ ap (λ z. body_text z ++ closing) p) ∙ e) r.is_quote
+    go [] p = no_empty is_apostrophe closing (sym (r.inside_is ∙ ap (λ z. body_text z ++ closing) p) ∙ e) r.is_quote
     go (PlainPart c ∷ more) p =
         let q : [] ≡ c ∷ (body_text more ++ closing) = sym e ∙ r.inside_is ∙ ap (λ z. body_text z ++ closing) p in
         absurd (cc)
@@ -178,9 +169,8 @@ search_ends how c t closing other stop r = go (c == 47) (c == 10) (begins_char 3
         line_ends c (read_of how t) closing (ne_eqb c 39 other) y (first_of how (λ e. e == 39) refl t ∙ z) r
     go false false d x y z h = both_ways false refl h
 
-pub search_passes : (how : LineEnds) (c : ℕ) (t closing : List ℕ) → c ≢ 39 → c ≢ 92
-    → (c == 47 || (c == 10 && not (begins_char 39 t))) ≡ false
-    → ReachesQuote (c ∷ read_of how t) closing ↔ ReachesQuote (read_of how t) closing
+pub search_passes : (how : LineEnds) (c : ℕ) (t closing : List ℕ) → c ≢ 39 → c ≢ 92 → (c == 47 || (c == 10 && not
+    (begins_char 39 t))) ≡ false → ReachesQuote (c ∷ read_of how t) closing ↔ ReachesQuote (read_of how t) closing
 search_passes how c t closing quote escape on = go (c == 47) (c == 10) (begins_char 39 t) refl refl refl on
   where
     passes : (c == 47) ≡ false → (c ≡ 10 → begins_char 39 (read_of how t) ≡ true)
@@ -223,20 +213,6 @@ second_closes how t second e quote =
     let two = two_quotes (read_of how t) (read_of how second) q ∙ first_of how (λ c. c == 39) refl second ∙ quote in
     subst (λ b. ClosesBy b (read_of how t) (read_of how second)) (sym two) q
 
-pub one_quote : (how : LineEnds) (t second : List ℕ) → t ≡ 39 ∷ second → begins_char 39 second ≡ false
-    → begins_two_quotes (read_of how t) ≡ false
-one_quote how t second e none = two_quotes (read_of how t) (read_of how second) (quote_read how t second 39 e refl).0
-    ∙ first_of how (λ c. c == 39) refl second ∙ none
-
 pub no_quote : (how : LineEnds) (t : List ℕ) → first_passes (λ c. c == 39) t ≡ false
     → begins_two_quotes (read_of how t) ≡ false
 no_quote how t none = no_two_quotes (read_of how t) (first_of how (λ c. c == 39) refl t ∙ none)
-
-pub next_closes : (how : LineEnds) (t : List ℕ) (closing : List ℕ) → begins_two_quotes (read_of how t) ≡ false
-    → ReachesQuote (read_of how t) closing → IsClosedBy (read_of how t) closing
-next_closes how t closing one r = subst (λ b. ClosesBy b (read_of how t) closing) (sym one) r
-
-pub never_closes : (how : LineEnds) (t : List ℕ) → begins_two_quotes (read_of how t) ≡ false
-    → ((closing : List ℕ) → ReachesQuote (read_of how t) closing → ⊥) → (closing : List ℕ)
-    → IsClosedBy (read_of how t) closing → ⊥
-never_closes how t one none closing c = none closing (subst (λ b. ClosesBy b (read_of how t) closing) one c)

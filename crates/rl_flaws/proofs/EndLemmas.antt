@@ -1,13 +1,5 @@
 -- The end of an invalid character or escape, step by step. The invalid piece isn't empty.
-use Rattle.rl_syntax.proofs.Common.{◌≡◌, ◌≢◌, ◌≤◌, ◌<◌, ◌==◌, ◌||◌, ℕ, Bool, true, false, List, [], ◌∷◌, ◌++◌, length, length-append, refl, sym, ap, ◌∙◌, arith, cond, both_ways}
-use Rattle.std.specs.Str.{chars}
-use Rattle.rl_syntax.specs.Quoted.{is_hex_digit}
-use Rattle.rl_syntax.specs.Texts.{IsTail, is_underscore}
-use Rattle.rl_lenient.specs.Mirrors.PlainAt.{is_some_text}
-use Rattle.rl_strict.specs.LineEnds.{read_of}
-use Rattle.rl_strict.specs.declared.line_ends.LineEnds.{LineEnds}
-use Rattle.rl_strict.proofs.EndLemmas.{groups_if_any}
-use Rattle.rl_flaws.specs.BadPieces.{after_bad_piece, after_brace, after_code_digits, after_escape, after_hex, after_one, after_unicode}
+use Rattle.rl_flaws.proofs.Names.{◌≡◌, ◌≢◌, ◌≤◌, ◌<◌, ◌==◌, ◌||◌, ℕ, Bool, true, false, List, [], ◌∷◌, ◌++◌, length, length-append, refl, sym, ap, ◌∙◌, arith, cond, both_ways, chars, is_hex_digit, IsTail, is_underscore, is_some_text, read_of, LineEnds, groups_if_any, after_bad_piece, after_brace, after_code_digits, after_escape, after_hex, after_one, after_unicode}
 
 -- ---- the digits of an invalid escape
 
@@ -75,9 +67,8 @@ some_read : (how : LineEnds) (t : List ℕ) → t ≢ [] → read_of how t ≢ [
 some_read how [] some none = some refl
 some_read how (c ∷ cs) some none = both_ways true (sym (groups_if_any how (c ∷ cs)) ∙ ap is_some_text none) refl
 
-pub less_after : (how : LineEnds) (q : ℕ) (piece rest : List ℕ) → chars piece ≢ []
-    → read_of how (chars rest) ≡ after_bad_piece q (read_of how (chars piece)) → IsTail piece rest
-    → length rest < length piece
+pub less_after : (how : LineEnds) (q : ℕ) (piece rest : List ℕ) → chars piece ≢ [] → read_of how (chars rest) ≡
+    after_bad_piece q (read_of how (chars piece)) → IsTail piece rest → length rest < length piece
 less_after how q piece rest some reads tail = go tail.front tail.text_is
   where
     go : (front : List ℕ) → piece ≡ front ++ rest → length rest < length piece

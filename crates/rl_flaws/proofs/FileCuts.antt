@@ -1,16 +1,7 @@
 -- Byte offsets in a file, and in the text as rustc reads it.
-use Rattle.rl_syntax.proofs.Common.{◌≡◌, ◌≤◌, ◌<◌, ◌+◌, ◌-◌, ℕ, true, List, [], ◌∷◌, ◌++◌, drop, length, length-append, refl, sym, ap, subst, ◌∙◌, arith, encode_utf8, encode_utf8_all, len_utf8_bounds, length-encode}
-use Rattle.rl_syntax.specs.Texts.{byte_len}
-use Rattle.rl_lexer.proofs.CutLemmas.{byte_len-append}
-use Rattle.rl_strict.specs.FileTexts.{IsPlaceInFile}
-use Rattle.rl_strict.specs.Flaws.{first_len}
-use Rattle.rl_strict.specs.LineEnds.{is_seam, lf_text}
-use Rattle.rl_strict.specs.declared.line_ends.LineEnds.{LineEnds}
-use Rattle.rl_strict.specs.declared.line_ends.LineEnds.TheVariants.{Text, File}
-use Rattle.rl_strict.proofs.FileTextLemmas.{rest_text}
+use Rattle.rl_flaws.proofs.Names.{◌≡◌, ◌≤◌, ◌<◌, ◌+◌, ◌-◌, ℕ, true, List, [], ◌∷◌, ◌++◌, drop, length, length-append, refl, sym, ap, subst, ◌∙◌, arith, encode_utf8, encode_utf8_all, len_utf8_bounds, length-encode, byte_len, byte_len-append, IsPlaceInFile, first_len, is_seam, lf_text, LineEnds, Text, File, rest_text, After, Before, Meets, Same, ReadsFrom}
 use Rattle.rl_strict.proofs.OneFileFlaw.{more_read, place_once, whole_seam}
-use Rattle.rl_strict.proofs.OneStrictFlaw.{After, Before, Meets, Same, meets}
-use Rattle.rl_flaws.specs.Flawed.{ReadsFrom}
+use Rattle.rl_strict.proofs.OneStrictFlaw.{meets}
 
 -- ---- bytes
 
@@ -124,9 +115,8 @@ in_order t stop len lo hi p q = go (meets p.rest_in.front q.rest_in.front p.rest
   where
     long : (read : List ℕ) (at : ℕ) (x : ReadsFrom File len t read at)
         → byte_len (lf_text t) ≡ byte_len (lf_text x.rest_in.front) + byte_len read
-    long read at x = ap byte_len (rest_text t x.rest x.rest_in)
-        ∙ byte_len-append (lf_text x.rest_in.front) (lf_text x.rest)
-        ∙ ap (λ z. byte_len (lf_text x.rest_in.front) + byte_len z) x.reads
+    long read at x = ap byte_len (rest_text t x.rest x.rest_in) ∙ byte_len-append (lf_text x.rest_in.front) (lf_text
+        x.rest) ∙ ap (λ z. byte_len (lf_text x.rest_in.front) + byte_len z) x.reads
 
     ends : (read : List ℕ) (at : ℕ) (x : ReadsFrom File len t read at) → at + byte_len t
         ≡ len + byte_len x.rest_in.front

@@ -1,23 +1,6 @@
 -- The theorems about flaws.
-use Rattle.rl_syntax.proofs.Common.{◌≡◌, ◌+◌, ◌-◌, ◌&&◌, ℕ, Bool, true, false, List, drop, length, sym, ap, subst, ◌∙◌, arith, encodes-chars, refl}
-use Rattle.std.specs.Str.{chars}
-use Rattle.rl_syntax.specs.Texts.{byte_len}
-use Rattle.rl_lexer.proofs.CutLemmas.{byte_len-append}
-use Rattle.rl_strict.specs.FileTexts.{ExplainsInFile}
-use Rattle.rl_strict.specs.LineEnds.{lf_text, read_of}
-use Rattle.rl_strict.specs.StrictShapes.{IsToken}
-use Rattle.rl_strict.specs.declared.flaws.Flaw.{Flaw}
-use Rattle.rl_strict.specs.declared.flaws.FlawKind.{FlawKind}
-use Rattle.rl_strict.specs.declared.line_ends.LineEnds.{LineEnds}
-use Rattle.rl_strict.specs.declared.line_ends.LineEnds.TheVariants.{Text, File}
-use Rattle.rl_strict.specs.StrictFlaws.{ExplainsStrictly, IsStrictFlawOf}
-use Rattle.rl_strict.specs.Readings.{ExplainsOf}
-use Rattle.rl_strict.specs.StrictRead.{IsFlawAt}
-use Rattle.rl_strict.proofs.OneStrictFlaw.{kinds_once, stops_once}
+use Rattle.rl_flaws.proofs.Names.{◌≡◌, ◌+◌, ◌-◌, ◌&&◌, ℕ, Bool, true, false, List, drop, length, sym, ap, subst, ◌∙◌, arith, encodes-chars, refl, chars, byte_len, byte_len-append, ExplainsInFile, lf_text, read_of, IsToken, Flaw, FlawKind, LineEnds, Text, File, ExplainsStrictly, IsStrictFlawOf, ExplainsOf, IsFlawAt, kinds_once, stops_once, after_bad_piece, is_flaw_of_unit, EndsWhere, FirstFlawExplains, FlawsState, HasOneNextFlaw, LeftReadsFrom, ReadsFrom, TokensHaveNone, is_open, judged, quote_of, InvalidPiece}
 use Rattle.rl_strict.proofs.StrictExplainLemmas.{piece_front}
-use Rattle.rl_flaws.specs.BadPieces.{after_bad_piece, is_flaw_of_unit}
-use Rattle.rl_flaws.specs.Flawed.{EndsWhere, FirstFlawExplains, FlawsState, HasOneNextFlaw, LeftReadsFrom, ReadsFrom, TokensHaveNone, is_open, judged, quote_of}
-use Rattle.rl_flaws.specs.declared.invalid_piece.InvalidPiece.{InvalidPiece}
 use Rattle.rl_flaws.proofs.FileCuts.{after_first_bytes, in_order, one_place, place_in_text, place_of_rest}
 use Rattle.rl_flaws.proofs.PlaceLemmas.{place_in}
 
@@ -44,10 +27,9 @@ explains_strictly t piece stop flaw f from lo hi =
     }
 
 -- In a file, the first flaw explains the text too, with byte offsets in the file.
-explains_in_file : (t piece stop : List ℕ) (flaw : Flaw) (len : ℕ) → len ≡ byte_len t
-    → IsFlawAt (lf_text t) flaw.kind piece stop → ReadsFrom File len t piece flaw.from
-    → ReadsFrom File len t stop flaw.lo
-    → ReadsFrom File len t (drop 1 stop) flaw.hi → ExplainsInFile t flaw
+explains_in_file : (t piece stop : List ℕ) (flaw : Flaw) (len : ℕ) → len ≡ byte_len t → IsFlawAt (lf_text t) flaw.kind
+    piece stop → ReadsFrom File len t piece flaw.from → ReadsFrom File len t stop flaw.lo → ReadsFrom File len t (drop 1
+    stop) flaw.hi → ExplainsInFile t flaw
 explains_in_file t piece stop flaw len long f from lo hi =
     let cut = piece_front flaw.kind (lf_text t) piece stop f.stops f.says in
     let whole : ℕ = byte_len (lf_text t) in
@@ -72,10 +54,9 @@ explains_in_file t piece stop flaw len long f from lo hi =
       ordered = in_order t stop len flaw.lo flaw.hi lo hi;
     }
 
-explains_by : (how : LineEnds) (t piece stop : List ℕ) (flaw : Flaw) (len : ℕ) → len ≡ byte_len t
-    → IsFlawAt (read_of how t) flaw.kind piece stop → ReadsFrom how len t piece flaw.from
-    → ReadsFrom how len t stop flaw.lo
-    → ReadsFrom how len t (drop 1 stop) flaw.hi → ExplainsOf how false t flaw
+explains_by : (how : LineEnds) (t piece stop : List ℕ) (flaw : Flaw) (len : ℕ) → len ≡ byte_len t → IsFlawAt (read_of
+    how t) flaw.kind piece stop → ReadsFrom how len t piece flaw.from → ReadsFrom how len t stop flaw.lo → ReadsFrom how
+    len t (drop 1 stop) flaw.hi → ExplainsOf how false t flaw
 explains_by Text t piece stop flaw len long f from lo hi = explains_strictly t piece stop flaw f
     (place_in_text t piece len flaw.from from ∙ long) (place_in_text t stop len flaw.lo lo ∙ long)
     (place_in_text t (drop 1 stop) len flaw.hi hi ∙ long)

@@ -1,41 +1,19 @@
 -- The flaw that the cursor returns is the one that the definitions describe.
-use Rattle.rl_syntax.proofs.Common.{◌≡◌, ◌≢◌, ◌⊎◌, ◌≤◌, ◌<◌, ◌+◌, ◌&&◌, ℕ, Bool, Bor, true, false, not, List, [], ◌++◌, codes, Some, drop, length, length-append, refl, sym, ap, subst, inl, inr, ◌∙◌, arith, and_parts, both_ways, IsUtf8}
-use Rattle.std.specs.Str.{chars}
-use Rattle.rl_syntax.specs.Texts.{byte_len}
-use Rattle.rl_lenient.proofs.Names.{Kind, is_single, is_string, opener}
-use Rattle.rl_lenient.specs.declared.quoted_forms.QuotedForm.{QuotedForm}
-use Rattle.rl_lenient.specs.declared.quoted_forms.QuotedForm.TheVariants.{Cooked as CookedForm, Raw as RawForm, Single as SingleForm}
+use Rattle.rl_flaws.proofs.Names.{◌≡◌, ◌≢◌, ◌⊎◌, ◌≤◌, ◌<◌, ◌+◌, ◌&&◌, ℕ, Bool, Bor, true, false, not, List, [], ◌++◌, codes, Some, drop, length, length-append, refl, sym, ap, subst, inl, inr, ◌∙◌, arith, and_parts, both_ways, IsUtf8, chars, byte_len, Kind, is_single, is_string, opener, QuotedForm, CookedForm, RawForm, SingleForm, IsRestOf, read_of, FlawAt, LineEnds, IsFlawAt, step_in, after_bad_piece, is_flaw_after_quote, is_flaw_of_unit, EndsWhere, FollowsCharacterOf, FollowsPieceOf, IsLeftBy, IsNeverClosed, ReadsFrom, TakesFlaw, left_count, FollowsCharacter, FollowsPiece, IsLeft, IsLeftAfter, StaysOpen, state_of, HasForm, IsOpened, front_of, opened_front, InvalidPiece, Left, Whole, Inside, Closed, Nothing, Opened}
 use Rattle.rl_syntax.specs.Written.{closer}
-use Rattle.rl_strict.specs.LineEnds.{IsRestOf, read_of}
-use Rattle.rl_strict.specs.declared.flaws.FlawAt.{FlawAt}
-use Rattle.rl_strict.specs.declared.line_ends.LineEnds.{LineEnds}
-use Rattle.rl_strict.specs.StrictRead.{IsFlawAt}
-use Rattle.rl_strict.proofs.EndLemmas.{step_in}
-use Rattle.rl_strict.proofs.FileUnits.{not_string}
-use Rattle.rl_flaws.specs.BadPieces.{after_bad_piece, is_flaw_after_quote, is_flaw_of_unit}
-use Rattle.rl_flaws.specs.Flawed.{EndsWhere, FollowsCharacterOf, FollowsPieceOf, IsLeftBy, IsNeverClosed, ReadsFrom, TakesFlaw, left_count}
-use Rattle.rl_flaws.specs.Left.{FollowsCharacter, FollowsPiece, IsLeft, IsLeftAfter, StaysOpen, state_of}
-use Rattle.rl_flaws.specs.Opened.{HasForm, IsOpened, front_of, opened_front}
-use Rattle.rl_flaws.specs.declared.invalid_piece.InvalidPiece.{InvalidPiece}
-use Rattle.rl_flaws.specs.declared.flaws.Left.{Left}
-use Rattle.rl_flaws.specs.declared.flaws.Left.TheVariants.{Whole, Inside, Closed, Nothing}
-use Rattle.rl_flaws.specs.declared.walks.Opened.{Opened}
 use Rattle.rl_flaws.proofs.EndLemmas.{less_after}
 use Rattle.rl_flaws.proofs.PlaceLemmas.{ends_in, place_at, place_in}
+use Rattle.rl_strict.proofs.ReadQuoted.{not_string}
 
 -- ---- flaws inside a literal
 
 len_of : (how : LineEnds) (len : ℕ) (left : Left) → (state_of how len left).len ≡ len
 len_of how len (Whole t) = refl
-len_of how len (Inside o t) = refl
-len_of how len (Closed k t) = refl
-len_of how len Nothing = refl
+len_of how len other = refl
 
 ends_of : (how : LineEnds) (len : ℕ) (left : Left) → (state_of how len left).ends ≡ how
 ends_of how len (Whole t) = refl
-ends_of how len (Inside o t) = refl
-ends_of how len (Closed k t) = refl
-ends_of how len Nothing = refl
+ends_of how len other = refl
 
 open_left : (how : LineEnds) (o : Opened) (rest : Bor (List ℕ)) (len : ℕ) (piece : List ℕ) (left : Left)
     → IsRestOf how (chars rest.now) (chars piece) → FollowsPiece how o piece left
@@ -52,10 +30,6 @@ open_left how o rest len piece (Inside p after) r f = record {
 }
 
 -- ---- the unchecked text after a flaw, by the two tests
-
-pub after_unit : (how : LineEnds) (o : Opened) (inside piece : List ℕ) (left : Left) (b d : Bool) → b ≡ true
-    → FollowsPiece how o piece left → IsLeftAfter b d how o inside piece left
-after_unit how o inside piece left b d e f = subst (λ z. IsLeftAfter z d how o inside piece left) (sym e) f
 
 pub after_single : (how : LineEnds) (o : Opened) (inside piece : List ℕ) (left : Left) (b d : Bool) → b ≡ false
     → d ≡ true → FollowsCharacter how o.kind inside left → IsLeftAfter b d how o inside piece left
@@ -76,10 +50,9 @@ single_front CookedForm k h s has = refl
 single_front SingleForm k h s has = refl
 single_front RawForm k h s has = absurd (both_ways (is_string k) (not_string k s) has.0)
 
-single_left : (how : LineEnds) (o : Opened) (rest : Bor (List ℕ)) (len : ℕ) (left : Left) → IsOpened o
-    → is_single o.kind ≡ true → FollowsCharacter how o.kind rest.now left
-    → FollowsCharacterOf (state_of how len (Inside o rest)) (state_of how len left)
-    ⊎ IsNeverClosed (state_of how len (Inside o rest)) (state_of how len left)
+single_left : (how : LineEnds) (o : Opened) (rest : Bor (List ℕ)) (len : ℕ) (left : Left) → IsOpened o → is_single
+    o.kind ≡ true → FollowsCharacter how o.kind rest.now left → FollowsCharacterOf (state_of how len (Inside o rest))
+    (state_of how len left) ⊎ IsNeverClosed (state_of how len (Inside o rest)) (state_of how len left)
 single_left how o rest len (Whole t) opens s f = absurd f
 single_left how o rest len (Inside p t) opens s f = absurd f
 single_left how o rest len Nothing opens s f = inr (f, refl)
@@ -93,18 +66,15 @@ single_left how o rest len (Closed k t) opens s f = inl (record {
 })
 
 pub inside_takes : (how : LineEnds) (o : Opened) (rest : Bor (List ℕ)) (len q : ℕ) (found : FlawAt) (bad : InvalidPiece)
-    (left : Left) → IsUtf8 found.piece.now → IsUtf8 found.rest.now
-    → IsRestOf how (chars rest.now) (chars found.piece.now) → IsRestOf how (chars rest.now) (chars found.rest.now)
-    → IsFlawAt (opened_front o ++ read_of how (chars rest.now)) found.kind (read_of how (chars found.piece.now))
-    (read_of how (chars found.rest.now))
-    → q ≡ closer o.kind → bad.flaw.kind ≡ found.kind → bad.flaw.from + length found.piece.now ≡ len
-    → bad.flaw.lo + length found.rest.now ≡ len
-    → ReadsFrom how len (chars found.rest.now) (drop 1 (read_of how (chars found.rest.now))) bad.flaw.hi
-    → EndsWhere (is_flaw_of_unit bad.flaw.kind) (ReadsFrom how len (chars found.piece.now)
-    (after_bad_piece q (read_of how (chars found.piece.now)))) bad.flaw.hi bad.end
-    → IsOpened o → IsLeftAfter (is_string o.kind && is_flaw_of_unit found.kind)
-    (is_single o.kind && not (is_flaw_after_quote found.kind)) how o rest.now found.piece.now left
-    → TakesFlaw (state_of how len (Inside o rest)) bad (state_of how len left)
+    (left : Left) → IsUtf8 found.piece.now → IsUtf8 found.rest.now → IsRestOf how (chars rest.now) (chars
+    found.piece.now) → IsRestOf how (chars rest.now) (chars found.rest.now) → IsFlawAt (opened_front o ++ read_of how
+    (chars rest.now)) found.kind (read_of how (chars found.piece.now)) (read_of how (chars found.rest.now)) → q ≡ closer
+    o.kind → bad.flaw.kind ≡ found.kind → bad.flaw.from + length found.piece.now ≡ len → bad.flaw.lo + length
+    found.rest.now ≡ len → ReadsFrom how len (chars found.rest.now) (drop 1 (read_of how (chars found.rest.now)))
+    bad.flaw.hi → EndsWhere (is_flaw_of_unit bad.flaw.kind) (ReadsFrom how len (chars found.piece.now) (after_bad_piece
+    q (read_of how (chars found.piece.now)))) bad.flaw.hi bad.end → IsOpened o → IsLeftAfter (is_string o.kind &&
+    is_flaw_of_unit found.kind) (is_single o.kind && not (is_flaw_after_quote found.kind)) how o rest.now
+    found.piece.now left → TakesFlaw (state_of how len (Inside o rest)) bad (state_of how len left)
 inside_takes how o rest len q found bad left up uz piece stop f quote kind from lo hi end opens after =
     let text : List ℕ = chars rest.now in
     let read : List ℕ = read_of how (chars found.piece.now) in
@@ -137,10 +107,9 @@ inside_takes how o rest len q found bad left up uz piece stop f quote kind from 
         single_left how o rest len left opens (and_parts (is_single o.kind) (not (is_flaw_after_quote found.kind)) e).0 h
     go false false e h = ap (λ z. (state_of how len z).over) h
 
-pub inside_left : (how : LineEnds) (o : Opened) (rest : Bor (List ℕ)) (len : ℕ) (piece : List ℕ) (b single closed : Bool)
-    (left : Left)
-    → IsLeft len (Inside o rest) → length piece ≤ length rest.now → single ≡ is_single o.kind
-    → IsLeftAfter b (single && closed) how o rest.now piece left → IsLeft len left
+pub inside_left : (how : LineEnds) (o : Opened) (rest : Bor (List ℕ)) (len : ℕ) (piece : List ℕ) (b single closed :
+    Bool) (left : Left) → IsLeft len (Inside o rest) → length piece ≤ length rest.now → single ≡ is_single o.kind →
+    IsLeftAfter b (single && closed) how o rest.now piece left → IsLeft len left
 inside_left how o rest len piece false single closed left l t s after = go (single && closed) refl after
   where
     go : (d : Bool) → (single && closed) ≡ d → IsLeftAfter false d how o rest.now piece left → IsLeft len left
@@ -186,11 +155,9 @@ stays_open how o rest piece false true Nothing f = tt
 stays_open how o rest piece false false left f = subst (StaysOpen o) (sym f) tt
 
 -- After a flaw, the unchecked text is shorter.
-pub inside_less : (how : LineEnds) (o : Opened) (rest : Bor (List ℕ)) (len : ℕ) (piece : List ℕ) (s u d : Bool)
-    (left : Left)
-    → length piece ≤ length rest.now → (u ≡ true → chars piece ≢ [])
-    → IsLeftAfter (s && u) d how o rest.now piece left
-    → left_count (state_of how len left) < left_count (state_of how len (Inside o rest))
+pub inside_less : (how : LineEnds) (o : Opened) (rest : Bor (List ℕ)) (len : ℕ) (piece : List ℕ) (s u d : Bool) (left :
+    Left) → length piece ≤ length rest.now → (u ≡ true → chars piece ≢ []) → IsLeftAfter (s && u) d how o rest.now piece
+    left → left_count (state_of how len left) < left_count (state_of how len (Inside o rest))
 inside_less how o rest len piece s u d left t some after = go (s && u) d left refl after
   where
     go : (b d : Bool) (l : Left) → (s && u) ≡ b → IsLeftAfter b d how o rest.now piece l

@@ -1,3 +1,4 @@
+mod Names
 pub mod RawLemmas
 pub mod WalkLemmas
 pub mod EndLemmas

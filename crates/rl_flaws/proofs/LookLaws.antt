@@ -1,22 +1,6 @@
 -- The theorems about the kind of literal that a text begins as.
-use Rattle.rl_syntax.proofs.Common.{◌≡◌, ◌⊎◌, ◌==◌, ◌||◌, ℕ, Bool, true, false, not, List, [], ◌∷◌, ◌++◌, Option, Some, None, IfNone, IfSome, refl, sym, ap, subst, ◌∙◌, inl, inr, append_assoc, and_parts, or_from, or_right, both_ways, not-true, cond, is_ascii_digit, list_all, replicate, flat_map}
-use Rattle.rl_syntax.specs.Texts.{first_passes, is_run_part}
-use Rattle.rl_lenient.proofs.Names.{Kind, Str, ByteStr, CStr, Byte, Char, Int, Float, BoolKind, Contents, is_single, is_string, opener, raw_opener, strict_text, truth_text}
-use Rattle.rl_syntax.specs.Numbers.{Base, Binary, Octal, Decimal, Hexadecimal, IsAfterPrefix, begins_base, exponent_text, fraction_text, is_digit, is_exponent_letter, prefix}
-use Rattle.rl_syntax.specs.Strict.{IsDigits, IsDotAlone, IsPointed, IsScientific, IsStrictExponent, Strict, StrictCooked, StrictFloat, StrictInt, StrictRaw, strict_closer, strict_opener, strict_raw_opener}
-use Rattle.rl_syntax.proofs.StrictNumbers.{digit_front as number_front, foreign_dot, letter_no_part, strict_float, strict_int, suffix_no_part, suffix_without}
-use Rattle.rl_syntax.proofs.StrictQuoted.{between}
-use Rattle.rl_lenient.specs.Mirrors.NumberAt.{after_digits, after_minus}
-use Rattle.rl_lenient.specs.Mirrors.OpenerAt.{FoundOpener, opener_at}
-use Rattle.rl_lenient.proofs.OpenerLemmas.{word_has_none}
-use Rattle.rl_lenient.proofs.ReadingLemmas.{front_not_quoted}
-use Rattle.rl_lenient.proofs.RunLemmas.{run_past}
-use Rattle.rl_lenient.proofs.TestLemmas.{passes_more}
-use Rattle.std.specs.Prelude.{codes, if◌then◌else◌}
-use Rattle.rl_strict.specs.StrictNumberFlaws.{is_float_mark}
+use Rattle.rl_flaws.proofs.Names.{◌≡◌, ◌⊎◌, ◌==◌, ◌||◌, ℕ, Bool, true, false, not, List, [], ◌∷◌, ◌++◌, Option, Some, None, IfNone, IfSome, refl, sym, ap, subst, ◌∙◌, inl, inr, append_assoc, and_parts, or_from, or_right, both_ways, not-true, cond, is_ascii_digit, list_all, replicate, flat_map, first_passes, is_run_part, Kind, Str, ByteStr, CStr, Byte, Char, Int, Float, BoolKind, Contents, is_single, is_string, opener, raw_opener, strict_text, truth_text, Base, Binary, Octal, Decimal, Hexadecimal, IsAfterPrefix, begins_base, exponent_text, fraction_text, is_digit, is_exponent_letter, prefix, IsDigits, IsDotAlone, IsPointed, IsScientific, IsStrictExponent, Strict, StrictCooked, StrictFloat, StrictInt, StrictRaw, strict_closer, strict_opener, strict_raw_opener, number_front, foreign_dot, letter_no_part, strict_float, strict_int, suffix_no_part, suffix_without, between, after_digits, after_minus, FoundOpener, opener_at, word_has_none, front_not_quoted, run_past, passes_more, is_float_mark, all_same, digit_is_ten, SpellsTruth, LooksLike, LooksLikeOne, OpensNumber, OpensSingle, OpensString, TokenLooks, number_kind, truth_words}
 use Rattle.rl_strict.proofs.StrictTokens.{digit_front}
-use Rattle.rl_syntax.proofs.Basics.{all_same, digit_is_ten}
-use Rattle.rl_flaws.specs.Looks.{SpellsTruth, LooksLike, LooksLikeOne, OpensNumber, OpensSingle, OpensString, TokenLooks, number_kind}
 use Rattle.rl_flaws.proofs.LookLemmas.{by_row, minus_past}
 use Rattle.rl_flaws.proofs.WalkLemmas.{single_told, string_told}
 
@@ -28,8 +12,7 @@ told_kind (Some p) = Some p.1
 
 -- The opening delimiter identifies the kind of a quoted literal. Otherwise the text begins as no quoted literal.
 Told : List ℕ → Kind → Type 0
-Told t k = (told_kind (opener_at t) ≡ Some k)
-    ⊎ ((told_kind (opener_at t) ≡ None) × (OpensNumber k t ⊎ SpellsTruth k t))
+Told t k = (told_kind (opener_at t) ≡ Some k) ⊎ ((told_kind (opener_at t) ≡ None) × (OpensNumber k t ⊎ SpellsTruth k t))
 
 number_closed : (t : List ℕ) (k : Kind) → OpensNumber k t → opener_at t ≡ None
 number_closed t k (d, inl e, digit, is) = front_not_quoted t
@@ -104,9 +87,8 @@ raw_joined : (o h i x : List ℕ) → ((((o ++ h) ++ (34 ∷ i)) ++ (34 ∷ h)) 
     ≡ (o ++ (h ++ (34 ∷ []))) ++ (i ++ (34 ∷ (h ++ x)))
 raw_joined o h i x = simp append_assoc
 
-raw_looks : (k : Kind) (t : List ℕ) (v : Contents) (x : List ℕ) → is_string k ≡ true → strict_raw_opener k
-    ≡ raw_opener k
-    → StrictRaw t k v x → OpensString k t
+raw_looks : (k : Kind) (t : List ℕ) (v : Contents) (x : List ℕ) → is_string k ≡ true → strict_raw_opener k ≡ raw_opener
+    k → StrictRaw t k v x → OpensString k t
 raw_looks k t v x s same r =
     let h : List ℕ = replicate r.hashes 35 in (
       raw_opener k ++ (h ++ (34 ∷ [])),
@@ -183,9 +165,8 @@ float_digit t v x s =
     ap (first_passes is_ascii_digit) f.text_is
     ∙ passes_more is_ascii_digit (f.whole ++ more) x (passes_more is_ascii_digit f.whole more f.first)
 
-point_kind : (t d f x numeral : List ℕ) → IsDigits d → t ≡ numeral ++ x → numeral ≡ d ++ (46 ∷ f) → begins_base t
-    ≡ false
-    → Float ≡ number_kind t
+point_kind : (t d f x numeral : List ℕ) → IsDigits d → t ≡ numeral ++ x → numeral ≡ d ++ (46 ∷ f) → begins_base t ≡
+    false → Float ≡ number_kind t
 point_kind t d f x numeral is text e n = float_kind t d (f ++ x) 46 is
     (text ∙ ap (λ z. z ++ x) e ∙ append_assoc d (46 ∷ f) x) refl refl n
 
@@ -203,10 +184,6 @@ float_looks t v x s = (t, inl refl, float_digit t v x s, form_kind t s.numeral x
 
 -- ---- a token begins as its kind
 
-truth_word : (b : Bool) → (if b then codes "true" else codes "false") ≡ truth_text b
-truth_word true = refl
-truth_word false = refl
-
 pub token_looks : (t : List ℕ) → TokenLooks t
 token_looks t Str v x (inl s) = inl (cooked_looks Str t v x refl refl s)
 token_looks t Str v x (inr s) = inl (raw_looks Str t v x refl refl s)
@@ -220,7 +197,7 @@ token_looks t Char v x (inl s) = inr (inl (single_looks Char t v x refl refl s))
 token_looks t Char v x (inr s) = absurd s.allowed
 token_looks t Int v x s = inr (inr (inl (int_looks t v x s)))
 token_looks t Float v x s = inr (inr (inl (float_looks t v x s)))
-token_looks t BoolKind v x s = inr (inr (inr (refl, (s.truth, s.text ∙ truth_word s.truth))))
+token_looks t BoolKind v x s = inr (inr (inr (refl, (s.truth, s.text ∙ truth_words s.truth))))
 
 pub token_told : (t : List ℕ) (r : Option Kind) → IfSome r (LooksLike t) → IfNone r ((k : Kind) → LooksLike t k → ⊥)
     → (k : Kind) (v : Contents) (x : List ℕ) → Strict t k v x → r ≡ Some k

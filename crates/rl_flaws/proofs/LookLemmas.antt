@@ -1,13 +1,5 @@
 -- The kind of literal that a text begins as.
-use Rattle.rl_syntax.proofs.Common.{◌≡◌, ◌≢◌, ◌⊎◌, ◌==◌, ◌&&◌, ℕ, Bool, true, false, not, List, [], ◌∷◌, refl, sym, ap, subst, ◌∙◌, inl, inr, both_ways, cases_Bool, eqb-true, cond, is_ascii_digit, ◌||◌}
-use Rattle.rl_syntax.proofs.Basics.{apart}
-use Rattle.rl_syntax.specs.Texts.{first_passes}
-use Rattle.rl_lenient.proofs.Names.{Kind, Int, Float}
-use Rattle.rl_syntax.specs.Numbers.{begins_base}
-use Rattle.rl_lenient.specs.Mirrors.NumberAt.{after_digits, after_minus, radix_at, radix_of}
-use Rattle.rl_lenient.proofs.IntegerLemmas.{not_based}
-use Rattle.rl_strict.specs.StrictNumberFlaws.{is_float_mark}
-use Rattle.rl_flaws.specs.Looks.{OpensNumber, number_kind}
+use Rattle.rl_flaws.proofs.Names.{◌≡◌, ◌≢◌, ◌⊎◌, ◌==◌, ◌&&◌, ℕ, Bool, true, false, not, List, [], ◌∷◌, refl, sym, ap, subst, ◌∙◌, inl, inr, both_ways, cases_Bool, eqb-true, cond, is_ascii_digit, ◌||◌, apart, first_passes, Kind, Int, Float, begins_base, after_digits, after_minus, radix_at, radix_of, not_based, is_float_mark, OpensNumber, number_kind}
 
 -- ---- the base of a number
 
@@ -96,9 +88,8 @@ minus_or (c ∷ cs) d e = elim (cases_Bool (c == 45)) [
   | inr a ↦ inl (sym (e ∙ ap (λ b. cond b cs (c ∷ cs)) a))
 ]
 
-pub number_some : (t d : List ℕ) (b : Bool) (k : Kind) → d ≡ after_minus t → b ≡ first_passes is_ascii_digit d → b
-    ≡ true
-    → k ≡ number_kind d → OpensNumber k t
+pub number_some : (t d : List ℕ) (b : Bool) (k : Kind) → d ≡ after_minus t → b ≡ first_passes is_ascii_digit d → b ≡
+    true → k ≡ number_kind d → OpensNumber k t
 number_some t d b k e h y is = (d, minus_or t d e, sym h ∙ y, is)
 
 pub minus_past : (t d : List ℕ) → (t ≡ d) ⊎ (t ≡ 45 ∷ d) → first_passes is_ascii_digit d ≡ true → after_minus t ≡ d

@@ -1,36 +1,17 @@
 -- The valid content of a quoted literal, and its segments.
-use Rattle.rl_syntax.proofs.Common.{◌≡◌, ◌≤◌, ◌+◌, ◌-◌, ℕ, Bool, Bor, true, false, List, [], ◌∷◌, ◌++◌, map, length, length-append, refl, sym, ap, subst, ◌∙◌, inl, inr, arith, and_from, append_cancel_right, append-nil, encodes-chars, flat_map, IsUtf8, IsUtf8-nil, chars-nil}
-use Rattle.std.specs.Str.{chars}
-use Rattle.rl_syntax.specs.Texts.{byte_len}
-use Rattle.rl_lenient.proofs.Names.{first_passes, is_dropped_blank, Kind, Plain, QuotedUnit, StrictUnit, Itself, QuoteEscape, PlainEscape, AsciiEscape, ByteEscape, UnicodeEscape, LineBreak, strict_text, is_strict_unit}
-use Rattle.rl_syntax.specs.Strict.{BlanksEnd}
+use Rattle.rl_flaws.proofs.Names.{◌≡◌, ◌≤◌, ◌+◌, ◌-◌, ℕ, Bool, Bor, true, false, List, [], ◌∷◌, ◌++◌, map, length, length-append, refl, sym, ap, subst, ◌∙◌, inl, inr, arith, and_from, append_cancel_right, append-nil, encodes-chars, flat_map, IsUtf8, IsUtf8-nil, chars-nil, chars, byte_len, is_dropped_blank, Kind, Plain, QuotedUnit, StrictUnit, Itself, QuoteEscape, PlainEscape, AsciiEscape, ByteEscape, UnicodeEscape, LineBreak, strict_text, is_strict_unit, BlanksEnd, BreaksEnd, QuotedForm, CookedForm, RawForm, SingleForm, is_raw_form, IsInsideUpTo, IsLeft, IsSameLiteral, StaysOpen, IsOpened, opened_front, ArePiecesLeft, IsGoodLeft, IsOpenAs, Left, Whole, Inside, Closed, Nothing, Opened, passes_front}
 use Rattle.rl_syntax.proofs.StrictQuoted.{stand_row}
 use Rattle.rl_lenient.specs.Segments.{AreUnitsIn, IsSegmentsState}
-use Rattle.rl_lenient.specs.StrictUnits.{BreaksEnd}
-use Rattle.rl_lenient.specs.declared.quoted_forms.QuotedForm.{QuotedForm}
-use Rattle.rl_lenient.specs.declared.quoted_forms.QuotedForm.TheVariants.{Cooked as CookedForm, Raw as RawForm, Single as SingleForm}
-use Rattle.rl_strict.specs.StrictFlawKinds.{is_raw_form}
-use Rattle.rl_flaws.specs.Inside.{IsInsideUpTo}
-use Rattle.rl_flaws.specs.Left.{IsLeft, IsSameLiteral, StaysOpen}
-use Rattle.rl_flaws.specs.Opened.{IsOpened, opened_front}
-use Rattle.rl_flaws.specs.PiecesLeft.{ArePiecesLeft, IsGoodLeft, IsOpenAs}
-use Rattle.rl_flaws.specs.declared.flaws.Left.{Left}
-use Rattle.rl_flaws.specs.declared.flaws.Left.TheVariants.{Whole, Inside, Closed, Nothing}
-use Rattle.rl_flaws.specs.declared.walks.Opened.{Opened}
 
 abbrev pub HasUnitsIn : Kind → Bool → List ℕ → Type 0
 HasUnitsIn kind plain t = (units : List QuotedUnit) × AreUnitsIn kind plain t units
 
 -- ---- an escaped line end skips no white space beyond the valid content
 
-front_passes : (test : ℕ → Bool) (a b : List ℕ) → first_passes test (a ++ b) ≡ false → first_passes test a ≡ false
-front_passes test [] b h = refl
-front_passes test (c ∷ cs) b h = h
-
 blanks_end : (us : List StrictUnit) (rest : List ℕ) → BreaksEnd us rest → BlanksEnd us
 blanks_end [] rest b = tt
 blanks_end (LineBreak blanks ∷ us) rest b =
-    (front_passes is_dropped_blank (flat_map strict_text us) rest b.0, blanks_end us rest b.1)
+    (passes_front is_dropped_blank (flat_map strict_text us) rest b.0, blanks_end us rest b.1)
 blanks_end (Itself c ∷ us) rest b = blanks_end us rest b.1
 blanks_end (QuoteEscape c ∷ us) rest b = blanks_end us rest b.1
 blanks_end (PlainEscape c ∷ us) rest b = blanks_end us rest b.1
@@ -53,9 +34,8 @@ pub no_units : (kind : Kind) (plain : Bool) → HasUnitsIn kind plain []
 no_units kind true = ([], refl)
 no_units kind false = ([], record { each = tt; ends = tt; text_is = refl })
 
-pub good_units : (form : QuotedForm) (kind : Kind) (hashes t good closing : List ℕ)
-    → IsInsideUpTo form kind hashes t closing
-    → t ≡ good ++ closing → HasUnitsIn kind (is_raw_form form) good
+pub good_units : (form : QuotedForm) (kind : Kind) (hashes t good closing : List ℕ) → IsInsideUpTo form kind hashes t
+    closing → t ≡ good ++ closing → HasUnitsIn kind (is_raw_form form) good
 good_units CookedForm kind hashes t good closing (r, none) e = strict_units kind r.units t closing good r.each r.ends
     r.text_is e
 good_units RawForm kind hashes t good closing s e = (map Plain good, refl)
@@ -68,11 +48,10 @@ good_units SingleForm kind hashes t good closing (inr (same, none)) e =
 
 -- ---- the valid content
 
-pub good_left : (o : Opened) (rest : Bor (List ℕ)) (len end : ℕ) (good closing : List ℕ) → IsOpened o
-    → byte_len (opened_front o) + length rest.now ≤ len → IsUtf8 good → IsUtf8 closing → rest.now ≡ good ++ closing
-    → chars rest.now ≡ chars good ++ chars closing → IsInsideUpTo o.form o.kind (chars o.hashes.now) (chars rest.now)
-    (chars closing)
-    → end ≡ len - length closing → IsGoodLeft len (Inside o rest) good end
+pub good_left : (o : Opened) (rest : Bor (List ℕ)) (len end : ℕ) (good closing : List ℕ) → IsOpened o → byte_len
+    (opened_front o) + length rest.now ≤ len → IsUtf8 good → IsUtf8 closing → rest.now ≡ good ++ closing → chars
+    rest.now ≡ chars good ++ chars closing → IsInsideUpTo o.form o.kind (chars o.hashes.now) (chars rest.now) (chars
+    closing) → end ≡ len - length closing → IsGoodLeft len (Inside o rest) good end
 good_left o rest len end good closing opens room ug uc bytes text up_to is =
     let long : length rest.now ≡ length good + length closing = ap length bytes ∙ length-append good closing in
     let units = good_units o.form o.kind (chars o.hashes.now) (chars rest.now) (chars good) (chars closing) up_to text

@@ -1,15 +1,9 @@
 -- The byte offsets of invalid pieces.
-use Rattle.rl_syntax.proofs.Common.{◌≡◌, ◌+◌, ℕ, Bool, true, false, List, length, sym, ap, subst, ◌∙◌, arith, encodes-chars, IsUtf8}
-use Rattle.std.specs.Str.{chars}
-use Rattle.rl_strict.specs.LineEnds.{IsRestOf, read_of}
-use Rattle.rl_strict.specs.declared.line_ends.LineEnds.{LineEnds}
-use Rattle.rl_strict.proofs.EndLemmas.{step_in}
-use Rattle.rl_flaws.specs.Flawed.{EndsWhere, ReadsFrom}
+use Rattle.rl_flaws.proofs.Names.{◌≡◌, ◌+◌, ℕ, Bool, true, false, List, length, sym, ap, subst, ◌∙◌, arith, encodes-chars, IsUtf8, chars, IsRestOf, read_of, LineEnds, step_in, EndsWhere, ReadsFrom}
 
 -- The byte offset at which an end of the text begins.
-pub place_at : (how : LineEnds) (len : ℕ) (text rest read : List ℕ) (at : ℕ) → IsUtf8 rest
-    → IsRestOf how text (chars rest) → read_of how (chars rest) ≡ read → at + length rest ≡ len
-    → ReadsFrom how len text read at
+pub place_at : (how : LineEnds) (len : ℕ) (text rest read : List ℕ) (at : ℕ) → IsUtf8 rest → IsRestOf how text (chars
+    rest) → read_of how (chars rest) ≡ read → at + length rest ≡ len → ReadsFrom how len text read at
 place_at how len text rest read at u r e is =
     record { rest = chars rest; rest_in = r; reads = e; at_is = omega (arith, is, ap length (encodes-chars rest u)) }
 

@@ -1,11 +1,5 @@
 -- The content of a raw string up to its first flaw or its closing delimiter.
-use Rattle.rl_syntax.proofs.Common.{◌≡◌, ◌≢◌, ◌==◌, ◌&&◌, ◌||◌, ℕ, Bool, true, false, not, cond, List, [], ◌∷◌, ◌++◌, drop, refl, sym, ap, subst, ◌∙◌, inl, inr, append_assoc, and_from, and_parts, both_ways, eqb-true, list_all, nat_lt}
-use Rattle.rl_syntax.specs.Texts.{begins, first_passes}
-use Rattle.rl_lenient.proofs.Names.{Kind, Str, ByteStr, CStr, is_string}
-use Rattle.rl_syntax.proofs.StrictNumbers.{begins_front}
-use Rattle.rl_strict.specs.Mirrors.StrictAt.{is_raw_character}
-use Rattle.rl_strict.specs.Mirrors.StrictFlawAt.{raw_stop}
-use Rattle.rl_flaws.specs.Inside.{EndsRaw, IsRawUpTo, MayBeRaw}
+use Rattle.rl_flaws.proofs.Names.{◌≡◌, ◌≢◌, ◌==◌, ◌&&◌, ◌||◌, ℕ, Bool, true, false, not, cond, List, [], ◌∷◌, ◌++◌, drop, refl, sym, ap, subst, ◌∙◌, inl, inr, append_assoc, and_from, and_parts, both_ways, eqb-true, list_all, nat_lt, begins, first_passes, Kind, Str, ByteStr, CStr, is_string, begins_front, is_raw_character, raw_stop, EndsRaw, IsRawUpTo, MayBeRaw}
 
 -- ---- the characters of a raw string
 
@@ -44,17 +38,15 @@ no_front : (front after : List ℕ) (c : ℕ) → [] ≢ front ++ (c ∷ after)
 no_front [] after c e = both_ways false refl (ap (first_passes (λ d. true)) e)
 no_front (d ∷ ds) after c e = both_ways false refl (ap (first_passes (λ d. true)) e)
 
-stopped : (k : Kind) (hashes cs : List ℕ) (c : ℕ) (a b : Bool) → (c == 34) ≡ a → begins hashes cs ≡ b → is_string k
-    ≡ true
-    → ((a && b) || not (is_raw_character k c)) ≡ true → EndsRaw k hashes (c ∷ cs)
+stopped : (k : Kind) (hashes cs : List ℕ) (c : ℕ) (a b : Bool) → (c == 34) ≡ a → begins hashes cs ≡ b → is_string k ≡
+    true → ((a && b) || not (is_raw_character k c)) ≡ true → EndsRaw k hashes (c ∷ cs)
 stopped k hashes cs c true true q h s y = inl (eqb-true c 34 q, h)
 stopped k hashes cs c true false q h s y = inr (λ m. both_ways (not (is_raw_character k c)) (ap not (may_one k c s m))
     y)
 stopped k hashes cs c false b q h s y = inr (λ m. both_ways (not (is_raw_character k c)) (ap not (may_one k c s m)) y)
 
-goes_on : (k : Kind) (hashes cs : List ℕ) (c : ℕ) → is_string k ≡ true
-    → ((c == 34 && begins hashes cs) || not (is_raw_character k c)) ≡ false → (r : List ℕ) → IsRawUpTo k hashes cs r
-    → IsRawUpTo k hashes (c ∷ cs) r
+goes_on : (k : Kind) (hashes cs : List ℕ) (c : ℕ) → is_string k ≡ true → ((c == 34 && begins hashes cs) || not
+    (is_raw_character k c)) ≡ false → (r : List ℕ) → IsRawUpTo k hashes cs r → IsRawUpTo k hashes (c ∷ cs) r
 goes_on k hashes cs c s n r i = record {
   body = c ∷ i.body;
   text_is = ap (λ z. c ∷ z) i.text_is;

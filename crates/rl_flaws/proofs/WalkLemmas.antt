@@ -1,46 +1,13 @@
 -- The results of parsing the content of a quoted literal.
-use Rattle.rl_syntax.proofs.Common.{◌≡◌, ◌≢◌, ◌≤◌, ◌<◌, ◌+◌, encode_utf8_all, encodes-append, encodes-chars, length, length-append, IsUtf8, ◌⊎◌, ℕ, true, false, List, [], ◌∷◌, ◌++◌, Some, None, refl, sym, ap, subst, ◌∙◌, inl, inr, both_ways, append_assoc, arith, replicate}
-use Rattle.std.specs.Str.{chars}
-use Rattle.rl_lenient.proofs.Names.{Kind, first_passes, is_single, is_string, raw_opener}
-use Rattle.rl_lexer.specs.Sources.{is_apostrophe}
-use Rattle.rl_lenient.specs.StrictUnits.{BeginsStrictUnit, BeginsStrictUnits, HasNoStrictUnit}
-use Rattle.rl_lenient.specs.declared.quoted_forms.QuotedForm.{QuotedForm}
-use Rattle.rl_lenient.specs.declared.quoted_forms.QuotedForm.TheVariants.{Cooked as CookedForm, Raw as RawForm, Single as SingleForm}
-use Rattle.rl_syntax.specs.Texts.{byte_len}
-use Rattle.rl_lenient.specs.Forms.{form_opener, has_form}
-use Rattle.rl_lenient.specs.Mirrors.OpenerAt.{FoundOpener, found_opener, opener_at}
-use Rattle.rl_lenient.proofs.FormLemmas.{front_complete}
-use Rattle.rl_strict.specs.StrictShapes.{ClosesForm, IsToken}
-use Rattle.rl_strict.specs.Mirrors.StrictAt.{unit_rest}
-use Rattle.rl_strict.proofs.StrictRowLemmas.{quoted_single}
-use Rattle.rl_strict.proofs.StrictUnitLemmas.{unit_rest_complete, unit_rest_sound}
-use Rattle.rl_strict.specs.declared.flaws.FlawAt.{FlawAt}
-use Rattle.rl_strict.specs.declared.flaws.FlawKind.{FlawKind}
-use Rattle.rl_strict.specs.declared.line_ends.LineEnds.{LineEnds}
-use Rattle.rl_strict.specs.declared.line_ends.LineEnds.TheVariants.{Text}
-use Rattle.rl_strict.specs.LineEnds.{IsGoodUnit, IsOfStretch, IsRestOf, StopsAsRead, read_of}
-use Rattle.rl_strict.specs.StrictFlawKinds.{SuffixFlaw}
-use Rattle.rl_strict.specs.declared.flaws.FlawKind.TheVariants.{CarriageReturn, EmptyBraces, MustEscape, NoBrace, NoHexDigit, NoUnicode, NotAscii, Nul, HexEscapeOutOfRange, UnicodeEscapeOutOfRange, Surrogate, TooManyDigits, UnknownEscape}
-use Rattle.rl_flaws.specs.BadPieces.{is_flaw_of_unit}
-use Rattle.rl_strict.specs.StrictRead.{IsFlawAt}
-use Rattle.rl_strict.specs.Mirrors.StrictFlawAt.{raw_stop}
-use Rattle.rl_strict.specs.Mirrors.SuffixRead.{suffix_read_at}
-use Rattle.rl_strict.specs.Mirrors.UnitFlawAt.{found_flaw}
+use Rattle.rl_flaws.proofs.Names.{◌≡◌, ◌≢◌, ◌≤◌, ◌<◌, ◌+◌, encode_utf8_all, encodes-append, encodes-chars, length, length-append, IsUtf8, ◌⊎◌, ℕ, true, false, List, [], ◌∷◌, ◌++◌, Some, None, refl, sym, ap, subst, ◌∙◌, inl, inr, both_ways, append_assoc, arith, replicate, chars, Kind, is_single, is_string, raw_opener, is_apostrophe, BeginsStrictUnit, BeginsStrictUnits, QuotedForm, CookedForm, RawForm, SingleForm, byte_len, form_opener, has_form, FoundOpener, found_opener, opener_at, front_complete, unit_rest, quoted_single, unit_rest_complete, unit_rest_sound, FlawAt, FlawKind, LineEnds, Text, IsRestOf, StopsAsRead, read_of, SuffixFlaw, CarriageReturn, EmptyBraces, MustEscape, NoBrace, NoHexDigit, NoUnicode, NotAscii, Nul, HexEscapeOutOfRange, UnicodeEscapeOutOfRange, Surrogate, TooManyDigits, UnknownEscape, is_flaw_of_unit, IsFlawAt, raw_stop, suffix_read_at, found_flaw, IsUnitUpTo, IsInsideUpTo, OpensSingle, OpensString, HasForm, front_of}
+use Rattle.rl_lenient.proofs.Names.{first_passes}
+use Rattle.rl_strict.specs.LineEnds.{IsGoodUnit, IsOfStretch}
 use Rattle.rl_strict.proofs.ReadQuoted.{judged_by}
-use Rattle.rl_strict.proofs.ReadLemmas.{form_flaw, form_token}
-use Rattle.rl_flaws.specs.Inside.{IsUnitUpTo, IsInsideUpTo}
-use Rattle.rl_flaws.specs.Looks.{OpensSingle, OpensString}
-use Rattle.rl_flaws.specs.Opened.{HasForm, front_of}
+use Rattle.rl_strict.proofs.ReadLemmas.{form_flaw}
 use Rattle.rl_flaws.proofs.RawLemmas.{raw_up_to}
+use Rattle.rl_strict.proofs.StrictCookedFlaws.{no_unit}
 
 -- ---- a string with escapes
-
-pub no_unit : (k : Kind) (t : List ℕ) → unit_rest k t ≡ None → HasNoStrictUnit k t
-no_unit k t h rest b =
-    let e : unit_rest k t ≡ Some rest = ap (unit_rest k) b.text_is
-    ∙ unit_rest_complete k b.unit rest b.is_unit b.ends in
-    let bad : None ≡ Some rest = sym h ∙ e in
-    absurd (cc)
 
 -- ---- a character or a byte
 
@@ -74,10 +41,6 @@ pub raw_in_text : (how : LineEnds) (k : Kind) (h t r : List ℕ) → is_string k
 raw_in_text how k h t r s stop e = raw_up_to k h t r s (subst (λ z. read_of z r ≡ raw_stop k h (read_of z t)) e stop)
 
 -- ---- the text after the opening delimiter
-
-pub token_after : (form : QuotedForm) (k : Kind) (t inside : List ℕ) → has_form form k ≡ true
-    → t ≡ form_opener form k ++ inside → ClosesForm form k inside → IsToken t
-token_after form k t inside has e h = form_token t form k inside (ap opener_at e ∙ front_complete form k inside has) h
 
 pub flaw_after : (how : LineEnds) (form : QuotedForm) (k : Kind) (f : FlawKind) (t inside text piece rest : List ℕ)
     → has_form form k ≡ true → t ≡ form_opener form k ++ inside → StopsAsRead how form k f inside text piece rest
@@ -192,9 +155,8 @@ no_unit_suffix form suffix f h u =
 -- ---- a flaw's piece and its rest are ends of the text
 
 pub part : (t a b : List ℕ) → IsUtf8 b → t ≡ a ++ chars b → byte_len t ≡ byte_len a + length b
-part t a b u e = ap byte_len e ∙ ap length (encodes-append a (chars b))
-    ∙ length-append (encode_utf8_all a) (encode_utf8_all (chars b))
-    ∙ ap (λ x. byte_len a + length x) (encodes-chars b u)
+part t a b u e = ap byte_len e ∙ ap length (encodes-append a (chars b)) ∙ length-append (encode_utf8_all a)
+    (encode_utf8_all (chars b)) ∙ ap (λ x. byte_len a + length x) (encodes-chars b u)
 
 pub opened_bytes : (t o r : List ℕ) → IsUtf8 t → IsUtf8 r → chars t ≡ o ++ chars r → byte_len o + length r ≤ length t
 opened_bytes t o r ut ur e = omega (arith, part (chars t) o r ur e, ap length (encodes-chars t ut))

@@ -1,29 +1,5 @@
 -- The flaw of a text that doesn't begin as a quoted literal.
-use Rattle.rl_syntax.proofs.Common.{◌≡◌, ◌⊎◌, ℕ, Bor, false, true, List, [], ◌∷◌, ◌++◌, drop, length, refl, sym, ap, subst, inl, inr, ◌∙◌, arith, append_assoc, encodes-chars, IsUtf8, codes, list_all-append, and_from}
-use Rattle.std.specs.Str.{chars}
-use Rattle.rl_syntax.specs.Texts.{byte_len}
-use Rattle.rl_lexer.proofs.CutLemmas.{byte_len-append}
-use Rattle.rl_lenient.proofs.Names.{Kind, Str, ByteStr, CStr, Byte, Char, opener, raw_opener}
-use Rattle.rl_lenient.specs.declared.quoted_forms.QuotedForm.{QuotedForm}
-use Rattle.rl_lenient.specs.declared.quoted_forms.QuotedForm.TheVariants.{Cooked as CookedForm, Raw as RawForm, Single as SingleForm}
-use Rattle.rl_strict.specs.declared.flaws.Flaw.{Flaw}
-use Rattle.rl_strict.specs.Flaws.{StopsBefore}
-use Rattle.rl_strict.specs.FileTexts.{ExplainsInFile}
-use Rattle.rl_strict.specs.LineEnds.{lf_text, read_of}
-use Rattle.rl_strict.specs.Readings.{ExplainsOf}
-use Rattle.rl_strict.specs.StrictFlaws.{ExplainsStrictly, IsStrictFlawOf}
-use Rattle.rl_strict.specs.StrictShapes.{IsToken}
-use Rattle.rl_strict.specs.declared.line_ends.LineEnds.{LineEnds}
-use Rattle.rl_strict.specs.declared.line_ends.LineEnds.TheVariants.{Text, File}
-use Rattle.rl_strict.proofs.EndLemmas.{free_in, free_of, self_in}
-use Rattle.rl_strict.proofs.FileTextLemmas.{lacks_cr}
-use Rattle.rl_strict.proofs.FileUnits.{hashes_free}
-use Rattle.rl_flaws.specs.Flawed.{AreFlawsOf, IsOpener, ReadsFrom, TakesFlaw}
-use Rattle.rl_flaws.specs.Left.{state_of}
-use Rattle.rl_flaws.specs.Looks.{OpensSingle, OpensString}
-use Rattle.rl_flaws.specs.Opened.{HasForm, IsOpened, front_of, opened_front}
-use Rattle.rl_flaws.specs.declared.flaws.Left.TheVariants.{Whole, Inside, Nothing}
-use Rattle.rl_flaws.specs.declared.walks.Opened.{Opened}
+use Rattle.rl_flaws.proofs.Names.{◌≡◌, ◌⊎◌, ℕ, Bor, false, true, List, [], ◌∷◌, ◌++◌, drop, length, refl, sym, ap, subst, inl, inr, ◌∙◌, arith, append_assoc, encodes-chars, IsUtf8, codes, list_all-append, and_from, chars, byte_len, byte_len-append, Kind, Str, ByteStr, CStr, Byte, Char, opener, raw_opener, QuotedForm, CookedForm, RawForm, SingleForm, Flaw, StopsBefore, ExplainsInFile, lf_text, read_of, ExplainsOf, ExplainsStrictly, IsStrictFlawOf, IsToken, LineEnds, Text, File, free_in, free_of, self_in, lacks_cr, hashes_free, AreFlawsOf, IsOpener, ReadsFrom, TakesFlaw, state_of, OpensSingle, OpensString, HasForm, IsOpened, front_of, opened_front, Whole, Inside, Nothing, Opened}
 use Rattle.rl_flaws.proofs.FileCuts.{after_first_bytes, first_parts, rest_in_text, rest_of_place}
 
 -- ---- the flaw of the whole text
@@ -122,16 +98,10 @@ whole_takes File text flaw u e = subst (λ n. TakesFlaw (state_of File n (Whole 
 
 opener_free : (k : Kind) → lacks_cr (opener k) ≡ true
 opener_free Str = refl
-opener_free ByteStr = refl
-opener_free CStr = refl
-opener_free Byte = refl
-opener_free Char = refl
 opener_free k = refl
 
 raw_free : (k : Kind) → lacks_cr (raw_opener k) ≡ true
 raw_free Str = refl
-raw_free ByteStr = refl
-raw_free CStr = refl
 raw_free k = refl
 
 both_free : (a b : List ℕ) → lacks_cr a ≡ true → lacks_cr b ≡ true → lacks_cr (a ++ b) ≡ true
@@ -151,9 +121,8 @@ opened_read how o t rest opens e = sym (ap (read_of how) e
 
 -- ---- the cursor before the first flaw
 
-pub opened_flaws : (o : Opened) (text : List ℕ) (rest : Bor (List ℕ)) → IsOpened o
-    → chars text ≡ opened_front o ++ chars rest.now → (how : LineEnds)
-    → AreFlawsOf how text (state_of how (length text) (Inside o rest))
+pub opened_flaws : (o : Opened) (text : List ℕ) (rest : Bor (List ℕ)) → IsOpened o → chars text ≡ opened_front o ++
+    chars rest.now → (how : LineEnds) → AreFlawsOf how text (state_of how (length text) (Inside o rest))
 opened_flaws o text rest opens e how = record {
   ends_is = refl;
   opened = opener_of o.form o.kind (chars o.hashes.now) opens;
@@ -173,8 +142,7 @@ opened_flaws o text rest opens e how = record {
     )
 
 pub whole_flaws : (text : Bor (List ℕ)) → ((k : Kind) → OpensString k (chars text.now) ⊎ OpensSingle k (chars text.now)
-    → ⊥)
-    → (how : LineEnds) → AreFlawsOf how text.now (state_of how (length text.now) (Whole text))
+    → ⊥) → (how : LineEnds) → AreFlawsOf how text.now (state_of how (length text.now) (Whole text))
 whole_flaws text none how = record {
   ends_is = refl;
   opened = (refl, none);

@@ -25,8 +25,7 @@ MayBeRaw kind body = IsRawInside kind body × HasNoCarriageReturn body
 -- A raw string's valid content ends: at its closing delimiter, before a character that it can't contain, or at the text's end.
 abbrev pub EndsRaw : Kind → List ℕ → List ℕ → Type 0
 EndsRaw kind hashes [] = ⊤
-EndsRaw kind hashes (c ∷ cs) =
-    ((c ≡ code "\"") × IsTrue (begins hashes cs)) ⊎ (MayBeRaw kind (c ∷ []) → ⊥)
+EndsRaw kind hashes (c ∷ cs) = ((c ≡ code "\"") × IsTrue (begins hashes cs)) ⊎ (MayBeRaw kind (c ∷ []) → ⊥)
 
 -- The valid content of a raw string of the kind: all allowed characters up to its closing delimiter or its first flaw.
 pub record IsRawUpTo (kind : Kind) (hashes text closing : List ℕ) : Type 0 where

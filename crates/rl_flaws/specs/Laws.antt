@@ -9,30 +9,25 @@ use Rattle.rl_flaws.specs.declared.type_errors.TypeError.{TypeError as AnyError}
 
 -- A text begins as at most one kind of literal. So `guess_kind` returns the only possible kind.
 abbrev pub ATextBeginsAsOneKind : Type 0
-ATextBeginsAsOneKind =
-    (text : List ℕ) → LooksLikeOne text
+ATextBeginsAsOneKind = (text : List ℕ) → LooksLikeOne text
 
 -- A valid literal token begins as its own kind, the one that `guess_kind` returns for its text.
 abbrev pub ATokenBeginsAsItsKind : Type 0
-ATokenBeginsAsItsKind =
-    (text : List ℕ) → TokenLooks text
+ATokenBeginsAsItsKind = (text : List ℕ) → TokenLooks text
 
 -- The first flaw that a `Flaws` cursor returns explains why the text isn't a literal token. `read` returns it as its error,
 -- since a text has only one such flaw.
 abbrev pub TheFirstFlawExplainsTheText : Type 0
-TheFirstFlawExplainsTheText =
-    (ends : LineEnds) (text : List ℕ) → FirstFlawExplains ends text
+TheFirstFlawExplainsTheText = (ends : LineEnds) (text : List ℕ) → FirstFlawExplains ends text
 
 -- A valid literal token has no flaw.
 abbrev pub ATokenHasNoFlaw : Type 0
-ATokenHasNoFlaw =
-    (ends : LineEnds) (text : List ℕ) → TokensHaveNone ends text
+ATokenHasNoFlaw = (ends : LineEnds) (text : List ℕ) → TokensHaveNone ends text
 
 -- The unchecked rest of a text has at most one next flaw, with one kind, one range and one piece. `Flaws::next` returns this
 -- flaw.
 abbrev pub TheRestHasOneNextFlaw : Type 0
-TheRestHasOneNextFlaw =
-    (left : FlawsState) → HasOneNextFlaw left
+TheRestHasOneNextFlaw = (left : FlawsState) → HasOneNextFlaw left
 
 -- Rust has no type for a literal for which `type_error` returns an error.
 abbrev pub AnErrorExcludesAType : Type 0

@@ -27,8 +27,7 @@ state_of ends len Nothing = record { ends = ends; kind = None; front = []; rest 
 
 abbrev pub IsLeft : ℕ → Left → Type 0
 IsLeft len (Whole text) = (length text.now ≡ len) × IsUtf8 text.now
-IsLeft len (Inside o rest) =
-    IsOpened o × (byte_len (opened_front o) + length rest.now ≤ len) × IsUtf8 rest.now
+IsLeft len (Inside o rest) = IsOpened o × (byte_len (opened_front o) + length rest.now ≤ len) × IsUtf8 rest.now
 IsLeft len (Closed kind rest) =
     IsTrue (is_single kind) × IsTrue (first_passes is_apostrophe (chars rest.now)) × (length rest.now ≤ len) × IsUtf8 rest.now
 IsLeft len Nothing = ⊤
@@ -50,8 +49,7 @@ FollowsCharacter ends kind inside (Closed same rest) =
     (same ≡ kind) × IsClosedBy (read_of ends (chars inside)) (read_of ends (chars rest.now))
     × IsRestOf ends (chars inside) (chars rest.now) × IsTail inside rest.now
     × IsTrue (first_passes is_apostrophe (chars rest.now))
-FollowsCharacter ends kind inside Nothing =
-    (closing : List ℕ) → IsClosedBy (read_of ends (chars inside)) closing → ⊥
+FollowsCharacter ends kind inside Nothing = (closing : List ℕ) → IsClosedBy (read_of ends (chars inside)) closing → ⊥
 FollowsCharacter ends kind inside left = ⊥
 
 -- The unchecked text after a flaw inside or after a literal. The two flags are the tests of `IsLeftBy`.

@@ -49,10 +49,8 @@ pub record BeginsPart (flaws : FlawsState) (s : PiecesState) : Type 0 where
 -- The cursor returns its next piece: the next segment of the valid text, or, after the last segment, the flaw. After the flaw
 -- it continues with the next valid text.
 abbrev pub TakesPiece : PiecesState → Piece → PiecesState → Type 0
-TakesPiece old (Good s) new =
-    TakesSegment old.segments s new.segments × (new.bad ≡ old.bad) × (new.flaws ≡ old.flaws)
-TakesPiece old (Bad bad) new =
-    (old.segments.rest ≡ []) × (old.bad ≡ Some bad) × BeginsPart old.flaws new
+TakesPiece old (Good s) new = TakesSegment old.segments s new.segments × (new.bad ≡ old.bad) × (new.flaws ≡ old.flaws)
+TakesPiece old (Bad bad) new = (old.segments.rest ≡ []) × (old.bad ≡ Some bad) × BeginsPart old.flaws new
 
 -- The cursor is at its end: it has neither a segment nor a flaw.
 abbrev pub HasNoPiece : PiecesState → PiecesState → Type 0

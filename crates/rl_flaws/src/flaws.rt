@@ -8,7 +8,7 @@ ghost use Rattle.rl_strict.specs.declared.line_ends.LineEnds.TheVariants.{Text};
 ghost use Rattle.rl_flaws.specs.BadPieces.{is_flaw_after_quote, is_flaw_of_unit};
 ghost use Rattle.rl_flaws.specs.declared.flaws.Left.TheVariants.{Whole, Inside, Closed, Nothing};
 ghost use Rattle.rl_flaws.specs.Flawed.{AreFlawsOf, GivesFlaw, left_count};
-ghost use Rattle.rl_flaws.specs.Left.{FollowsCharacter, IsLeft, IsLeftAfter, IsSameLiteral, StaysOpen, state_of};
+ghost use Rattle.rl_flaws.specs.Left.{IsLeft, IsLeftAfter, IsSameLiteral, StaysOpen, state_of};
 ghost use Rattle.rl_flaws.specs.PiecesLeft.{IsGoodLeft};
 
 use crate::closings::closing_quote;
@@ -46,26 +46,9 @@ fn whole(text: &str) -> Left<'_>
     }
 }
 
-/// Whether the kind is a character or a byte.
-fn is_single(kind: Kind) -> bool
-    ensures { result ≡ is_single kind }
-{
-    matches!(kind, Kind::Byte | Kind::Char)
-}
-
-/// Returns the part to check after a flaw in a character or byte literal: the text that begins at its closing quote, or nothing
-/// if no quote closes it. `inside` is the text after the opening quote.
-fn left_in_single<'t>(ends: LineEnds, kind: Kind, inside: &'t str) -> Left<'t>
-    ensures { FollowsCharacter ends kind inside.now result }
-{
-    match closing_quote(ends, inside) {
-        Some(closing) => Left::Closed(kind, closing),
-        None => Left::Nothing,
-    }
-}
-
 /// Returns the part of the text to check after a flaw of the kind `flaw`. `inside` is the text that the flaw was found in, and
-/// `piece` the text that begins at the flaw's piece.
+/// `piece` the text that begins at the flaw's piece. After a flaw in a character or byte literal, this part begins at the quote
+/// that closes the literal. Without such a quote it is nothing.
 fn left_after<'t>(
     ends: LineEnds,
     opened: Opened<'t>,
@@ -78,8 +61,11 @@ fn left_after<'t>(
 {
     if opened.kind.is_string() && is_flaw_of_unit(flaw) {
         Left::Inside(opened, after_bad_piece(ends, opened.kind.quote(), piece))
-    } else if is_single(opened.kind) && !is_flaw_after_quote(flaw) {
-        left_in_single(ends, opened.kind, inside)
+    } else if matches!(opened.kind, Kind::Byte | Kind::Char) && !is_flaw_after_quote(flaw) {
+        match closing_quote(ends, inside) {
+            Some(closing) => Left::Closed(opened.kind, closing),
+            None => Left::Nothing,
+        }
     } else {
         Left::Nothing
     }

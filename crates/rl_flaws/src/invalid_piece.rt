@@ -6,8 +6,9 @@ ghost use Rattle.rl_strict.specs.LineEnds.{read_of};
 ghost use Rattle.rl_flaws.specs.BadPieces.{after_bad_piece, is_flaw_of_unit};
 ghost use Rattle.rl_flaws.specs.Flawed.{EndsWhere, ReadsFrom};
 
-use crate::piece_ends::{after_bad_piece, after_first, is_flaw_of_unit};
+use crate::piece_ends::{after_bad_piece, is_flaw_of_unit};
 use rl_strict::flaws::FlawAt;
+use rl_strict::strict_reading::after_first;
 use rl_strict::{Flaw, FlawKind, LineEnds};
 
 /// A flaw, and the end of its piece: the range of text to show for the flaw.
@@ -20,14 +21,6 @@ pub struct InvalidPiece {
     pub end: usize,
 }
 
-/// Returns the byte offset of `rest`, which is the end of a text of `len` bytes.
-fn rest_offset(len: usize, rest: &str) -> usize
-    requires { length rest.now ≤ len }
-    ensures { result + length rest.now ≡ len }
-{
-    len - rest.len()
-}
-
 /// Returns the byte offset after a flaw's piece. `piece` is the text that begins at the piece, and `hi` is the byte offset
 /// after the flaw.
 fn end_of(ends: LineEnds, len: usize, quote: char, kind: FlawKind, piece: &str, hi: usize) -> usize
@@ -36,7 +29,7 @@ fn end_of(ends: LineEnds, len: usize, quote: char, kind: FlawKind, piece: &str, 
         (after_bad_piece quote (read_of ends (chars piece.now)))) hi result }
 {
     if is_flaw_of_unit(kind) {
-        rest_offset(len, after_bad_piece(ends, quote, piece))
+        len - after_bad_piece(ends, quote, piece).len()
     } else {
         hi
     }
@@ -55,12 +48,12 @@ pub fn placed(ends: LineEnds, len: usize, quote: char, found: FlawAt<'_>) -> Inv
     ensures end { EndsWhere (is_flaw_of_unit result.flaw.kind) (ReadsFrom ends len (chars found.entry.piece.now)
         (after_bad_piece quote (read_of ends (chars found.entry.piece.now)))) result.flaw.hi result.end }
 {
-    let hi = rest_offset(len, after_first(ends, found.rest));
+    let hi = len - after_first(ends, found.rest).len();
     InvalidPiece {
         flaw: Flaw {
             kind: found.kind,
-            from: rest_offset(len, found.piece),
-            lo: rest_offset(len, found.rest),
+            from: len - found.piece.len(),
+            lo: len - found.rest.len(),
             hi,
         },
         end: end_of(ends, len, quote, found.kind, found.piece, hi),

@@ -2,26 +2,17 @@
 
 ghost use Rattle.std.specs.Prelude.{ℕ, ◌≡◌, IfNone, IfSome, List, Option, Some};
 ghost use Rattle.std.specs.Str.{chars};
-ghost use Rattle.rl_syntax.specs.Texts.{first_passes};
 ghost use Rattle.rl_syntax.specs.declared.kind.Kind.{Kind as AnyKind};
 ghost use Rattle.rl_syntax.specs.Reading.{Contents};
 ghost use Rattle.rl_syntax.specs.Strict.{Strict};
-ghost use Rattle.rl_strict.specs.StrictNumberFlaws.{is_float_mark};
-ghost use Rattle.rl_flaws.specs.Looks.{LooksLike, OpensNumber, number_kind};
+ghost use Rattle.rl_flaws.specs.Looks.{LooksLike, number_kind};
 
 use crate::walks::open;
 use rl_lenient::bool_of;
 use rl_lenient::digit_runs::{after_minus, begins_digit, skip_digits};
 use rl_lenient::number_forms::split_radix;
+use rl_strict::read_numbers::begins_float;
 use rl_syntax::Kind;
-use rl_syntax::text::split_char;
-
-/// Whether the text continues a number as only a float does: with a dot, `e` or `E`.
-fn begins_float(text: &str) -> bool
-    ensures { result ≡ first_passes is_float_mark (chars text.now) }
-{
-    matches!(split_char(text), Some(('.' | 'e' | 'E', _)))
-}
 
 /// Returns the kind of a number, which begins with a digit: integer or float.
 fn number_kind(digits: &str) -> Kind
@@ -38,19 +29,6 @@ fn number_kind(digits: &str) -> Kind
     }
 }
 
-/// Returns the kind of the number that the text begins with, optionally after a minus, or `None` without a digit.
-fn guess_number_kind(text: &str) -> Option<Kind>
-    ensures some { IfSome result (λ k. OpensNumber k (chars text.now)) }
-    ensures none { IfNone result ((k : AnyKind) → OpensNumber k (chars text.now) → ⊥) }
-{
-    let digits = after_minus(text);
-    if begins_digit(digits) {
-        Some(number_kind(digits))
-    } else {
-        None
-    }
-}
-
 /// Returns the kind of literal that the text begins as, or `None` if it begins otherwise.
 fn front_kind(text: &str) -> Option<Kind>
     ensures some { IfSome result (LooksLike (chars text.now)) }
@@ -59,8 +37,9 @@ fn front_kind(text: &str) -> Option<Kind>
     if let Some((opened, _)) = open(text) {
         return Some(opened.kind);
     }
-    if let Some(kind) = guess_number_kind(text) {
-        return Some(kind);
+    let digits = after_minus(text);
+    if begins_digit(digits) {
+        return Some(number_kind(digits));
     }
     match bool_of(text) {
         Some(_) => Some(Kind::Bool),

@@ -1,6 +1,6 @@
 //! Finds the end of an invalid character or escape in a quoted literal.
 
-ghost use Rattle.std.specs.Prelude.{◌≡◌, ◌||◌, drop};
+ghost use Rattle.std.specs.Prelude.{◌≡◌, ◌||◌};
 ghost use Rattle.std.specs.Str.{chars};
 ghost use Rattle.rl_syntax.specs.Texts.{IsTail, is_underscore};
 ghost use Rattle.rl_syntax.specs.Quoted.{is_hex_digit};
@@ -9,19 +9,6 @@ ghost use Rattle.rl_strict.specs.LineEnds.{IsRestOf, read_of};
 
 use rl_strict::walk_units::split;
 use rl_strict::{FlawKind, LineEnds};
-
-/// Returns the text after its first character, or an empty text. In a file a CR LF is one character.
-#[tactic(auto, using(rl_syntax::proofs::TailLemmas::tail_self, rl_syntax::proofs::TailLemmas::tail_step, rl_strict::proofs::EndLemmas::self_in, rl_strict::proofs::EndLemmas::step_in))]
-pub fn after_first(ends: LineEnds, text: &str) -> &str
-    ensures read { read_of ends (chars result.now) ≡ drop 1 (read_of ends (chars text.now)) }
-    ensures rest { IsRestOf ends (chars text.now) (chars result.now) }
-    ensures following { IsTail text.now result.now }
-{
-    match split(ends, text) {
-        Some((_, rest)) => rest,
-        None => text,
-    }
-}
 
 /// Returns the text after its first character. If that character is a backslash or the quote `quote`, the result is all of the
 /// text.

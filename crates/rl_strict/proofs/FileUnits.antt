@@ -6,8 +6,7 @@ use Rattle.rl_strict.proofs.StrictUnitRows.{breaks_to, row_join, row_none, row_u
 use Rattle.rl_strict.proofs.FileTextLemmas.{by_first, closes_free, free_text, front_free, lacks_cr, other_kept, rest_free, rest_line, rest_step, row_rest, when_kept}
 use Rattle.rl_strict.proofs.FileSuffixes.{both, run_rest}
 use Rattle.rl_strict.proofs.FileEscapes.{escape_read, lf_pair}
-use Rattle.rl_strict.proofs.ReadQuoted.{plain_row, single_closes}
-pub use Rattle.rl_strict.proofs.ReadQuoted.{not_string}
+use Rattle.rl_strict.proofs.ReadQuoted.{plain_row, single_closes, not_string}
 
 -- ---- a CR LF
 

@@ -1,4 +1,3 @@
-pub mod InsideRuns
 pub mod Names
 pub mod DecLemmas
 pub mod StrictWordLemmas

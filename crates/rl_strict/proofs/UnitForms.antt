@@ -42,9 +42,6 @@ stop_run : (test : ℕ → Bool) (t : List ℕ) → first_passes test t ≡ fals
 stop_run test [] h = refl
 stop_run test (c ∷ cs) h = sym (ap (λ b. cond b (after_run test cs) (c ∷ cs)) h)
 
-pub blanks_stop : (t rest : List ℕ) → rest ≡ after_run is_dropped_blank t → first_passes is_dropped_blank rest ≡ false
-blanks_stop t rest e = file.blanks_stop t rest e
-
 pub blanks_first : (how : LineEnds) (t rest : List ℕ) → rest ≡ after_run is_dropped_blank t
     → after_run is_dropped_blank (read_of how rest) ≡ after_run is_dropped_blank (read_of how t)
 blanks_first Text t rest e = sym (stop_run is_dropped_blank rest (file.blanks_stop t rest e)) ∙ e

@@ -33,24 +33,9 @@ fn whole(text: &str) -> Left<'_> {
     }
 }
 
-/// Whether the kind is a character or a byte.
-#[inline]
-fn is_single(kind: Kind) -> bool {
-    matches!(kind, Kind::Byte | Kind::Char)
-}
-
-/// Returns the part to check after a flaw in a character or byte literal: the text that begins at its closing quote, or nothing
-/// if no quote closes it. `inside` is the text after the opening quote.
-#[inline]
-fn left_in_single<'t>(ends: LineEnds, kind: Kind, inside: &'t str) -> Left<'t> {
-    match closing_quote(ends, inside) {
-        Some(closing) => Left::Closed(kind, closing),
-        None => Left::Nothing,
-    }
-}
-
 /// Returns the part of the text to check after a flaw of the kind `flaw`. `inside` is the text that the flaw was found in, and
-/// `piece` the text that begins at the flaw's piece.
+/// `piece` the text that begins at the flaw's piece. After a flaw in a character or byte literal, this part begins at the quote
+/// that closes the literal. Without such a quote it is nothing.
 #[inline]
 fn left_after<'t>(
     ends: LineEnds,
@@ -61,8 +46,11 @@ fn left_after<'t>(
 ) -> Left<'t> {
     if opened.kind.is_string() && is_flaw_of_unit(flaw) {
         Left::Inside(opened, after_bad_piece(ends, opened.kind.quote(), piece))
-    } else if is_single(opened.kind) && !is_flaw_after_quote(flaw) {
-        left_in_single(ends, opened.kind, inside)
+    } else if matches!(opened.kind, Kind::Byte | Kind::Char) && !is_flaw_after_quote(flaw) {
+        match closing_quote(ends, inside) {
+            Some(closing) => Left::Closed(opened.kind, closing),
+            None => Left::Nothing,
+        }
     } else {
         Left::Nothing
     }

@@ -1,8 +1,9 @@
 // Rendered from crates/rl_flaws/src/invalid_piece.rt by tools/render, which erases contracts: change that file, and render anew.
 //! A flaw, and the range of text to show for it.
 
-use crate::rl_flaws::piece_ends::{after_bad_piece, after_first, is_flaw_of_unit};
+use crate::rl_flaws::piece_ends::{after_bad_piece, is_flaw_of_unit};
 use crate::rl_strict::flaws::FlawAt;
+use crate::rl_strict::strict_reading::after_first;
 use crate::rl_strict::{Flaw, FlawKind, LineEnds};
 
 /// A flaw, and the end of its piece: the range of text to show for the flaw.
@@ -15,18 +16,12 @@ pub struct InvalidPiece {
     pub end: usize,
 }
 
-/// Returns the byte offset of `rest`, which is the end of a text of `len` bytes.
-#[inline]
-fn rest_offset(len: usize, rest: &str) -> usize {
-    len - rest.len()
-}
-
 /// Returns the byte offset after a flaw's piece. `piece` is the text that begins at the piece, and `hi` is the byte offset
 /// after the flaw.
 #[inline]
 fn end_of(ends: LineEnds, len: usize, quote: char, kind: FlawKind, piece: &str, hi: usize) -> usize {
     if is_flaw_of_unit(kind) {
-        rest_offset(len, after_bad_piece(ends, quote, piece))
+        len - after_bad_piece(ends, quote, piece).len()
     } else {
         hi
     }
@@ -36,12 +31,12 @@ fn end_of(ends: LineEnds, len: usize, quote: char, kind: FlawKind, piece: &str, 
 /// `len` bytes.
 #[inline]
 pub fn placed(ends: LineEnds, len: usize, quote: char, found: FlawAt<'_>) -> InvalidPiece {
-    let hi = rest_offset(len, after_first(ends, found.rest));
+    let hi = len - after_first(ends, found.rest).len();
     InvalidPiece {
         flaw: Flaw {
             kind: found.kind,
-            from: rest_offset(len, found.piece),
-            lo: rest_offset(len, found.rest),
+            from: len - found.piece.len(),
+            lo: len - found.rest.len(),
             hi,
         },
         end: end_of(ends, len, quote, found.kind, found.piece, hi),

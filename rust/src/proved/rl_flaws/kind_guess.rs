@@ -5,14 +5,8 @@ use crate::rl_flaws::walks::open;
 use crate::rl_lenient::bool_of;
 use crate::rl_lenient::digit_runs::{after_minus, begins_digit, skip_digits};
 use crate::rl_lenient::number_forms::split_radix;
+use crate::rl_strict::read_numbers::begins_float;
 use crate::rl_syntax::Kind;
-use crate::rl_syntax::text::split_char;
-
-/// Whether the text continues a number as only a float does: with a dot, `e` or `E`.
-#[inline]
-fn begins_float(text: &str) -> bool {
-    matches!(split_char(text), Some(('.' | 'e' | 'E', _)))
-}
 
 /// Returns the kind of a number, which begins with a digit: integer or float.
 #[inline]
@@ -28,25 +22,15 @@ fn number_kind(digits: &str) -> Kind {
     }
 }
 
-/// Returns the kind of the number that the text begins with, optionally after a minus, or `None` without a digit.
-#[inline]
-fn guess_number_kind(text: &str) -> Option<Kind> {
-    let digits = after_minus(text);
-    if begins_digit(digits) {
-        Some(number_kind(digits))
-    } else {
-        None
-    }
-}
-
 /// Returns the kind of literal that the text begins as, or `None` if it begins otherwise.
 #[inline]
 fn front_kind(text: &str) -> Option<Kind> {
     if let Some((opened, _)) = open(text) {
         return Some(opened.kind);
     }
-    if let Some(kind) = guess_number_kind(text) {
-        return Some(kind);
+    let digits = after_minus(text);
+    if begins_digit(digits) {
+        return Some(number_kind(digits));
     }
     match bool_of(text) {
         Some(_) => Some(Kind::Bool),

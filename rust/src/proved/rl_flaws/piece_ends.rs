@@ -4,15 +4,6 @@
 use crate::rl_strict::walk_units::split;
 use crate::rl_strict::{FlawKind, LineEnds};
 
-/// Returns the text after its first character, or an empty text. In a file a CR LF is one character.
-#[inline]
-pub fn after_first(ends: LineEnds, text: &str) -> &str {
-    match split(ends, text) {
-        Some((_, rest)) => rest,
-        None => text,
-    }
-}
-
 /// Returns the text after its first character. If that character is a backslash or the quote `quote`, the result is all of the
 /// text.
 #[inline]

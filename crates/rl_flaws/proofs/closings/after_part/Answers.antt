@@ -1,8 +1,4 @@
-use Rattle.rl_syntax.proofs.Common.{◌≡◌, ◌∷◌, ◌∙◌, IfNone, List, None, ℕ, rules, subst, sym}
-use Rattle.std.specs.Str.{chars}
-use Rattle.rl_strict.specs.LineEnds.{read_of}
-use Rattle.rl_strict.proofs.EndLemmas.{nil_of}
-use Rattle.rl_flaws.specs.Closings.{ReachesQuote}
+use Rattle.rl_flaws.proofs.Names.{◌≡◌, ◌∷◌, ◌∙◌, IfNone, List, None, ℕ, rules, subst, sym, chars, read_of, nil_of, ReachesQuote}
 use Rattle.rl_flaws.proofs.ClosingLemmas.{escape_ends, escape_part, search_ends, search_passes}
 use Rattle.rl_flaws.proofs.closings.after_part.Goals as goal
 

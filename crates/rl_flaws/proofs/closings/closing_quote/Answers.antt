@@ -1,5 +1,4 @@
-use Rattle.rl_syntax.proofs.Common.{◌∙◌, refl, sym}
-use Rattle.rl_strict.proofs.WalkForms.{quote_read}
+use Rattle.rl_flaws.proofs.Names.{◌∙◌, refl, sym, quote_read}
 use Rattle.rl_flaws.proofs.ClosingLemmas.{second_closes}
 use Rattle.rl_flaws.proofs.closings.closing_quote.Goals as goal
 

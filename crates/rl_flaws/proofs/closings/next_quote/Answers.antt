@@ -1,9 +1,5 @@
-use Rattle.rl_syntax.proofs.Common.{◌≡◌, ◌==◌, ap, IfNone, List, None, ℕ, rules, subst, sym}
-use Rattle.std.specs.Str.{chars}
-use Rattle.rl_syntax.proofs.TailLemmas.{tail_self, tail_step}
-use Rattle.rl_strict.specs.LineEnds.{read_of}
-use Rattle.rl_strict.proofs.EndLemmas.{nil_of, self_in, step_in}
-use Rattle.rl_flaws.specs.Closings.{ReachesQuote}
+use Rattle.rl_flaws.proofs.Names.{◌≡◌, ◌==◌, ap, IfNone, List, None, ℕ, rules, subst, sym, chars, tail_step, read_of, nil_of, self_in, step_in, ReachesQuote}
+use Rattle.rl_syntax.proofs.TailLemmas.{tail_self}
 use Rattle.rl_flaws.proofs.ClosingLemmas.{none_at_end, passes_on, quote_here}
 use Rattle.rl_flaws.proofs.closings.next_quote.Goals as goal
 

@@ -1,11 +1,4 @@
-use Rattle.rl_syntax.proofs.Common.{ℕ, List, length}
-use denote.Text.{Utf8}
-use denote.Shadow.{shadow}
-use Rattle.std.specs.Str.{chars}
-use Rattle.rl_syntax.specs.Texts.{IsTail}
-use Rattle.rl_lenient.proofs.Names.{◌↔◌}
-use Rattle.rl_strict.specs.LineEnds.{IsRestOf, read_of}
-use Rattle.rl_flaws.specs.Closings.{ReachesQuote}
+use Rattle.rl_flaws.proofs.Names.{ℕ, List, length, Utf8, shadow, chars, IsTail, ◌↔◌, IsRestOf, read_of, ReachesQuote}
 use Rattle.rl_flaws.proofs.closings.next_quote.Given as goal
 
 abbrev pub invariant-loop-c : goal.invariant-loop-c

@@ -1,4 +1,4 @@
-use Rattle.rl_syntax.proofs.Common.{inr, refl}
+use Rattle.rl_flaws.proofs.Names.{inr, refl}
 use Rattle.rl_flaws.proofs.WholeLemmas.{whole_takes}
 use Rattle.rl_flaws.proofs.flaws.flaw_of_whole.Goals as goal
 

@@ -1,26 +1,19 @@
-use Rattle.rl_syntax.proofs.Common.{◌≡◌, ◌∷◌, ◌∙◌, ap, arith, rules, sym, IsUtf8}
-use Rattle.std.specs.Str.{chars}
+use Rattle.rl_flaws.proofs.Names.{◌≡◌, ◌∷◌, ◌∙◌, ap, arith, rules, sym, IsUtf8, chars}
 use Rattle.rl_flaws.proofs.ClosedLemmas.{begins_quote, closed_none, closed_piece, closed_stop, closed_takes}
 use Rattle.rl_flaws.proofs.WalkLemmas.{rest_room}
 use Rattle.rl_flaws.proofs.flaws.judge_closed.Goals as goal
 
-pub placed-requires-clause-piece : goal.placed-requires-clause-piece
-placed-requires-clause-piece c =
+pub placed-requires : goal.placed-requires
+placed-requires c =
     let quote : chars c.args.closing.now ≡ 39 ∷ chars c.without_first-suffix.result.now =
     begins_quote _ c.requires.1 ∙ ap (λ z. 39 ∷ z) (sym c.without_first-suffix.ensures.rest) in
     let piece : IsUtf8 c.in-Some.found.piece.now = search rules in
-    let room = rest_room c.args.ends _ _ c.requires.3 piece
-    (closed_piece c.args.ends _ _ _ c.in-Some.found.kind quote c.in-Some.ensures.piece) in
-    omega (arith, room, c.requires.2)
-
-pub placed-requires-clause-rest : goal.placed-requires-clause-rest
-placed-requires-clause-rest c =
-    let quote : chars c.args.closing.now ≡ 39 ∷ chars c.without_first-suffix.result.now =
-    begins_quote _ c.requires.1 ∙ ap (λ z. 39 ∷ z) (sym c.without_first-suffix.ensures.rest) in
     let rest : IsUtf8 c.in-Some.found.rest.now = search rules in
+    let fits = rest_room c.args.ends _ _ c.requires.3 piece
+    (closed_piece c.args.ends _ _ _ c.in-Some.found.kind quote c.in-Some.ensures.piece) in
     let room = rest_room c.args.ends _ _ c.requires.3 rest
     (closed_stop c.args.ends _ _ c.in-Some.found quote c.in-Some.ensures.flaw) in
-    omega (arith, room, c.requires.2)
+    record { piece = omega (arith, fits, c.requires.2); rest = omega (arith, room, c.requires.2) }
 
 pub returns-in-None-clause-gives : goal.returns-in-None-clause-gives
 returns-in-None-clause-gives c =

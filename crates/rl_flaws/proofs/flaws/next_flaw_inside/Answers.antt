@@ -1,23 +1,17 @@
-use Rattle.rl_syntax.proofs.Common.{◌&&◌, not, arith, inr, refl, rules, IsUtf8}
-use Rattle.std.proofs.lemmas.Result.{IfErr-at_err, IfOk-at_ok}
+use Rattle.rl_flaws.proofs.Names.{◌&&◌, not, arith, inr, refl, rules, IsUtf8, IfErr-at_err, IfOk-at_ok, is_flaw_after_quote, is_flaw_of_unit}
 use Rattle.rl_syntax.specs.Quoted.{is_single, is_string}
-use Rattle.rl_flaws.specs.BadPieces.{is_flaw_after_quote, is_flaw_of_unit}
 use Rattle.rl_flaws.proofs.WalkLemmas.{rest_room}
 use Rattle.rl_flaws.proofs.FlawLemmas.{inside_left, inside_less, inside_takes, stays_open}
 use Rattle.rl_flaws.proofs.PieceLemmas.{good_left}
 use Rattle.rl_flaws.proofs.flaws.next_flaw_inside.Goals as goal
 
-pub placed-requires-clause-piece : goal.placed-requires-clause-piece
-placed-requires-clause-piece c =
+pub placed-requires : goal.placed-requires
+placed-requires c =
     let piece : IsUtf8 c.in-Err.found.piece.now = search rules in
-    let room = rest_room c.args.ends _ _ c.requires.2 piece (IfErr-at_err _ c.in-Err.is c.walk-stretch.ensures.piece) in
-    omega (arith, room, c.requires.1)
-
-pub placed-requires-clause-rest : goal.placed-requires-clause-rest
-placed-requires-clause-rest c =
     let rest : IsUtf8 c.in-Err.found.rest.now = search rules in
+    let fits = rest_room c.args.ends _ _ c.requires.2 piece (IfErr-at_err _ c.in-Err.is c.walk-stretch.ensures.piece) in
     let room = rest_room c.args.ends _ _ c.requires.2 rest (IfErr-at_err _ c.in-Err.is c.walk-stretch.ensures.stop) in
-    omega (arith, room, c.requires.1)
+    record { piece = omega (arith, fits, c.requires.1); rest = omega (arith, room, c.requires.1) }
 
 pub returns-in-Ok-clause-gives : goal.returns-in-Ok-clause-gives
 returns-in-Ok-clause-gives c = record {
@@ -26,43 +20,31 @@ returns-in-Ok-clause-gives c = record {
   same = record { same_ends = refl; same_len = refl };
 }
 
-pub returns-in-Err-clause-gives : goal.returns-in-Err-clause-gives
-returns-in-Err-clause-gives c =
+pub returns-in-Err : goal.returns-in-Err
+returns-in-Err c =
     let piece : IsUtf8 c.in-Err.found.piece.now = search rules in
     let rest : IsUtf8 c.in-Err.found.rest.now = search rules in
-    inside_takes c.args.ends c.args.opened c.args.rest _ _ c.in-Err.found _ _ piece rest
-    (IfErr-at_err _ c.in-Err.is c.walk-stretch.ensures.piece) (IfErr-at_err _ c.in-Err.is c.walk-stretch.ensures.stop)
-    (IfErr-at_err _ c.in-Err.is c.walk-stretch.ensures.flaw) c.quote.ensures.value
-    c.placed.ensures.kind c.placed.ensures.from c.placed.ensures.lo c.placed.ensures.hi c.placed.ensures.end
-    c.requires.0 c.left_after.ensures
-
-pub returns-in-Err-clause-less : goal.returns-in-Err-clause-less
-returns-in-Err-clause-less c =
-    let piece : IsUtf8 c.in-Err.found.piece.now = search rules in
-    inside_less c.args.ends c.args.opened c.args.rest _ _ (is_string c.args.opened.kind)
-    (is_flaw_of_unit c.in-Err.found.kind) (is_single c.args.opened.kind && not (is_flaw_after_quote c.in-Err.found.kind)) _
-    (rest_room c.args.ends _ _ c.requires.2 piece (IfErr-at_err _ c.in-Err.is c.walk-stretch.ensures.piece))
-    (IfErr-at_err _ c.in-Err.is c.walk-stretch.ensures.some) c.left_after.ensures
-
-pub returns-in-Err-clause-left : goal.returns-in-Err-clause-left
-returns-in-Err-clause-left c =
-    let piece : IsUtf8 c.in-Err.found.piece.now = search rules in
-    inside_left c.args.ends c.args.opened c.args.rest _ _ (is_string c.args.opened.kind
-    && is_flaw_of_unit c.in-Err.found.kind) (is_single c.args.opened.kind) (not (is_flaw_after_quote c.in-Err.found.kind)) _
-    c.requires (rest_room c.args.ends _ _ c.requires.2 piece (IfErr-at_err _ c.in-Err.is c.walk-stretch.ensures.piece))
-    refl c.left_after.ensures
-
-pub returns-in-Err-clause-same : goal.returns-in-Err-clause-same
-returns-in-Err-clause-same c = stays_open c.args.ends _ _ _ (is_string c.args.opened.kind
-    && is_flaw_of_unit c.in-Err.found.kind) (is_single c.args.opened.kind && not (is_flaw_after_quote c.in-Err.found.kind)) _
-    c.left_after.ensures
-
-pub returns-in-Err-clause-good : goal.returns-in-Err-clause-good
-returns-in-Err-clause-good c =
     let closing : IsUtf8 c.walk-stretch.result.closing.now = search rules in
-    λ e. good_left c.args.opened c.args.rest _ _ _ _ c.requires.0 c.requires.1 c.before-good.utf8 closing
-    c.before-good.ensures.cut
-    c.before-good.ensures.chars (c.walk-stretch.ensures.good e) refl
+    let piece_in = IfErr-at_err _ c.in-Err.is c.walk-stretch.ensures.piece in
+    let stop_in = IfErr-at_err _ c.in-Err.is c.walk-stretch.ensures.stop in
+    let room = rest_room c.args.ends _ _ c.requires.2 piece piece_in in
+    record {
+      gives = inside_takes c.args.ends c.args.opened c.args.rest _ _ c.in-Err.found _ _ piece rest piece_in stop_in
+          (IfErr-at_err _ c.in-Err.is c.walk-stretch.ensures.flaw) c.quote.ensures.value
+          c.placed.ensures.kind c.placed.ensures.from c.placed.ensures.lo c.placed.ensures.hi c.placed.ensures.end
+          c.requires.0 c.left_after.ensures;
+      less = inside_less c.args.ends c.args.opened c.args.rest _ _ (is_string c.args.opened.kind)
+          (is_flaw_of_unit c.in-Err.found.kind)
+          (is_single c.args.opened.kind && not (is_flaw_after_quote c.in-Err.found.kind)) _ room
+          (IfErr-at_err _ c.in-Err.is c.walk-stretch.ensures.some) c.left_after.ensures;
+      left = inside_left c.args.ends c.args.opened c.args.rest _ _
+          (is_string c.args.opened.kind && is_flaw_of_unit c.in-Err.found.kind) (is_single c.args.opened.kind)
+          (not (is_flaw_after_quote c.in-Err.found.kind)) _ c.requires room refl c.left_after.ensures;
+      same = stays_open c.args.ends _ _ _ (is_string c.args.opened.kind && is_flaw_of_unit c.in-Err.found.kind)
+          (is_single c.args.opened.kind && not (is_flaw_after_quote c.in-Err.found.kind)) _ c.left_after.ensures;
+      good = λ e. good_left c.args.opened c.args.rest _ _ _ _ c.requires.0 c.requires.1 c.before-good.utf8 closing
+          c.before-good.ensures.cut c.before-good.ensures.chars (c.walk-stretch.ensures.good e) refl;
+    }
 
 pub returns-in-Ok-clause-good : goal.returns-in-Ok-clause-good
 returns-in-Ok-clause-good c =

@@ -1,4 +1,4 @@
-use Rattle.rl_syntax.proofs.Common.{rules, IsUtf8}
+use Rattle.rl_flaws.proofs.Names.{rules, IsUtf8}
 use Rattle.rl_flaws.proofs.WalkLemmas.{opened_bytes}
 use Rattle.rl_flaws.proofs.WholeLemmas.{opened_flaws, whole_flaws}
 use Rattle.rl_flaws.proofs.flaws.whole.Goals as goal

@@ -1,13 +1,10 @@
-use Rattle.rl_syntax.proofs.Common.{◌∙◌, sym, rules}
-use Rattle.rl_syntax.proofs.TailLemmas.{tail_step}
-use Rattle.rl_strict.proofs.EndLemmas.{nil_of, step_in}
+use Rattle.rl_flaws.proofs.Names.{◌∙◌, sym, rules, tail_step, nil_of, step_in}
 use Rattle.rl_flaws.proofs.EndLemmas.{digits_end, digits_halt, digits_on}
 use Rattle.rl_flaws.proofs.piece_ends.after_code_digits.Goals as goal
 
 pub returns-then-not-is_code_part-clause-read : goal.returns-then-not-is_code_part-clause-read
-returns-then-not-is_code_part-clause-read c = c.after_one.ensures.read
-    ∙ digits_halt _ _ _ _ c.in-Some.ensures.chars (sym c.is_code_part.ensures ∙ c.if-not-is_code_part.true)
-    ∙ c.loop-c.invariant.same
+returns-then-not-is_code_part-clause-read c = c.after_one.ensures.read ∙ digits_halt _ _ _ _ c.in-Some.ensures.chars
+    (sym c.is_code_part.ensures ∙ c.if-not-is_code_part.true) ∙ c.loop-c.invariant.same
 
 pub loop-c-preserved : goal.loop-c-preserved
 loop-c-preserved c = record {

@@ -1,10 +1,4 @@
-use Rattle.rl_syntax.proofs.Common.{◌≡◌, length}
-use denote.Text.{Utf8}
-use denote.Shadow.{shadow}
-use Rattle.std.specs.Str.{chars}
-use Rattle.rl_syntax.specs.Texts.{IsTail}
-use Rattle.rl_strict.specs.LineEnds.{IsRestOf, read_of}
-use Rattle.rl_flaws.specs.BadPieces.{after_code_digits}
+use Rattle.rl_flaws.proofs.Names.{◌≡◌, length, Utf8, shadow, chars, IsTail, IsRestOf, read_of, after_code_digits}
 use Rattle.rl_flaws.proofs.piece_ends.after_code_digits.Given as goal
 
 abbrev pub invariant-loop-c : goal.invariant-loop-c

@@ -1,9 +1,4 @@
-use Rattle.rl_syntax.proofs.Common.{◌≡◌, ◌++◌, ◌∙◌, ap, refl, subst, sym, true}
-use Rattle.std.specs.Str.{chars}
-use Rattle.rl_lenient.specs.Forms.{form_opener, has_form}
-use Rattle.rl_lenient.specs.Mirrors.OpenerAt.{found_opener}
-use Rattle.rl_lenient.proofs.FormLemmas.{front_sound}
-use Rattle.rl_flaws.specs.Opened.{HasForm, front_of}
+use Rattle.rl_flaws.proofs.Names.{◌≡◌, ◌++◌, ◌∙◌, ap, refl, subst, sym, true, chars, form_opener, has_form, found_opener, front_sound, HasForm, front_of}
 use Rattle.rl_flaws.proofs.WalkLemmas.{none_opens, plain_form, plain_front, raw_front, raw_none_opens}
 use Rattle.rl_flaws.proofs.walks.open.Goals as goal
 
@@ -23,9 +18,8 @@ returns-in-Ok-clause-cut c =
     ∙ sym (ap (λ f. front_of f c.in-Some.kind (chars c.in-Ok.hashes.now) ++ chars c.in-Ok.rest.now) c.in-Raw.is)
 
 pub returns-in-Err-clause-none : goal.returns-in-Err-clause-none
-returns-in-Err-clause-none c = raw_none_opens _ _ c.in-Some.kind
-    (sym c.in-Some.ensures ∙ ap (λ f. found_opener f c.in-Some.kind (chars c.in-Some.inside.now)) c.in-Raw.is)
-    c.in-Err.ensures.unopened
+returns-in-Err-clause-none c = raw_none_opens _ _ c.in-Some.kind (sym c.in-Some.ensures ∙ ap (λ f. found_opener f
+    c.in-Some.kind (chars c.in-Some.inside.now)) c.in-Raw.is) c.in-Err.ensures.unopened
 
 pub returns-in_default-clause-some : goal.returns-in_default-clause-some
 returns-in_default-clause-some c = plain_form c.in-Some.form _ _ c.in_default.not-Raw

@@ -1,4 +1,4 @@
-use Rattle.std.proofs.lemmas.Result.{IfErr-at_err, IfOk-at_ok}
+use Rattle.rl_flaws.proofs.Names.{IfErr-at_err, IfOk-at_ok}
 use Rattle.rl_flaws.proofs.walks.walk_unit.Goals as goal
 
 pub returns-in-Ok-clause-closes : goal.returns-in-Ok-clause-closes

@@ -1,4 +1,4 @@
-use Rattle.rl_syntax.proofs.Common.{rules}
+use Rattle.rl_strict.proofs.Names.{rules}
 use Rattle.rl_strict.proofs.flaws.place_in.Goals as goal
 
 pub returns-in-Some : goal.returns-in-Some

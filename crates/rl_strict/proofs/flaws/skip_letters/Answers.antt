@@ -1,4 +1,4 @@
-use Rattle.rl_syntax.proofs.Common.{common_steps, arith}
+use Rattle.rl_strict.proofs.Names.{common_steps, arith}
 use Rattle.rl_strict.proofs.flaws.skip_letters.Goals as goal
 
 pub loop-letter-smaller : goal.loop-letter-smaller

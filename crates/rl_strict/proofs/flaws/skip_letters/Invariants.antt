@@ -1,8 +1,4 @@
-use Rattle.rl_syntax.proofs.Common.{◌≡◌, length}
-use denote.Text.{Utf8}
-use denote.Shadow.{shadow}
-use Rattle.std.specs.Str.{chars}
-use Rattle.rl_strict.specs.Mirrors.WordFlawAt.{after_letters}
+use Rattle.rl_strict.proofs.Names.{◌≡◌, length, Utf8, shadow, chars, after_letters}
 use Rattle.rl_strict.proofs.flaws.skip_letters.Given as goal
 
 abbrev pub invariant-loop-letter : goal.invariant-loop-letter

@@ -1,4 +1,4 @@
-use Rattle.rl_syntax.proofs.Common.{◌∙◌, IsCharBoundary-start}
+use Rattle.rl_strict.proofs.Names.{◌∙◌, IsCharBoundary-start}
 use Rattle.rl_strict.proofs.CodeDigitFlaws.{first_flaw_is}
 use Rattle.rl_strict.proofs.quoted_flaws.first_digit_flaw.Goals as goal
 

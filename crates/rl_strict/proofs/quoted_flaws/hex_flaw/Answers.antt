@@ -1,5 +1,4 @@
-use Rattle.rl_strict.specs.Mirrors.UnitFlawAt.{hex_flaw_at}
-use Rattle.rl_syntax.proofs.Common.{common_steps, arith}
+use Rattle.rl_strict.proofs.Names.{hex_flaw_at, common_steps, arith}
 use Rattle.rl_strict.proofs.quoted_flaws.hex_flaw.Goals as goal
 
 pub returns-in-Some-to_digit : goal.returns-in-Some-to_digit

@@ -1,5 +1,4 @@
-use Rattle.rl_syntax.proofs.TailLemmas.{ok_tail, tail_step}
-use Rattle.rl_strict.specs.StrictNumbersRead.{suffix_of}
+use Rattle.rl_strict.proofs.Names.{ok_tail, tail_step, suffix_of}
 use Rattle.rl_strict.proofs.read_numbers.number_of.Goals as goal
 
 pub returns-then-radix-eq10-clause-following : goal.returns-then-radix-eq10-clause-following

@@ -1,5 +1,4 @@
-use Rattle.rl_syntax.proofs.Common.{◌∙◌, ap, not, sym}
-use Rattle.rl_lenient.proofs.CutLemmas.{some_text}
+use Rattle.rl_strict.proofs.Names.{◌∙◌, ap, not, sym, some_text}
 use Rattle.rl_strict.proofs.ReadNumbers.{fraction_empty, fraction_stops}
 use Rattle.rl_strict.proofs.read_numbers.read_fraction.Goals as goal
 

@@ -1,4 +1,4 @@
-use Rattle.rl_syntax.proofs.TailLemmas.{ok_tail, tail_step}
+use Rattle.rl_strict.proofs.Names.{ok_tail, tail_step}
 use Rattle.rl_strict.proofs.read_numbers.read_power.Goals as goal
 
 pub returns-then-run-clause-following : goal.returns-then-run-clause-following

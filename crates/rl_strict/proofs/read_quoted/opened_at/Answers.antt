@@ -1,11 +1,4 @@
-use Rattle.rl_lenient.specs.declared.quoted_forms.QuotedForm.TheVariants.{Raw as Form}
-use Rattle.rl_syntax.proofs.Common.{[], ◌∷◌, ◌++◌, ◌∙◌, append_assoc, rules, sym, IsUtf8}
-use Rattle.std.specs.Str.{chars}
-use Rattle.std.proofs.lemmas.Result.{IfErr-at_err, IfOk-at_ok}
-use Rattle.rl_syntax.proofs.TailLemmas.{tail_step}
-use Rattle.rl_lenient.proofs.CutLemmas.{tail_chars}
-use Rattle.rl_lenient.proofs.FormLemmas.{front_sound}
-use Rattle.rl_lenient.proofs.PlaceLemmas.{opened}
+use Rattle.rl_strict.proofs.Names.{Form, [], ◌∷◌, ◌++◌, ◌∙◌, append_assoc, rules, sym, IsUtf8, chars, IfErr-at_err, IfOk-at_ok, tail_step, tail_chars, front_sound, opened}
 use Rattle.rl_strict.proofs.FileStrings.{raw_reads}
 use Rattle.rl_strict.proofs.FormReads.{opened_flaw, opened_token}
 use Rattle.rl_strict.proofs.WalkForms.{opened_closes, opened_stops}
@@ -14,22 +7,18 @@ use Rattle.rl_strict.proofs.read_quoted.opened_at.Goals as goal
 pub walk_raw-stretch-requires-clause-string : goal.walk_raw-stretch-requires-clause-string
 walk_raw-stretch-requires-clause-string c = (front_sound _ _ c.requires.front).has
 
-pub places-requires-clause-opened : goal.places-requires-clause-opened
-places-requires-clause-opened c = tail_step _ _ _ (opened _ _ _ _ c.utf8.text c.utf8.inside c.requires.front)
-    (tail_chars _ _ (chars c.args.hashes.now ++ (34 ∷ [])) c.utf8.inside c.utf8.opened
-    (c.requires.opened ∙ sym (append_assoc (chars c.args.hashes.now) (34 ∷ []) (chars c.args.opened.now))))
-
-pub places-requires-clause-closer : goal.places-requires-clause-closer
-places-requires-clause-closer c =
-    let closing : IsUtf8 c.walk_raw-stretch.result.closing.now = search rules in
-    tail_chars _ _ _ c.utf8.opened closing c.walk_raw-stretch.ensures.rest.text_is
-
-pub places-requires-clause-suffix : goal.places-requires-clause-suffix
-places-requires-clause-suffix c =
+pub places-requires : goal.places-requires
+places-requires c =
     let closing : IsUtf8 c.walk_raw-stretch.result.closing.now = search rules in
     let suffix : IsUtf8 c.in-Ok.suffix.now = search rules in
     let left = IfOk-at_ok _ c.in-Ok.is c.walk_raw-stretch.ensures.left in
-    tail_chars _ _ left.front closing suffix left.text_is
+    record {
+      opened = tail_step _ _ _ (opened _ _ _ _ c.utf8.text c.utf8.inside c.requires.front)
+          (tail_chars _ _ (chars c.args.hashes.now ++ (34 ∷ [])) c.utf8.inside c.utf8.opened
+          (c.requires.opened ∙ sym (append_assoc (chars c.args.hashes.now) (34 ∷ []) (chars c.args.opened.now))));
+      closer = tail_chars _ _ _ c.utf8.opened closing c.walk_raw-stretch.ensures.rest.text_is;
+      suffix = tail_chars _ _ left.front closing suffix left.text_is;
+    }
 
 pub returns-in-Ok-clause-reads : goal.returns-in-Ok-clause-reads
 returns-in-Ok-clause-reads c =

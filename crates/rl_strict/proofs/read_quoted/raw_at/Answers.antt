@@ -1,5 +1,4 @@
-use Rattle.rl_lenient.specs.declared.quoted_forms.QuotedForm.TheVariants.{Raw as Form}
-use Rattle.rl_lenient.proofs.FormLemmas.{front_sound}
+use Rattle.rl_strict.proofs.Names.{Form, front_sound}
 use Rattle.rl_strict.proofs.FormReads.{opened_flaw}
 use Rattle.rl_strict.proofs.read_quoted.raw_at.Goals as goal
 

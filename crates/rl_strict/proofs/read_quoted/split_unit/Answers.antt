@@ -1,6 +1,4 @@
-use Rattle.rl_syntax.proofs.Common.{◌==◌, ◌∙◌, ap, sym, inl, inr, ne_eqb}
-use Rattle.std.specs.Str.{chars}
-use Rattle.rl_lenient.specs.Mirrors.UnitAt.{piece_value}
+use Rattle.rl_strict.proofs.Names.{◌==◌, ◌∙◌, ap, sym, inl, inr, ne_eqb, chars, piece_value}
 use Rattle.rl_strict.proofs.ReadQuoted.{bad_at, empty_rest, good_at, rest_is}
 use Rattle.rl_strict.proofs.read_quoted.split_unit.Goals as goal
 

@@ -1,5 +1,4 @@
-use Rattle.rl_syntax.proofs.Common.{◌∙◌, ap, not, sym}
-use Rattle.rl_lenient.proofs.CutLemmas.{some_text}
+use Rattle.rl_strict.proofs.Names.{◌∙◌, ap, not, sym, some_text}
 use Rattle.rl_strict.proofs.ReadQuoted.{empty_read}
 use Rattle.rl_strict.proofs.read_quoted.suffix_flaw.Goals as goal
 

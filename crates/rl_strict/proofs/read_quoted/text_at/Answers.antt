@@ -1,10 +1,5 @@
+use Rattle.rl_strict.proofs.Names.{◌∙◌, rules, IsUtf8, IfErr-at_err, IfOk-at_ok, tail_chars, front_sound, opened}
 use Rattle.rl_lenient.specs.declared.quoted_forms.QuotedForm.TheVariants.{Cooked as Form}
-use Rattle.rl_syntax.proofs.Common.{◌∙◌, rules, IsUtf8}
-use Rattle.std.specs.Str.{chars}
-use Rattle.std.proofs.lemmas.Result.{IfErr-at_err, IfOk-at_ok}
-use Rattle.rl_lenient.proofs.CutLemmas.{tail_chars}
-use Rattle.rl_lenient.proofs.FormLemmas.{front_sound}
-use Rattle.rl_lenient.proofs.PlaceLemmas.{opened}
 use Rattle.rl_strict.proofs.FileStrings.{cooked_reads}
 use Rattle.rl_strict.proofs.FormReads.{opened_flaw, opened_token}
 use Rattle.rl_strict.proofs.read_quoted.text_at.Goals as goal
@@ -12,16 +7,14 @@ use Rattle.rl_strict.proofs.read_quoted.text_at.Goals as goal
 pub walk_cooked-stretch-requires : goal.walk_cooked-stretch-requires
 walk_cooked-stretch-requires c = (front_sound _ _ c.requires).has
 
-pub places-requires-clause-opened : goal.places-requires-clause-opened
-places-requires-clause-opened c = opened _ _ _ _ c.utf8.text c.utf8.inside c.requires
-
-pub places-requires-clause-closer : goal.places-requires-clause-closer
-places-requires-clause-closer c =
+pub places-requires : goal.places-requires
+places-requires c =
     let closing : IsUtf8 c.walk_cooked-stretch.result.closing.now = search rules in
-    tail_chars _ _ _ c.utf8.inside closing c.walk_cooked-stretch.ensures.rest.text_is
-
-pub places-requires-clause-suffix : goal.places-requires-clause-suffix
-places-requires-clause-suffix c = IfOk-at_ok _ c.in-Ok.is c.walk_cooked-stretch.ensures.suffix
+    record {
+      opened = opened _ _ _ _ c.utf8.text c.utf8.inside c.requires;
+      closer = tail_chars _ _ _ c.utf8.inside closing c.walk_cooked-stretch.ensures.rest.text_is;
+      suffix = IfOk-at_ok _ c.in-Ok.is c.walk_cooked-stretch.ensures.suffix;
+    }
 
 pub returns-in-Ok-clause-reads : goal.returns-in-Ok-clause-reads
 returns-in-Ok-clause-reads c =

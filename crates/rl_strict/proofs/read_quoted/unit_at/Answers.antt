@@ -1,12 +1,5 @@
+use Rattle.rl_strict.proofs.Names.{refl, rules, IsUtf8, IfErr-at_err, IfOk-at_ok, tail_chars, front_sound, quoted_found, opened, unit_one}
 use Rattle.rl_lenient.specs.declared.quoted_forms.QuotedForm.TheVariants.{Single as Form}
-use Rattle.rl_syntax.proofs.Common.{refl, rules, IsUtf8}
-use Rattle.std.specs.Str.{chars}
-use Rattle.std.proofs.lemmas.Result.{IfErr-at_err, IfOk-at_ok}
-use Rattle.rl_lenient.proofs.CutLemmas.{tail_chars}
-use Rattle.rl_lenient.proofs.FormLemmas.{front_sound}
-use Rattle.rl_lenient.proofs.FoundLemmas.{quoted_found}
-use Rattle.rl_lenient.proofs.PlaceLemmas.{opened}
-use Rattle.rl_lenient.proofs.SingleBodies.{unit_one}
 use Rattle.rl_strict.proofs.FileStrings.{unit_reads}
 use Rattle.rl_strict.proofs.FormReads.{opened_flaw, opened_token}
 use Rattle.rl_strict.proofs.ReadLemmas.{form_token}
@@ -16,23 +9,19 @@ use Rattle.rl_strict.proofs.read_quoted.unit_at.Goals as goal
 pub walk_single-stretch-requires : goal.walk_single-stretch-requires
 walk_single-stretch-requires c = (front_sound _ _ c.requires).has
 
-pub places-requires-clause-opened : goal.places-requires-clause-opened
-places-requires-clause-opened c = opened _ _ _ _ c.utf8.text c.utf8.inside c.requires
-
-pub places-requires-clause-closer : goal.places-requires-clause-closer
-places-requires-clause-closer c =
+pub places-requires : goal.places-requires
+places-requires c =
     let closing : IsUtf8 c.walk_single-stretch.result.closing.now = search rules in
-    tail_chars _ _ _ c.utf8.inside closing c.walk_single-stretch.ensures.rest.text_is
+    record {
+      opened = opened _ _ _ _ c.utf8.text c.utf8.inside c.requires;
+      closer = tail_chars _ _ _ c.utf8.inside closing c.walk_single-stretch.ensures.rest.text_is;
+      suffix = IfOk-at_ok _ c.in-Ok.is c.walk_single-stretch.ensures.suffix;
+    }
 
-pub places-requires-clause-suffix : goal.places-requires-clause-suffix
-places-requires-clause-suffix c = IfOk-at_ok _ c.in-Ok.is c.walk_single-stretch.ensures.suffix
-
-pub piece_unit-requires-clause-single : goal.piece_unit-requires-clause-single
-piece_unit-requires-clause-single c = (front_sound _ _ c.requires).has
-
-pub piece_unit-requires-clause-one : goal.piece_unit-requires-clause-one
-piece_unit-requires-clause-one c = unit_one _ _ _ (front_sound _ _ c.requires).has
-    (IfOk-at_ok _ c.in-Ok.is c.walk_single-stretch.ensures.unit)
+pub piece_unit-requires : goal.piece_unit-requires
+piece_unit-requires c =
+    let single = (front_sound _ _ c.requires).has in
+    record { single = single; one = unit_one _ _ _ single (IfOk-at_ok _ c.in-Ok.is c.walk_single-stretch.ensures.unit) }
 
 pub returns-in-Ok-clause-reads : goal.returns-in-Ok-clause-reads
 returns-in-Ok-clause-reads c =

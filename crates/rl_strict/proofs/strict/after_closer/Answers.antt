@@ -1,4 +1,4 @@
-use Rattle.std.specs.Str.{chars}
+use Rattle.rl_strict.proofs.Names.{chars}
 use Rattle.rl_lenient.proofs.OptionLemmas.{none_then}
 use Rattle.rl_strict.proofs.StrictRawLemmas.{quote_without_hashes}
 use Rattle.rl_strict.proofs.strict.after_closer.Goals as goal

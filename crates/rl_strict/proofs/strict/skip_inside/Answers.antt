@@ -1,7 +1,5 @@
-use Rattle.rl_syntax.proofs.Common.{[], refl}
-use Rattle.std.specs.Str.{chars}
-use Rattle.rl_strict.proofs.StrictRawLemmas.{str_run, c_run}
-use Rattle.rl_strict.proofs.InsideRuns.{inside_run}
+use Rattle.rl_strict.proofs.Names.{[], refl, chars}
+use Rattle.rl_strict.proofs.StrictRawLemmas.{c_run, inside_run, str_run}
 use Rattle.rl_strict.proofs.strict.skip_inside.Goals as goal
 
 pub returns-in-Str-clause-run : goal.returns-in-Str-clause-run

@@ -1,7 +1,4 @@
-use Rattle.rl_syntax.proofs.Common.{◌∙◌, ◌||◌, ap, not, sym}
-use Rattle.std.proofs.lemmas.Bool.{or_left}
-use Rattle.std.specs.Str.{chars}
-use Rattle.rl_strict.specs.Mirrors.StrictAt.{is_raw_character}
+use Rattle.rl_strict.proofs.Names.{◌∙◌, ◌||◌, ap, not, sym, or_left, chars, is_raw_character}
 use Rattle.rl_strict.proofs.StrictRawFlaws.{closer_test}
 use Rattle.rl_strict.proofs.strict_quoted_flaws.ends_raw_content.Goals as goal
 

@@ -1,5 +1,4 @@
-use Rattle.rl_syntax.proofs.Common.{rules, arith}
-use Rattle.rl_syntax.proofs.TailLemmas.{tail_step}
+use Rattle.rl_strict.proofs.Names.{rules, arith, tail_step}
 use Rattle.rl_strict.proofs.StrictRawFlaws.{hash_more}
 use Rattle.rl_strict.proofs.strict_quoted_flaws.skip_few_hashes.Goals as goal
 

@@ -1,9 +1,4 @@
-use Rattle.rl_syntax.proofs.Common.{◌≡◌, ◌≤◌, ◌++◌, replicate}
-use Rattle.rl_lenient.proofs.Names.{IsTail}
-use Rattle.std.proofs.Common.{◌-◌}
-use denote.Text.{Utf8}
-use denote.Shadow.{shadow}
-use Rattle.std.specs.Str.{chars}
+use Rattle.rl_strict.proofs.Names.{◌≡◌, ◌≤◌, ◌++◌, replicate, IsTail, ◌-◌, Utf8, shadow, chars}
 use Rattle.rl_strict.proofs.strict_quoted_flaws.skip_few_hashes.Given as goal
 
 abbrev pub invariant-loop-count : goal.invariant-loop-count

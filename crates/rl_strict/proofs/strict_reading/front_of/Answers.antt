@@ -1,4 +1,4 @@
-use Rattle.rl_syntax.proofs.Common.{IsCharBoundary-start}
+use Rattle.rl_strict.proofs.Names.{IsCharBoundary-start}
 use Rattle.rl_strict.proofs.strict_reading.front_of.Goals as goal
 
 pub ascii_at-requires : goal.ascii_at-requires

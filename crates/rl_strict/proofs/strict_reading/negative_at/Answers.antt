@@ -1,6 +1,4 @@
-use Rattle.rl_syntax.proofs.Common.{◌∙◌, inr, sym}
-use Rattle.std.specs.Prelude.{Ok}
-use Rattle.rl_syntax.proofs.TailLemmas.{tail_step}
+use Rattle.rl_strict.proofs.Names.{◌∙◌, inr, sym, Ok, tail_step}
 use Rattle.rl_strict.proofs.FileStrings.{minus_reads, signed_of}
 use Rattle.rl_strict.proofs.FormReads.{minus_alone_flaw, minus_number_flaw}
 use Rattle.rl_strict.proofs.ReadNumbers.{read_ok, read_token}

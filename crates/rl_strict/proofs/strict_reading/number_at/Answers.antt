@@ -1,8 +1,8 @@
+use Rattle.rl_strict.proofs.Names.{Ok}
 use Rattle.rl_strict.proofs.FileStrings.{number_reads, token_of}
 use Rattle.rl_strict.proofs.FormReads.{number_flaw}
 use Rattle.rl_strict.proofs.ReadNumbers.{read_ok, read_token}
 use Rattle.rl_strict.proofs.strict_reading.number_at.Goals as goal
-use Rattle.std.specs.Prelude.{Ok}
 
 pub returns-in-Ok-clause-reads : goal.returns-in-Ok-clause-reads
 returns-in-Ok-clause-reads c = λ ends. number_reads ends _ c.in-Ok.number _ c.placed.ensures

@@ -1,4 +1,4 @@
-use Rattle.rl_syntax.proofs.Common.{sym}
+use Rattle.rl_strict.proofs.Names.{sym}
 use Rattle.rl_strict.proofs.FileStrings.{token_of, truth_reads}
 use Rattle.rl_strict.proofs.StrictLemmas.{truth_token}
 use Rattle.rl_strict.proofs.strict_reading.other_at.Goals as goal

@@ -1,5 +1,4 @@
-use Rattle.rl_syntax.proofs.Common.{rules, arith, IsUtf8}
-use Rattle.std.specs.Str.{chars}
+use Rattle.rl_strict.proofs.Names.{rules, arith, IsUtf8, chars}
 use Rattle.rl_strict.proofs.EndLemmas.{step_in}
 use Rattle.rl_strict.proofs.FilePlaces.{rest_length}
 use Rattle.rl_strict.proofs.strict_reading.place_flaw.Goals as goal

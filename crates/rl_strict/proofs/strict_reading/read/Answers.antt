@@ -1,11 +1,8 @@
 use Rattle.rl_strict.proofs.FilePlaces.{explained}
 use Rattle.rl_strict.proofs.strict_reading.read.Goals as goal
 
-pub place_flaw-requires-clause-piece : goal.place_flaw-requires-clause-piece
-place_flaw-requires-clause-piece c = c.in-Err.ensures.flaw.piece_in
-
-pub place_flaw-requires-clause-rest : goal.place_flaw-requires-clause-rest
-place_flaw-requires-clause-rest c = c.in-Err.ensures.flaw.rest_in
+pub place_flaw-requires : goal.place_flaw-requires
+place_flaw-requires c = record { piece = c.in-Err.ensures.flaw.piece_in; rest = c.in-Err.ensures.flaw.rest_in }
 
 pub returns-in-Err-clause-flaw : goal.returns-in-Err-clause-flaw
 returns-in-Err-clause-flaw c =

@@ -1,5 +1,4 @@
-use Rattle.rl_syntax.proofs.Common.{true}
-use Rattle.rl_strict.specs.declared.line_ends.LineEnds.TheVariants.{Text}
+use Rattle.rl_strict.proofs.Names.{true, Text}
 use Rattle.rl_strict.proofs.FilePlaces.{explained}
 use Rattle.rl_strict.proofs.FormReads.{flaw_signed}
 use Rattle.rl_strict.proofs.strict_reading.read_other.Goals as goal

@@ -1,7 +1,4 @@
-use Rattle.rl_syntax.proofs.Common.{subst, sym}
-use Rattle.rl_strict.specs.LineEnds.{read_of}
-use Rattle.rl_strict.specs.Readings.{IsFlawOf, IsReadingOf, IsTokenIf}
-use Rattle.std.specs.Str.{chars}
+use Rattle.rl_strict.proofs.Names.{subst, sym, read_of, IsFlawOf, IsReadingOf, IsTokenIf, chars}
 use Rattle.rl_strict.proofs.FileStrings.{reads_signed}
 use Rattle.rl_strict.proofs.FormReads.{flaw_signed, token_signed}
 use Rattle.rl_strict.proofs.strict_reading.signed_at.Goals as goal

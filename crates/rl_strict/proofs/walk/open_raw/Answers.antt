@@ -1,6 +1,4 @@
-use Rattle.rl_syntax.proofs.Common.{◌==◌, ◌∙◌, ap, append_cancel_right, ne_eqb, sym}
-use Rattle.std.specs.Str.{chars}
-use Rattle.rl_syntax.specs.Texts.{first_passes}
+use Rattle.rl_strict.proofs.Names.{◌==◌, ◌∙◌, ap, append_cancel_right, ne_eqb, sym, chars, first_passes}
 use Rattle.rl_strict.proofs.StrictRawLemmas.{raw_unopened}
 use Rattle.rl_strict.proofs.WalkForms.{opened_text, raw_bare, raw_many, raw_short}
 use Rattle.rl_strict.proofs.walk.open_raw.Goals as goal
@@ -25,8 +23,7 @@ returns-then-first-eq34-clause-hashes c =
 
 pub returns-then-first-eq34-clause-opened : goal.returns-then-first-eq34-clause-opened
 returns-then-first-eq34-clause-opened c = opened_text _ _ _ _ _ c.before-then-first-eq34.ensures.chars
-    c.in-Some.ensures.chars
-    c.if-first-eq34.true
+    c.in-Some.ensures.chars c.if-first-eq34.true
 
 pub returns-else-first-eq34-clause-stops : goal.returns-else-first-eq34-clause-stops
 returns-else-first-eq34-clause-stops c =

@@ -1,5 +1,4 @@
-use Rattle.rl_syntax.proofs.Common.{◌∙◌, ap, sym, refl, rules}
-use Rattle.std.specs.Str.{chars}
+use Rattle.rl_strict.proofs.Names.{◌∙◌, sym, refl, rules, chars}
 use Rattle.rl_strict.proofs.StrictRawFlaws.{walk_end, walk_halt, walk_on}
 use Rattle.rl_strict.proofs.EndLemmas.{nil_of, step_in}
 use Rattle.rl_strict.proofs.WalkForms.{halts_of, inside_in, inside_past}

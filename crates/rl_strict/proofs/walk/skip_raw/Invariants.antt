@@ -1,9 +1,4 @@
-use Rattle.rl_syntax.proofs.Common.{◌≡◌, length}
-use denote.Text.{Utf8}
-use denote.Shadow.{shadow}
-use Rattle.std.specs.Str.{chars}
-use Rattle.rl_strict.specs.LineEnds.{IsRestOf, read_of}
-use Rattle.rl_strict.specs.Mirrors.StrictFlawAt.{raw_stop}
+use Rattle.rl_strict.proofs.Names.{◌≡◌, length, Utf8, shadow, chars, IsRestOf, read_of, raw_stop}
 use Rattle.rl_strict.proofs.walk.skip_raw.Given as goal
 
 abbrev pub invariant-loop-c : goal.invariant-loop-c

@@ -1,7 +1,4 @@
-use Rattle.rl_syntax.proofs.Common.{◌∙◌, ap, inl, inr}
-use Rattle.std.specs.Str.{chars}
-use Rattle.rl_strict.specs.Mirrors.UnitFlawAt.{found_flaw}
-use Rattle.rl_lenient.specs.declared.quoted_forms.QuotedForm.TheVariants.{Cooked as CookedForm}
+use Rattle.rl_strict.proofs.Names.{◌∙◌, ap, inl, inr, chars, found_flaw, CookedForm}
 use Rattle.rl_strict.proofs.WalkForms.{cooked_bad, cooked_good, cooked_stuck, good_suffix, plain_not, plain_run, quote_stuck, run_in, run_of, unit_over, units_in, units_of}
 use Rattle.rl_strict.proofs.walk.walk_cooked.Goals as goal
 
@@ -21,9 +18,8 @@ pub returns-in-None-clause-plain : goal.returns-in-None-clause-plain
 returns-in-None-clause-plain c = plain_run _ _ _ _ c.split_plain.ensures.cut c.split_plain.ensures.plain
 
 pub returns-in-None-clause-closes : goal.returns-in-None-clause-closes
-returns-in-None-clause-closes c = cooked_good c.args.ends _ _ _ _ c.requires
-    (run_of c.args.ends _ _ _ _ c.requires c.split_plain.ensures.cut c.split_plain.ensures.plain) c.in-Some.ensures.some
-    c.in-None.ensures.flaw
+returns-in-None-clause-closes c = cooked_good c.args.ends _ _ _ _ c.requires (run_of c.args.ends _ _ _ _ c.requires
+    c.split_plain.ensures.cut c.split_plain.ensures.plain) c.in-Some.ensures.some c.in-None.ensures.flaw
 
 pub returns-in-Some-suffix_flaw-clause-run : goal.returns-in-Some-suffix_flaw-clause-run
 returns-in-Some-suffix_flaw-clause-run c = run_of c.args.ends _ _ _ _ c.requires c.split_plain.ensures.cut

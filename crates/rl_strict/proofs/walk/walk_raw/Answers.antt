@@ -1,6 +1,4 @@
-use Rattle.rl_syntax.proofs.Common.{◌∙◌, ap, inl, inr}
-use Rattle.std.specs.Str.{chars}
-use Rattle.rl_lenient.specs.declared.quoted_forms.QuotedForm.TheVariants.{Raw as RawForm}
+use Rattle.rl_strict.proofs.Names.{◌∙◌, ap, inl, inr, chars, RawForm}
 use Rattle.rl_strict.proofs.WalkForms.{raw_bad, raw_good, raw_held, raw_quote, good_suffix, raw_suffix_in, raw_unclosed, some_front}
 use Rattle.rl_strict.proofs.walk.walk_raw.Goals as goal
 

@@ -1,7 +1,4 @@
-use Rattle.rl_syntax.proofs.Common.{◌∙◌, ap, inl, inr, refl, sym}
-use Rattle.std.specs.Str.{chars}
-use Rattle.rl_strict.specs.Mirrors.UnitFlawAt.{found_flaw}
-use Rattle.rl_strict.specs.declared.line_ends.LineEnds.TheVariants.{Text}
+use Rattle.rl_strict.proofs.Names.{◌∙◌, ap, inl, inr, refl, sym, chars, found_flaw, Text}
 use Rattle.rl_strict.proofs.EndLemmas.{self_in, unit_in}
 use Rattle.rl_strict.proofs.WalkForms.{single_bad, single_good, no_quote_unit, no_unit, single_stuck, single_unclosed, unit_over, unit_quoted, unit_some}
 use Rattle.rl_strict.proofs.walk.walk_single.Goals as goal
@@ -10,10 +7,9 @@ pub returns-in_default-clause-rest : goal.returns-in_default-clause-rest
 returns-in_default-clause-rest c = self_in c.args.ends _
 
 pub returns-in_default-clause-stops : goal.returns-in_default-clause-stops
-returns-in_default-clause-stops c = single_stuck c.args.ends _ _ _ _ _ c.requires (sym c.in_default.ensures.rest)
-    (ap (λ k. found_flaw k (chars c.in_piece.result.rest.now)) c.in_piece.ensures.0
-    ∙ ap (λ z. found_flaw c.unit_flaw.result.kind (chars z)) c.in_piece.ensures.1 ∙ c.unit_flaw.ensures)
-    (ap chars c.in_piece.ensures.2)
+returns-in_default-clause-stops c = single_stuck c.args.ends _ _ _ _ _ c.requires (sym c.in_default.ensures.rest) (ap (λ
+    k. found_flaw k (chars c.in_piece.result.rest.now)) c.in_piece.ensures.0 ∙ ap (λ z. found_flaw
+    c.unit_flaw.result.kind (chars z)) c.in_piece.ensures.1 ∙ c.unit_flaw.ensures) (ap chars c.in_piece.ensures.2)
 
 pub returns-in-None-suffix_flaw-clause-rest : goal.returns-in-None-suffix_flaw-clause-rest
 returns-in-None-suffix_flaw-clause-rest c = unit_in c.args.ends _ _ _ c.requires (sym c.in-Some.ensures.rest)
@@ -39,10 +35,9 @@ returns-in-None-clause-rest c = self_in c.args.ends _
 
 pub returns-in-None-clause-stops : goal.returns-in-None-clause-stops
 returns-in-None-clause-stops c = single_unclosed c.args.ends _ _ _ _ _ _ c.requires (sym c.in-Some.ensures.rest)
-    c.in-None.ensures.none
-    (ap (λ k. found_flaw k (chars c.in_piece-in-None.result.rest.now)) c.in_piece-in-None.ensures.0
-    ∙ ap (λ z. found_flaw c.end_flaw.result.kind (chars z)) c.in_piece-in-None.ensures.1 ∙ c.end_flaw.ensures)
-    (ap chars c.in_piece-in-None.ensures.2)
+    c.in-None.ensures.none (ap (λ k. found_flaw k (chars c.in_piece-in-None.result.rest.now))
+    c.in_piece-in-None.ensures.0 ∙ ap (λ z. found_flaw c.end_flaw.result.kind (chars z)) c.in_piece-in-None.ensures.1 ∙
+    c.end_flaw.ensures) (ap chars c.in_piece-in-None.ensures.2)
 
 pub returns-in_default-clause-good : goal.returns-in_default-clause-good
 returns-in_default-clause-good c = inr (refl, no_unit _ _ (sym c.in_default.ensures.rest))

@@ -1,5 +1,4 @@
-use Rattle.rl_syntax.proofs.Common.{Bor, List, ℕ}
-use Rattle.rl_syntax.proofs.TailLemmas.{some_tail}
+use Rattle.rl_strict.proofs.Names.{Bor, List, ℕ, some_tail}
 use Rattle.rl_strict.proofs.walk_units.after_cr_lf.Goals as goal
 
 pub returns-clause-following : goal.returns-clause-following

@@ -1,5 +1,4 @@
-use Rattle.rl_syntax.proofs.Common.{◌∙◌, ap}
-use Rattle.rl_strict.specs.LineEnds.{drops}
+use Rattle.rl_strict.proofs.Names.{◌∙◌, ap, drops}
 use Rattle.rl_strict.proofs.UnitForms.{line_in, line_of}
 use Rattle.rl_strict.proofs.walk_units.after_line_end.Goals as goal
 

@@ -1,6 +1,6 @@
-use Rattle.rl_syntax.proofs.Common.{arith, rules}
-use Rattle.std.specs.Str.{chars}
-use Rattle.rl_strict.proofs.UnitForms.{blanks_end, blanks_first, blanks_in, blanks_more, blanks_on, blanks_stop}
+use Rattle.rl_strict.proofs.Names.{arith, rules, chars}
+use Rattle.rl_strict.proofs.UnitForms.{blanks_end, blanks_first, blanks_in, blanks_more, blanks_on}
+use Rattle.rl_strict.proofs.FileUnits.{blanks_stop}
 use Rattle.rl_strict.proofs.walk_units.skip_blanks.Goals as goal
 
 pub loop-after-init : goal.loop-after-init

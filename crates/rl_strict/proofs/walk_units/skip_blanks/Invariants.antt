@@ -1,9 +1,4 @@
-use Rattle.rl_syntax.proofs.Common.{◌≡◌, ◌≤◌, false, length}
-use Rattle.rl_lenient.proofs.Names.{after_run, first_passes, is_dropped_blank}
-use denote.Text.{Utf8}
-use denote.Shadow.{shadow}
-use Rattle.std.specs.Str.{chars}
-use Rattle.rl_strict.specs.LineEnds.{IsRestOf, read_of}
+use Rattle.rl_strict.proofs.Names.{◌≡◌, ◌≤◌, false, length, after_run, first_passes, is_dropped_blank, Utf8, shadow, chars, IsRestOf, read_of}
 use Rattle.rl_strict.proofs.walk_units.skip_blanks.Given as goal
 
 abbrev pub invariant-loop-after : goal.invariant-loop-after

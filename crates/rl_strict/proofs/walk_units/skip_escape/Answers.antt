@@ -1,6 +1,4 @@
-use Rattle.rl_syntax.proofs.Common.{◌≡◌, ◌∷◌, ◌∙◌, ap, Bor, drop, List, None, ℕ, ne_eqb, option_map, rules, subst, sym}
-use Rattle.std.specs.Str.{chars}
-use Rattle.rl_strict.specs.LineEnds.{IsRestOf, read_of}
+use Rattle.rl_strict.proofs.Names.{◌≡◌, ◌∷◌, ◌∙◌, ap, Bor, drop, List, None, ℕ, ne_eqb, option_map, rules, subst, sym, chars, IsRestOf, read_of}
 use Rattle.rl_strict.proofs.UnitForms.{after_escape_in, break_in, break_of, past_of, other_in, other_none, other_some, return_of}
 use Rattle.rl_strict.proofs.walk_units.skip_escape.Goals as goal
 
@@ -45,7 +43,6 @@ returns-in_err-blanks-clause-value c =
     (c.in_err-blanks.ensures.none _ _ (ap chars c.range_from-then-first-eq13.ensures.value ∙ text))
 
 pub returns-then-first-eq13-clause-rest : goal.returns-then-first-eq13-clause-rest
-returns-then-first-eq13-clause-rest c = after_escape_in c.args.ends _ _ _
-    (subst (λ z. IsRestOf c.args.ends (chars z) (chars c.in_ok-blanks.blanks.now))
-    c.range_from-then-first-eq13.ensures.value c.in_ok-blanks.ensures.rest)
+returns-then-first-eq13-clause-rest c = after_escape_in c.args.ends _ _ _ (subst (λ z. IsRestOf c.args.ends (chars z)
+    (chars c.in_ok-blanks.blanks.now)) c.range_from-then-first-eq13.ensures.value c.in_ok-blanks.ensures.rest)
     c.skip_blanks-then-first-eq13.ensures.rest

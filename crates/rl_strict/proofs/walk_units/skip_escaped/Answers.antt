@@ -1,7 +1,4 @@
-use Rattle.rl_syntax.proofs.Common.{◌≡◌, ◌==◌, ◌∷◌, ◌∙◌, ap, Bor, drop, IfSome, IsCharBoundary-start, List, None, ℕ, ne_eqb, option_map, rules, subst, sym}
-use Rattle.std.specs.Str.{chars}
-use Rattle.rl_lenient.proofs.Names.{first_passes}
-use Rattle.rl_strict.specs.LineEnds.{IsRestOf, read_of}
+use Rattle.rl_strict.proofs.Names.{◌≡◌, ◌==◌, ◌∷◌, ◌∙◌, ap, Bor, drop, IfSome, IsCharBoundary-start, List, None, ℕ, ne_eqb, option_map, rules, subst, sym, chars, first_passes, IsRestOf, read_of}
 use Rattle.rl_strict.proofs.UnitForms.{backslash_of, feed_of, no_escaped, past_escaped}
 use Rattle.rl_strict.proofs.walk_units.skip_escaped.Goals as goal
 
@@ -15,9 +12,8 @@ returns-in_err-first-clause-value c =
     ∙ past_escaped c.args.ends c.args.kind _ c.requires.escaped c.in_err-first.ensures.none
 
 pub returns-then-first-eq92-clause-value : goal.returns-then-first-eq92-clause-value
-returns-then-first-eq92-clause-value c = backslash_of c.args.ends c.args.kind _ _ _
-    (c.in_ok-first.ensures.some ∙ ap (λ z. z ∷ chars (drop c.in_ok-first.at c.args.text.now)) c.if-first-eq92.true)
-    c.skip_escape.ensures.value
+returns-then-first-eq92-clause-value c = backslash_of c.args.ends c.args.kind _ _ _ (c.in_ok-first.ensures.some ∙ ap (λ
+    z. z ∷ chars (drop c.in_ok-first.at c.args.text.now)) c.if-first-eq92.true) c.skip_escape.ensures.value
 
 pub returns-then-first-eq92-clause-rest : goal.returns-then-first-eq92-clause-rest
 returns-then-first-eq92-clause-rest c =
@@ -30,6 +26,5 @@ pub returns-in-Some-clause-value : goal.returns-in-Some-clause-value
 returns-in-Some-clause-value c = feed_of c.args.ends c.args.kind _ _ c.requires.string c.in-Some.ensures.read
 
 pub returns-in-None-clause-value : goal.returns-in-None-clause-value
-returns-in-None-clause-value c = no_escaped c.args.ends c.args.kind _ c.requires.escaped
-    (ap (first_passes (λ z. z == 92)) c.in_ok-first.ensures.some ∙ ne_eqb _ 92 c.if-first-eq92.false)
-    c.in-None.ensures.none
+returns-in-None-clause-value c = no_escaped c.args.ends c.args.kind _ c.requires.escaped (ap (first_passes (λ z. z ==
+    92)) c.in_ok-first.ensures.some ∙ ne_eqb _ 92 c.if-first-eq92.false) c.in-None.ensures.none

@@ -1,4 +1,4 @@
-use Rattle.rl_syntax.proofs.Common.{rules}
+use Rattle.rl_strict.proofs.Names.{rules}
 use Rattle.rl_strict.proofs.EndLemmas.{step_in}
 use Rattle.rl_strict.proofs.FileUnits.{units_more}
 use Rattle.rl_strict.proofs.walk_units.skip_units_of.Goals as goal

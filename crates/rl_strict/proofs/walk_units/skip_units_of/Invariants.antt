@@ -1,11 +1,5 @@
-use Rattle.rl_syntax.proofs.Common.{◌≡◌, false, length}
-use denote.Text.{Utf8}
-use denote.Shadow.{shadow}
-use Rattle.std.specs.Str.{chars}
-use Rattle.rl_lenient.specs.StrictUnits.{BeginsStrictUnits}
+use Rattle.rl_strict.proofs.Names.{◌≡◌, false, length, Utf8, shadow, chars, BeginsStrictUnits, first_passes, IsRestOf, read_of}
 use Rattle.rl_strict.proofs.StrictRowLemmas.{is_bare}
-use Rattle.rl_syntax.specs.Texts.{first_passes}
-use Rattle.rl_strict.specs.LineEnds.{IsRestOf, read_of}
 use Rattle.rl_strict.proofs.walk_units.skip_units_of.Given as goal
 
 abbrev pub invariant-loop-after : goal.invariant-loop-after

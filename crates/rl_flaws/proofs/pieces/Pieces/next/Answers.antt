@@ -1,4 +1,4 @@
-use Rattle.rl_syntax.proofs.Common.{refl}
+use Rattle.rl_flaws.proofs.Names.{refl}
 use Rattle.rl_lenient.proofs.SegmentLemmas.{takes_segment}
 use Rattle.rl_flaws.proofs.PieceLemmas.{pieces_left}
 use Rattle.rl_flaws.proofs.pieces.Pieces.next.Goals as goal

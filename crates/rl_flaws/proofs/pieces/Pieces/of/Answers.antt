@@ -1,9 +1,5 @@
-use Rattle.rl_syntax.proofs.Common.{Bool, length, refl, rules, subst, sym, IsUtf8}
-use Rattle.rl_strict.specs.declared.line_ends.LineEnds.TheVariants.{Text}
-use Rattle.rl_flaws.specs.Left.{state_of}
+use Rattle.rl_flaws.proofs.Names.{Bool, length, refl, rules, subst, sym, IsUtf8, Text, state_of, segments_at, Inside}
 use Rattle.rl_flaws.specs.Pieces.{IsGoodInside}
-use Rattle.rl_flaws.specs.PiecesLeft.{segments_at}
-use Rattle.rl_flaws.specs.declared.flaws.Left.TheVariants.{Inside}
 use Rattle.rl_flaws.proofs.WalkLemmas.{opened_bytes}
 use Rattle.rl_flaws.proofs.WholeLemmas.{opened_flaws}
 use Rattle.rl_flaws.proofs.pieces.Pieces.of.Goals as goal
