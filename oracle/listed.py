@@ -4,6 +4,7 @@ import re
 import unicodedata
 
 from hidden import hiding
+from model.sources import after_trivia
 
 LIMIT = 2**128 - 1
 BYTE_KINDS, PAST = 'byte kinds past ASCII, or with a lone quote, TAB, LF or CR', 'integers above 128 bits'
@@ -133,23 +134,6 @@ def continues_only(c):
     return not c.isascii() and ('a' + c).isidentifier() and not c.isidentifier()
 
 
-def after_gap(text):
-    """Returns the text after white space and comments, which may be nested."""
-    while text:
-        if comment := re.match(r'//[^\n]*|[\s\u200e\u200f]', text):
-            text = text[comment.end():]
-        elif text.startswith('/*'):
-            depth = 0
-            for mark in re.finditer(r'/\*|\*/', text):
-                depth += 1 if mark[0] == '/*' else -1
-                if depth == 0:
-                    break
-            text = text[mark.end():]
-        else:
-            return text
-    return text
-
-
 # ---- read
 
 def first_of(table, text):
@@ -223,7 +207,7 @@ def is_named(data, our):
     """Whether our program rejects a text that rustc accepts at first: a minus before an integer above 128 bits, or a symbol."""
     told = re.fullmatch(r'error at ([0-9]+)\.\.[0-9]+: (.*)', our)
     rest = data[int(told[1]):].decode() if told else ''
-    if told and told[2] == 'expected literal' and rest.startswith('-') and is_past(after_gap(rest[1:])):
+    if told and told[2] == 'expected literal' and rest.startswith('-') and is_past(rest[after_trivia(rest, 1):]):
         return PAST
     is_symbol = told and told[2] == 'stray character' and unicodedata.category(rest[0]) == 'So'
     return 'symbols that rustc rejects after its lexer' if is_symbol else None

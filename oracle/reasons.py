@@ -18,7 +18,7 @@ import listed
 import rustc
 import texts as families
 from model import flaws
-from model.sources import cut_source
+from model.sources import after_trivia, cut_source
 from rustc import CUT, EARLIER, kinds, short
 
 # The commands, and the model's function that returns the line for each.
@@ -67,6 +67,11 @@ def rustc_errors(texts):
     return [[it for it in errors if it[0] <= len(text.encode())] for text, errors in zip(texts, found)]
 
 
+def is_gap(text):
+    """Whether the text is white space and comments."""
+    return after_trivia(text, 0) == len(text)
+
+
 def cut_before(text, flaw):
     """Returns the end of rustc's first token, if this token is all the text before the flaw, or all except its dot. Otherwise
     returns None."""
@@ -75,7 +80,7 @@ def cut_before(text, flaw):
     data = text.encode()
     rest = data[flaw.low:].decode()
     # Before white space `1.` is a token, and before an identifier `1` is.
-    is_dot_apart = flaw.kind == 'NoFractionDigit' and listed.after_gap(rest) == rest
+    is_dot_apart = flaw.kind == 'NoFractionDigit' and after_trivia(rest, 0) == 0
     end = flaw.low - is_dot_apart
     return end if flaws.line(data[:end].decode()) == b'None' else None
 
@@ -108,7 +113,7 @@ def rustc_reason(text, flaw, error):
     end_of_first = cut_before(text, flaw)
     if end_of_first is not None and error and begin >= end_of_first:
         return 'comes later: one token is whole, and others follow'
-    if end_of_first is not None and not error and not listed.after_gap(text.encode()[end_of_first:].decode()):
+    if end_of_first is not None and not error and is_gap(text.encode()[end_of_first:].decode()):
         return 'none: white space and comments follow one token'
     if end_of_first is not None and not error and re.search(r'[(){}\[\]]', text):
         return 'stands elsewhere: one token is whole, and a delimiter without another follows'

@@ -1,12 +1,8 @@
-#!/usr/bin/env python3
-"""Finds the programs that comparisons run: those that Cargo builds of rust/programs, or the proved ones.
+"""Finds the programs that comparisons run: those that Cargo builds of rust/programs, or the proved ones, crates/NAME/out/NAME.
 
-  tools/programs.py NAME [--proved]   prints the path of NAME: rl_tool, rl_scan or rl_rows
-
-Without --proved, Cargo first builds the whole workspace. From nothing that takes a minute, and a line on standard error reports it.
-With --proved the program is crates/NAME/out/NAME. The status is 2 if the program can't be found or built.
+Cargo first builds the whole workspace. From nothing that takes a minute, and a line on standard error reports it. The status is 2 if
+a program can't be found or built.
 """
-import argparse
 import functools
 import os
 import shutil
@@ -16,7 +12,6 @@ import sys
 TOP = os.path.dirname(os.path.dirname(os.path.abspath(__file__)))
 FOLDER = os.path.join(TOP, 'rust/programs')
 BY_BUILD = ('rl_tool', 'rl_scan')
-NAMES = (*BY_BUILD, 'rl_rows')
 HELP = "run the proved programs, crates/NAME/out/NAME, in place of those that Cargo builds"
 
 
@@ -63,15 +58,3 @@ def chosen(name, given=None, is_proved=False):
     if given:
         return runnable(given)
     return proved(name) if is_proved else cargos(name)
-
-
-def main():
-    parser = argparse.ArgumentParser(description=__doc__, formatter_class=argparse.RawDescriptionHelpFormatter)
-    parser.add_argument('name', choices=NAMES)
-    parser.add_argument('--proved', action='store_true', help=HELP)
-    options = parser.parse_args()
-    print(chosen(options.name, is_proved=options.proved))
-
-
-if __name__ == '__main__':
-    main()
