@@ -1,0 +1,130 @@
+//! Tests of single calls, with results that were written by hand.
+
+use navyspindle::{
+    parse_list, source, write_integer, write_raw_str, Base, IntegerStyle, Kind, LineColumn,
+    LineIndex, Lit, LitFloat, LitInt, LitStr, SyntaxErrorKind,
+};
+
+#[test]
+fn a_list_ends_after_its_first_error() {
+    let mut list = parse_list("1 word 2");
+    let (range, literal) = list.next().unwrap().unwrap();
+    assert_eq!((range, literal.text()), (0..1, "1"));
+    let error = list.next().unwrap().unwrap_err();
+    assert_eq!(error.kind(), SyntaxErrorKind::NotALiteral);
+    assert_eq!(error.range(), 2..6);
+    assert_eq!(error.shifted(100).range(), 102..106);
+    assert!(list.next().is_none());
+    assert!(list.next().is_none());
+}
+
+#[test]
+fn a_source_ends_after_its_first_error() {
+    let mut literals = source("1; \"open\n2");
+    assert_eq!(literals.next().unwrap().unwrap().0, 0..1);
+    let error = literals.next().unwrap().unwrap_err();
+    assert_eq!(error.range(), 3..10);
+    assert!(literals.next().is_none());
+    assert!(literals.next().is_none());
+}
+
+#[test]
+fn iterators_print_the_rest_of_their_text() {
+    let mut list = parse_list("1'a'");
+    list.next();
+    assert_eq!(format!("{list:?}"), r#"Literals("'a'")"#);
+    let mut literals = source("f(1, 2)");
+    literals.next();
+    assert_eq!(format!("{literals:?}"), r#"Source(", 2)")"#);
+    let mut literals = source("f(1, 2)").recover();
+    literals.next();
+    assert_eq!(format!("{literals:?}"), r#"Recover(", 2)")"#);
+}
+
+#[test]
+fn a_minus_belongs_to_a_signed_prefix_alone() {
+    assert!(Lit::parse_prefix("-1.5, 2").is_none());
+    let (literal, rest) = Lit::parse_prefix_signed("-1.5, 2").unwrap();
+    assert_eq!((literal.text(), rest), ("-1.5", ", 2"));
+    let (literal, rest) = Lit::parse_prefix_signed("1.5, 2").unwrap();
+    assert_eq!((literal.text(), rest), ("1.5", ", 2"));
+}
+
+#[test]
+fn literals_of_one_kind_are_ordered_by_text() {
+    let of = |text| LitStr::parse(text).unwrap();
+    assert!(of(r#""aa""#) < of(r#""b""#));
+    assert!(of(r#""aaa""#) < of(r#""aab""#));
+    let of = |text| LitInt::parse(text).unwrap();
+    assert!(of("10") < of("9"));
+}
+
+#[test]
+fn parts_of_literals() {
+    let of = |text| Lit::parse(text).unwrap();
+    assert_eq!(of(r#"c"a""#).hashes(), None);
+    assert!(!of(r#"c"a""#).is_raw());
+    assert_eq!(of(r###"cr##"a"##"###).hashes(), Some(2));
+    assert_eq!(of("b'a'_s").body_range(), Some(2..3));
+    assert_eq!(of("b'a'_s").body(), Some("a"));
+    assert_eq!(of("true").suffix_range(), Some(4..4));
+    let literal = LitInt::parse("-0xF_F_u8").unwrap();
+    assert_eq!((literal.digits_range(), literal.digits()), (3..7, "F_F_"));
+    let literal = LitFloat::parse("1.5e+3").unwrap();
+    assert_eq!(literal.base10_digits(), "1.5e3");
+}
+
+#[test]
+fn the_piece_of_an_error_moves_with_its_range() {
+    let error = Lit::parse(r#""a\q""#).unwrap_err();
+    assert_eq!((error.piece(), error.range()), (2..4, 3..4));
+    let error = error.shifted(10);
+    assert_eq!((error.piece(), error.range()), (12..14, 13..14));
+}
+
+#[test]
+fn numbers_are_written_with_their_types() {
+    assert_eq!(LitInt::suffixed(10_u8).text(), "10u8");
+    assert_eq!(LitInt::suffixed(-1_i64).text(), "-1i64");
+    assert_eq!(LitInt::unsuffixed(10_u8).text(), "10");
+    assert_eq!(LitFloat::suffixed(0.5_f32).unwrap().text(), "0.5f32");
+    assert_eq!(LitFloat::suffixed(1.0_f64).unwrap().text(), "1.0f64");
+    assert_eq!(LitFloat::unsuffixed(1.0_f32).unwrap().text(), "1.0");
+}
+
+#[test]
+fn the_longest_integers_are_written() {
+    let style = IntegerStyle::new()
+        .base(Base::Binary)
+        .group(1)
+        .suffixed(true);
+    let ones = format!("0b1{}u128", "_1".repeat(127));
+    assert_eq!(write_integer(u128::MAX, style), ones);
+    let least = format!("-0b1{}i128", "_0".repeat(127));
+    assert_eq!(write_integer(i128::MIN, style), least);
+}
+
+#[test]
+fn a_long_raw_string_has_many_hashes() {
+    let value = format!("{}\"{}", "a".repeat(300), "#".repeat(100));
+    let hashes = "#".repeat(101);
+    let expected = format!("r{hashes}\"{value}\"{hashes}");
+    assert_eq!(write_raw_str(&value), Some(expected));
+}
+
+#[test]
+fn columns_in_bytes_are_those_of_whole_characters() {
+    let index = LineIndex::new("a\né");
+    let byte = |line, column| index.byte_of_bytes(LineColumn { line, column });
+    assert_eq!(byte(2, 1), Some(2));
+    assert_eq!(byte(2, 2), None);
+    assert_eq!(byte(2, 3), Some(4));
+    assert_eq!(LineColumn { line: 2, column: 5 }.to_string(), "2:5");
+}
+
+#[test]
+fn kinds_have_names() {
+    assert_eq!(Kind::Str.to_string(), "string literal");
+    assert_eq!(Kind::CStr.to_string(), "C string literal");
+    assert_eq!(Kind::Byte.to_string(), "byte literal");
+}
