@@ -6,7 +6,8 @@ use crate::rl_lenient::{find, is_plain_integer, Body, Found};
 #[cfg(any(feature = "sources", feature = "settings"))]
 use crate::rl_strict::explain_value;
 use crate::rl_strict::strict_reading::{
-    front_of, read, read_character, read_digits, read_other, read_string, Front, Reading,
+    front_of, read, read_character, read_non_digit_start, read_string, read_unsigned_number, Front,
+    Reading,
 };
 use crate::rl_strict::{is_float_by_suffix, limit_flaw, LineEnds};
 use crate::rl_syntax;
@@ -168,11 +169,11 @@ impl<'t> Lit<'t> {
                 }
                 Err(flaw) => Err(ParseError::of_flaw(flaw)),
             },
-            Front::Digit => match read_digits(text) {
+            Front::Digit => match read_unsigned_number(text) {
                 Ok(reading) => Lit::read(borrowed, reading),
                 Err(flaw) => Err(ParseError::of_flaw(flaw)),
             },
-            Front::Other => match read_other(text) {
+            Front::Other => match read_non_digit_start(text) {
                 Ok(reading) => Lit::read(borrowed, reading),
                 Err(flaw) => Err(ParseError::of_flaw(flaw)),
             },

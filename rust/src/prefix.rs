@@ -2,7 +2,7 @@
 
 use crate::lit::Lit;
 use crate::rl_lexer::{first_source_token, whitespace};
-use crate::rl_recovery::{leading_literal, leading_signed, LeadingLiteral};
+use crate::rl_recovery::{leading_literal, leading_signed_literal, LeadingLiteral};
 use alloc::borrow::Cow;
 
 /// Returns the literal, and the text after it.
@@ -84,7 +84,7 @@ impl<'t> Lit<'t> {
     /// ```
     #[must_use]
     pub fn parse_prefix_signed(text: &'t str) -> Option<(Lit<'t>, &'t str)> {
-        leading_signed(text).map(split)
+        leading_signed_literal(text).map(split)
     }
 }
 

@@ -207,9 +207,9 @@ are_named settings es h =
     All-map (λ a. IsOneOf (setting_names settings) a.name.text) attribute_of es
     (λ k d lt. knows_one settings (string_bytes (get_or es k d).name) (h k d lt))
 
-pub need_no_escapes : {A : Type 0} (es : List (Entry A)) → AreReadValues es → All (λ e. HasLitSuffix e.value []) es
+pub have_no_suffix : {A : Type 0} (es : List (Entry A)) → AreReadValues es → All (λ e. HasLitSuffix e.value []) es
     → HaveBareTexts (attributes_of es)
-need_no_escapes es rd h =
+have_no_suffix es rd h =
     All-map (λ a. HasBareText a.literal) attribute_of es
     (λ k d lt kind v x r. sym (suffix_is (get_or es k d).value (rd k d lt) kind v x [] r (h k d lt)))
 

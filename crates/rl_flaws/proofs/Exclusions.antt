@@ -1,5 +1,5 @@
 -- A literal for which `type_error` returns an error has no type in Rust.
-use Rattle.rl_syntax.proofs.Common.{◌≡◌, ◌≢◌, ◌⊎◌, ◌+◌, ◌*◌, ◌<◌, ◌==◌, ℕ, Bool, true, false, List, [], ◌∷◌, Option, Some, None, refl, sym, ap, ◌∙◌, inl, inr, arith, both_ways, subst, if◌then◌else◌}
+use Rattle.rl_syntax.proofs.Common.{◌≡◌, ◌≢◌, ◌⊎◌, ◌+◌, ◌*◌, ◌==◌, ℕ, Bool, true, false, List, [], ◌∷◌, Option, Some, None, refl, sym, ap, ◌∙◌, inl, inr, arith, both_ways, subst, if◌then◌else◌}
 use Rattle.rl_syntax.specs.Texts.{first_passes}
 use Rattle.rl_lenient.proofs.Names.{Kind, Int, Float}
 use Rattle.rl_syntax.specs.declared.kind.Kind.TheVariants.{Bool as BoolKind}

@@ -1,12 +1,10 @@
 -- A comparison of decimal numbers, digit by digit from the first digit on.
-use Rattle.rl_syntax.proofs.Common.{◌≡◌, ◌⊎◌, ℕ, zero, suc, ◌+◌, ◌*◌, ◌^◌, ◌<◌, ◌≤◌, ◌-◌, ◌≢◌, Bool, true, false, not, ◌==◌, nat_lt, cond, List, [], ◌∷◌, ◌++◌, length, replicate, refl, sym, ap, ◌∙◌, inl, inr, arith, rules, nat_tests, and_from, and_parts, cases_Bool, eqb-true, both_ways, length-append, digit_value, is_ascii_digit, list_all, list_all-append, subst, chars, chars-IsAscii, IsUtf8, AllByRecursion, encode_utf8_all, encodes-chars, encodes-append, append-nil, append_assoc}
+use Rattle.rl_syntax.proofs.Common.{◌≡◌, ◌⊎◌, ℕ, zero, suc, ◌+◌, ◌*◌, ◌^◌, ◌<◌, ◌≤◌, ◌-◌, ◌≢◌, Bool, true, false, not, ◌==◌, nat_lt, cond, List, [], ◌∷◌, ◌++◌, length, replicate, refl, sym, ap, ◌∙◌, inl, inr, arith, nat_tests, and_from, and_parts, eqb-true, both_ways, length-append, digit_value, is_ascii_digit, list_all, list_all-append, subst, chars, chars-IsAscii, IsUtf8, AllByRecursion, encode_utf8_all, encodes-chars, encodes-append, append-nil, append_assoc}
 use Rattle.std.proofs.lemmas.Str.{digit_value_digit}
 use Rattle.std.proofs.ByRecursion.{IsAscii-from_all}
 use Rattle.rl_syntax.specs.Texts.{IsTail}
 use Rattle.rl_lenient.proofs.Names.{is_exponent_letter, pow-suc, place_value}
 use native.Mathlib.Numerals.{unary_clauses}
-use Rattle.std.specs.Prelude.{filter}
-use Rattle.rl_syntax.specs.Classes.{after_run}
 use Rattle.rl_flaws.specs.FloatRange.{IsAtLeast, after_point, power_part, decimal_part, digits_only, exponent, has_minus, lowered, raised, significand}
 use Rattle.rl_flaws.specs.Mirrors.Floats.{IsBound, not_below, without_zeros}
 

@@ -1,6 +1,6 @@
 -- The literals for which Rust has no type. `text` is the literal as written, a list of characters. `suffix` is its suffix, in
 -- bytes. `magnitude` is the integer that its digits represent. `negated` is true if a minus may precede the literal.
-use Rattle.std.specs.Prelude.{◌≡◌, ◌≢◌, ◌⊎◌, ℕ, ◌==◌, ◌<◌, ◌≤◌, Bool, List, [], Some, None, IsFalse, IsTrue}
+use Rattle.std.specs.Prelude.{◌≡◌, ◌≢◌, ◌⊎◌, ℕ, ◌==◌, ◌<◌, ◌≤◌, Bool, List, [], Some, None, IsTrue}
 use Prim.Native.Char.{code}
 use Rattle.rl_syntax.specs.Texts.{first_passes}
 use Rattle.rl_syntax.specs.declared.kind.Kind.{Kind}

@@ -125,7 +125,7 @@ fn is_after_hashes(bytes: &[u8], front: &[u8]) -> bool
 /// From 2021 on, an identifier directly before a quote is reserved, with or without hashes between them: `f"x"`, `c'a'` and
 /// `f#"x"#`. From 2024 on, hashes alone are too: `#"x"#`. The result is also `None` if the text before may be part of a number,
 /// of another literal, of a lifetime or of a raw identifier.
-pub fn reserved_from(before: &str, literal: &str) -> Option<Edition>
+pub fn first_reserving_edition(before: &str, literal: &str) -> Option<Edition>
     ensures { result ≡ reserving before.now literal.now }
 {
     let front = trimmed(before.as_bytes(), Part::Hash);
@@ -153,7 +153,7 @@ impl Edition {
     pub fn reserves(self, before: &str, literal: &str) -> bool
         ensures { result ≡ reserved self before.now literal.now }
     {
-        match reserved_from(before, literal) {
+        match first_reserving_edition(before, literal) {
             Some(from) => from.year() <= self.year(),
             None => false,
         }

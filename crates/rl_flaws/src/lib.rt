@@ -16,7 +16,7 @@ pub mod pieces;
 mod type_errors;
 mod walks;
 
-pub use crate::before::{Edition, may_be_negated, reserved_from};
+pub use crate::before::{Edition, first_reserving_edition, may_be_negated};
 pub use crate::flaws::Flaws;
 pub use crate::invalid_piece::InvalidPiece;
 pub use crate::kind_guess::guess_kind;

@@ -17,7 +17,9 @@ ghost use Rattle.rl_flaws.specs.Opened.{IsOpened, opened_front};
 
 use rl_lenient::quoted_forms::{QuotedForm, split_opener};
 use rl_strict::LineEnds;
-use rl_strict::walk::{QuotedContent, open_raw, walk_cooked, walk_raw, walk_single};
+use rl_strict::walk::{
+    QuotedContent, open_raw, parse_cooked_content, parse_raw_content, parse_single_unit,
+};
 use rl_syntax::Kind;
 
 /// The opening delimiter of a quoted literal: the literal's form and kind, and a raw string's hashes.
@@ -60,7 +62,7 @@ fn walk_unit(ends: LineEnds, kind: Kind, text: &str) -> QuotedContent<'_>
     ensures stops { IfErr result.end (λ f. StopsAsRead ends SingleForm kind f.kind (read_of ends (chars text.now))
         (chars text.now) (chars f.piece.now) (chars f.rest.now)) }
 {
-    let stretch = walk_single(ends, kind, text);
+    let stretch = parse_single_unit(ends, kind, text);
     let closing = stretch.closing;
     let plain = false;
     match stretch.end {
@@ -93,8 +95,8 @@ pub fn walk<'t>(ends: LineEnds, opened: Opened<'t>, text: &'t str) -> QuotedCont
         (read_of ends (chars f.piece.now)) (read_of ends (chars f.rest.now))) }
 {
     match opened.form {
-        QuotedForm::Cooked => walk_cooked(ends, opened.kind, text),
+        QuotedForm::Cooked => parse_cooked_content(ends, opened.kind, text),
         QuotedForm::Single => walk_unit(ends, opened.kind, text),
-        QuotedForm::Raw => walk_raw(ends, opened.kind, opened.hashes, text),
+        QuotedForm::Raw => parse_raw_content(ends, opened.kind, opened.hashes, text),
     }
 }

@@ -12,7 +12,7 @@ use Rattle.rl_lexer.specs.Mirrors.LexemeAt.{StrayHead, LetterBHead, LetterCHead,
 use Rattle.rl_lexer.specs.Mirrors.SourceAt.{after_bad_quote, any_at, of_kind, opens, or_stray, other_at}
 use Rattle.rl_syntax.specs.Mirrors.RunsAt.{is_word_byte}
 use Rattle.rl_lexer.specs.Mirrors.LiteralsAt.{HasOnlyOtherTokens, Reaches, past_word}
-use Rattle.rl_syntax.specs.Mirrors.UnlikelyAt.{is_likely_mark, is_likely_head, goes_on_likely, may_begin, begins_none, first_or, unlikely_after, unlikely_len, last_of, byte_before}
+use Rattle.rl_syntax.specs.Mirrors.UnlikelyAt.{is_likely_mark, is_likely_head, goes_on_likely, may_begin, begins_none, first_or, unlikely_after, skippable_len, last_of, byte_before}
 use Rattle.rl_syntax.proofs.AsciiRuns.{held_agrees}
 use Rattle.rl_lexer.proofs.LexemeAnswers.{form_before, no_lexeme}
 use Rattle.rl_lexer.proofs.LexemeFronts.{at_class, class_start, class98, class99, class114, stray_class, start_ascii}
@@ -418,7 +418,7 @@ get_taken (suc n) [] m h = refl
 get_taken (suc n) (b ∷ bs) zero h = refl
 get_taken (suc n) (b ∷ bs) (suc m) h = get_taken n bs m (omega arith)
 
-pub unlikely-within : (bs : List ℕ) → unlikely_len bs ≤ length bs
+pub unlikely-within : (bs : List ℕ) → skippable_len bs ≤ length bs
 unlikely-within bs = go 0 bs
   where
     go : (p : ℕ) (bs : List ℕ) → unlikely_after p bs ≤ length bs
@@ -429,7 +429,7 @@ unlikely-within bs = go 0 bs
         step true h = omega arith
         step false h = omega arith
 
-pub unlikely-boundary : (bs : List ℕ) (n : ℕ) → IsUtf8 bs → n ≤ unlikely_len bs → IsCharBoundary bs n
+pub unlikely-boundary : (bs : List ℕ) (n : ℕ) → IsUtf8 bs → n ≤ skippable_len bs → IsCharBoundary bs n
 unlikely-boundary bs zero u e = IsCharBoundary-start bs u
 unlikely-boundary bs (suc m) u e =
     let long = unlikely-within bs in
@@ -442,7 +442,7 @@ unlikely-boundary bs (suc m) u e =
 
 -- Between the text's start and the text after the skipped bytes, and after the identifier that continues there, there
 -- are only tokens that aren't literals.
-pub unlikely-reaches : (bs rest : List ℕ) (n : ℕ) (r : List ℕ) → IsUtf8 bs → IsUtf8 rest → n ≤ unlikely_len bs
+pub unlikely-reaches : (bs rest : List ℕ) (n : ℕ) (r : List ℕ) → IsUtf8 bs → IsUtf8 rest → n ≤ skippable_len bs
     → rest ≡ drop n bs → Reaches (past_word (byte_before bs n) (chars rest)) r → Reaches (chars bs) r
 unlikely-reaches bs rest n r u v e cut reaches =
     let front = take n bs in
@@ -459,7 +459,7 @@ unlikely-reaches bs rest n r u v e cut reaches =
 
 -- The lemma `unlikely-reaches` in the form in which the contract states it. `before` is the byte before the text after the
 -- skipped bytes.
-pub unlikely-holds : (bs rest past next : List ℕ) (n before : ℕ) → IsUtf8 bs → IsUtf8 rest → n ≤ unlikely_len bs
+pub unlikely-holds : (bs rest past next : List ℕ) (n before : ℕ) → IsUtf8 bs → IsUtf8 rest → n ≤ skippable_len bs
     → rest ≡ drop n bs → before ≡ byte_before bs n → past ≡ past_word before (chars rest) → Reaches past next
     → HasOnlyOtherTokens (chars bs) next
 unlikely-holds bs rest past next n before u v e cut is word more =

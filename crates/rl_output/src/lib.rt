@@ -29,4 +29,4 @@ pub use crate::last_lines::count_line_feeds;
 pub use crate::line_column::{Extent, Places, Position};
 pub use crate::member::{push_ascii, push_member};
 pub use crate::path::without_dot;
-pub use crate::place::{LineColumn, Place, push_front};
+pub use crate::place::{LineColumn, Place, push_line_start};

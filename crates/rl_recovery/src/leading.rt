@@ -85,7 +85,7 @@ fn leading_negative(text: &str) -> Option<LeadingLiteral<'_>>
 
 /// Returns the literal at the start of the text, as [`leading_literal`] does, or a minus and the number directly after it if
 /// they parse as one negative number.
-pub fn leading_signed(text: &str) -> Option<LeadingLiteral<'_>>
+pub fn leading_signed_literal(text: &str) -> Option<LeadingLiteral<'_>>
     ensures leads { IfSome result (λ l. LeadsSigned text.now l) }
     ensures none { IfNone result (LeadsNoneSigned text.now) }
 {

@@ -27,5 +27,5 @@ mod openers;
 mod recovery;
 mod unclosed;
 
-pub use crate::leading::{LeadingLiteral, leading_literal, leading_signed};
+pub use crate::leading::{LeadingLiteral, leading_literal, leading_signed_literal};
 pub use crate::recovery::{Recovery, recovery_step};

@@ -5,7 +5,7 @@ ghost use Rattle.std.specs.Str.{chars};
 ghost use Rattle.rl_scan.specs.Changes.{change_line};
 
 use rl_files::push_visible;
-use rl_output::{Form, Level, Place, push_ascii, push_front};
+use rl_output::{Form, Level, Place, push_ascii, push_line_start};
 use std::alloc::{AllocError, Allocator};
 
 /// Appends the output line for a literal that is rewritten: its position, its old text, `->` and its new text.
@@ -26,7 +26,7 @@ pub fn push_change<A: Allocator>(
     ensures { OnOk result (chars (string_bytes out.new) ≡ chars (string_bytes out.old)
         ++ change_line form path.entry place.now (chars old.now) (chars new.now)) }
 {
-    push_front(out, Level::Error, form, path, place)?;
+    push_line_start(out, Level::Error, form, path, place)?;
     push_visible(out, old)?;
     push_ascii(out, " -> ")?;
     push_visible(out, new)?;

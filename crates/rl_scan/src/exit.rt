@@ -11,7 +11,8 @@ use crate::runs::{RunStop, Tally, run};
 use rl_files::{PathError, Replace, Selection, Tree, Walk, WalkError};
 use rl_options::{
     Action, ArgumentError, Command, Console, HELP, LineError, ParsedArguments, Restyling,
-    RulesError, VERSION, lists_files, parse_arguments, push_all_listed, rules_in, visible_text,
+    RulesError, VERSION, lists_files, parse_arguments, push_all_listed, read_rules_file,
+    visible_text,
 };
 use rl_program::{Ending, RunError, WriteError, write_bytes};
 use rl_restyle::default_style;
@@ -440,7 +441,7 @@ fn scan_styled<A: Allocator + Copy, T: Tree, W: Write, E: Write, F: Replace>(
             files,
         );
     };
-    match rules_in(alloc, tree, file) {
+    match read_rules_file(alloc, tree, file) {
         Ok(rules) => scan_requested(alloc, asked, rules, is_terminal, tree, out, err, files),
         Err(error) => rules_error(alloc, file, error),
     }

@@ -11,7 +11,7 @@ ghost use Rattle.rl_scan.specs.Restyling.{AreChangeBytes, IsChanged, IsChecked, 
 use crate::report::{
     Report, edition_for, is_by_line, is_input, path_before, path_in, report_error, written,
 };
-use crate::{Outcome, check_options, push_changes, push_diff, rewrite_outcome};
+use crate::{Outcome, push_changes, push_diff, rewrite_outcome, source_check_options};
 use rl_files::{Replace, push_visible};
 use rl_options::{Command, Output, Restyling, visible_text};
 use rl_restyle::{Macros, Restyled};
@@ -281,7 +281,7 @@ pub(crate) fn report_restyled<A: Allocator + Copy, F: Replace>(
     let shown = visible_text(alloc, path)?;
     let before = path_before(path, shown.as_str());
     let named = path_in(command.nul_after_paths, path, before);
-    let options = check_options(
+    let options = source_check_options(
         edition_for(command),
         is_by_line(command.places, path),
         before,

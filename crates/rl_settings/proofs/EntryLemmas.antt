@@ -215,8 +215,8 @@ name_same old new name takes =
     parts_same takes.first.hi name.hi begins.following new takes.parts begins.are_parts ∙ begins.named.0.same
 
 -- A property of an optional result: it holds for the result if there is one.
-pub groups_if_any : {A : Type 0} (P : A → Type 0) (o : Option A) (x : A) → o ≡ Some x → IfSome o P → P x
-groups_if_any {A = A} P o x e p = subst (λ (z : Option A). IfSome z P) e p
+pub holds_of_some : {A : Type 0} (P : A → Type 0) (o : Option A) (x : A) → o ≡ Some x → IfSome o P → P x
+holds_of_some {A = A} P o x e p = subst (λ (z : Option A). IfSome z P) e p
 
 pub none_of : {A : Type 0} (P : Type 0) (o : Option A) → ((x : A) → o ≡ Some x → ⊥) → IfNone o P → P
 none_of P None none p = p

@@ -12,8 +12,10 @@ use crate::options::Options;
 use crate::place::{displayed_place, push_context_of};
 use rl_files::needs_escape;
 use rl_lexer::without_byte_order_mark;
-use rl_output::{Form, Level, Places, push_annotation_end, push_ascii, push_front, push_member};
-use rl_tokens::text::{begins_with, split_char};
+use rl_output::{
+    Form, Level, Places, push_annotation_end, push_ascii, push_line_start, push_member,
+};
+use rl_tokens::text::{begins_with_char, split_char};
 use std::alloc::{AllocError, Allocator};
 
 /// The identifier of a finding of an invisible or bidirectional character. It never changes.
@@ -24,7 +26,7 @@ const HIDDEN_ID: &str = "hidden";
 fn is_layout(c: char, after: &str) -> bool
     ensures { result ≡ layout c (chars after.now) }
 {
-    matches!(c, '\t' | '\n' | '\u{c}') || c == '\r' && begins_with(after, '\n')
+    matches!(c, '\t' | '\n' | '\u{c}') || c == '\r' && begins_with_char(after, '\n')
 }
 
 /// Whether `c` is invisible or bidirectional: displayed as an escape, and not part of the layout. `after` is the text after `c`.
@@ -140,7 +142,7 @@ fn push_hidden_line<'t, A: Allocator>(
     let lo = places.byte_of(rest);
     let hi = places.byte_of(after);
     let place = displayed_place(options, places, rest, lo, hi);
-    push_front(out, Level::Error, options.form, options.path, &place)?;
+    push_line_start(out, Level::Error, options.form, options.path, &place)?;
     push_hidden_end(alloc, out, options.form, c)?;
     push_context_of(out, options, places, rest, lo, hi)
 }

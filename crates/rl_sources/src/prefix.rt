@@ -7,7 +7,7 @@ ghost use Rattle.rl_output.specs.Spots.{bytes_before};
 ghost use Rattle.rl_sources.specs.Prefixes.{front_up_to, is_of_prefix, prefix_start, reserved_prefix};
 ghost use Rattle.rl_sources.specs.Steps.{BeginsRest};
 
-use rl_flaws::{Edition, reserved_from};
+use rl_flaws::{Edition, first_reserving_edition};
 use rl_output::Places;
 use rl_tokens::SourceToken;
 
@@ -45,7 +45,7 @@ fn start_of(before: &str, text: &str) -> usize
     ensures within { result ≤ length before.now }
 {
     let front = before_hashes(before.as_bytes());
-    match reserved_from(before, text) {
+    match first_reserving_edition(before, text) {
         Some(Edition::E2021) => before_word(front).len(),
         _ => front.len(),
     }

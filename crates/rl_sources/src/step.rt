@@ -26,9 +26,9 @@ use crate::reason::push_error_line;
 use rl_files::{make_visible, push_visible};
 use rl_lenient::{Found, find};
 use rl_output::{
-    Form, Level, Place, Places, Spelling, first_line, push_annotation_end, push_front,
+    Form, Level, Place, Places, Spelling, first_line, push_annotation_end, push_line_start,
 };
-use rl_program::{label_of, push_found, push_unescaped, unescaped_value};
+use rl_program::{label_of, push_found, push_unescaped_line, unescaped_value};
 use rl_tokens::{LexError, LexKind, SourceForm, SourceToken, Sources};
 use std::alloc::{AllocError, Allocator};
 
@@ -70,7 +70,7 @@ fn push_text_line<A: Allocator + Copy>(
         (chars (string_bytes out.old)) (chars (string_bytes out.new))) }
 {
     match unescaped_value(text) {
-        Some(value) => push_unescaped(out, value),
+        Some(value) => push_unescaped_line(out, value),
         None => push_made_line(alloc, out, text, *found),
     }
 }
@@ -154,7 +154,7 @@ fn push_line_at<A: Allocator + Copy>(
     ensures { OnOk result (Appends (IsLineAt options.now (chars literal.now.token.now.text.now) place)
         (chars (string_bytes out.old)) (chars (string_bytes out.new))) }
 {
-    push_front(out, Level::Notice, options.form, options.path, &place)?;
+    push_line_start(out, Level::Notice, options.form, options.path, &place)?;
     push_line_end(alloc, out, options, literal)
 }
 

@@ -49,8 +49,8 @@ pub first_of : (how : LineEnds) (test : ℕ → Bool) → test 13 ≡ test 10 �
 first_of Text test e t = refl
 first_of File test e t = first_read test e t
 
-pub groups_if_any : (how : LineEnds) (t : List ℕ) → is_some_text (read_of how t) ≡ is_some_text t
-groups_if_any how t = first_of how (λ c. true) refl t
+pub some_text_of : (how : LineEnds) (t : List ℕ) → is_some_text (read_of how t) ≡ is_some_text t
+some_text_of how t = first_of how (λ c. true) refl t
 
 -- ---- flaws of texts as they are read
 

@@ -135,8 +135,8 @@ based_read radix h t =
         (as_integer (capped m) (suffix_end_at z)) (as_float (stopped BasedFloat (lf_text z)))
         (as_integer (capped m) (suffix_end_at (lf_text z))) refl (integer_end (capped m) z)
 
-    groups_if_any : (b : Bool) (m : ℕ) (z : List ℕ) → some b m (lf_text z) ≡ lf_number (some b m z)
-    groups_if_any b m z = both lf_number (not b) (as_float (stopped NoDigits z)) (plain m z)
+    some_text_of : (b : Bool) (m : ℕ) (z : List ℕ) → some b m (lf_text z) ≡ lf_number (some b m z)
+    some_text_of b m z = both lf_number (not b) (as_float (stopped NoDigits z)) (plain m z)
         (as_float (stopped NoDigits (lf_text z))) (plain m (lf_text z)) refl (plain_read m z)
 
     of_read : (b : Bool) (m : ℕ) (z : List ℕ) → of b m (lf_text z) ≡ lf_number (of b m z)
@@ -144,7 +144,7 @@ based_read radix h t =
         ap (λ d. cond {A = NumberRead} d (as_float (stopped InvalidDigit (lf_text z))) (some b m (lf_text z)))
         (first_read is_ascii_digit refl z)
         ∙ both lf_number (first_passes is_ascii_digit z) (as_float (stopped InvalidDigit z)) (some b m z)
-        (as_float (stopped InvalidDigit (lf_text z))) (some b m (lf_text z)) refl (groups_if_any b m z)
+        (as_float (stopped InvalidDigit (lf_text z))) (some b m (lf_text z)) refl (some_text_of b m z)
 
 -- ---- the base of a number
 

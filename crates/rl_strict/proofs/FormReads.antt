@@ -1,5 +1,5 @@
 -- The parse result of a text as it is read, by its beginning: opening delimiters, words, numbers, and a minus.
-use Rattle.rl_strict.proofs.Names.{◌≡◌, ◌≢◌, ℕ, Bool, true, false, not, ◌==◌, List, [], ◌∷◌, ◌++◌, None, Some, refl, sym, ap, subst, ◌∙◌, inl, inr, and_parts, both_ways, is_ascii_digit, list_all, Kind, Str, ByteStr, CStr, Byte, Char, first_passes, truth_text, form_opener, found_opener, opener_at, QuotedForm, CookedForm, RawForm, SingleForm, front_sound, ClosesForm, IsToken, FlawKind, Minus, NoNumber, UnexpectedEnd, LineEnds, Text, File, StopsBefore, IsRestOf, StopsAsRead, is_dropped, lf_text, read_of, IsFlawOf, IsTokenIf, IsSignedToken, IsStrictWordFlaw, IsStop, IsMinusStop, NumberRead, number_read_at, FoundFlaw, found_flaw, end_flaw_at, word_flaw_at, goes_on}
+use Rattle.rl_strict.proofs.Names.{◌≡◌, ◌≢◌, ℕ, Bool, true, false, not, ◌==◌, List, [], ◌∷◌, ◌++◌, None, Some, refl, sym, ap, subst, ◌∙◌, inl, inr, and_parts, both_ways, is_ascii_digit, list_all, Kind, Str, first_passes, truth_text, form_opener, found_opener, opener_at, QuotedForm, CookedForm, RawForm, SingleForm, front_sound, ClosesForm, IsToken, FlawKind, Minus, NoNumber, UnexpectedEnd, LineEnds, Text, File, StopsBefore, IsRestOf, StopsAsRead, is_dropped, lf_text, read_of, IsFlawOf, IsTokenIf, IsSignedToken, IsStrictWordFlaw, IsStop, IsMinusStop, NumberRead, number_read_at, FoundFlaw, found_flaw, end_flaw_at, word_flaw_at, goes_on}
 use Rattle.rl_strict.proofs.EndLemmas.{end_of, first_of, free_in, loose, read_flaw, self_in, step_in}
 use Rattle.rl_strict.proofs.FileNumbers.{file_stop}
 use Rattle.rl_strict.proofs.FileSuffixes.{lf_flaw, lf_opener, opener_read, word_read}

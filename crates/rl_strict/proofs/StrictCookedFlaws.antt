@@ -1,5 +1,5 @@
 -- The flaws of strings with escapes and of character and byte literals, in Rust's grammar.
-use Rattle.rl_strict.proofs.Names.{◌≡◌, ◌≢◌, ℕ, true, false, ◌==◌, List, [], ◌∷◌, ◌++◌, Some, None, refl, sym, ap, subst, ◌∙◌, inl, inr, append_assoc, both_ways, eqb-true, flat_map, AllByRecursion, false_from_ne_true, IsScalar, Kind, Byte, Char, first_passes, is_single, is_string, StrictUnit, Itself, QuoteEscape, PlainEscape, AsciiEscape, ByteEscape, UnicodeEscape, LineBreak, strict_text, is_dropped_blank, is_strict_unit, and_left, FlawKind, Unclosed, TwoCharacters, CookedForm, SingleForm, IsCompletable, StopsBefore, BeginsStrictUnit, BeginsStrictUnits, BreakEnds, HasNoStrictUnit, suffix_piece, ClosesForm, ClosesUnits, ends_quoted, is_strict_suffix, unit_rest, strict_unit_flaw_at, FoundFlaw, found_flaw, goes_on, end_flaw_at}
+use Rattle.rl_strict.proofs.Names.{◌≡◌, ◌≢◌, ℕ, true, false, ◌==◌, List, [], ◌∷◌, ◌++◌, Some, None, refl, sym, ap, subst, ◌∙◌, inl, inr, append_assoc, both_ways, eqb-true, flat_map, AllByRecursion, false_from_ne_true, IsScalar, Kind, Byte, Char, first_passes, is_single, is_string, StrictUnit, LineBreak, strict_text, is_dropped_blank, is_strict_unit, and_left, FlawKind, Unclosed, TwoCharacters, CookedForm, SingleForm, IsCompletable, StopsBefore, BeginsStrictUnit, BeginsStrictUnits, BreakEnds, HasNoStrictUnit, suffix_piece, ClosesForm, ClosesUnits, ends_quoted, is_strict_suffix, unit_rest, strict_unit_flaw_at, FoundFlaw, found_flaw, goes_on, end_flaw_at}
 use Rattle.rl_strict.proofs.StrictRowLemmas.{one_end, one_none, quote_stops, quoted_single, units_end, units_step}
 use Rattle.rl_strict.proofs.StrictSuffixFlaws.{Closer, FlawInside, SuffixSpoiled, closed_flaw}
 use Rattle.rl_strict.proofs.StrictUnitFlaws.{HasStrictUnitFlaw, IsUnitText, strict_unit_spoils}

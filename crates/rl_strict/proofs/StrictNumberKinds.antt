@@ -1,5 +1,5 @@
 -- The definitions of the kinds of flaws in numbers agree with the parser, so each kind excludes the others.
-use Rattle.rl_strict.proofs.Names.{◌≡◌, ◌≢◌, ℕ, Bool, true, false, not, ◌==◌, cond, List, [], ◌∷◌, ◌++◌, refl, sym, ap, ◌∙◌, inl, inr, append_assoc, and_parts, both_ways, and_from, or_cases, or_from, or_right, eqb-true, is_ascii_digit, list_all, list_any, and_right, false_from_ne_true, first_passes, is_underscore, Base, Binary, Octal, Decimal, Hexadecimal, is_exponent_letter, is_power_sign, IsDigits, apart, letter_no_part, has_value, radix_at, radix_of, letter_no_dot, FlawKind, NoExponentDigit, NoDigits, InvalidDigit, BasedFloat, NoFractionDigit, EndsInPower, IsBasedRun, IsDigitFlaw, IsStrictFraction, is_float_mark, power_end_at, stopped}
+use Rattle.rl_strict.proofs.Names.{◌≡◌, ◌≢◌, ℕ, Bool, true, false, not, ◌==◌, cond, List, [], ◌∷◌, ◌++◌, refl, sym, ap, ◌∙◌, inl, inr, append_assoc, and_parts, both_ways, and_from, or_cases, or_from, or_right, eqb-true, is_ascii_digit, list_all, list_any, and_right, false_from_ne_true, first_passes, is_underscore, Base, Binary, Decimal, is_exponent_letter, is_power_sign, IsDigits, apart, letter_no_part, has_value, radix_at, radix_of, letter_no_dot, FlawKind, NoExponentDigit, NoDigits, InvalidDigit, BasedFloat, NoFractionDigit, EndsInPower, IsBasedRun, IsDigitFlaw, IsStrictFraction, is_float_mark, power_end_at, stopped}
 use Rattle.rl_strict.proofs.NumberEnds.{IsSign, based_is, decimal_is, digits_power, each_fails, fraction_is, fraction_none, in_base, in_row, is_sign, names, number_end_at, of_base, power_is, row_part, row_tail, whole_digits, whole_dot, whole_end_at}
 
 -- ---- numbers with a base prefix

@@ -1,5 +1,5 @@
 -- The characters and escapes of a quoted literal up to its closing quote, and the suffix after it.
-use Rattle.rl_strict.proofs.Names.{◌≡◌, ℕ, Bool, true, false, ◌==◌, List, [], ◌∷◌, ◌++◌, length, Some, None, refl, sym, ap, subst, ◌∙◌, append_assoc, append-nil, and_from, and_parts, both_ways, eqb-true, list_all, flat_map, IsTrue, ◌↔◌, Kind, Str, ByteStr, CStr, Byte, Char, first_passes, is_plain, is_single, is_string, StrictUnit, Itself, QuoteEscape, PlainEscape, AsciiEscape, ByteEscape, UnicodeEscape, LineBreak, strict_text, is_dropped_blank, is_strict_unit, IsStrictSuffix, BlanksEnd, HasUnits, strict_closer, ends_quoted, is_strict_suffix, unit_rest, ClosesUnits, HasStrictUnits, plain_is_bare, blanks_cons, blanks_after, one_unit}
+use Rattle.rl_strict.proofs.Names.{◌≡◌, ℕ, Bool, true, false, ◌==◌, List, [], ◌∷◌, ◌++◌, length, Some, None, refl, sym, ap, subst, ◌∙◌, append_assoc, append-nil, and_from, and_parts, both_ways, eqb-true, list_all, flat_map, IsTrue, ◌↔◌, Kind, Str, ByteStr, CStr, Byte, Char, first_passes, is_plain, is_single, is_string, StrictUnit, Itself, LineBreak, strict_text, is_dropped_blank, is_strict_unit, IsStrictSuffix, BlanksEnd, HasUnits, strict_closer, ends_quoted, is_strict_suffix, unit_rest, ClosesUnits, HasStrictUnits, plain_is_bare, blanks_cons, blanks_after, one_unit}
 use Rattle.rl_strict.proofs.StrictUnitLemmas.{MayEnd, StrictFront, unit_rest_sound, unit_rest_complete}
 use Rattle.rl_strict.proofs.StrictWordLemmas.{strict_suffix_complete, strict_suffix_sound}
 

@@ -1,5 +1,5 @@
 -- A text begins with a character or escape of Rust's grammar if and only if `unit_rest` returns the text after it.
-use Rattle.rl_strict.proofs.Names.{◌≡◌, ℕ, ◌||◌, Bool, true, false, not, ◌==◌, cond, List, [], ◌∷◌, ◌++◌, Option, Some, None, refl, sym, ap, subst, ◌∙◌, inl, inr, and_parts, both_ways, cases_Bool, eqb-true, or_from, list_all, Kind, Str, ByteStr, CStr, Byte, Char, Int, Float, BoolKind, first_passes, QuotedUnit, Plain, CrLf, Named, Hex, Unicode, Continuation, unit_text, is_line_end, is_plain, is_string, IsUnit, StrictUnit, Itself, QuoteEscape, PlainEscape, AsciiEscape, ByteEscape, UnicodeEscape, LineBreak, strict_text, is_dropped_blank, is_strict_unit, after_run, is_plain_letter, apart, MayFollow, stands, run, unit_at, escape_rest, unit_rest, chosen_some, run_all, run_ends, run_join, run_past, Back, HasStrictUnits, named_escape, hex_escape, unicode_escape, unit_complete, unit_sound, backslash_not_plain, no_break_ends, line_allowed}
+use Rattle.rl_strict.proofs.Names.{◌≡◌, ℕ, ◌||◌, Bool, true, false, not, ◌==◌, cond, List, [], ◌∷◌, ◌++◌, Option, Some, None, refl, sym, ap, subst, ◌∙◌, inl, inr, and_parts, both_ways, cases_Bool, eqb-true, or_from, list_all, Kind, Str, ByteStr, CStr, first_passes, QuotedUnit, Plain, CrLf, Named, Hex, Unicode, Continuation, unit_text, is_line_end, is_plain, is_string, IsUnit, StrictUnit, Itself, QuoteEscape, PlainEscape, AsciiEscape, ByteEscape, UnicodeEscape, LineBreak, strict_text, is_dropped_blank, is_strict_unit, after_run, is_plain_letter, apart, MayFollow, stands, run, unit_at, escape_rest, unit_rest, chosen_some, run_all, run_ends, run_join, run_past, Back, HasStrictUnits, named_escape, hex_escape, unicode_escape, unit_complete, unit_sound, backslash_not_plain, no_break_ends, line_allowed}
 use Rattle.std.proofs.Common.{option_map}
 pub use Rattle.rl_lenient.specs.StrictUnits.{BreakEnds as MayEnd}
 

@@ -1,5 +1,5 @@
 -- Sequences of characters and escapes at the beginning of a text.
-use Rattle.rl_strict.proofs.Names.{◌≡◌, ℕ, Bool, true, false, List, [], ◌∷◌, ◌++◌, refl, sym, ap, subst, ◌∙◌, append-nil, append_assoc, and_from, and_parts, flat_map, list_all, list_all-append, flat_map-append, ◌↔◌, Kind, first_passes, is_string, StrictUnit, Itself, QuoteEscape, PlainEscape, AsciiEscape, ByteEscape, UnicodeEscape, LineBreak, strict_text, is_dropped_blank, is_strict_unit, BeginsStrictUnits, BreakEnds, BreaksEnd, ClosesUnits}
+use Rattle.rl_strict.proofs.Names.{◌≡◌, ℕ, Bool, true, false, List, [], ◌∷◌, ◌++◌, refl, sym, ap, subst, ◌∙◌, append-nil, append_assoc, and_from, and_parts, flat_map, list_all, list_all-append, flat_map-append, ◌↔◌, Kind, first_passes, is_string, StrictUnit, Itself, LineBreak, strict_text, is_dropped_blank, is_strict_unit, BeginsStrictUnits, BreakEnds, BreaksEnd, ClosesUnits}
 use Rattle.rl_strict.proofs.StrictRowLemmas.{units_step}
 use Rattle.rl_strict.proofs.StrictUnitLemmas.{StrictFront, unit_rest_complete}
 

@@ -5,7 +5,7 @@ use Rattle.rl_lenient.proofs.PlainLemmas.{no_run, one_run}
 use Rattle.rl_strict.specs.declared.flaws.FlawAt.{FlawAt}
 use Rattle.rl_strict.proofs.FileTextLemmas.{lacks_cr}
 use Rattle.rl_strict.proofs.FileUnits.{bare_in, bare_row, hashes_free, inside_free}
-use Rattle.rl_strict.proofs.EndLemmas.{closer_of, end_of, first_of, form_in, free_in, free_of, loose, nil_of, read_flaw, self_in, single_of, groups_if_any, step_in, stuck_of, suffix_in, suffix_of, unit_flaw_of, unit_in}
+use Rattle.rl_strict.proofs.EndLemmas.{closer_of, end_of, first_of, form_in, free_in, free_of, loose, nil_of, read_flaw, self_in, single_of, some_text_of, step_in, stuck_of, suffix_in, suffix_of, unit_flaw_of, unit_in}
 use Rattle.rl_strict.proofs.ReadQuoted.{cooked_open, cooked_suffix, empty_rest, judged_by, plain_row, raw_ending, raw_going, raw_unopened_none, single_closes, single_open_stops, single_suffix, single_unquoted_stops, not_string}
 use Rattle.rl_strict.proofs.StrictCookedFlaws.{cooked_closes, no_front}
 use Rattle.rl_strict.proofs.StrictRawFlaws.{raw_closed, raw_closes, raw_end_none, raw_ended, raw_many_hashes, raw_no_quote, raw_off, raw_spoiled, raw_unfinished, walk_past}
@@ -283,7 +283,7 @@ pub raw_bare : (how : LineEnds) (k : Kind) (f : FlawKind) (n c : ℕ) (t after m
     → piece ≡ after → rest ≡ after → StopsAsRead how RawForm k f (read_of how t) t piece rest
 raw_bare how k f n c t after more piece rest s few e is_more hash quote kind is place =
     let text = hashes_text how n t after e in
-    let found = front_some (read_of how after) (groups_if_any how after ∙ ap is_some_text is_more) in
+    let found = front_some (read_of how after) (some_text_of how after ∙ ap is_some_text is_more) in
     let first = found.2 in
     let no_hash : (found.0 == 35) ≡ false = sym (ap (first_passes (λ z. z == 35)) first)
     ∙ first_of how (λ z. z == 35) refl after ∙ ap (first_passes (λ z. z == 35)) is_more ∙ hash in

@@ -10,7 +10,7 @@ ghost use Rattle.rl_strict.specs.declared.line_ends.LineEnds.{LineEnds as AnyEnd
 
 use crate::flaws::{Flaw, FlawKind, make_flaw};
 use crate::line_ends::LineEnds;
-use crate::strict_reading::{Reading, place_flaw};
+use crate::strict_reading::{Reading, flaw_with_offsets};
 use rl_lenient::digit_runs::{after_minus, begins_digit, skip_digits};
 
 /// Returns the byte offset of the suffix if `reading` is an integer above 128 bits, and `None` otherwise.
@@ -45,8 +45,8 @@ pub fn limit_flaw(text: &str, suffix_at: usize) -> Flaw
     requires past { (past : IsPast (chars text.now)) × (past.suffix ≡ chars (drop suffix_at text.now)) }
     ensures { IsLimitFlaw (chars text.now) result }
 {
-    let found = make_flaw(FlawKind::TooLarge, &text[suffix_at..]).in_piece(text);
-    place_flaw(LineEnds::Text, found, text)
+    let found = make_flaw(FlawKind::TooLarge, &text[suffix_at..]).with_piece(text);
+    flaw_with_offsets(LineEnds::Text, found, text)
 }
 
 /// Returns the flaw of `text` if `reading`, its parse result, is an integer above 128 bits that its suffix doesn't make a

@@ -20,10 +20,10 @@ use crate::line_ends::LineEnds;
 use crate::read_numbers::skip_suffix;
 use crate::strict_quoted_flaws::{begins_hash, quote_of};
 use crate::strict_reading::Reading;
-use crate::walk::{open_raw, walk_cooked, walk_raw, walk_single};
+use crate::walk::{open_raw, parse_cooked_content, parse_raw_content, parse_single_unit};
 use rl_lenient::Body;
 use rl_lenient::quoted_forms::{QuotedForm, places};
-use rl_lenient::units::{Piece, is_bare_character, piece_unit, unit};
+use rl_lenient::units::{Piece, is_allowed_in_single_quotes, piece_code, unit};
 use rl_syntax::Kind;
 use rl_syntax::text::split_char;
 
@@ -47,21 +47,21 @@ fn some_suffix_flaw<'t>(form: QuotedForm, closing: &'t str, suffix: &'t str) -> 
     ensures piece { IfSome result (λ f. chars f.piece.now ≡ suffix_piece f.kind (chars closing.now) (chars suffix.now)) }
 {
     if begins_hash(form, suffix) {
-        return Some(make_flaw(FlawKind::ExtraHash, suffix).in_piece(closing));
+        return Some(make_flaw(FlawKind::ExtraHash, suffix).with_piece(closing));
     }
     let rest = skip_suffix(suffix);
     match split_char(rest) {
         None => {
             if is_lone_underscore(suffix) {
-                Some(make_flaw(FlawKind::UnderscoreSuffix, rest).in_piece(suffix))
+                Some(make_flaw(FlawKind::UnderscoreSuffix, rest).with_piece(suffix))
             } else {
                 None
             }
         }
         Some((c, _)) if c == quote_of(form) => {
-            Some(make_flaw(FlawKind::TextAfterQuote, rest).in_piece(closing))
+            Some(make_flaw(FlawKind::TextAfterQuote, rest).with_piece(closing))
         }
-        Some(_) => Some(make_flaw(FlawKind::BadSuffix, rest).in_piece(suffix)),
+        Some(_) => Some(make_flaw(FlawKind::BadSuffix, rest).with_piece(suffix)),
     }
 }
 
@@ -106,7 +106,7 @@ pub(crate) fn text_at<'t>(
     ensures token { IfOk result (λ b. IsToken (read_of ends (chars text.now))) }
     ensures flaw { IfErr result (λ f. IsFlawOf ends false (chars text.now) f.kind (chars f.piece.now) (chars f.rest.now)) }
 {
-    let stretch = walk_cooked(ends, kind, inside);
+    let stretch = parse_cooked_content(ends, kind, inside);
     match stretch.end {
         Ok(suffix) => Ok(places(
             text,
@@ -138,7 +138,7 @@ pub fn split_unit(kind: Kind, text: &str) -> Option<(Piece, &str)>
         None => None,
         Some(('\\', _)) => unit(kind, text),
         Some((first, _)) => {
-            if is_bare_character(first) {
+            if is_allowed_in_single_quotes(first) {
                 unit(kind, text)
             } else {
                 None
@@ -161,11 +161,11 @@ pub(crate) fn unit_at<'t>(
     ensures token { IfOk result (λ s. IsToken (read_of ends (chars text.now))) }
     ensures flaw { IfErr result (λ f. IsFlawOf ends false (chars text.now) f.kind (chars f.piece.now) (chars f.rest.now)) }
 {
-    let stretch = walk_single(ends, kind, inside);
+    let stretch = parse_single_unit(ends, kind, inside);
     match stretch.end {
         Ok((piece, suffix)) => Ok(Single {
             body: places(text, inside, stretch.closing, suffix, false),
-            unit: piece_unit(kind, piece),
+            unit: piece_code(kind, piece),
         }),
         Err(flaw) => Err(flaw),
     }
@@ -188,7 +188,7 @@ fn opened_at<'t>(
     ensures token { IfOk result (λ b. IsToken (read_of ends (chars text.now))) }
     ensures flaw { IfErr result (λ f. IsFlawOf ends false (chars text.now) f.kind (chars f.piece.now) (chars f.rest.now)) }
 {
-    let stretch = walk_raw(ends, kind, hashes, opened);
+    let stretch = parse_raw_content(ends, kind, hashes, opened);
     match stretch.end {
         Ok(suffix) => Ok(places(
             text,

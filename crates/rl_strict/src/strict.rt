@@ -48,7 +48,7 @@ pub fn after_closer<'t>(hashes: &str, c: char, after: &'t str) -> Option<&'t str
 /// Returns the text after the characters at its beginning that a raw string of the kind `kind` may contain and that aren't a
 /// quote.
 #[inline(always)]
-pub fn skip_inside(kind: Kind, text: &str) -> &str
+pub fn skip_raw_characters(kind: Kind, text: &str) -> &str
     ensures run { (run : List ℕ) × (chars text.now ≡ run ++ chars result.now)
         × IsTrue (list_all (is_inside kind) run) }
     ensures shorter { length result.now ≤ length text.now }

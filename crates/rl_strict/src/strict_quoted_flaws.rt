@@ -78,7 +78,7 @@ pub fn raw_character_flaw(kind: Kind, c: char) -> FlawKind
 }
 
 /// Returns the text after the hashes at its beginning, but skips at most 255 of them.
-pub fn skip_few_hashes(text: &str) -> &str
+pub fn skip_allowed_hashes(text: &str) -> &str
     ensures hashes { (n : ℕ) × (n ≤ 255) × (chars text.now ≡ replicate n (code "#") ++ chars result.now)
         × (n < 255 → IsFalse (first_passes is_hash (chars result.now))) }
     ensures following { IsTail text.now result.now }

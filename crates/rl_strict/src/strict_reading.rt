@@ -25,10 +25,10 @@ use crate::read_quoted::{Single, quoted_at, text_at, unit_at};
 use crate::walk_units::split;
 use rl_lenient::digit_runs::begins_digit;
 use rl_lenient::quoted_forms::split_opener;
-use rl_lenient::units::is_bare_character;
+use rl_lenient::units::is_allowed_in_single_quotes;
 use rl_lenient::{Body, bool_of};
 use rl_syntax::Kind;
-use rl_syntax::text::{ascii_at, begins_with, strip_byte};
+use rl_syntax::text::{ascii_at, begins_with_char, strip_byte};
 
 /// The parse result of a literal token. Offsets are in bytes of the token's text as written.
 ///
@@ -57,9 +57,9 @@ pub enum Front<'t> {
     Bare(u8),
     /// The text begins with `'`, and this is the text after it. [`read_character`] parses the text.
     Apostrophe(&'t str),
-    /// The text begins with a digit. [`read_digits`] parses the text.
+    /// The text begins with a digit. [`read_unsigned_number`] parses the text.
     Digit,
-    /// The text begins otherwise. [`read_other`] parses the text.
+    /// The text begins otherwise. [`read_non_digit_start`] parses the text.
     Other,
 }
 
@@ -73,7 +73,7 @@ fn bare_of(text: &str) -> Option<u8>
     if bytes.len() != 3 || bytes[0] != b'\'' || bytes[2] != b'\'' || bytes[1] >= 128 {
         return None;
     }
-    if is_bare_character(bytes[1] as char) {
+    if is_allowed_in_single_quotes(bytes[1] as char) {
         Some(bytes[1])
     } else {
         None
@@ -166,10 +166,10 @@ fn word_flaw(text: &str) -> FlawAt<'_>
     ensures { (ends : LineEnds)
         → IsFlawOf ends false (chars text.now) result.kind (chars result.piece.now) (chars result.rest.now) }
 {
-    if begins_with(text, '-') {
+    if begins_with_char(text, '-') {
         make_flaw(FlawKind::Minus, text)
     } else {
-        first_flaw(text).in_piece(text)
+        first_flaw(text).with_piece(text)
     }
 }
 
@@ -283,7 +283,7 @@ pub fn after_first(ends: LineEnds, text: &str) -> &str
 }
 
 /// Converts a flaw to byte offsets in `text` as written. In a file, a CR LF at the flaw's position is one character.
-pub fn place_flaw(ends: LineEnds, found: FlawAt<'_>, text: &str) -> Flaw
+pub fn flaw_with_offsets(ends: LineEnds, found: FlawAt<'_>, text: &str) -> Flaw
     requires piece { IsRestOf ends (chars text.now) (chars found.piece.now) }
     requires rest { IsRestOf ends (chars text.now) (chars found.rest.now) }
     ensures kind { result.kind ≡ found.entry.kind }
@@ -316,7 +316,7 @@ pub fn read_string(text: &str, inside: &str) -> Result<Body, Flaw>
 {
     match text_at(LineEnds::Text, Kind::Str, text, inside) {
         Ok(body) => Ok(body),
-        Err(found) => Err(place_flaw(LineEnds::Text, found, text)),
+        Err(found) => Err(flaw_with_offsets(LineEnds::Text, found, text)),
     }
 }
 
@@ -334,7 +334,7 @@ pub fn read_character(text: &str, inside: &str) -> Result<Single, Flaw>
 {
     match unit_at(LineEnds::Text, Kind::Char, text, inside) {
         Ok(single) => Ok(single),
-        Err(found) => Err(place_flaw(LineEnds::Text, found, text)),
+        Err(found) => Err(flaw_with_offsets(LineEnds::Text, found, text)),
     }
 }
 
@@ -344,7 +344,7 @@ pub fn read_character(text: &str, inside: &str) -> Result<Single, Flaw>
 ///
 /// Returns the flaw if the text isn't a number.
 #[inline(always)]
-pub fn read_digits(text: &str) -> Result<Reading, Flaw>
+pub fn read_unsigned_number(text: &str) -> Result<Reading, Flaw>
     requires { IsTrue (first_passes is_ascii_digit (chars text.now)) }
     ensures reads { IfOk result (IsStrictReading text.now) }
     ensures token { IfOk result (λ r. IsToken (chars text.now)) }
@@ -352,7 +352,7 @@ pub fn read_digits(text: &str) -> Result<Reading, Flaw>
 {
     match number_at(text) {
         Ok(reading) => Ok(reading),
-        Err(found) => Err(place_flaw(LineEnds::Text, found, text)),
+        Err(found) => Err(flaw_with_offsets(LineEnds::Text, found, text)),
     }
 }
 
@@ -362,7 +362,7 @@ pub fn read_digits(text: &str) -> Result<Reading, Flaw>
 ///
 /// Returns the flaw if the text is neither a literal token nor a minus and a number.
 #[inline(never)]
-pub fn read_other(text: &str) -> Result<Reading, Flaw>
+pub fn read_non_digit_start(text: &str) -> Result<Reading, Flaw>
     requires { IsFalse (first_passes is_ascii_digit (chars text.now)) }
     ensures reads { IfOk result (IsSignedRead text.now) }
     ensures token { IfOk result (λ r. IsSignedToken (chars text.now)) }
@@ -371,11 +371,11 @@ pub fn read_other(text: &str) -> Result<Reading, Flaw>
     match strip_byte(text, b'-') {
         Some(number) => match negative_at(text, number) {
             Ok(reading) => Ok(reading),
-            Err(found) => Err(place_flaw(LineEnds::Text, found, text)),
+            Err(found) => Err(flaw_with_offsets(LineEnds::Text, found, text)),
         },
         None => match other_at(LineEnds::Text, text) {
             Ok(reading) => Ok(reading),
-            Err(found) => Err(place_flaw(LineEnds::Text, found, text)),
+            Err(found) => Err(flaw_with_offsets(LineEnds::Text, found, text)),
         },
     }
 }
@@ -419,6 +419,6 @@ pub fn read(text: &str, ends: LineEnds, signed: bool) -> Result<Reading, Flaw>
 {
     match signed_at(text, ends, signed) {
         Ok(reading) => Ok(reading),
-        Err(found) => Err(place_flaw(ends, found, text)),
+        Err(found) => Err(flaw_with_offsets(ends, found, text)),
     }
 }

@@ -16,9 +16,9 @@ ghost use Rattle.rl_strict.specs.Mirrors.StrictFlawAt.{raw_stop};
 use crate::flaws::{FlawAt, FlawKind, end_flaw, make_flaw};
 use crate::line_ends::LineEnds;
 use crate::read_quoted::{split_unit, suffix_flaw};
-use crate::strict::{after_closer, skip_inside};
+use crate::strict::{after_closer, skip_raw_characters};
 use crate::strict_quoted_flaws::{
-    ends_raw_content, raw_character_flaw, skip_few_hashes, unit_flaw,
+    ends_raw_content, raw_character_flaw, skip_allowed_hashes, unit_flaw,
 };
 use crate::walk_units::{skip_units, split};
 use rl_lenient::quoted_forms::{QuotedForm, after_quote};
@@ -34,12 +34,12 @@ fn skip_raw<'t>(ends: LineEnds, kind: Kind, hashes: &str, text: &'t str) -> &'t 
     ensures stop { read_of ends (chars result.now) ≡ raw_stop kind (chars hashes.now) (read_of ends (chars text.now)) }
     ensures rest { IsRestOf ends (chars text.now) (chars result.now) }
 {
-    let mut rest = skip_inside(kind, text);
+    let mut rest = skip_raw_characters(kind, text);
     while let Some((c, after)) = split(ends, rest) {
         if ends_raw_content(kind, hashes, c, after) {
             return rest;
         }
-        rest = skip_inside(kind, after);
+        rest = skip_raw_characters(kind, after);
     }
     rest
 }
@@ -56,7 +56,7 @@ pub struct QuotedContent<'t> {
 
 /// Parses the text after the opening quote of a string with escapes.
 #[inline(always)]
-pub fn walk_cooked(ends: LineEnds, kind: Kind, text: &str) -> QuotedContent<'_>
+pub fn parse_cooked_content(ends: LineEnds, kind: Kind, text: &str) -> QuotedContent<'_>
     requires { IsTrue (is_string kind) }
     ensures run { BeginsStrictUnits kind (read_of ends (chars text.now)) (read_of ends (chars result.closing.now)) }
     ensures rest { IsRestOf ends (chars text.now) (chars result.closing.now) }
@@ -103,7 +103,7 @@ pub fn walk_cooked(ends: LineEnds, kind: Kind, text: &str) -> QuotedContent<'_>
         None => QuotedContent {
             closing,
             plain: false,
-            end: Err(unit_flaw(kind, closing).in_piece(closing)),
+            end: Err(unit_flaw(kind, closing).with_piece(closing)),
         },
     }
 }
@@ -118,7 +118,7 @@ pub struct UnitStretch<'t> {
 
 /// Parses the text after the opening quote of a character or byte literal.
 #[inline(always)]
-pub fn walk_single(ends: LineEnds, kind: Kind, text: &str) -> UnitStretch<'_>
+pub fn parse_single_unit(ends: LineEnds, kind: Kind, text: &str) -> UnitStretch<'_>
     requires { IsTrue (is_single kind) }
     ensures rest { IsRestOf ends (chars text.now) (chars result.closing.now) }
     ensures good { IsGoodUnit kind (chars text.now) (chars result.closing.now) }
@@ -135,7 +135,7 @@ pub fn walk_single(ends: LineEnds, kind: Kind, text: &str) -> UnitStretch<'_>
     let Some((unit, closing)) = split_unit(kind, text) else {
         return UnitStretch {
             closing: text,
-            end: Err(unit_flaw(kind, text).in_piece(text)),
+            end: Err(unit_flaw(kind, text).with_piece(text)),
         };
     };
     match after_quote(Kind::Char, closing) {
@@ -151,14 +151,21 @@ pub fn walk_single(ends: LineEnds, kind: Kind, text: &str) -> UnitStretch<'_>
         },
         None => UnitStretch {
             closing: text,
-            end: Err(end_flaw(FlawKind::Unclosed, FlawKind::TwoCharacters, closing).in_piece(text)),
+            end: Err(end_flaw(FlawKind::Unclosed, FlawKind::TwoCharacters, closing).with_piece(
+                text,
+            )),
         },
     }
 }
 
 /// Parses the text after the opening quote of a raw string that has `hashes` before this quote.
 #[inline(always)]
-pub fn walk_raw<'t>(ends: LineEnds, kind: Kind, hashes: &str, text: &'t str) -> QuotedContent<'t>
+pub fn parse_raw_content<'t>(
+    ends: LineEnds,
+    kind: Kind,
+    hashes: &str,
+    text: &'t str,
+) -> QuotedContent<'t>
     requires string { IsTrue (is_string kind) }
     requires hashes { (n : ℕ) × (n ≤ 255) × (chars hashes.now ≡ replicate n (code "#")) }
     ensures stop { read_of ends (chars result.closing.now) ≡ raw_stop kind (chars hashes.now) (read_of ends (chars text.now)) }
@@ -216,12 +223,12 @@ pub fn open_raw(kind: Kind, inside: &str) -> Result<(&str, &str), FlawAt<'_>>
     ensures stops { IfErr result (λ f. (ends : LineEnds) → StopsAsRead ends QuotedForm.Raw kind f.kind
         (read_of ends (chars inside.now)) (chars inside.now) (chars f.piece.now) (chars f.rest.now)) }
 {
-    let rest = skip_few_hashes(inside);
+    let rest = skip_allowed_hashes(inside);
     let Some((first, opened)) = split_char(rest) else {
         return Err(make_flaw(FlawKind::UnexpectedEnd, rest));
     };
     if first == '#' {
-        Err(make_flaw(FlawKind::TooManyHashes, rest).in_piece(inside))
+        Err(make_flaw(FlawKind::TooManyHashes, rest).with_piece(inside))
     } else if first == '"' {
         Ok((before(inside, rest), opened))
     } else {

@@ -8,7 +8,7 @@ use Rattle.rl_syntax.specs.Spelling.{without_underscores}
 use Rattle.rl_syntax.specs.Strict.{IsDigits}
 use Rattle.rl_style.specs.Cases.{trimmed}
 use Rattle.rl_style.specs.Groups.{ending, spaced}
-use Rattle.rl_style.proofs.Trimmed.{IsTrim, any_left, kept_permissions, none_of, none_trim, only, trim_tail, trimmed_join}
+use Rattle.rl_style.proofs.Trimmed.{IsTrim, any_left, passing_chars, none_of, none_trim, only, trim_tail, trimmed_join}
 
 pub not_false : (b : Bool) → not b ≡ true → b ≡ false
 not_false true h = absurd (cc)
@@ -65,15 +65,15 @@ under_fails test c n h = ap test (eq h) ∙ n
         is_under : (c : ℕ) → (c == 95) ≡ true → c ≡ 95
         is_under c k = eqb-true c 95 k
 
-pub bare_kept : (test : ℕ → Bool) (cs : List ℕ) → test 95 ≡ false → kept_permissions test (without_underscores cs) ≡ kept_permissions test
+pub bare_kept : (test : ℕ → Bool) (cs : List ℕ) → test 95 ≡ false → passing_chars test (without_underscores cs) ≡ passing_chars test
     cs
 bare_kept test [] n = refl
 bare_kept test (c ∷ cs) n = go (other c) refl (bare_kept test cs n)
   where
-    go : (b : Bool) → other c ≡ b → kept_permissions test (without_underscores cs) ≡ kept_permissions test cs
-        → kept_permissions test (cond b (c ∷ without_underscores cs) (without_underscores cs)) ≡ kept_permissions test (c ∷ cs)
+    go : (b : Bool) → other c ≡ b → passing_chars test (without_underscores cs) ≡ passing_chars test cs
+        → passing_chars test (cond b (c ∷ without_underscores cs) (without_underscores cs)) ≡ passing_chars test (c ∷ cs)
     go true h more = ap (λ z. cond (test c) (c ∷ z) z) more
-    go false h more = more ∙ ap (λ b. cond b (c ∷ kept_permissions test cs) (kept_permissions test cs)) (sym (under_fails test c n h))
+    go false h more = more ∙ ap (λ b. cond b (c ∷ passing_chars test cs) (passing_chars test cs)) (sym (under_fails test c n h))
 
 bare_any : (test : ℕ → Bool) (cs : List ℕ) → test 95 ≡ false → list_any test (without_underscores cs) ≡ list_any test
     cs
@@ -98,12 +98,12 @@ spaced_all p test (d ∷ ds) m h =
     go true k = and_from (p 95) (list_all p (spaced test ds)) m k
     go false k = k
 
-spaced_kept : (p test : ℕ → Bool) (ds : List ℕ) → p 95 ≡ false → kept_permissions p (spaced test ds) ≡ kept_permissions p ds
+spaced_kept : (p test : ℕ → Bool) (ds : List ℕ) → p 95 ≡ false → passing_chars p (spaced test ds) ≡ passing_chars p ds
 spaced_kept p test [] n = refl
 spaced_kept p test (d ∷ ds) n = ap (λ z. cond (p d) (d ∷ z) z) (go (test (length ds)) ∙ spaced_kept p test ds n)
   where
-    go : (b : Bool) → kept_permissions p (mark b ++ spaced test ds) ≡ kept_permissions p (spaced test ds)
-    go true = ap (λ b. cond b (95 ∷ kept_permissions p (spaced test ds)) (kept_permissions p (spaced test ds))) n
+    go : (b : Bool) → passing_chars p (mark b ++ spaced test ds) ≡ passing_chars p (spaced test ds)
+    go true = ap (λ b. cond b (95 ∷ passing_chars p (spaced test ds)) (passing_chars p (spaced test ds))) n
     go false = refl
 
 spaced_any : (p test : ℕ → Bool) (ds : List ℕ) → p 95 ≡ false → list_any p (spaced test ds) ≡ list_any p ds
@@ -181,11 +181,11 @@ row_all p test run m h =
     list_all-append p (spaced test (without_underscores run)) (ending run)
     ∙ and_from _ _ (spaced_all p test (without_underscores run) m (bare_all p run h)) (ending_all p run h)
 
-pub row_kept : (p test : ℕ → Bool) (run : List ℕ) → p 95 ≡ false → kept_permissions p (row_spaced test run) ≡ kept_permissions p run
+pub row_kept : (p test : ℕ → Bool) (run : List ℕ) → p 95 ≡ false → passing_chars p (row_spaced test run) ≡ passing_chars p run
 row_kept p test run n =
     filter-append p (spaced test (without_underscores run)) (ending run)
-    ∙ ap (λ z. kept_permissions p (spaced test (without_underscores run)) ++ z) (none_of p (ending run) n (ending_only run))
-    ∙ append-nil (kept_permissions p (spaced test (without_underscores run)))
+    ∙ ap (λ z. passing_chars p (spaced test (without_underscores run)) ++ z) (none_of p (ending run) n (ending_only run))
+    ∙ append-nil (passing_chars p (spaced test (without_underscores run)))
     ∙ spaced_kept p test (without_underscores run) n ∙ bare_kept p run n
 
 pub row_some : (p test : ℕ → Bool) (run : List ℕ) → p 95 ≡ false → list_any p run ≡ true

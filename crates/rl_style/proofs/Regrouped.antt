@@ -13,7 +13,7 @@ use Rattle.rl_style.specs.Mirrors.{run_placed}
 use Rattle.rl_style.proofs.CaseLemmas.{cased_underscore, none_right}
 use Rattle.rl_style.proofs.GroupRows.{clear_ending, mark, not_false, only_ending, other, row_all, row_digits, row_ending, row_first, row_kept, row_some, row_spaced, row_trim}
 use Rattle.rl_style.proofs.NumberCharacters.{Keeps, RowKeeps, becomes}
-use Rattle.rl_style.proofs.Trimmed.{IsTrim, kept_permissions, none_of, only}
+use Rattle.rl_style.proofs.Trimmed.{IsTrim, passing_chars, none_of, only}
 
 -- ---- a sequence in groups, or unchanged
 
@@ -40,8 +40,8 @@ grouped_all p from_first size least run m h = either (λ z. list_all p z ≡ tru
     (row_all p (tests from_first size least (length (without_underscores run))) run m h)
 
 pub grouped_kept : (p : ℕ → Bool) (from_first : Bool) (size least : ℕ) (run : List ℕ) → p 95 ≡ false
-    → kept_permissions p (regrouped from_first size least run) ≡ kept_permissions p run
-grouped_kept p from_first size least run n = either (λ z. kept_permissions p z ≡ kept_permissions p run) from_first size least run refl
+    → passing_chars p (regrouped from_first size least run) ≡ passing_chars p run
+grouped_kept p from_first size least run n = either (λ z. passing_chars p z ≡ passing_chars p run) from_first size least run refl
     (row_kept p (tests from_first size least (length (without_underscores run))) run n)
 
 pub grouped_some : (p : ℕ → Bool) (from_first : Bool) (size least : ℕ) (run : List ℕ) → p 95 ≡ false

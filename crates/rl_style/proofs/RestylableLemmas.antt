@@ -59,12 +59,12 @@ pub literal_behind : (s : RestylableState) (token : SourceToken) (tokens : Curso
     → Steps s token last calls → TakesSource s.tokens token tokens → (IsLiteralOfSource token → ⊥)
     → (it : Restylable) (new : RestylableState) → GivesLiteral (state tokens last token.hi calls) it new
     → GivesLiteral s it new
-literal_behind s token tokens last calls steps takes literal_expected it new g =
-    Behind takes literal_expected
+literal_behind s token tokens last calls steps takes is_other it new g =
+    Behind takes is_other
     (unstepped (λ (z : RestylableState). GivesLiteral z it new) s token tokens last calls steps g)
 
 pub none_behind : (s : RestylableState) (token : SourceToken) (tokens : CursorState) (last : Last) (calls : CallState)
     → Steps s token last calls → TakesSource s.tokens token tokens → (IsLiteralOfSource token → ⊥)
     → (new : RestylableState) → GivesNone (state tokens last token.hi calls) new → GivesNone s new
-none_behind s token tokens last calls steps takes literal_expected new g =
-    Passes takes literal_expected (unstepped (λ (z : RestylableState). GivesNone z new) s token tokens last calls steps g)
+none_behind s token tokens last calls steps takes is_other new g =
+    Passes takes is_other (unstepped (λ (z : RestylableState). GivesNone z new) s token tokens last calls steps g)

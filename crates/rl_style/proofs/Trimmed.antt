@@ -49,21 +49,21 @@ trimmed_some test (c ∷ cs) n = go (only (c ∷ cs)) refl (trimmed_some test cs
     go false h more = ap (λ b. test c || b) more
 
 -- The characters of a text that pass a test.
-abbrev pub kept_permissions : (ℕ → Bool) → List ℕ → List ℕ
-kept_permissions test cs = filter test cs
+abbrev pub passing_chars : (ℕ → Bool) → List ℕ → List ℕ
+passing_chars test cs = filter test cs
 
-pub none_of : (test : ℕ → Bool) (cs : List ℕ) → test 95 ≡ false → only cs ≡ true → kept_permissions test cs ≡ []
+pub none_of : (test : ℕ → Bool) (cs : List ℕ) → test 95 ≡ false → only cs ≡ true → passing_chars test cs ≡ []
 none_of test [] n h = refl
 none_of test (c ∷ cs) n h =
     let p = and_parts (c == 95) (only cs) h in
-    ap (λ b. cond b (c ∷ kept_permissions test cs) (kept_permissions test cs)) (ap test (eqb-true c 95 p.0) ∙ n) ∙ none_of test cs n p.1
+    ap (λ b. cond b (c ∷ passing_chars test cs) (passing_chars test cs)) (ap test (eqb-true c 95 p.0) ∙ n) ∙ none_of test cs n p.1
 
-pub trimmed_filter : (test : ℕ → Bool) (cs : List ℕ) → test 95 ≡ false → kept_permissions test (trimmed cs) ≡ kept_permissions test cs
+pub trimmed_filter : (test : ℕ → Bool) (cs : List ℕ) → test 95 ≡ false → passing_chars test (trimmed cs) ≡ passing_chars test cs
 trimmed_filter test [] n = refl
 trimmed_filter test (c ∷ cs) n = go (only (c ∷ cs)) refl (trimmed_filter test cs n)
   where
-    go : (b : Bool) → only (c ∷ cs) ≡ b → kept_permissions test (trimmed cs) ≡ kept_permissions test cs
-        → kept_permissions test (cond b [] (c ∷ trimmed cs)) ≡ kept_permissions test (c ∷ cs)
+    go : (b : Bool) → only (c ∷ cs) ≡ b → passing_chars test (trimmed cs) ≡ passing_chars test cs
+        → passing_chars test (cond b [] (c ∷ trimmed cs)) ≡ passing_chars test (c ∷ cs)
     go true h more = sym (none_of test (c ∷ cs) n h)
     go false h more = ap (λ z. cond (test c) (c ∷ z) z) more
 
@@ -233,13 +233,13 @@ separator_all test (Some Underscore) (c ∷ cs) = and_from (test 95 || true) tru
     or_true false = refl
 
 pub separator_gone : (test : ℕ → Bool) (s : Option Separator) (x cs : List ℕ) → test 95 ≡ false
-    → kept_permissions test (cs ++ separator_by s x) ≡ kept_permissions test cs
-separator_gone test None x cs n = ap (kept_permissions test) (append-nil cs)
-separator_gone test (Some Nothing) x cs n = ap (kept_permissions test) (append-nil cs)
-separator_gone test (Some Underscore) [] cs n = ap (kept_permissions test) (append-nil cs)
+    → passing_chars test (cs ++ separator_by s x) ≡ passing_chars test cs
+separator_gone test None x cs n = ap (passing_chars test) (append-nil cs)
+separator_gone test (Some Nothing) x cs n = ap (passing_chars test) (append-nil cs)
+separator_gone test (Some Underscore) [] cs n = ap (passing_chars test) (append-nil cs)
 separator_gone test (Some Underscore) (c ∷ x) cs n =
-    filter-append test cs (95 ∷ []) ∙ ap (λ b. kept_permissions test cs ++ cond b (95 ∷ []) []) n
-    ∙ append-nil (kept_permissions test cs)
+    filter-append test cs (95 ∷ []) ∙ ap (λ b. passing_chars test cs ++ cond b (95 ∷ []) []) n
+    ∙ append-nil (passing_chars test cs)
 
 -- If the suffix begins with the letter of a base, the underscores before it aren't dropped, and no separator is written.
 pub base_kept : (s : Option Separator) (x : List ℕ) → first_passes is_base_letter (separator_by s x ++ x) ≡ true

@@ -182,9 +182,9 @@ here_is at bs some =
     let same : at - 1 + 1 ≡ at = omega arith in
     heres at 16 0 bs ∙ ap (λ i. chunk i 16 bs) (sym same) ∙ sym (near_is 1 at bs some (lit< tt))
 
-pub begins_with_kind : (at : ℕ) (bs : List ℕ) → 0 < at → at + 16 < length bs → map (λ x. x.2) (three at bs)
+pub next_bytes_are : (at : ℕ) (bs : List ℕ) → 0 < at → at + 16 < length bs → map (λ x. x.2) (three at bs)
     ≡ chunk 2 16 (near at bs)
-begins_with_kind at bs some room =
+next_bytes_are at bs some room =
     let same : at - 1 + 2 ≡ suc at = omega arith in
     nexts at 16 0 bs room ∙ ap (λ i. chunk i 16 bs) (sym same) ∙ sym (near_is 2 at bs some (lit< tt))
 

@@ -115,7 +115,7 @@ fn is_after_hashes(bytes: &[u8], front: &[u8]) -> bool {
 /// `f#"x"#`. From 2024 on, hashes alone are too: `#"x"#`. The result is also `None` if the text before may be part of a number,
 /// of another literal, of a lifetime or of a raw identifier.
 #[inline]
-pub fn reserved_from(before: &str, literal: &str) -> Option<Edition> {
+pub fn first_reserving_edition(before: &str, literal: &str) -> Option<Edition> {
     let front = trimmed(before.as_bytes(), Part::Hash);
     match literal.as_bytes() {
         [b'"' | b'\'', ..] if is_after_word(front) => Some(Edition::E2021),
@@ -139,7 +139,7 @@ impl Edition {
     /// Returns `true` if this edition of Rust reserves the literal together with the text before it.
     #[inline]
     pub fn reserves(self, before: &str, literal: &str) -> bool {
-        match reserved_from(before, literal) {
+        match first_reserving_edition(before, literal) {
             Some(from) => from.year() <= self.year(),
             None => false,
         }

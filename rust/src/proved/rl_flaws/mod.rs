@@ -17,7 +17,7 @@ mod type_errors;
 mod walks;
 
 #[cfg(feature = "__rendered")]
-pub use crate::rl_flaws::before::{Edition, may_be_negated, reserved_from};
+pub use crate::rl_flaws::before::{Edition, first_reserving_edition, may_be_negated};
 pub use crate::rl_flaws::flaws::Flaws;
 pub use crate::rl_flaws::invalid_piece::InvalidPiece;
 pub use crate::rl_flaws::kind_guess::guess_kind;

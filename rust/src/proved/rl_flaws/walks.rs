@@ -3,7 +3,9 @@
 
 use crate::rl_lenient::quoted_forms::{QuotedForm, split_opener};
 use crate::rl_strict::LineEnds;
-use crate::rl_strict::walk::{QuotedContent, open_raw, walk_cooked, walk_raw, walk_single};
+use crate::rl_strict::walk::{
+    QuotedContent, open_raw, parse_cooked_content, parse_raw_content, parse_single_unit,
+};
 use crate::rl_syntax::Kind;
 
 /// The opening delimiter of a quoted literal: the literal's form and kind, and a raw string's hashes.
@@ -36,7 +38,7 @@ pub fn open(text: &str) -> Option<(Opened<'_>, &str)> {
 /// Parses the text after the opening quote of a character or byte literal.
 #[inline]
 fn walk_unit(ends: LineEnds, kind: Kind, text: &str) -> QuotedContent<'_> {
-    let stretch = walk_single(ends, kind, text);
+    let stretch = parse_single_unit(ends, kind, text);
     let closing = stretch.closing;
     let plain = false;
     match stretch.end {
@@ -58,8 +60,8 @@ fn walk_unit(ends: LineEnds, kind: Kind, text: &str) -> QuotedContent<'_> {
 #[inline]
 pub fn walk<'t>(ends: LineEnds, opened: Opened<'t>, text: &'t str) -> QuotedContent<'t> {
     match opened.form {
-        QuotedForm::Cooked => walk_cooked(ends, opened.kind, text),
+        QuotedForm::Cooked => parse_cooked_content(ends, opened.kind, text),
         QuotedForm::Single => walk_unit(ends, opened.kind, text),
-        QuotedForm::Raw => walk_raw(ends, opened.kind, opened.hashes, text),
+        QuotedForm::Raw => parse_raw_content(ends, opened.kind, opened.hashes, text),
     }
 }

@@ -8,5 +8,5 @@ mod openers;
 mod recovery;
 mod unclosed;
 
-pub use crate::rl_recovery::leading::{LeadingLiteral, leading_literal, leading_signed};
+pub use crate::rl_recovery::leading::{LeadingLiteral, leading_literal, leading_signed_literal};
 pub use crate::rl_recovery::recovery::{Recovery, recovery_step};

@@ -197,7 +197,7 @@ pub fn make_flaw(kind: FlawKind, rest: &str) -> FlawAt<'_> {
 
 impl<'t> FlawAt<'t> {
     /// Returns the flaw with the text that begins at its piece replaced by `piece`.
-    pub fn in_piece(self, piece: &'t str) -> FlawAt<'t> {
+    pub fn with_piece(self, piece: &'t str) -> FlawAt<'t> {
         FlawAt {
             kind: self.kind,
             piece,

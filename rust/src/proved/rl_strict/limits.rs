@@ -3,7 +3,7 @@
 
 use crate::rl_strict::flaws::{Flaw, FlawKind, make_flaw};
 use crate::rl_strict::line_ends::LineEnds;
-use crate::rl_strict::strict_reading::{Reading, place_flaw};
+use crate::rl_strict::strict_reading::{Reading, flaw_with_offsets};
 use crate::rl_lenient::digit_runs::{after_minus, begins_digit, skip_digits};
 
 /// Returns the byte offset of the suffix if `reading` is an integer above 128 bits, and `None` otherwise.
@@ -30,8 +30,8 @@ pub fn is_float_by_suffix(text: &str) -> bool {
 /// Returns the flaw of an integer above 128 bits, whose suffix begins at the byte offset `suffix_at`. The piece begins at the
 /// start of `text`.
 pub fn limit_flaw(text: &str, suffix_at: usize) -> Flaw {
-    let found = make_flaw(FlawKind::TooLarge, &text[suffix_at..]).in_piece(text);
-    place_flaw(LineEnds::Text, found, text)
+    let found = make_flaw(FlawKind::TooLarge, &text[suffix_at..]).with_piece(text);
+    flaw_with_offsets(LineEnds::Text, found, text)
 }
 
 /// Returns the flaw of `text` if `reading`, its parse result, is an integer above 128 bits that its suffix doesn't make a

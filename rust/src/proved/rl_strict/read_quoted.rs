@@ -6,10 +6,10 @@ use crate::rl_strict::line_ends::LineEnds;
 use crate::rl_strict::read_numbers::skip_suffix;
 use crate::rl_strict::strict_quoted_flaws::{begins_hash, quote_of};
 use crate::rl_strict::strict_reading::Reading;
-use crate::rl_strict::walk::{open_raw, walk_cooked, walk_raw, walk_single};
+use crate::rl_strict::walk::{open_raw, parse_cooked_content, parse_raw_content, parse_single_unit};
 use crate::rl_lenient::Body;
 use crate::rl_lenient::quoted_forms::{QuotedForm, places};
-use crate::rl_lenient::units::{Piece, is_bare_character, piece_unit, unit};
+use crate::rl_lenient::units::{Piece, is_allowed_in_single_quotes, piece_code, unit};
 use crate::rl_syntax::Kind;
 use crate::rl_syntax::text::split_char;
 
@@ -26,21 +26,21 @@ fn is_lone_underscore(text: &str) -> bool {
 #[inline(never)]
 fn some_suffix_flaw<'t>(form: QuotedForm, closing: &'t str, suffix: &'t str) -> Option<FlawAt<'t>> {
     if begins_hash(form, suffix) {
-        return Some(make_flaw(FlawKind::ExtraHash, suffix).in_piece(closing));
+        return Some(make_flaw(FlawKind::ExtraHash, suffix).with_piece(closing));
     }
     let rest = skip_suffix(suffix);
     match split_char(rest) {
         None => {
             if is_lone_underscore(suffix) {
-                Some(make_flaw(FlawKind::UnderscoreSuffix, rest).in_piece(suffix))
+                Some(make_flaw(FlawKind::UnderscoreSuffix, rest).with_piece(suffix))
             } else {
                 None
             }
         }
         Some((c, _)) if c == quote_of(form) => {
-            Some(make_flaw(FlawKind::TextAfterQuote, rest).in_piece(closing))
+            Some(make_flaw(FlawKind::TextAfterQuote, rest).with_piece(closing))
         }
-        Some(_) => Some(make_flaw(FlawKind::BadSuffix, rest).in_piece(suffix)),
+        Some(_) => Some(make_flaw(FlawKind::BadSuffix, rest).with_piece(suffix)),
     }
 }
 
@@ -75,7 +75,7 @@ pub(crate) fn text_at<'t>(
     text: &'t str,
     inside: &'t str,
 ) -> Result<Body, FlawAt<'t>> {
-    let stretch = walk_cooked(ends, kind, inside);
+    let stretch = parse_cooked_content(ends, kind, inside);
     match stretch.end {
         Ok(suffix) => Ok(places(
             text,
@@ -104,7 +104,7 @@ pub fn split_unit(kind: Kind, text: &str) -> Option<(Piece, &str)> {
         None => None,
         Some(('\\', _)) => unit(kind, text),
         Some((first, _)) => {
-            if is_bare_character(first) {
+            if is_allowed_in_single_quotes(first) {
                 unit(kind, text)
             } else {
                 None
@@ -122,11 +122,11 @@ pub(crate) fn unit_at<'t>(
     text: &'t str,
     inside: &'t str,
 ) -> Result<Single, FlawAt<'t>> {
-    let stretch = walk_single(ends, kind, inside);
+    let stretch = parse_single_unit(ends, kind, inside);
     match stretch.end {
         Ok((piece, suffix)) => Ok(Single {
             body: places(text, inside, stretch.closing, suffix, false),
-            unit: piece_unit(kind, piece),
+            unit: piece_code(kind, piece),
         }),
         Err(flaw) => Err(flaw),
     }
@@ -142,7 +142,7 @@ fn opened_at<'t>(
     hashes: &'t str,
     opened: &'t str,
 ) -> Result<Body, FlawAt<'t>> {
-    let stretch = walk_raw(ends, kind, hashes, opened);
+    let stretch = parse_raw_content(ends, kind, hashes, opened);
     match stretch.end {
         Ok(suffix) => Ok(places(
             text,

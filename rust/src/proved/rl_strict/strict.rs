@@ -36,7 +36,7 @@ pub fn after_closer<'t>(hashes: &str, c: char, after: &'t str) -> Option<&'t str
 /// Returns the text after the characters at its beginning that a raw string of the kind `kind` may contain and that aren't a
 /// quote.
 #[inline]
-pub fn skip_inside(kind: Kind, text: &str) -> &str {
+pub fn skip_raw_characters(kind: Kind, text: &str) -> &str {
     match kind {
         Kind::Str => split_before(Marks::two(b'"', b'\r'), text).1,
         Kind::ByteStr => split_ascii_run(Marks::two(b'"', b'\r'), text).1,

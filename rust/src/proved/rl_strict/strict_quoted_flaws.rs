@@ -55,7 +55,7 @@ pub fn raw_character_flaw(kind: Kind, c: char) -> FlawKind {
 }
 
 /// Returns the text after the hashes at its beginning, but skips at most 255 of them.
-pub fn skip_few_hashes(text: &str) -> &str {
+pub fn skip_allowed_hashes(text: &str) -> &str {
     let mut rest = text;
     let mut count = 0_u32;
     while count < 255 {

@@ -8,10 +8,10 @@ use crate::rl_strict::read_quoted::{Single, quoted_at, text_at, unit_at};
 use crate::rl_strict::walk_units::split;
 use crate::rl_lenient::digit_runs::begins_digit;
 use crate::rl_lenient::quoted_forms::split_opener;
-use crate::rl_lenient::units::is_bare_character;
+use crate::rl_lenient::units::is_allowed_in_single_quotes;
 use crate::rl_lenient::{Body, bool_of};
 use crate::rl_syntax::Kind;
-use crate::rl_syntax::text::{ascii_at, begins_with, strip_byte};
+use crate::rl_syntax::text::{ascii_at, begins_with_char, strip_byte};
 
 /// The parse result of a literal token. Offsets are in bytes of the token's text as written.
 ///
@@ -40,9 +40,9 @@ pub enum Front<'t> {
     Bare(u8),
     /// The text begins with `'`, and this is the text after it. [`read_character`] parses the text.
     Apostrophe(&'t str),
-    /// The text begins with a digit. [`read_digits`] parses the text.
+    /// The text begins with a digit. [`read_unsigned_number`] parses the text.
     Digit,
-    /// The text begins otherwise. [`read_other`] parses the text.
+    /// The text begins otherwise. [`read_non_digit_start`] parses the text.
     Other,
 }
 
@@ -54,7 +54,7 @@ fn bare_of(text: &str) -> Option<u8> {
     if bytes.len() != 3 || bytes[0] != b'\'' || bytes[2] != b'\'' || bytes[1] >= 128 {
         return None;
     }
-    if is_bare_character(bytes[1] as char) {
+    if is_allowed_in_single_quotes(bytes[1] as char) {
         Some(bytes[1])
     } else {
         None
@@ -125,10 +125,10 @@ fn negative_at<'t>(text: &'t str, number: &'t str) -> Result<Reading, FlawAt<'t>
 
 /// Returns the flaw of a text that begins neither with a digit nor as a quoted literal, and isn't `true` or `false`.
 fn word_flaw(text: &str) -> FlawAt<'_> {
-    if begins_with(text, '-') {
+    if begins_with_char(text, '-') {
         make_flaw(FlawKind::Minus, text)
     } else {
-        first_flaw(text).in_piece(text)
+        first_flaw(text).with_piece(text)
     }
 }
 
@@ -215,7 +215,7 @@ pub fn after_first(ends: LineEnds, text: &str) -> &str {
 }
 
 /// Converts a flaw to byte offsets in `text` as written. In a file, a CR LF at the flaw's position is one character.
-pub fn place_flaw(ends: LineEnds, found: FlawAt<'_>, text: &str) -> Flaw {
+pub fn flaw_with_offsets(ends: LineEnds, found: FlawAt<'_>, text: &str) -> Flaw {
     let after = after_first(ends, found.rest);
     Flaw {
         kind: found.kind,
@@ -235,7 +235,7 @@ pub fn place_flaw(ends: LineEnds, found: FlawAt<'_>, text: &str) -> Flaw {
 pub fn read_string(text: &str, inside: &str) -> Result<Body, Flaw> {
     match text_at(LineEnds::Text, Kind::Str, text, inside) {
         Ok(body) => Ok(body),
-        Err(found) => Err(place_flaw(LineEnds::Text, found, text)),
+        Err(found) => Err(flaw_with_offsets(LineEnds::Text, found, text)),
     }
 }
 
@@ -248,7 +248,7 @@ pub fn read_string(text: &str, inside: &str) -> Result<Body, Flaw> {
 pub fn read_character(text: &str, inside: &str) -> Result<Single, Flaw> {
     match unit_at(LineEnds::Text, Kind::Char, text, inside) {
         Ok(single) => Ok(single),
-        Err(found) => Err(place_flaw(LineEnds::Text, found, text)),
+        Err(found) => Err(flaw_with_offsets(LineEnds::Text, found, text)),
     }
 }
 
@@ -258,10 +258,10 @@ pub fn read_character(text: &str, inside: &str) -> Result<Single, Flaw> {
 ///
 /// Returns the flaw if the text isn't a number.
 #[inline(always)]
-pub fn read_digits(text: &str) -> Result<Reading, Flaw> {
+pub fn read_unsigned_number(text: &str) -> Result<Reading, Flaw> {
     match number_at(text) {
         Ok(reading) => Ok(reading),
-        Err(found) => Err(place_flaw(LineEnds::Text, found, text)),
+        Err(found) => Err(flaw_with_offsets(LineEnds::Text, found, text)),
     }
 }
 
@@ -271,15 +271,15 @@ pub fn read_digits(text: &str) -> Result<Reading, Flaw> {
 ///
 /// Returns the flaw if the text is neither a literal token nor a minus and a number.
 #[inline(never)]
-pub fn read_other(text: &str) -> Result<Reading, Flaw> {
+pub fn read_non_digit_start(text: &str) -> Result<Reading, Flaw> {
     match strip_byte(text, b'-') {
         Some(number) => match negative_at(text, number) {
             Ok(reading) => Ok(reading),
-            Err(found) => Err(place_flaw(LineEnds::Text, found, text)),
+            Err(found) => Err(flaw_with_offsets(LineEnds::Text, found, text)),
         },
         None => match other_at(LineEnds::Text, text) {
             Ok(reading) => Ok(reading),
-            Err(found) => Err(place_flaw(LineEnds::Text, found, text)),
+            Err(found) => Err(flaw_with_offsets(LineEnds::Text, found, text)),
         },
     }
 }
@@ -303,6 +303,6 @@ pub fn read_other(text: &str) -> Result<Reading, Flaw> {
 pub fn read(text: &str, ends: LineEnds, signed: bool) -> Result<Reading, Flaw> {
     match signed_at(text, ends, signed) {
         Ok(reading) => Ok(reading),
-        Err(found) => Err(place_flaw(ends, found, text)),
+        Err(found) => Err(flaw_with_offsets(ends, found, text)),
     }
 }

@@ -5,9 +5,9 @@
 use crate::rl_strict::flaws::{FlawAt, FlawKind, end_flaw, make_flaw};
 use crate::rl_strict::line_ends::LineEnds;
 use crate::rl_strict::read_quoted::{split_unit, suffix_flaw};
-use crate::rl_strict::strict::{after_closer, skip_inside};
+use crate::rl_strict::strict::{after_closer, skip_raw_characters};
 use crate::rl_strict::strict_quoted_flaws::{
-    ends_raw_content, raw_character_flaw, skip_few_hashes, unit_flaw,
+    ends_raw_content, raw_character_flaw, skip_allowed_hashes, unit_flaw,
 };
 use crate::rl_strict::walk_units::{skip_units, split};
 use crate::rl_lenient::quoted_forms::{QuotedForm, after_quote};
@@ -19,12 +19,12 @@ use crate::rl_syntax::text::{before, split_char};
 /// `kind` can't contain.
 #[inline(always)]
 fn skip_raw<'t>(ends: LineEnds, kind: Kind, hashes: &str, text: &'t str) -> &'t str {
-    let mut rest = skip_inside(kind, text);
+    let mut rest = skip_raw_characters(kind, text);
     while let Some((c, after)) = split(ends, rest) {
         if ends_raw_content(kind, hashes, c, after) {
             return rest;
         }
-        rest = skip_inside(kind, after);
+        rest = skip_raw_characters(kind, after);
     }
     rest
 }
@@ -42,7 +42,7 @@ pub struct QuotedContent<'t> {
 /// Parses the text after the opening quote of a string with escapes.
 #[cfg_attr(debug_assertions, inline)]
 #[cfg_attr(not(debug_assertions), inline(always))]
-pub fn walk_cooked(ends: LineEnds, kind: Kind, text: &str) -> QuotedContent<'_> {
+pub fn parse_cooked_content(ends: LineEnds, kind: Kind, text: &str) -> QuotedContent<'_> {
     let (_, following) = split_plain(kind, text);
     if let Some(suffix) = after_quote(Kind::Str, following) {
         return match suffix_flaw(QuotedForm::Cooked, following, suffix) {
@@ -75,7 +75,7 @@ pub fn walk_cooked(ends: LineEnds, kind: Kind, text: &str) -> QuotedContent<'_> 
         None => QuotedContent {
             closing,
             plain: false,
-            end: Err(unit_flaw(kind, closing).in_piece(closing)),
+            end: Err(unit_flaw(kind, closing).with_piece(closing)),
         },
     }
 }
@@ -91,11 +91,11 @@ pub struct UnitStretch<'t> {
 /// Parses the text after the opening quote of a character or byte literal.
 #[cfg_attr(debug_assertions, inline)]
 #[cfg_attr(not(debug_assertions), inline(always))]
-pub fn walk_single(ends: LineEnds, kind: Kind, text: &str) -> UnitStretch<'_> {
+pub fn parse_single_unit(ends: LineEnds, kind: Kind, text: &str) -> UnitStretch<'_> {
     let Some((unit, closing)) = split_unit(kind, text) else {
         return UnitStretch {
             closing: text,
-            end: Err(unit_flaw(kind, text).in_piece(text)),
+            end: Err(unit_flaw(kind, text).with_piece(text)),
         };
     };
     match after_quote(Kind::Char, closing) {
@@ -111,7 +111,9 @@ pub fn walk_single(ends: LineEnds, kind: Kind, text: &str) -> UnitStretch<'_> {
         },
         None => UnitStretch {
             closing: text,
-            end: Err(end_flaw(FlawKind::Unclosed, FlawKind::TwoCharacters, closing).in_piece(text)),
+            end: Err(end_flaw(FlawKind::Unclosed, FlawKind::TwoCharacters, closing).with_piece(
+                text,
+            )),
         },
     }
 }
@@ -119,7 +121,12 @@ pub fn walk_single(ends: LineEnds, kind: Kind, text: &str) -> UnitStretch<'_> {
 /// Parses the text after the opening quote of a raw string that has `hashes` before this quote.
 #[cfg_attr(debug_assertions, inline)]
 #[cfg_attr(not(debug_assertions), inline(always))]
-pub fn walk_raw<'t>(ends: LineEnds, kind: Kind, hashes: &str, text: &'t str) -> QuotedContent<'t> {
+pub fn parse_raw_content<'t>(
+    ends: LineEnds,
+    kind: Kind,
+    hashes: &str,
+    text: &'t str,
+) -> QuotedContent<'t> {
     let closing = skip_raw(ends, kind, hashes, text);
     let Some((c, after)) = split(ends, closing) else {
         return QuotedContent {
@@ -154,12 +161,12 @@ pub fn walk_raw<'t>(ends: LineEnds, kind: Kind, hashes: &str, text: &'t str) -> 
 #[cfg_attr(debug_assertions, inline)]
 #[cfg_attr(not(debug_assertions), inline(always))]
 pub fn open_raw(kind: Kind, inside: &str) -> Result<(&str, &str), FlawAt<'_>> {
-    let rest = skip_few_hashes(inside);
+    let rest = skip_allowed_hashes(inside);
     let Some((first, opened)) = split_char(rest) else {
         return Err(make_flaw(FlawKind::UnexpectedEnd, rest));
     };
     if first == '#' {
-        Err(make_flaw(FlawKind::TooManyHashes, rest).in_piece(inside))
+        Err(make_flaw(FlawKind::TooManyHashes, rest).with_piece(inside))
     } else if first == '"' {
         Ok((before(inside, rest), opened))
     } else {

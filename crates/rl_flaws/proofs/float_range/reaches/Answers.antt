@@ -1,4 +1,4 @@
-use Rattle.rl_syntax.proofs.Common.{◌≡◌, ◌==◌, ◌∙◌, ℕ, List, ap, arith, cond, length, list_any, not, sym}
+use Rattle.rl_syntax.proofs.Common.{◌≡◌, ◌==◌, ◌∙◌, ℕ, List, ap, arith, cond, length, list_any, not}
 use Rattle.std.specs.Str.{chars}
 use Rattle.rl_flaws.specs.FloatRange.{digits_only}
 use Rattle.rl_flaws.specs.Mirrors.Floats.{not_below, without_zeros}

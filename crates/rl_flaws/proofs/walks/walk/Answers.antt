@@ -7,19 +7,19 @@ returns-in-Cooked c =
     let o = subst (λ f. HasForm f c.args.opened.kind (chars c.args.opened.hashes.now)) c.in-Cooked.is c.requires in
     let front = ap (λ f. front_of f c.args.opened.kind (chars c.args.opened.hashes.now)
     ++ read_of c.args.ends (chars c.args.text.now)) c.in-Cooked.is in
-    let walk = c.walk_cooked.ensures in
-    let closing : IsUtf8 c.walk_cooked.result.closing.now = search rules in
+    let walk = c.parse_cooked_content.ensures in
+    let closing : IsUtf8 c.parse_cooked_content.result.closing.now = search rules in
     record {
       good = λ e. subst (λ f. IsInsideUpTo f c.args.opened.kind (chars c.args.opened.hashes.now) (chars c.args.text.now)
-          (chars c.walk_cooked.result.closing.now)) (sym c.in-Cooked.is) (cooked_up_to c.args.ends _ (chars c.args.opened.hashes.now)
+          (chars c.parse_cooked_content.result.closing.now)) (sym c.in-Cooked.is) (cooked_up_to c.args.ends _ (chars c.args.opened.hashes.now)
           _ _ walk.run walk.stuck e);
       rest = walk.rest;
       following = tail_chars _ _ _ c.utf8.text closing walk.rest.text_is;
-      some = IfErr-weaker c.walk_cooked.result.end _ _ (piece_some CookedForm _) walk.at;
-      piece = IfErr-weaker c.walk_cooked.result.end _ _ (λ f s. s.piece_in) walk.stops;
-      stop = IfErr-weaker c.walk_cooked.result.end _ _ (λ f s. s.rest_in) walk.stops;
-      token = IfOk-weaker c.walk_cooked.result.end _ _ (λ suffix. close_token CookedForm _ _ _ o front) walk.closes;
-      flaw = IfErr-weaker c.walk_cooked.result.end _ _ (λ f. flaw_after c.args.ends CookedForm _ f.kind _ _ _ _ _ o front)
+      some = IfErr-weaker c.parse_cooked_content.result.end _ _ (piece_some CookedForm _) walk.at;
+      piece = IfErr-weaker c.parse_cooked_content.result.end _ _ (λ f s. s.piece_in) walk.stops;
+      stop = IfErr-weaker c.parse_cooked_content.result.end _ _ (λ f s. s.rest_in) walk.stops;
+      token = IfOk-weaker c.parse_cooked_content.result.end _ _ (λ suffix. close_token CookedForm _ _ _ o front) walk.closes;
+      flaw = IfErr-weaker c.parse_cooked_content.result.end _ _ (λ f. flaw_after c.args.ends CookedForm _ f.kind _ _ _ _ _ o front)
           walk.stops;
     }
 
@@ -48,18 +48,18 @@ returns-in-Raw c =
     let o = subst (λ f. HasForm f c.args.opened.kind (chars c.args.opened.hashes.now)) c.in-Raw.is c.requires in
     let front = ap (λ f. front_of f c.args.opened.kind (chars c.args.opened.hashes.now)
     ++ read_of c.args.ends (chars c.args.text.now)) c.in-Raw.is ∙ raw_cut _ _ _ _ refl in
-    let walk = c.walk_raw.ensures in
-    let closing : IsUtf8 c.walk_raw.result.closing.now = search rules in
+    let walk = c.parse_raw_content.ensures in
+    let closing : IsUtf8 c.parse_raw_content.result.closing.now = search rules in
     record {
       good = λ e. subst (λ f. IsInsideUpTo f c.args.opened.kind (chars c.args.opened.hashes.now) (chars c.args.text.now)
-          (chars c.walk_raw.result.closing.now)) (sym c.in-Raw.is) (raw_in_text c.args.ends _ (chars c.args.opened.hashes.now)
+          (chars c.parse_raw_content.result.closing.now)) (sym c.in-Raw.is) (raw_in_text c.args.ends _ (chars c.args.opened.hashes.now)
           _ _ o.0 walk.stop e);
       rest = walk.rest;
       following = tail_chars _ _ _ c.utf8.text closing walk.rest.text_is;
-      some = IfErr-weaker c.walk_raw.result.end _ _ (piece_some RawForm _) walk.at;
-      piece = IfErr-weaker c.walk_raw.result.end _ _ (λ f s. s.piece_in) walk.stops;
-      stop = IfErr-weaker c.walk_raw.result.end _ _ (λ f s. s.rest_in) walk.stops;
-      token = IfOk-weaker c.walk_raw.result.end _ _ (λ suffix. close_token RawForm _ _ _ o.0 front) walk.closes;
-      flaw = IfErr-weaker c.walk_raw.result.end _ _ (λ f. flaw_after c.args.ends RawForm _ f.kind _ _ _ _ _ o.0 front)
+      some = IfErr-weaker c.parse_raw_content.result.end _ _ (piece_some RawForm _) walk.at;
+      piece = IfErr-weaker c.parse_raw_content.result.end _ _ (λ f s. s.piece_in) walk.stops;
+      stop = IfErr-weaker c.parse_raw_content.result.end _ _ (λ f s. s.rest_in) walk.stops;
+      token = IfOk-weaker c.parse_raw_content.result.end _ _ (λ suffix. close_token RawForm _ _ _ o.0 front) walk.closes;
+      flaw = IfErr-weaker c.parse_raw_content.result.end _ _ (λ f. flaw_after c.args.ends RawForm _ f.kind _ _ _ _ _ o.0 front)
           walk.stops;
     }

@@ -6,10 +6,10 @@ use Rattle.rl_strict.proofs.strict_reading.read_character.Goals as goal
 pub unit_at-requires : goal.unit_at-requires
 unit_at-requires c = character_opens _ _ c.requires
 
-pub place_flaw-requires : goal.place_flaw-requires
-place_flaw-requires c = record { piece = c.in-Err.ensures.flaw.piece_in; rest = c.in-Err.ensures.flaw.rest_in }
+pub flaw_with_offsets-requires : goal.flaw_with_offsets-requires
+flaw_with_offsets-requires c = record { piece = c.in-Err.ensures.flaw.piece_in; rest = c.in-Err.ensures.flaw.rest_in }
 
 pub returns-in-Err-clause-flaw : goal.returns-in-Err-clause-flaw
 returns-in-Err-clause-flaw c =
-    let at = c.place_flaw.ensures in
-    explained Text false _ _ _ _ c.place_flaw.result c.in-Err.ensures.flaw at.kind at.from at.lo at.hi at.ordered
+    let at = c.flaw_with_offsets.ensures in
+    explained Text false _ _ _ _ c.flaw_with_offsets.result c.in-Err.ensures.flaw at.kind at.from at.lo at.hi at.ordered

@@ -6,7 +6,7 @@ use Rattle.rl_strict.proofs.walk.skip_raw.Goals as goal
 
 pub loop-c-init : goal.loop-c-init
 loop-c-init c =
-    let (run, e, each) = c.skip_inside-rest.ensures.run in
+    let (run, e, each) = c.skip_raw_characters-rest.ensures.run in
     record {
       utf8 = search rules;
       same = inside_past c.args.ends _ _ _ _ run _ e each refl;
@@ -15,7 +15,7 @@ loop-c-init c =
 
 pub loop-c-preserved : goal.loop-c-preserved
 loop-c-preserved c =
-    let (run, e, each) = c.skip_inside-rest-in-Some.ensures.run in
+    let (run, e, each) = c.skip_raw_characters-rest-in-Some.ensures.run in
     let on = walk_on c.args.kind (chars c.args.hashes.now) _ _ _ _ c.in-Some.ensures.chars
     (halts_of c.args.ends c.requires.0 c.args.kind c.in-Some.c _ _ c.requires.1 ∙ sym c.ends_raw_content.ensures ∙ c.if-ends_raw_content.false)
     c.loop-c.invariant.same in

@@ -29,4 +29,4 @@ pub use crate::rl_output::last_lines::count_line_feeds;
 pub use crate::rl_output::line_column::{Extent, Places, Position};
 pub use crate::rl_output::member::{push_ascii, push_member};
 pub use crate::rl_output::path::without_dot;
-pub use crate::rl_output::place::{LineColumn, Place, push_front};
+pub use crate::rl_output::place::{LineColumn, Place, push_line_start};

@@ -3,7 +3,7 @@
 
 use crate::rattle_std::prelude::{String};
 use crate::rl_files::push_visible;
-use crate::rl_output::{Form, Level, Place, push_ascii, push_front};
+use crate::rl_output::{Form, Level, Place, push_ascii, push_line_start};
 use crate::rattle_std::alloc::{AllocError, Allocator};
 
 /// Appends the output line for a literal that is rewritten: its position, its old text, `->` and its new text.
@@ -21,7 +21,7 @@ pub fn push_change<A: Allocator>(
     old: &str,
     new: &str,
 ) -> Result<(), AllocError> {
-    push_front(out, Level::Error, form, path, place)?;
+    push_line_start(out, Level::Error, form, path, place)?;
     push_visible(out, old)?;
     push_ascii(out, " -> ")?;
     push_visible(out, new)?;

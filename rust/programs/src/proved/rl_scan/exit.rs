@@ -6,7 +6,8 @@ use crate::rl_scan::runs::{RunStop, Tally, run};
 use crate::rl_files::{PathError, Replace, Selection, Tree, Walk, WalkError};
 use crate::rl_options::{
     Action, ArgumentError, Command, Console, HELP, LineError, ParsedArguments, Restyling,
-    RulesError, VERSION, lists_files, parse_arguments, push_all_listed, rules_in, visible_text,
+    RulesError, VERSION, lists_files, parse_arguments, push_all_listed, read_rules_file,
+    visible_text,
 };
 use crate::rl_program::{Ending, RunError, WriteError, write_bytes};
 use crate::rl_restyle::default_style;
@@ -345,7 +346,7 @@ fn scan_styled<A: Allocator + Copy, T: Tree, W: Write, E: Write, F: Replace>(
             files,
         );
     };
-    match rules_in(alloc, tree, file) {
+    match read_rules_file(alloc, tree, file) {
         Ok(rules) => scan_requested(alloc, asked, rules, is_terminal, tree, out, err, files),
         Err(error) => rules_error(alloc, file, error),
     }

@@ -5,7 +5,7 @@ use crate::rattle_std::prelude::{String, Vec};
 use crate::rl_scan::report::{
     Report, edition_for, is_by_line, is_input, path_before, path_in, report_error, written,
 };
-use crate::rl_scan::{Outcome, check_options, push_changes, push_diff, rewrite_outcome};
+use crate::rl_scan::{Outcome, push_changes, push_diff, rewrite_outcome, source_check_options};
 use crate::rl_files::{Replace, push_visible};
 use crate::rl_options::{Command, Output, Restyling, visible_text};
 use crate::rl_restyle::{Macros, Restyled};
@@ -232,7 +232,7 @@ pub(crate) fn report_restyled<A: Allocator + Copy, F: Replace>(
     let shown = visible_text(alloc, path)?;
     let before = path_before(path, shown.as_str());
     let named = path_in(command.nul_after_paths, path, before);
-    let options = check_options(
+    let options = source_check_options(
         edition_for(command),
         is_by_line(command.places, path),
         before,

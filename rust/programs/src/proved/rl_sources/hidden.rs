@@ -6,8 +6,10 @@ use crate::rl_sources::options::Options;
 use crate::rl_sources::place::{displayed_place, push_context_of};
 use crate::rl_files::needs_escape;
 use crate::rl_lexer::without_byte_order_mark;
-use crate::rl_output::{Form, Level, Places, push_annotation_end, push_ascii, push_front, push_member};
-use crate::rl_tokens::text::{begins_with, split_char};
+use crate::rl_output::{
+    Form, Level, Places, push_annotation_end, push_ascii, push_line_start, push_member,
+};
+use crate::rl_tokens::text::{begins_with_char, split_char};
 use crate::rattle_std::alloc::{AllocError, Allocator};
 
 /// The identifier of a finding of an invisible or bidirectional character. It never changes.
@@ -16,7 +18,7 @@ const HIDDEN_ID: &str = "hidden";
 /// Whether `c` is a control character of the layout: a tab, an LF, a form feed, or a CR before an LF. `after` is the text after
 /// `c`.
 fn is_layout(c: char, after: &str) -> bool {
-    matches!(c, '\t' | '\n' | '\u{c}') || c == '\r' && begins_with(after, '\n')
+    matches!(c, '\t' | '\n' | '\u{c}') || c == '\r' && begins_with_char(after, '\n')
 }
 
 /// Whether `c` is invisible or bidirectional: displayed as an escape, and not part of the layout. `after` is the text after `c`.
@@ -105,7 +107,7 @@ fn push_hidden_line<'t, A: Allocator>(
     let lo = places.byte_of(rest);
     let hi = places.byte_of(after);
     let place = displayed_place(options, places, rest, lo, hi);
-    push_front(out, Level::Error, options.form, options.path, &place)?;
+    push_line_start(out, Level::Error, options.form, options.path, &place)?;
     push_hidden_end(alloc, out, options.form, c)?;
     push_context_of(out, options, places, rest, lo, hi)
 }

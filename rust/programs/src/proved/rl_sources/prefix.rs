@@ -1,7 +1,7 @@
 // Rendered from crates/rl_sources/src/prefix.rt by tools/render, which erases contracts: change that file, and render anew.
 //! The reserved prefix of a literal: a word or hashes right before it that the edition reserves.
 
-use crate::rl_flaws::{Edition, reserved_from};
+use crate::rl_flaws::{Edition, first_reserving_edition};
 use crate::rl_output::Places;
 use crate::rl_tokens::SourceToken;
 
@@ -30,7 +30,7 @@ fn before_word(bytes: &[u8]) -> &[u8] {
 /// literal.
 fn start_of(before: &str, text: &str) -> usize {
     let front = before_hashes(before.as_bytes());
-    match reserved_from(before, text) {
+    match first_reserving_edition(before, text) {
         Some(Edition::E2021) => before_word(front).len(),
         _ => front.len(),
     }

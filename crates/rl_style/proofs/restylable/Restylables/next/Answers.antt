@@ -33,14 +33,14 @@ loop-token-preserved c =
     let calls = calls_seen c.calls_after-calls.result in
     let steps : Steps was c.in-Some.token last calls =
     record { last_is = c.last_after-last.ensures; calls_are = c.calls_after-calls.ensures } in
-    let literal_expected : IsLiteralOfSource c.in-Some.token → ⊥ = λ is. both_ways _ c.if-is_literal.false
+    let is_other : IsLiteralOfSource c.in-Some.token → ⊥ = λ is. both_ways _ c.if-is_literal.false
     (c.is_literal.ensures.1 is) in
     record {
       nearer = omega (arith, c.in-Some.ensures.shorter, c.loop-token.invariant.nearer);
       literal = λ it new g. c.loop-token.invariant.literal it new
-          (literal_behind was c.in-Some.token c.next.new.self last calls steps c.in-Some.ensures.next literal_expected it new g);
+          (literal_behind was c.in-Some.token c.next.new.self last calls steps c.in-Some.ensures.next is_other it new g);
       none = λ new g. c.loop-token.invariant.none new
-          (none_behind was c.in-Some.token c.next.new.self last calls steps c.in-Some.ensures.next literal_expected new g);
+          (none_behind was c.in-Some.token c.next.new.self last calls steps c.in-Some.ensures.next is_other new g);
     }
 
 pub returns-clause-none : goal.returns-clause-none
