@@ -8,7 +8,7 @@ use Rattle.rl_options.specs.declared.flags.Effect.TheVariants.{Sets, Takes, Ends
 use Rattle.rl_options.specs.declared.flags.Operand.{Operand}
 use Rattle.rl_options.specs.declared.table.OptionRow.{OptionRow}
 use Rattle.rl_options.specs.Meant.{option_part}
-use Rattle.rl_options.specs.Options.{IsJoinedWord, IsLetter, OptionEntry, ends_options, has_letter, suggests}
+use Rattle.rl_options.specs.Options.{IsJoinedWord, IsLetter, OptionEntry, ends_options, is_letter_of, suggests}
 use Rattle.rl_options.specs.Options.{effect_lettered, effect_named, name_meant, options}
 
 -- The entry of the table that a row in the program represents.
@@ -44,10 +44,10 @@ unfolding effect_named options
 effect_is rows word r listed is = found_in (λ e. e.effect) (λ e. bytes_eq e.name word) rows r listed is
 
 pub letter_is : (rows : List OptionRow) (c : ℕ) (r : Option (Bor OptionRow)) → map entry_of rows ≡ options
-    → option_copied r ≡ find (λ row. has_letter row.letter c) rows
+    → option_copied r ≡ find (λ row. is_letter_of row.letter c) rows
     → option_map (λ row. row.now.effect) r ≡ effect_lettered c
 unfolding effect_lettered options
-letter_is rows c r listed is = found_in (λ e. e.effect) (λ e. has_letter e.letter c) rows r listed is
+letter_is rows c r listed is = found_in (λ e. e.effect) (λ e. is_letter_of e.letter c) rows r listed is
 
 pub meant_is : (rows : List OptionRow) (word : List ℕ) (r : Option (Bor OptionRow)) → map entry_of rows ≡ options
     → option_copied r ≡ find (λ row. suggests row.effect row.name.now (option_part word)) rows
@@ -66,16 +66,16 @@ abbrev is_plain : OptionEntry → Bool
 is_plain entry = plain entry.letter entry.effect
 
 found_plain : (entries : List OptionEntry) (c : ℕ) (effect : Effect) → list_all is_plain entries ≡ true
-    → option_map (λ entry. entry.effect) (find (λ entry. has_letter entry.letter c) entries) ≡ Some effect
+    → option_map (λ entry. entry.effect) (find (λ entry. is_letter_of entry.letter c) entries) ≡ Some effect
     → (c < 128) × (ends_options effect ≡ false)
 found_plain [] c effect all found = absurd (cc)
 found_plain (entry ∷ entries) c effect all found = go (found_plain entries c effect (and_parts _ _ all).1)
-    (has_letter entry.letter c) refl found
+    (is_letter_of entry.letter c) refl found
   where
     parts : (is_plain entry ≡ true) × (list_all is_plain entries ≡ true)
     parts = and_parts _ _ all
 
-    here : (letter : Option ℕ) (e : Effect) → plain letter e ≡ true → has_letter letter c ≡ true → e ≡ effect
+    here : (letter : Option ℕ) (e : Effect) → plain letter e ≡ true → is_letter_of letter c ≡ true → e ≡ effect
         → (c < 128) × (ends_options effect ≡ false)
     here None e fits test same = absurd (cc)
     here (Some l) e fits test same =
@@ -84,11 +84,11 @@ found_plain (entry ∷ entries) c effect all found = go (found_plain entries c e
           subst (λ (z : Effect). ends_options z ≡ false) same (not-true (ends_options e) both.1),
         )
 
-    go : (option_map (λ (entry : OptionEntry). entry.effect) (find (λ (entry : OptionEntry). has_letter entry.letter c)
+    go : (option_map (λ (entry : OptionEntry). entry.effect) (find (λ (entry : OptionEntry). is_letter_of entry.letter c)
         entries) ≡ Some effect → (c < 128) × (ends_options effect ≡ false)) → (b : Bool)
-        → has_letter entry.letter c ≡ b
+        → is_letter_of entry.letter c ≡ b
         → option_map (λ (entry : OptionEntry). entry.effect) (cond b (Some entry)
-        (find (λ (entry : OptionEntry). has_letter entry.letter c) entries)) ≡ Some effect
+        (find (λ (entry : OptionEntry). is_letter_of entry.letter c) entries)) ≡ Some effect
         → (c < 128) × (ends_options effect ≡ false)
     go later true test found =
         let same : entry.effect ≡ effect = (cc) in here entry.letter entry.effect parts.0 test same

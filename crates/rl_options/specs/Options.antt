@@ -17,49 +17,49 @@ pub record OptionEntry : Type 0 where
   pub letter : Option ℕ
   pub effect : Effect
 
-abbrev pub listed : List ℕ → Option ℕ → Effect → OptionEntry
-listed name letter effect = record { name = name; letter = letter; effect = effect }
+abbrev pub option_entry : List ℕ → Option ℕ → Effect → OptionEntry
+option_entry name letter effect = record { name = name; letter = letter; effect = effect }
 
 -- The options of `rl_scan`.
 unfoldable pub options : List OptionEntry
 options =
-    listed (codes "--bad") None (Sets Bad) ∷
-    listed (codes "--invisible") None (Sets Hidden) ∷
-    listed (codes "--only") None (Takes takes.Kinds) ∷
-    listed (codes "--find") (Some (code "e")) (Takes takes.Text) ∷
-    listed (codes "--ignore-case") (Some (code "i")) (Sets IgnoreCase) ∷
-    listed (codes "--word") (Some (code "w")) (Sets WholeWords) ∷
-    listed (codes "--no-stray") None (Sets NoStray) ∷
-    listed (codes "--any-suffix") None (Sets AnySuffix) ∷
-    listed (codes "--edition") None (Takes takes.Edition) ∷
-    listed (codes "--all") None (Sets AllDirectories) ∷
-    listed (codes "--extension") None (Takes takes.Extension) ∷
-    listed (codes "--exclude") None (Takes takes.Pattern) ∷
-    listed (codes "--files") None (Sets Files) ∷
-    listed (codes "--files-from") None (Takes takes.List) ∷
-    listed (codes "--no-messages") None (Sets NoMessages) ∷
-    listed (codes "--bytes") None (Sets Bytes) ∷
-    listed (codes "--lines") None (Sets Lines) ∷
-    listed (codes "--text") None (Sets Text) ∷
-    listed (codes "--json") None (Sets Json) ∷
-    listed (codes "--format") None (Takes takes.Format) ∷
-    listed (codes "--context") (Some (code "C")) (Takes takes.Around) ∷
-    listed (codes "--before-context") (Some (code "B")) (Takes takes.Before) ∷
-    listed (codes "--after-context") (Some (code "A")) (Takes takes.After) ∷
-    listed (codes "--color") None (Takes takes.Color) ∷
-    listed (codes "--count") (Some (code "c")) (Sets Count) ∷
-    listed (codes "--files-with-matches") (Some (code "l")) (Sets FilesWithMatches) ∷
-    listed (codes "--null") (Some (code "Z")) (Sets Nul) ∷
-    listed (codes "--quiet") (Some (code "q")) (Sets Quiet) ∷
-    listed (codes "--stats") None (Sets Stats) ∷
-    listed (codes "--fix") None (Sets Fix) ∷
-    listed (codes "--check") None (Sets Check) ∷
-    listed (codes "--diff") None (Sets Diff) ∷
-    listed (codes "--style") None (Takes takes.Style) ∷
-    listed (codes "--macros") None (Takes takes.Macros) ∷
-    listed (codes "--help") (Some (code "h")) (Sets Help) ∷
-    listed (codes "--version") (Some (code "V")) (Sets Version) ∷
-    listed (codes "--") None EndsOptions ∷
+    option_entry (codes "--bad") None (Sets Bad) ∷
+    option_entry (codes "--invisible") None (Sets Hidden) ∷
+    option_entry (codes "--only") None (Takes takes.Kinds) ∷
+    option_entry (codes "--find") (Some (code "e")) (Takes takes.Text) ∷
+    option_entry (codes "--ignore-case") (Some (code "i")) (Sets IgnoreCase) ∷
+    option_entry (codes "--word") (Some (code "w")) (Sets WholeWords) ∷
+    option_entry (codes "--no-stray") None (Sets NoStray) ∷
+    option_entry (codes "--any-suffix") None (Sets AnySuffix) ∷
+    option_entry (codes "--edition") None (Takes takes.Edition) ∷
+    option_entry (codes "--all") None (Sets AllDirectories) ∷
+    option_entry (codes "--extension") None (Takes takes.Extension) ∷
+    option_entry (codes "--exclude") None (Takes takes.Pattern) ∷
+    option_entry (codes "--files") None (Sets Files) ∷
+    option_entry (codes "--files-from") None (Takes takes.List) ∷
+    option_entry (codes "--no-messages") None (Sets NoMessages) ∷
+    option_entry (codes "--bytes") None (Sets Bytes) ∷
+    option_entry (codes "--lines") None (Sets Lines) ∷
+    option_entry (codes "--text") None (Sets Text) ∷
+    option_entry (codes "--json") None (Sets Json) ∷
+    option_entry (codes "--format") None (Takes takes.Format) ∷
+    option_entry (codes "--context") (Some (code "C")) (Takes takes.Around) ∷
+    option_entry (codes "--before-context") (Some (code "B")) (Takes takes.Before) ∷
+    option_entry (codes "--after-context") (Some (code "A")) (Takes takes.After) ∷
+    option_entry (codes "--color") None (Takes takes.Color) ∷
+    option_entry (codes "--count") (Some (code "c")) (Sets Count) ∷
+    option_entry (codes "--files-with-matches") (Some (code "l")) (Sets FilesWithMatches) ∷
+    option_entry (codes "--null") (Some (code "Z")) (Sets Nul) ∷
+    option_entry (codes "--quiet") (Some (code "q")) (Sets Quiet) ∷
+    option_entry (codes "--stats") None (Sets Stats) ∷
+    option_entry (codes "--fix") None (Sets Fix) ∷
+    option_entry (codes "--check") None (Sets Check) ∷
+    option_entry (codes "--diff") None (Sets Diff) ∷
+    option_entry (codes "--style") None (Takes takes.Style) ∷
+    option_entry (codes "--macros") None (Takes takes.Macros) ∷
+    option_entry (codes "--help") (Some (code "h")) (Sets Help) ∷
+    option_entry (codes "--version") (Some (code "V")) (Sets Version) ∷
+    option_entry (codes "--") None EndsOptions ∷
     []
 
 -- The effect of the option with this name, or `None` if there is no such option.
@@ -67,13 +67,13 @@ unfoldable pub effect_named : List ℕ → Option Effect
 effect_named word = option_map (λ entry. entry.effect) (find (λ entry. bytes_eq entry.name word) options)
 
 -- `c` is the letter of a short option.
-abbrev pub has_letter : Option ℕ → ℕ → Bool
-has_letter None c = false
-has_letter (Some letter) c = letter == c
+abbrev pub is_letter_of : Option ℕ → ℕ → Bool
+is_letter_of None c = false
+is_letter_of (Some letter) c = letter == c
 
 -- The effect of the short option with this letter, or `None` if there is no such option.
 unfoldable pub effect_lettered : ℕ → Option Effect
-effect_lettered c = option_map (λ entry. entry.effect) (find (λ entry. has_letter entry.letter c) options)
+effect_lettered c = option_map (λ entry. entry.effect) (find (λ entry. is_letter_of entry.letter c) options)
 
 -- The name of an option with the effect.
 abbrev pub IsOptionWord : Effect → List ℕ → Type 0

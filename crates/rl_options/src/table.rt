@@ -3,7 +3,7 @@
 ghost use Rattle.std.specs.Prelude.{◌≡◌, ◌≢◌, ◌++◌, ℕ, List, codes, find, option_copied, None, IfSome, IfNone};
 ghost use Rattle.std.specs.Str.{bytes_eq};
 ghost use Rattle.rl_options.specs.declared.flags.Operand.{Operand};
-ghost use Rattle.rl_options.specs.Options.{IsJoinedWord, IsLetter, IsMeant, IsOptionWord, effect_lettered, effect_named, ends_options as ends, has_letter as lettered, suggests};
+ghost use Rattle.rl_options.specs.Options.{IsJoinedWord, IsLetter, IsMeant, IsOptionWord, effect_lettered, effect_named, ends_options as ends, is_letter_of as lettered, suggests};
 
 use crate::flags::{Effect, Flag, Operand, after_front, operand_of};
 use crate::suggestion::{is_near, option_part};
@@ -216,7 +216,7 @@ fn row_named<'r>(rows: &'r [OptionRow], word: &str) -> Option<&'r OptionRow>
 }
 
 /// Whether a short option has the letter `c`. `letter` is its letter, or `None` if it has none.
-fn has_letter(letter: Option<char>, c: char) -> bool
+fn is_letter_of(letter: Option<char>, c: char) -> bool
     ensures { result ≡ lettered letter c }
 {
     match letter {
@@ -229,7 +229,7 @@ fn has_letter(letter: Option<char>, c: char) -> bool
 fn row_lettered(rows: &[OptionRow], c: char) -> Option<&OptionRow>
     ensures { option_copied result ≡ find (λ row. lettered row.letter c) rows.now }
 {
-    rows.iter().find(|row| has_letter(row.letter, c))
+    rows.iter().find(|row| is_letter_of(row.letter, c))
 }
 
 /// Returns the effect of the option with the name `word`, as `--bad`, or `None` if there is no such option.

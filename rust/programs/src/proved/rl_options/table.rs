@@ -210,7 +210,7 @@ fn row_named<'r>(rows: &'r [OptionRow], word: &str) -> Option<&'r OptionRow> {
 }
 
 /// Whether a short option has the letter `c`. `letter` is its letter, or `None` if it has none.
-fn has_letter(letter: Option<char>, c: char) -> bool {
+fn is_letter_of(letter: Option<char>, c: char) -> bool {
     match letter {
         Some(letter) => letter == c,
         None => false,
@@ -219,7 +219,7 @@ fn has_letter(letter: Option<char>, c: char) -> bool {
 
 /// Returns the first row with the letter `c`, or `None`.
 fn row_lettered(rows: &[OptionRow], c: char) -> Option<&OptionRow> {
-    rows.iter().find(|row| has_letter(row.letter, c))
+    rows.iter().find(|row| is_letter_of(row.letter, c))
 }
 
 /// Returns the effect of the option with the name `word`, as `--bad`, or `None` if there is no such option.
