@@ -1,5 +1,6 @@
 pub mod Reads
 pub mod Meant
+pub mod Options
 pub mod Flags
 pub mod Wishes
 pub mod Clashes

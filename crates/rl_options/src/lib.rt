@@ -11,6 +11,7 @@ mod help;
 mod path_list;
 mod rules;
 mod suggestion;
+mod table;
 mod visible;
 
 pub use crate::argument_error::ArgumentError;

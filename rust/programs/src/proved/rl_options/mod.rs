@@ -11,6 +11,7 @@ mod help;
 mod path_list;
 mod rules;
 mod suggestion;
+mod table;
 mod visible;
 
 pub use crate::rl_options::argument_error::ArgumentError;

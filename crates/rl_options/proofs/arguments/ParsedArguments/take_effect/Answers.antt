@@ -1,6 +1,6 @@
 use Rattle.rl_files.specs.Globs.{borrowed_texts}
 use Rattle.rl_files.specs.Trees.{string_texts}
-use Rattle.rl_options.proofs.arguments.ParsedArguments.take_flag.Goals as goal
+use Rattle.rl_options.proofs.arguments.ParsedArguments.take_effect.Goals as goal
 
 pub returns-in-Err-clause-rejected : goal.returns-in-Err-clause-rejected
 returns-in-Err-clause-rejected g c = c.in-Err.ensures.rejected (borrowed_texts c.args.self.now.finds.items)

@@ -1,0 +1,267 @@
+// Rendered from crates/rl_options/src/table.rt by tools/render, which erases contracts: change that file, and render anew.
+//! The table of the options of `rl_scan`.
+
+use crate::rl_options::flags::{Effect, Flag, Operand, after_front, operand_of};
+use crate::rl_options::suggestion::{is_near, option_part};
+
+/// An option of `rl_scan`.
+#[derive(Clone, Copy)]
+pub(crate) struct OptionRow {
+    /// The option's name.
+    pub name: &'static str,
+    /// The letter of the short option, if there is one.
+    pub letter: Option<char>,
+    /// The effect of the option.
+    pub effect: Effect,
+}
+
+/// The options of `rl_scan`. If an unknown option is similar to several names, the first one is suggested.
+const OPTIONS: [OptionRow; 37] = [
+    OptionRow {
+        name: "--bad",
+        letter: None,
+        effect: Effect::Sets(Flag::Bad),
+    },
+    OptionRow {
+        name: "--invisible",
+        letter: None,
+        effect: Effect::Sets(Flag::Hidden),
+    },
+    OptionRow {
+        name: "--only",
+        letter: None,
+        effect: Effect::Takes(Operand::Kinds),
+    },
+    OptionRow {
+        name: "--find",
+        letter: Some('e'),
+        effect: Effect::Takes(Operand::Text),
+    },
+    OptionRow {
+        name: "--ignore-case",
+        letter: Some('i'),
+        effect: Effect::Sets(Flag::IgnoreCase),
+    },
+    OptionRow {
+        name: "--word",
+        letter: Some('w'),
+        effect: Effect::Sets(Flag::WholeWords),
+    },
+    OptionRow {
+        name: "--no-stray",
+        letter: None,
+        effect: Effect::Sets(Flag::NoStray),
+    },
+    OptionRow {
+        name: "--any-suffix",
+        letter: None,
+        effect: Effect::Sets(Flag::AnySuffix),
+    },
+    OptionRow {
+        name: "--edition",
+        letter: None,
+        effect: Effect::Takes(Operand::Edition),
+    },
+    OptionRow {
+        name: "--all",
+        letter: None,
+        effect: Effect::Sets(Flag::AllDirectories),
+    },
+    OptionRow {
+        name: "--extension",
+        letter: None,
+        effect: Effect::Takes(Operand::Extension),
+    },
+    OptionRow {
+        name: "--exclude",
+        letter: None,
+        effect: Effect::Takes(Operand::Pattern),
+    },
+    OptionRow {
+        name: "--files",
+        letter: None,
+        effect: Effect::Sets(Flag::Files),
+    },
+    OptionRow {
+        name: "--files-from",
+        letter: None,
+        effect: Effect::Takes(Operand::List),
+    },
+    OptionRow {
+        name: "--no-messages",
+        letter: None,
+        effect: Effect::Sets(Flag::NoMessages),
+    },
+    OptionRow {
+        name: "--bytes",
+        letter: None,
+        effect: Effect::Sets(Flag::Bytes),
+    },
+    OptionRow {
+        name: "--lines",
+        letter: None,
+        effect: Effect::Sets(Flag::Lines),
+    },
+    OptionRow {
+        name: "--text",
+        letter: None,
+        effect: Effect::Sets(Flag::Text),
+    },
+    OptionRow {
+        name: "--json",
+        letter: None,
+        effect: Effect::Sets(Flag::Json),
+    },
+    OptionRow {
+        name: "--format",
+        letter: None,
+        effect: Effect::Takes(Operand::Format),
+    },
+    OptionRow {
+        name: "--context",
+        letter: Some('C'),
+        effect: Effect::Takes(Operand::Around),
+    },
+    OptionRow {
+        name: "--before-context",
+        letter: Some('B'),
+        effect: Effect::Takes(Operand::Before),
+    },
+    OptionRow {
+        name: "--after-context",
+        letter: Some('A'),
+        effect: Effect::Takes(Operand::After),
+    },
+    OptionRow {
+        name: "--color",
+        letter: None,
+        effect: Effect::Takes(Operand::Color),
+    },
+    OptionRow {
+        name: "--count",
+        letter: Some('c'),
+        effect: Effect::Sets(Flag::Count),
+    },
+    OptionRow {
+        name: "--files-with-matches",
+        letter: Some('l'),
+        effect: Effect::Sets(Flag::FilesWithMatches),
+    },
+    OptionRow {
+        name: "--null",
+        letter: Some('Z'),
+        effect: Effect::Sets(Flag::Nul),
+    },
+    OptionRow {
+        name: "--quiet",
+        letter: Some('q'),
+        effect: Effect::Sets(Flag::Quiet),
+    },
+    OptionRow {
+        name: "--stats",
+        letter: None,
+        effect: Effect::Sets(Flag::Stats),
+    },
+    OptionRow {
+        name: "--fix",
+        letter: None,
+        effect: Effect::Sets(Flag::Fix),
+    },
+    OptionRow {
+        name: "--check",
+        letter: None,
+        effect: Effect::Sets(Flag::Check),
+    },
+    OptionRow {
+        name: "--diff",
+        letter: None,
+        effect: Effect::Sets(Flag::Diff),
+    },
+    OptionRow {
+        name: "--style",
+        letter: None,
+        effect: Effect::Takes(Operand::Style),
+    },
+    OptionRow {
+        name: "--macros",
+        letter: None,
+        effect: Effect::Takes(Operand::Macros),
+    },
+    OptionRow {
+        name: "--help",
+        letter: Some('h'),
+        effect: Effect::Sets(Flag::Help),
+    },
+    OptionRow {
+        name: "--version",
+        letter: Some('V'),
+        effect: Effect::Sets(Flag::Version),
+    },
+    OptionRow {
+        name: "--",
+        letter: None,
+        effect: Effect::EndsOptions,
+    },
+];
+
+/// Returns the first row with the name `word`, or `None`.
+fn row_named<'r>(rows: &'r [OptionRow], word: &str) -> Option<&'r OptionRow> {
+    rows.iter().find(|row| row.name == word)
+}
+
+/// Whether a short option has the letter `c`. `letter` is its letter, or `None` if it has none.
+fn is_letter_of(letter: Option<char>, c: char) -> bool {
+    match letter {
+        Some(letter) => letter == c,
+        None => false,
+    }
+}
+
+/// Returns the first row with the letter `c`, or `None`.
+fn row_lettered(rows: &[OptionRow], c: char) -> Option<&OptionRow> {
+    rows.iter().find(|row| is_letter_of(row.letter, c))
+}
+
+/// Returns the effect of the option with the name `word`, as `--bad`, or `None` if there is no such option.
+pub(crate) fn effect_of(word: &str) -> Option<Effect> {
+    match row_named(OPTIONS.as_slice(), word) {
+        Some(row) => Some(row.effect),
+        None => None,
+    }
+}
+
+/// Returns the effect of the short option with the letter `c`, or `None` if there is no such option.
+pub(crate) fn effect_of_letter(c: char) -> Option<Effect> {
+    match row_lettered(OPTIONS.as_slice(), c) {
+        Some(row) => Some(row.effect),
+        None => None,
+    }
+}
+
+/// Returns the kind of value and the value of an argument `--option=VALUE`, or `None` for another argument.
+pub(crate) fn joined_of(word: &str) -> Option<(Operand, &str)> {
+    let name = option_part(word);
+    let value = after_front(name, word)?;
+    let text = after_front("=", value)?;
+    let operand = operand_of(effect_of(name)?)?;
+    Some((operand, text))
+}
+
+/// Whether every argument after an option is a path.
+fn ends_options(effect: Effect) -> bool {
+    matches!(effect, Effect::EndsOptions)
+}
+
+/// Returns the first row whose name `word` is similar to, or `None`. The row of `--` is skipped.
+fn row_near<'r>(rows: &'r [OptionRow], word: &str) -> Option<&'r OptionRow> {
+    rows.iter()
+        .find(|row| !ends_options(row.effect) && is_near(word, row.name))
+}
+
+/// Returns the name of the first option that an argument is similar to, or `None`. Only the part before `=` is compared.
+pub(crate) fn meant_by(word: &str) -> Option<&'static str> {
+    match row_near(OPTIONS.as_slice(), option_part(word)) {
+        Some(row) => Some(row.name),
+        None => None,
+    }
+}
