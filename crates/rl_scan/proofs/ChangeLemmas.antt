@@ -1,7 +1,12 @@
 -- Lemmas about the output lines for rewritten literals.
-use Rattle.rl_syntax.proofs.Common.{◌≡◌, ℕ, ◌+◌, List, [], ◌∷◌, ◌++◌, length, drop, map, refl, sym, ◌∙◌, ap, subst, arith, append-nil, append_assoc, chars, IsCharBoundary, IsUtf8}
+use Rattle.rl_syntax.proofs.Common.{◌≡◌, ℕ, ◌+◌, List, [], ◌∷◌, ◌++◌, length, drop, map, refl, sym, ◌∙◌, ap, subst, arith, append-nil, append_assoc, chars, encode_utf8, false, true, IsCharBoundary, IsUtf8}
+use Rattle.std.proofs.lemmas.Grind.{flat_map-append}
 use Rattle.std.proofs.lemmas.List.{length-drop}
+use Rattle.std.specs.List.{flat_map}
+use Rattle.rl_files.proofs.VisibleLemmas.{chars_written}
+use Rattle.rl_files.specs.Visible.{needs_escape}
 use Rattle.rl_lexer.specs.Cursors.{IsCursorState}
+use Rattle.rl_program.proofs.LineLemmas.{pushed}
 use Rattle.rl_program.specs.Lines.{Appends}
 use Rattle.rl_output.specs.declared.form.Form.{Form}
 use Rattle.rl_output.specs.declared.place.Place.{Place}
@@ -9,7 +14,26 @@ use Rattle.rl_restyle.proofs.TextSlices.{slice}
 use Rattle.rl_restyle.specs.Places.{AreEditsIn, IsTextBetween}
 use Rattle.rl_sources.specs.Places.{IsPlaceIn}
 use Rattle.rl_sources.specs.declared.options.Options.{Options}
-use Rattle.rl_scan.specs.Changes.{AreChangeLines, IsChangeLine, change_line}
+use Rattle.rl_scan.specs.Changes.{AreChangeLines, IsChangeLine, bracketed_number, change_line, numbered_char}
+
+-- The loop's invariant stays true after one more character is appended, as the function `f` writes it.
+pub shown_more : (f : ℕ → List ℕ) (first old new done : List ℕ) (c : ℕ) → old ≡ first ++ flat_map f done
+    → new ≡ old ++ f c → new ≡ first ++ flat_map f (done ++ c ∷ [])
+shown_more f first old new done c before now =
+    now ∙ ap (λ (z : List ℕ). z ++ f c) before ∙ append_assoc first (flat_map f done) (f c)
+    ∙ ap (λ (z : List ℕ). first ++ z)
+    (ap (λ (z : List ℕ). flat_map f done ++ z) (sym (append-nil (f c))) ∙ sym (flat_map-append f done (c ∷ [])))
+
+-- A control, invisible or bidirectional character is appended as its number.
+pub number_appended : (old new : List ℕ) (c : ℕ) → IsUtf8 old → needs_escape c ≡ true → new ≡ old ++ bracketed_number c
+    → chars new ≡ chars old ++ numbered_char c
+number_appended old new c utf8 escaped is = rw escaped (pushed old new (bracketed_number c) utf8 is)
+
+-- Another character is appended unchanged.
+pub character_appended : (old new : List ℕ) (c : ℕ) → IsUtf8 old → IsUtf8 new → needs_escape c ≡ false
+    → new ≡ old ++ encode_utf8 c → chars new ≡ chars old ++ numbered_char c
+character_appended old new c utf8 valid plain is = rw plain (chars_written old new (c ∷ []) utf8 valid
+    (is ∙ ap (λ (z : List ℕ). old ++ z) (sym (append-nil (encode_utf8 c)))))
 
 -- The byte offset where a rewritten literal begins is a character boundary of the source.
 pub boundary : (places text : List ℕ) (lo hi : ℕ) (old : List ℕ) → places ≡ text → IsUtf8 text

@@ -92,6 +92,9 @@ const STRAYS: &str = "a \\ 1u9 `\u{200b}`\n\t😀 \"b";
 /// Literals that the default style rewrites, one of them in a macro call, and a field.
 const FIXED: &str = "f(1., \"it\\'s\"); m!(1E5);\nt.0 1E5f32 r##\"a\"##\n";
 
+/// Literals with invisible characters, control characters and line ends. One literal has an escape that the default style drops.
+const INVISIBLE: &str = "\"\u{200b}\x1b\té\" \"it\\'s\u{e0001}\\u{200b}\na\" 'x'\n";
+
 /// Files that can't be rewritten.
 pub const UNWRITABLE: [Unwritable<'static>; 2] = [
     Unwritable {
@@ -147,6 +150,7 @@ fn text_at(path: &str) -> Option<&'static str> {
         "fix/a.rs" => Some(FIXED),
         "fix/bad.rs" => Some("1. 0b12 \""),
         "fix/full.rs" | "fix/other.rs" | "./fix/other.rs" | ".//other.rs" => Some("1E5\n"),
+        "invisible.rs" => Some(INVISIBLE),
         "fix/none.rs" => Some("1.0 \"it's\"\n"),
         "fix/script.rs" => Some("#!/bin/x\n1E5\n"),
         "fix/space.rs" => Some("\u{feff}#! [allow(x)]\n1E5\n"),
@@ -161,6 +165,7 @@ fn text_at(path: &str) -> Option<&'static str> {
         "style/mark" => Some("\n/*\n*/ drop_raw true\n"),
         "style/marked" => Some("\u{feff}drop_raw = true\n"),
         "style/twomarks" => Some("\u{feff}\n\u{feff}drop_raw = true\n"),
+        "style/invisible" => Some("escape_invisible = true\n"),
         "style/number" => Some("drop_raw = true\n1 = true\n"),
         _ => None,
     }
@@ -173,6 +178,8 @@ fn bytes_at(path: &str) -> Result<&'static [u8], PathError> {
         "long.rs" => Err(PathError::TooLong),
         "./n.rs" => Ok(b"1 \"a\xff\"".as_slice()),
         "listff" => Ok(b"./a.rs\n\xff".as_slice()),
+        "list/fe" => Ok(b"\xef\xbb\xbfb\\\xe9 \x7f.rs\0\xc3\xa9\0\0./a.rs\0\xc3".as_slice()),
+        "list/ff" => Ok(b"\xff\n".as_slice()),
         _ => match text_at(path) {
             Some(text) => Ok(text.as_bytes()),
             None => Err(PathError::NotFound),
