@@ -1,8 +1,8 @@
 //! Tests of single calls, with results that were written by hand.
 
 use navyspindle::{
-    parse_list, source, write_integer, write_raw_str, Base, IntegerStyle, Kind, LineColumn,
-    LineIndex, Lit, LitFloat, LitInt, LitStr, SyntaxErrorKind,
+    parse_list, parse_settings, source, write_integer, write_raw_str, Base, IntegerStyle, Key,
+    Kind, LineColumn, LineIndex, Lit, LitFloat, LitInt, LitStr, Settings, SyntaxErrorKind,
 };
 
 #[test]
@@ -127,4 +127,25 @@ fn kinds_have_names() {
     assert_eq!(Kind::Str.to_string(), "string literal");
     assert_eq!(Kind::CStr.to_string(), "C string literal");
     assert_eq!(Kind::Byte.to_string(), "byte literal");
+}
+
+#[test]
+fn settings_keep_long_names_and_a_minus_before_zero() {
+    let entries = parse_settings("abcdefgh1 = -0, abcdefgh2 = 0").unwrap();
+    let found: Vec<_> = entries
+        .iter()
+        .map(|it| (it.name, it.value.text()))
+        .collect();
+    assert_eq!(found, [("abcdefgh1", "-0"), ("abcdefgh2", "0")]);
+    let error = parse_settings("a = 1, a = 2").unwrap_err().shifted(100);
+    assert_eq!(error.to_string(), "repeated name `a` at byte 107");
+}
+
+#[test]
+fn a_name_in_another_case_is_missing() {
+    let read = Settings::read("Port = 1  ").unwrap();
+    assert_eq!(read.get("Port").unwrap().value_range, 7..8);
+    assert!(read.get("port").is_none());
+    let error = read.missing_error(Key::new("port", "an integer"));
+    assert_eq!(error.range(), 10..10);
 }

@@ -320,3 +320,25 @@ fn errors() {
     assert_eq!(kind, io::ErrorKind::OutOfMemory);
     assert_eq!(AllocError.to_string(), "memory allocation failed");
 }
+
+#[test]
+fn items_without_a_size_need_no_block() {
+    let failing = scant();
+    failing.fail(1, u64::MAX);
+    let mut list: Vec<(), Scant<'_>> = Vec::new(&failing);
+    for _ in 0..3 {
+        assert!(list.push(()).is_ok());
+    }
+    assert_eq!((list.len(), failing.held()), (3, 0));
+    drop(list);
+    assert_eq!(failing.held(), 0);
+}
+
+#[test]
+fn texts_are_ordered_by_characters() {
+    let failing = scant();
+    let of = |text| text_of(&failing, text, 3);
+    assert!(of("aa") < of("b"));
+    assert!(of("aa") < of("ab"));
+    assert!(of("a") < of("aa"));
+}
