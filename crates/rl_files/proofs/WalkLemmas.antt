@@ -11,8 +11,8 @@ use Rattle.rl_files.specs.Trees.{World, string_texts}
 use Rattle.rl_files.specs.declared.walk.Selection.{Selection}
 use Rattle.rl_files.specs.declared.walk.WalkError.TheVariants.{TooManyDirectories}
 use Rattle.rl_files.specs.declared.tree.PathError.{PathError}
-use Rattle.rl_files.specs.declared.tree.PathError.TheVariants.{NotADirectory, OutOfMemory, NameNotUtf8}
-use Rattle.rl_files.specs.Walks.{Waypoint, AtDirectory, AtFile, AtBadName, Visited, FileAt, ErrorAt, Visits, VisitsNothing, VisitsFile, VisitsBadName, EntersDirectory, MissesDirectory, IsGivenFile, WalksOn, VisitsFirst, VisitsNone, EntersInOrder, EntersInTurn, EntersNone, EntersNext, EndsEarly, given_length, waypoints_in}
+use Rattle.rl_files.specs.declared.tree.PathError.TheVariants.{NotADirectory, OutOfMemory, NameNotUtf8, PathNotUtf8}
+use Rattle.rl_files.specs.Walks.{Waypoint, AtDirectory, AtFile, AtBadName, AtBadPath, Visited, FileAt, ErrorAt, Visits, VisitsNothing, VisitsFile, VisitsBadName, VisitsBadPath, EntersDirectory, MissesDirectory, IsGivenFile, WalksOn, VisitsFirst, VisitsNone, EntersInOrder, EntersInTurn, EntersNone, EntersNext, EndsEarly, given_length, waypoints_in}
 
 -- If strings are in order, the lists of their bytes are in order.
 pub texts_sorted : {A : Type 0} (xs : List (String A)) → IsSorted string_cmp xs
@@ -64,6 +64,13 @@ go_bad_name selection None old mid rest path on is = tt
 go_bad_name selection (Some w) old mid rest path on is = λ visited m. on (ErrorAt path NameNotUtf8 ∷ visited)
     (subst (λ (z : List Waypoint). Visits selection w z (ErrorAt path NameNotUtf8 ∷ visited)) (sym is) (VisitsBadName m))
 
+-- The next entry is a path that isn't UTF-8, which the walk reports.
+pub go_bad_path : (selection : Selection) (holds : Option World) (old mid rest : List Waypoint) (path : List ℕ) → WalksOn selection holds old mid → mid
+    ≡ AtBadPath path ∷ rest → VisitsFirst selection holds old (ErrorAt path PathNotUtf8) rest
+go_bad_path selection None old mid rest path on is = tt
+go_bad_path selection (Some w) old mid rest path on is = λ visited m. on (ErrorAt path PathNotUtf8 ∷ visited)
+    (subst (λ (z : List Waypoint). Visits selection w z (ErrorAt path PathNotUtf8 ∷ visited)) (sym is) (VisitsBadPath m))
+
 -- The next entry is a directory that can't be read, which the walk reports.
 pub go_missing : (selection : Selection) (holds : Option World) (old mid rest : List Waypoint) (given : Option ℕ) (path : List ℕ) (why : PathError)
     → WalksOn selection holds old mid → mid ≡ AtDirectory given path ∷ rest → (why ≡ OutOfMemory)
@@ -97,6 +104,8 @@ some_visits selection w [] = ([], VisitsNothing)
 some_visits selection w (AtFile path ∷ rest) = let more = some_visits selection w rest in (FileAt path ∷ more.0, VisitsFile more.1)
 some_visits selection w (AtBadName path ∷ rest) = let more = some_visits selection w rest in
     (ErrorAt path NameNotUtf8 ∷ more.0, VisitsBadName more.1)
+some_visits selection w (AtBadPath path ∷ rest) = let more = some_visits selection w rest in
+    (ErrorAt path PathNotUtf8 ∷ more.0, VisitsBadPath more.1)
 some_visits selection w (AtDirectory given path ∷ rest) = let more = some_visits selection w rest in
     (ErrorAt path OutOfMemory ∷ more.0, MissesDirectory OutOfMemory (inl refl) more.1)
 

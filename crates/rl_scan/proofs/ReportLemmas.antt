@@ -5,7 +5,7 @@ use Rattle.std.proofs.lemmas.Str.{IsAscii-append}
 use Rattle.rl_files.specs.Visible.{visible}
 use Rattle.rl_files.specs.Walks.{path_error_message}
 use Rattle.rl_files.specs.declared.tree.PathError.{PathError}
-use Rattle.rl_files.specs.declared.tree.PathError.TheVariants.{NotFound, PermissionDenied, IsADirectory, NotADirectory, PathTooLong, NameNotUtf8, NotUtf8, TooLong, OutOfMemory, NotAFile, Changed, NoRoom, ReadOnly, DirectoryDenied, OwnerChanges, ReadFailed, WriteFailed}
+use Rattle.rl_files.specs.declared.tree.PathError.TheVariants.{NotFound, PermissionDenied, IsADirectory, NotADirectory, PathTooLong, NameNotUtf8, PathNotUtf8, NotUtf8, TooLong, OutOfMemory, NotAFile, Changed, NoRoom, ReadOnly, DirectoryDenied, OwnerChanges, ReadFailed, WriteFailed}
 use Rattle.rl_lexer.specs.declared.lex_error.LexKind.{LexKind}
 use Rattle.rl_program.proofs.LineLemmas.{pushed}
 use Rattle.rl_output.specs.declared.context.Context.{Context}
@@ -29,6 +29,7 @@ message_ascii IsADirectory = low_text (path_error_message IsADirectory) refl
 message_ascii NotADirectory = low_text (path_error_message NotADirectory) refl
 message_ascii PathTooLong = low_text (path_error_message PathTooLong) refl
 message_ascii NameNotUtf8 = low_text (path_error_message NameNotUtf8) refl
+message_ascii PathNotUtf8 = low_text (path_error_message PathNotUtf8) refl
 message_ascii (NotUtf8 at) = IsAscii-append (codes "not UTF-8 at byte ") _ (low_text (codes "not UTF-8 at byte ") refl)
     (decimal_ascii at)
 message_ascii TooLong = low_text (path_error_message TooLong) refl

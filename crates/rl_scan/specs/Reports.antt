@@ -8,7 +8,7 @@ use Rattle.rl_files.specs.Replacements.{Replacement}
 use Rattle.rl_files.specs.Visible.{visible}
 use Rattle.rl_files.specs.Walks.{path_error_message}
 use Rattle.rl_files.specs.declared.tree.PathError.{PathError}
-use Rattle.rl_files.specs.declared.tree.PathError.TheVariants.{NameNotUtf8}
+use Rattle.rl_files.specs.declared.tree.PathError.TheVariants.{NameNotUtf8, PathNotUtf8}
 use Rattle.rl_lexer.specs.declared.lex_error.LexKind.{LexKind}
 use Rattle.rl_flaws.specs.declared.before.Edition.{Edition}
 use Rattle.rl_flaws.specs.declared.before.Edition.TheVariants.{E2021}
@@ -233,9 +233,10 @@ pub record IsListReport (command : Command) (path : List ℕ) (printed : Finding
   pub found : printed.found ≡ true
   pub count : printed.count ≡ 0
 
--- An error ends a call with status 2, except a name in a directory that isn't UTF-8, which is skipped with a warning.
+-- An error ends a call with status 2. A name in a directory, or a path, that isn't UTF-8 is skipped with a warning.
 abbrev pub is_error : PathError → Bool
 is_error NameNotUtf8 = false
+is_error PathNotUtf8 = false
 is_error _ = true
 
 -- The output for a path that can't be read: one line.

@@ -178,6 +178,8 @@ fn bytes_at(path: &str) -> Result<&'static [u8], PathError> {
         "long.rs" => Err(PathError::TooLong),
         "./n.rs" => Ok(b"1 \"a\xff\"".as_slice()),
         "listff" => Ok(b"./a.rs\n\xff".as_slice()),
+        "list/fe" => Ok(b"\xef\xbb\xbfb\\\xe9 \x7f.rs\0\xc3\xa9\0\0./a.rs\0\xc3".as_slice()),
+        "list/ff" => Ok(b"\xff\n".as_slice()),
         _ => match text_at(path) {
             Some(text) => Ok(text.as_bytes()),
             None => Err(PathError::NotFound),

@@ -3,7 +3,7 @@
 
 use crate::rattle_std::prelude::{String, Vec};
 use crate::rl_scan::runs::{RunStop, Tally, run};
-use crate::rl_files::{PathError, Replace, Selection, Tree, Walk, WalkError};
+use crate::rl_files::{PathError, Replace, Selection, Tree, Walk, WalkError, escaped_path};
 use crate::rl_options::{
     Action, ArgumentError, Command, Console, HELP, LineError, ParsedArguments, Restyling,
     RulesError, VERSION, lists_files, parse_arguments, push_all_listed, rules_in, visible_text,
@@ -18,7 +18,7 @@ use crate::rattle_std::io::Write;
 
 /// The reason why a call of `rl_scan` fails.
 pub enum CallError<A: Allocator = Global> {
-    /// The arguments can't be read, since one isn't UTF-8.
+    /// An argument isn't UTF-8, and isn't a path.
     NoArguments,
     /// An argument is invalid.
     Word(ArgumentError<A>),
@@ -382,7 +382,27 @@ pub fn out_of_memory<A: Allocator>() -> Ending<CallError<A>> {
     Ending::Failed(error)
 }
 
-/// Runs `rl_scan` with the arguments `args`, and returns the result of the call. The first argument is the program's name.
+/// Returns the number of texts that represent a path that isn't UTF-8.
+fn count_marked<A: Allocator>(texts: &[String<A>]) -> usize {
+    let mut count = 0;
+    let mut rest = texts;
+    while let [text, after @ ..] = rest {
+        if escaped_path(text.as_str()).is_some() {
+            count += 1;
+        }
+        rest = after;
+    }
+    count
+}
+
+/// Whether all arguments that aren't UTF-8 are paths. Such an argument can't be an option or a value. `words` are the arguments,
+/// and `paths` the paths among them.
+fn only_paths<A: Allocator>(words: &[String<A>], paths: &[String<A>]) -> bool {
+    count_marked(words) == count_marked(paths)
+}
+
+/// Runs `rl_scan` with the arguments `args`, and returns the result of the call. The first argument is the program's name. An
+/// argument that isn't UTF-8 is represented as `path_text` of `rl_files` represents it.
 ///
 /// Files are read from `tree` and replaced by `files`. `out` is standard output, and `err` standard error.
 pub fn call<A: Allocator + Copy, T: Tree, W: Write, E: Write, F: Replace>(
@@ -398,15 +418,20 @@ pub fn call<A: Allocator + Copy, T: Tree, W: Write, E: Write, F: Replace>(
         return Ending::Failed(CallError::NoArguments);
     };
     match parse_arguments(alloc, console.has_colors, words) {
-        Ok(asked) => answer(
-            alloc,
-            asked,
-            console.input_is_terminal,
-            tree,
-            out,
-            err,
-            files,
-        ),
+        Ok(asked) => {
+            if !only_paths(words, asked.paths.as_slice()) {
+                return Ending::Failed(CallError::NoArguments);
+            }
+            answer(
+                alloc,
+                asked,
+                console.input_is_terminal,
+                tree,
+                out,
+                err,
+                files,
+            )
+        }
         Err(error) => Ending::Failed(CallError::Word(error)),
     }
 }

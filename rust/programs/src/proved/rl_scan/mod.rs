@@ -7,6 +7,7 @@ mod change;
 mod changes;
 mod diff;
 mod exit;
+mod host;
 mod outcome;
 mod report;
 mod restyling;
@@ -18,6 +19,7 @@ pub use crate::rl_scan::change::push_change;
 pub use crate::rl_scan::changes::push_changes;
 pub use crate::rl_scan::diff::push_diff;
 pub use crate::rl_scan::exit::{CallError, call, out_of_memory};
+use crate::rl_scan::host::host_arguments;
 pub use crate::rl_scan::outcome::{Outcome, check_options, rewrite_outcome};
 pub use crate::rl_scan::report::Report;
 pub use crate::rl_scan::runs::{RunStop, Tally, run};
@@ -27,7 +29,7 @@ pub use crate::rl_options::{
     Action, ArgumentError, Command, Console, HELP, LineError, Macros, Output, PlaceForm, Restyling,
     VERSION,
 };
-use crate::rl_program::{arguments, finish};
+use crate::rl_program::finish;
 use crate::rattle_std::alloc::Global;
 use crate::rattle_std::env;
 use crate::rattle_std::env::VarError;
@@ -59,7 +61,7 @@ fn console(rt: &HostRuntime) -> Console {
 }
 
 pub fn main(rt: HostRuntime) -> ExitCode {
-    let Ok(args) = arguments(&rt) else {
+    let Ok(args) = host_arguments(&rt) else {
         return finish(&rt, out_of_memory::<Global>());
     };
     let ending = call(

@@ -268,12 +268,12 @@ pub(crate) fn report_text<A: Allocator + Copy>(
     })
 }
 
-/// Whether an error ends a call with status 2. A name in a directory that isn't UTF-8 is skipped, with a warning.
+/// Whether an error ends a call with status 2. A name in a directory, or a path, that isn't UTF-8 is skipped, with a warning.
 fn is_error(error: PathError) -> bool {
-    !matches!(error, PathError::NameNotUtf8)
+    !matches!(error, PathError::NameNotUtf8 | PathError::PathNotUtf8)
 }
 
-/// Returns the output for a path that can't be read: a line on standard error. For a skipped name the line is a warning.
+/// Returns the output for a path that can't be read: a line on standard error. For a skipped name or path the line is a warning.
 pub(crate) fn report_error<A: Allocator + Copy>(
     alloc: A,
     path: &str,
