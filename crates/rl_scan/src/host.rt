@@ -13,7 +13,7 @@ fn argument_within(
     at: usize,
     len: usize,
 ) -> Result<Result<Vec<u8>, FillError>, AllocError> {
-    let mut bytes = Vec::filled(rt.alloc(), 0_u8, len)?;
+    let mut bytes = vec![in rt.alloc(); 0_u8; len]?;
     match rt.arg(at, bytes.as_mut_slice()) {
         Ok(count) => {
             bytes.truncate(count);

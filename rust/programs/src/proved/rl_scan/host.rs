@@ -1,7 +1,7 @@
 // Rendered from crates/rl_scan/src/host.rt by tools/render, which erases contracts: change that file, and render anew.
 //! Reads the program's arguments.
 
-use crate::rattle_std::prelude::{HostRuntime, String, Vec};
+use crate::rattle_std::prelude::{HostRuntime, String, Vec, vec};
 use crate::rl_files::path_text;
 use crate::rattle_std::alloc::AllocError;
 use crate::rattle_std::env::{Env, FillError};
@@ -15,7 +15,7 @@ fn argument_within(
     at: usize,
     len: usize,
 ) -> Result<Result<Vec<u8>, FillError>, AllocError> {
-    let mut bytes = Vec::filled(rt.alloc(), 0_u8, len)?;
+    let mut bytes = vec![in rt.alloc(); 0_u8; len]?;
     match rt.arg(at, bytes.as_mut_slice()) {
         Ok(count) => {
             bytes.truncate(count);
