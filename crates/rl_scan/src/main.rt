@@ -20,7 +20,7 @@ pub use crate::changes::push_changes;
 pub use crate::diff::push_diff;
 pub use crate::exit::{CallError, call, out_of_memory};
 use crate::host::host_arguments;
-pub use crate::outcome::{Outcome, source_check_options, rewrite_outcome};
+pub use crate::outcome::{Outcome, rewrite_outcome, source_check_options};
 pub use crate::report::Report;
 pub use crate::runs::{RunStop, Tally, run};
 pub use crate::visit_report::report_of;

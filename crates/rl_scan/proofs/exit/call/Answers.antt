@@ -1,4 +1,4 @@
-use Rattle.rl_syntax.proofs.Common.{refl, sym, ◌∙◌}
+use Rattle.rl_syntax.proofs.Common.{refl}
 use Rattle.rl_options.specs.Wishes.{wishes_in}
 use Rattle.rl_scan.proofs.EndingLemmas.{call_asked, keeps_same, odd_word, paths_known}
 use Rattle.rl_options.proofs.WordLemmas.{ask_for, cannot_ask}

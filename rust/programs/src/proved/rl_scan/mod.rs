@@ -20,7 +20,7 @@ pub use crate::rl_scan::changes::push_changes;
 pub use crate::rl_scan::diff::push_diff;
 pub use crate::rl_scan::exit::{CallError, call, out_of_memory};
 use crate::rl_scan::host::host_arguments;
-pub use crate::rl_scan::outcome::{Outcome, source_check_options, rewrite_outcome};
+pub use crate::rl_scan::outcome::{Outcome, rewrite_outcome, source_check_options};
 pub use crate::rl_scan::report::Report;
 pub use crate::rl_scan::runs::{RunStop, Tally, run};
 pub use crate::rl_scan::visit_report::report_of;
