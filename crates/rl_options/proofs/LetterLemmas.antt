@@ -1,5 +1,5 @@
 -- Lemmas about a group of short options, letter by letter.
-use Rattle.rl_syntax.proofs.Common.{List, None, [], ap, arith, encode_utf8, inl, inr, length, length-append, length-encode, len_utf8_bounds, encode_ascii, refl, subst, sym, ℕ, ◌++◌, ◌<◌, ◌∙◌, ◌∷◌, ◌≡◌, ◌≢◌, ◌⊎◌, Bool}
+use Rattle.rl_syntax.proofs.Common.{List, None, [], ap, arith, encode_utf8, inl, inr, length, length-append, length-encode, len_utf8_bounds, encode_ascii, refl, subst, sym, ℕ, ◌++◌, ◌∙◌, ◌∷◌, ◌≡◌, ◌≢◌, ◌⊎◌, Bool}
 use Rattle.std.specs.Prelude.{IfErr, OnOk}
 use Rattle.std.specs.declared.result.Result.{Result}
 use Rattle.std.specs.declared.result.Result.TheVariants.{Err, Ok}
@@ -12,7 +12,7 @@ use Rattle.rl_options.specs.declared.argument_error.ArgumentError.{ArgumentError
 use Rattle.rl_options.specs.Options.{IsLetter, effect_lettered}
 use Rattle.rl_options.proofs.OptionLemmas.{letter_low, no_end}
 use Rattle.rl_options.specs.Wishes.{Wishes}
-use Rattle.rl_options.specs.Words.{AreLetters, AreRejectedLetters, IsAdded, IsRejectedEffect, IsRejectedJoined, IsTaken, LastLetter, LaterLetter, Letter, LetterAndText, GoesWithOptions, NamesLetter, NoLetters, RejectedLetter, RejectedText, StrangeLetter, next_after}
+use Rattle.rl_options.specs.Words.{AreLetters, AreRejectedLetters, IsAdded, IsRejectedEffect, IsRejectedJoined, IsTaken, LastLetter, LaterLetter, Letter, LetterAndText, GoesWithOptions, NamesLetter, NoLetters, RejectedLetter, RejectedText, StrangeLetter}
 
 -- The bytes begin with the letter of a short option.
 letter_front : (effect : Effect) (c : ℕ) (rest after : List ℕ) → IsLetter effect c → rest ≡ encode_utf8 c ++ after

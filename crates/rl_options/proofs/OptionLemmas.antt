@@ -1,10 +1,10 @@
 -- Lemmas about searches in the table of options.
-use Rattle.rl_syntax.proofs.Common.{Bool, Bor, List, None, Option, Some, [], and_parts, ap, codes, cond, eqb-true, false, list_all, ltb, ltb-true, map, not, not-true, option_map, refl, subst, sym, true, ℕ, ◌&&◌, ◌++◌, ◌<◌, ◌==◌, ◌∙◌, ◌∷◌, ◌≡◌, ◌≢◌}
+use Rattle.rl_syntax.proofs.Common.{Bool, Bor, List, None, Option, Some, [], and_parts, ap, codes, cond, eqb-true, false, list_all, ltb, ltb-true, map, not, not-true, option_map, refl, subst, sym, true, ℕ, ◌&&◌, ◌++◌, ◌<◌, ◌∙◌, ◌∷◌, ◌≡◌, ◌≢◌}
 use Rattle.std.proofs.lemmas.List.{append_cancel_left}
 use Rattle.std.specs.Prelude.{find, option_copied}
 use Rattle.std.specs.Str.{bytes_eq}
 use Rattle.rl_options.specs.declared.flags.Effect.{Effect}
-use Rattle.rl_options.specs.declared.flags.Effect.TheVariants.{Sets, Takes, EndsOptions}
+use Rattle.rl_options.specs.declared.flags.Effect.TheVariants.{Takes, EndsOptions}
 use Rattle.rl_options.specs.declared.flags.Operand.{Operand}
 use Rattle.rl_options.specs.declared.table.OptionRow.{OptionRow}
 use Rattle.rl_options.specs.Meant.{option_part}

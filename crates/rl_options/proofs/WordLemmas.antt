@@ -1,5 +1,5 @@
 -- Lemmas about the arguments of a command line, one by one.
-use Rattle.rl_syntax.proofs.Common.{Bool, Bor, List, None, Option, Some, [], ap, arith, codes, common_steps, drop, get_or, inr, length, map, map-append, refl, string_bytes, subst, sym, take, take_all, ℕ, ◌++◌, ◌+◌, ◌-◌, ◌<◌, ◌∙◌, ◌∷◌, ◌≡◌, ◌≢◌, ◌≤◌}
+use Rattle.rl_syntax.proofs.Common.{Bool, Bor, List, None, Option, Some, [], ap, arith, common_steps, drop, get_or, inr, length, map, map-append, refl, string_bytes, subst, sym, take, take_all, ℕ, ◌++◌, ◌+◌, ◌-◌, ◌<◌, ◌∙◌, ◌∷◌, ◌≡◌, ◌≢◌, ◌≤◌}
 use Rattle.std.specs.Prelude.{IfNone, IfSome, MatchOption, String, Err, ◌^◌}
 use Rattle.std.specs.Str.Parse.{ParsesUnsigned}
 use Rattle.std.specs.Str.Pattern.{FindsTextPrefix}
