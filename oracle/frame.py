@@ -4,8 +4,8 @@ differences.
 A comparison is a file beside this one. It generates texts from a seed, runs a program of this repository and another program or the
 model on them, and reports each difference. Every comparison takes `--seed S`, `--show N` (differences printed) and `--row` (prints
 the end of a line for oracle/compared.tsv). Most take `--count N` (generated texts). The programs of this repository are rl_rows,
-rl_tool and rl_scan as Cargo builds them. With `--proved` they are crates/NAME/out/NAME. `--rl-scan PROGRAM` and similar options name
-others. The status is 0 if every difference is explained.
+rl_tool and rl_scan as Cargo builds them. With `--proved` they are crates/NAME/out/NAME. `--rl-scan PROGRAM` and similar options
+name others. The status is 0 if every difference is explained.
 """
 import argparse
 import collections
@@ -31,7 +31,7 @@ POINTED = ('read', 'spans', 'attr', 'source')
 def run(compare, words, *places, what='texts', ours=(), **options):
     """Runs a comparison as a script. `compare` gets the arguments and the report, and returns the number of texts, whose name is
     `what`. `words` is the text of --help. A place is the name of a positional argument, with `?`, `*` or `+` after it if it is
-    optional or has several values. An option has its default. `ours` names the programs of this repository that the comparison runs."""
+    optional or has several values. An option has its default. `ours` names this repository's programs that the comparison runs."""
     parser = argparse.ArgumentParser(description=words, formatter_class=argparse.RawDescriptionHelpFormatter)
     for place in places:
         parser.add_argument(place.rstrip('?*+'), nargs=place[-1] if place[-1] in '?*+' else None)

@@ -112,8 +112,8 @@ def compare_rustc(report, literals, answers):
 
 def compare(asked, report):
     source = random.Random(asked.seed)
-    every = [*itertools.islice(filter(quoted, long_texts(source, sys.maxsize)), asked.count * 8 // 10), *texts.literals_of(asked.folders),
-             *(made(source) for made in (texts.random_quoted, texts.random_raw) for _ in range(asked.count // 10))]
+    every = [*itertools.islice(filter(quoted, long_texts(source, sys.maxsize)), asked.count * 8 // 10),
+             *texts.literals_of(asked.folders), *(made(source) for made in (texts.random_quoted, texts.random_raw) for _ in range(asked.count // 10))]
     formats = [format_string(source) for _ in range(asked.formats)]
     answers = answers_of(asked.lines, every + formats)
     for text, its in zip(every, answers):

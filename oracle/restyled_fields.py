@@ -30,8 +30,8 @@ GAPS = ['', '', ' ', ' ', '\n', '/* a */', '// b\n', ' /*,*/', '/*{*/ ', ' //::\
 ATTRIBUTES = ['', '', '', '', '#[cfg(all())]', '#[allow(unused)] ', '#[allow(unused)]#[cfg(not(any()))]', '/// a\n', '/** : */', '/// b\n #[cfg(all())]']
 
 
-# The texts that each word in upper case stands for: values, numbers, and patterns, which may fail to match if they are open. `#10` is
-# a number, `=10` the name of a field, and FIELDS:WORD some fields with that word. Without depth, a VALUE is one of SIMPLE.
+# The texts for each word in upper case: values, numbers, and patterns, which may fail to match if they are open. `#10` is a number,
+# `=10` the name of a field, and FIELDS:WORD some fields with that word. Without depth, a VALUE is one of SIMPLE.
 SIMPLE = ['NUMBER', 'PATH', 'r . FIELD', 'r . 0']
 WORDS = {
     'VALUE': [*SIMPLE, '( VALUE , #10 ) . 0', '[ VALUE , #12 ] [ 0 ]', '{ #100 ; VALUE }', '( #10 .. #20 ) . start',
@@ -94,7 +94,8 @@ def tried(program, it, room):
     if found := rustc.errors(written.encode()):
         return f'rustc rejects what was written:\n{found}'
     pairs = zip(written.splitlines(), it.new.splitlines())
-    return '' if written == it.new else next((f'{one!r}, not {other!r}' for one, other in pairs if one != other), 'longer or shorter')
+    differs = next((f'{one!r}, not {other!r}' for one, other in pairs if one != other), 'longer or shorter')
+    return '' if written == it.new else differs
 
 
 def compare(asked, report):

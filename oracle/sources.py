@@ -283,4 +283,5 @@ def compare(asked, report):
 
 
 if __name__ == '__main__':
-    frame.run(compare, __doc__, 'path', 'folders*', what='sources', ours=['rl_rows', 'rl_scan'], count=500_000, size=1_000_000, jobs=2)
+    frame.run(compare, __doc__, 'path', 'folders*', what='sources', ours=['rl_rows', 'rl_scan'], count=500_000, size=1_000_000,
+              jobs=2)

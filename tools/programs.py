@@ -1,7 +1,7 @@
 """Finds the programs that comparisons run: those that Cargo builds of rust/programs, or the proved ones, crates/NAME/out/NAME.
 
-Cargo first builds the whole workspace. From nothing that takes a minute, and a line on standard error reports it. The status is 2 if
-a program can't be found or built.
+Cargo first builds the whole workspace. From nothing that takes a minute, and a line on standard error reports it. The status is 2
+if a program can't be found or built.
 """
 import functools
 import os

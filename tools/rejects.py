@@ -24,28 +24,32 @@ UNCALLED, INLINING = 'tools/uncalled.txt', 'tools/inlining.txt'
 # A file, a text in it, the text that replaces it, and a word of the error (None: the change is accepted).
 TRIED = [(LINE, BARE, f'bytes{call}.iter().all(', word) for call, word in [
     ('', None), ('.to_vec()', 'to_vec'), ('.frobnicate()', 'frobnicate'), ('.clone()', 'clone')]]
-TRIED += [(LINE, BARE, f'{call}(bytes).iter().all(', word) for call, word in [('u8::from_str_radix', 'u8::from_str_radix'), ('Box::new', 'Box')]]
+TRIED += [(LINE, BARE, f'{call}(bytes).iter().all(', word) for call, word in [
+    ('u8::from_str_radix', 'u8::from_str_radix'), ('Box::new', 'Box')]]
 TRIED += [(IDENT, ALL, f'{text}.chars().all(', word) for text, word in [
     ('text', None), ('text.to_lowercase()', 'to_lowercase'), ('String::new(text)', 'String')]]
-# Entries of the list of uncalled items whose file, function, method, module or variant doesn't exist; and lines that aren't entries.
+# Entries of the list of uncalled items whose file, function, method, module or variant doesn't exist; lines that aren't entries.
 TRIED += [(UNCALLED, *change) for change in [
-    ('body_unit', 'body_unit', None), ('kind.rs Kind::word', 'kinds.rs Kind::word', 'kinds.rs'), ('Kind::word', 'Kind::words', 'Kind::words'),
-    ('Kind::word', 'Sort::word', 'Sort::word'), ('char_of_body, body_unit', 'char_of_body, body_units', 'body_units'),
+    ('body_unit', 'body_unit', None), ('kind.rs Kind::word', 'kinds.rs Kind::word', 'kinds.rs'),
+    ('Kind::word', 'Kind::words', 'Kind::words'), ('Kind::word', 'Sort::word', 'Sort::word'),
+    ('char_of_body, body_unit', 'char_of_body, body_units', 'body_units'),
     ('- rl_strict/flaws.rs Flaw::piece_in_span', '- rl_strict/flaws.rs Flaw::text_in_span', 'text_in_span'),
     ('rl_syntax/span.rs *', 'rl_syntax/spans.rs *', 'spans.rs'), ('LexKind::{Memory}', 'LexKind::{Room}', 'Room'),
     ('LexKind::{Memory}', 'Lex::{Memory}', 'Lex::'), ('Kind::struct_name: ', 'Kind::struct_name ', 'no entry'),
-    ('Kind::word, ', 'Kind::word; ', 'no entry'), ('lanes.rs * with sources or settings', 'lanes.rs * with sources, settings', 'no entry'),
+    ('Kind::word, ', 'Kind::word; ', 'no entry'),
+    ('lanes.rs * with sources or settings', 'lanes.rs * with sources, settings', 'no entry'),
     ('run_class, ', 'run_classes, ', 'run_classes'), ('skip_word with', 'skip_words with', 'skip_words'),
 ]]
 # Entries of the list of inlined functions whose file or function doesn't exist, or isn't always inlined; and a line that isn't an
-# entry. After a plus: functions that their callers compile, where the file, the crate or the function doesn't exist, or the function
-# is inlined already.
+# entry. After a plus: functions that their callers compile, where the file, the crate or the function doesn't exist, or the
+# function is inlined already.
 TRIED += [(INLINING, *change) for change in [
     ('skip_raw_characters', 'skip_raw_characters', None), ('strict.rs skip_raw_characters', 'strictly.rs skip_raw_characters', 'strictly.rs'),
-    ('strict.rs skip_raw_characters', 'strict.rs skip_outside', 'skip_outside'), ('strict.rs skip_raw_characters', 'strict.rs skip_units', 'skip_units'),
+    ('strict.rs skip_raw_characters', 'strict.rs skip_outside', 'skip_outside'),
+    ('strict.rs skip_raw_characters', 'strict.rs skip_units', 'skip_units'),
     ('skip_raw_characters: ', 'skip_raw_characters ', 'no entry'), ('+ rl_lenient/ranges.rs *', '+ rl_lenient/range.rs *', 'range.rs'),
     ('+ rl_settings/ *', '+ rl_setting/ *', 'rl_setting/'), ('found.rs find_number, ', 'found.rs find_numbers, ', 'find_numbers'),
-    ('strict_reading.rs read_rare', 'strict_reading.rs push_next_literal', 'push_next_literal'),
+    ('strict_reading.rs read_rare', 'strict_reading.rs read_next', 'read_next'),
     ('strict_reading.rs read_rare', 'strict_reading.rs number_at', 'number_at'),
 ]]
 
@@ -53,8 +57,8 @@ TRIED += [(INLINING, *change) for change in [
 CORE_PLACE, PLACE = 'fn all_continue(', 'fn is_bare'
 # Items whose meaning, memory, linkage or layout rustc decides. The word of each item is rejected wherever it occurs.
 WORDS = {
-    'dyn': 'fn odd(it: &dyn Fn()) {}', 'unsafe': 'unsafe fn odd() {}', 'extern': 'extern fn odd() {}', 'static': 'static ODD: u8 = 1;',
-    'union': 'union Odd { odd: u8 }', 'async': 'async fn odd() {}', 'await': 'fn odd() { odd.await }',
+    'dyn': 'fn odd(it: &dyn Fn()) {}', 'unsafe': 'unsafe fn odd() {}', 'extern': 'extern fn odd() {}',
+    'static': 'static ODD: u8 = 1;', 'union': 'union Odd { odd: u8 }', 'async': 'async fn odd() {}', 'await': 'fn odd() { odd.await }',
     'macro_rules': 'macro_rules! odd { () => {} }', 'transmute': 'const ODD: usize = transmute(1);',
     'size_of': 'const ODD: usize = size_of::<u8>();', 'align_of': 'const ODD: usize = align_of::<u8>();',
 }
@@ -76,7 +80,8 @@ CORE_FINE = ['fn odd() -> bool { matches!(1, 1) }', 'impl fmt::Display for Odd {
 FINE = ['trait Odd {}', 'impl From<u8> for Odd {\n}', 'fn odd() { write!(format!(in 1; "")) }', 'fn odd(it: String, all: Vec<Global>) {}']
 
 # The changes that insert an item into a file, each with the reason why it is rejected.
-BOTH = [*((item, f"rejected: {{'{word}'}}") for word, item in WORDS.items()), *((item, f'left: {words}') for words, item in LEFT.items())]
+BOTH = [*((item, f"rejected: {{'{word}'}}") for word, item in WORDS.items()),
+        *((item, f'left: {words}') for words, item in LEFT.items())]
 TRIED += [(IDENT, CORE_PLACE, f'{item}\n\n{CORE_PLACE}', said) for item, said in [
     *BOTH, ('trait Odd {}', "rejected: {'trait'}"), *((item, None) for item in CORE_FINE),
     *((f'fn odd(it: {word}) {{}}', f"takes memory: {{'{word}'}}") for word in CORE_MEMORY),

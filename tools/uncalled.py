@@ -15,7 +15,8 @@ from typing import NamedTuple
 LIST = Path(__file__).resolve().parent / "uncalled.txt"
 CRATE = re.compile(r"(\w+)/ with (\w+(?: or \w+)*)")
 ITEM = r"\w+(?:::\w+)?(?=[,: ])"
-ENTRY = re.compile(rf"(- )?(\S+) (\*|impl \w+ for \w+|\w+::\{{\w+(?:, \w+)*\}}|{ITEM}(?:, {ITEM})*)(?: with (\w+(?: or \w+)*))?: (\S.*)")
+ENTRY = re.compile(
+    rf"(- )?(\S+) (\*|impl \w+ for \w+|\w+::\{{\w+(?:, \w+)*\}}|{ITEM}(?:, {ITEM})*)(?: with (\w+(?: or \w+)*))?: (\S.*)")
 
 # The feature of the programs, which enables all others.
 PROGRAMS = "__rendered"
@@ -59,7 +60,8 @@ def listed():
         if not entry or entry[1] and re.search(r"[*{]", entry[3]):
             fail(f"no entry: {line}")
         by = tuple((entry[4] or PROGRAMS).split(" or "))
-        entries += [Entry(entry[2], item, by, entry[5], bool(entry[1])) for item in ([entry[3]] if "{" in entry[3] else entry[3].split(", "))]
+        items = [entry[3]] if "{" in entry[3] else entry[3].split(", ")
+        entries += [Entry(entry[2], item, by, entry[5], bool(entry[1])) for item in items]
     return entries
 
 

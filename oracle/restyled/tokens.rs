@@ -1,5 +1,5 @@
-//! `cut!()` writes the tokens of texts (`texts.rs`) by rustc's own lexer. A line has the tokens of a text as words, or is `unread`. A
-//! word begins with a letter for the token's form, and a literal follows in hexadecimal. Before each text the macro prints `@` and
+//! `cut!()` writes the tokens of texts (`texts.rs`) by rustc's own lexer. A line has the tokens of a text as words, or is `unread`.
+//! A word begins with a letter for the token's form, and a literal follows in hexadecimal. Before each text the macro prints `@` and
 //! the text's number to standard error. rustc's messages after it are about this text.
 
 // This library is also built with the edition 2015, which needs this line.

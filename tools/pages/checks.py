@@ -103,8 +103,8 @@ def shown_snippets():
 
 
 def check_snippets(tell):
-    """Checks that each shown snippet of Rust consists of whole items of one file, so that shown code is compiled and proved; that it
-    imports the names that it uses and contains the other items of that file that it uses, so that it can be pasted; and that the
+    """Checks that each shown snippet of Rust consists of whole items of one file, so that shown code is compiled and proved; that
+    it imports the names that it uses and contains the other items of that file that it uses, so that it can be pasted; and that the
     result in each line `// CALL == VALUE` is in the rows."""
     sources = [Source(read(it)) for it in code_files() + paths('rust/examples/*.rs')]
     printed = {line.removeprefix('> ') for line in read('rust/programs/rows/tests/calls/uses.rows').split('\n')}
@@ -133,7 +133,7 @@ def is_there(path, page):
 
 
 def check_paths(tell):
-    """Checks that each link and path of a page names an existing file or folder, and so does each name of a `.rt` or `.antt` file."""
+    """Checks that each link and path of a page names an existing file or folder, and each name of a `.rt` or `.antt` file too."""
     sources = {os.path.basename(it) for it in [*code_files(), *definition_files()]}
     folder = r'(?:docs|tools|oracle|crates|bench|\.ci|rl_\w+|rust_literals)'
     bare_path = re.compile(rf'(?<![\w/.-])({folder}/[\w./-]*[\w/])')

@@ -37,8 +37,8 @@ pub fn tried(number: TokenStream) -> TokenStream {
     "compile_error! { \"groups do not match\" }".parse().expect("a call")
 }
 
-/// `lines!(COMMAND {text} {text} ..)` gets the same texts as the file. It writes the lines of each text's literals (`spans`: kind, byte
-/// range and text; `sources`: also those inside groups) or attributes (`attr`), and a line with a full stop after each text.
+/// `lines!(COMMAND {text} {text} ..)` gets the same texts as the file. It writes the lines of each text's literals (`spans`: kind,
+/// byte range and text; `sources`: also those inside groups) or attributes (`attr`), and a line with a full stop after each text.
 #[proc_macro]
 pub fn lines(tokens: TokenStream) -> TokenStream {
     let mut groups = tokens.into_iter();

@@ -1,5 +1,5 @@
-//! The entries of attributes, also among a macro's tokens, and of their lists at any depth. `syn` 1's own `Meta` accepts only literals
-//! as values. So an entry is parsed here as `syn` 2 and 3 do: `Path::parse_mod_style`, then brackets, or `=` and an `Expr`; and the
+//! The entries of attributes, also among a macro's tokens, and of their lists at any depth. `syn` 1's own `Meta` accepts only
+//! literals as values. So an entry is parsed here as `syn` 2 and 3 do: `Path::parse_mod_style`, then brackets, or `=` and an `Expr`; and the
 //! entries of a list by `Punctuated::parse_terminated`. Names are compared without `r#`. If a value is a literal, the package must
 //! return it, and for any other value none.
 

@@ -1,5 +1,5 @@
-//! Macros that compare the package with `syn` 1 on whole files, while rustc expands them. `oracle/syn_trees.py` calls them. The files
-//! and the results are those of `texts.rs`. A result is a line with five words between tabs: what is compared, the compared text,
+//! Macros that compare the package with `syn` 1 on whole files, while rustc expands them. `oracle/syn_trees.py` calls them. The
+//! files and the results are those of `texts.rs`. A result is a line with five words between tabs: what is compared, the compared text,
 //! the results of `syn` and of the package, and the known reason for a difference, or nothing.
 
 mod entries;
