@@ -6,8 +6,9 @@
 A source contains every character once. The reported characters and their lines must be those of the table. A line has the
 character's number, and its name if the character changes the direction of text. The table has the characters that are ignorable by
 default, those that separate lines or paragraphs, and control characters. The marks of annotations, U+FFF9 to U+FFFB, are added.
-These don't count: variation selectors from U+FE00 to U+FE0F, which choose a glyph, and tab, LF and form feed, which lay out text. A
-character that only a newer table than perl's has is reported as a difference. For other options see frame.py.
+Tab, LF and form feed don't count, since they lay out text. Each character follows a letter, which takes no variation selector, so all
+variation selectors count. A character that only a newer table than perl's has is reported as a difference. For other options see
+frame.py.
 """
 import functools
 import subprocess
@@ -19,7 +20,7 @@ import frame
 SCRIPT = r'for (0 .. 0xd7ff, 0xe000 .. 0x10ffff) { print "$_\n" if chr =~ /%s/ }'
 HIDING = r'[\p{Default_Ignorable_Code_Point}\p{Zl}\p{Zp}\p{Cc}]'
 TURNING = r'\p{Bidi_Control}'
-ANNOTATIONS, SELECTORS, LAYOUT = range(0xfff9, 0xfffc), range(0xfe00, 0xfe10), {0x9, 0xa, 0xc}
+ANNOTATIONS, LAYOUT = range(0xfff9, 0xfffc), {0x9, 0xa, 0xc}
 
 
 def codes(of):
@@ -30,7 +31,7 @@ def codes(of):
 @functools.cache
 def hiding():
     """Returns the invisible and bidirectional characters."""
-    return frozenset(map(chr, codes(HIDING) - set(SELECTORS) - LAYOUT | set(ANNOTATIONS)))
+    return frozenset(map(chr, codes(HIDING) - LAYOUT | set(ANNOTATIONS)))
 
 
 def line_of(character, turning):

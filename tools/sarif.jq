@@ -9,7 +9,7 @@
 def uri:
   sub("^(\\./+)+"; "") | split("/") | map(@uri) | join("/") | if startswith("/") then "file://" + . else . end;
 def rule: .id;
-def description: if has("hidden") then "a character that turns or hides text" else .error end;
+def description: if has("hidden") then (.id | gsub("-"; " ")) else .error end;
 def message:
   if has("hidden") then .hidden
   elif has("piece") and .piece != "" then "\(.error): \(.piece)"

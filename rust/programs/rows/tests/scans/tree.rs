@@ -42,11 +42,17 @@ const WORDS: &str =
 \"abab ab\" \"é e é\" '-' \"a-b\" \"3ab a b\" r\"\\ab\"";
 
 /// Invisible and bidirectional characters in literals, comments, identifiers and between tokens. Also text that isn't reported:
-/// escapes, tabs, a form feed, CR LF, a variation selector.
+/// escapes, tabs, a form feed, CR LF.
 const HIDES: &str = "\u{feff}\"a\\u{202e}b\" \"a\u{202e}b\"
 '\u{200b}' r\"ä\u{feff}\" b\"\u{202e}\" // \"\u{202e}\"
 \"a\tb\" 1 \"\u{fe0f}\" \"\u{1bca3}\"\r
 \u{c}let a\u{200b}b\u{ad}; \"\x1b[8m\" // a\rb\x07\x00\u{85}\u{2028}\r";
+
+/// Variation selectors after characters that take them, and after others: a selector, an emoji, a letter, a mathematical symbol, an
+/// ideograph. Also a joiner between emoji.
+const SELECTORS: &str = "\u{fe0f}\u{263a}\u{fe0e}\u{fe0f}1\u{fe0f}\u{20e3}a\u{fe00}
+\u{2229}\u{fe00}\u{2229}\u{fe0f}\u{845b}\u{e0100}\u{845b}\u{fe02}\u{263a}\u{e0100}\u{845b}\u{fe03}\u{e01ef}
+\u{1f469}\u{200d}\u{2764}\u{fe0f}";
 
 /// The published examples of Trojan Source (CVE-2021-42574) for Rust. In one a comment is displayed as code, and in the other the
 /// end of a string is displayed elsewhere.
@@ -130,6 +136,7 @@ fn text_at(path: &str) -> Option<&'static str> {
         "prefixed" => Some(PREFIXED),
         "strays" => Some(STRAYS),
         "hides" => Some(HIDES),
+        "selectors" => Some(SELECTORS),
         "trojan.rs" => Some(TROJAN),
         "marked" => Some(MARKED),
         "marks" => Some("\u{feff}\u{feff}1"),

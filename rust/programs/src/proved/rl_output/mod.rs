@@ -15,6 +15,8 @@ mod member;
 mod path;
 mod place;
 mod rows;
+mod selector;
+mod selector_rows;
 mod width;
 mod width_rows;
 
@@ -30,3 +32,4 @@ pub use crate::rl_output::line_column::{Extent, Places, Position};
 pub use crate::rl_output::member::{push_ascii, push_member};
 pub use crate::rl_output::path::without_dot;
 pub use crate::rl_output::place::{LineColumn, Place, push_line_start};
+pub use crate::rl_output::selector::{is_selector, takes_selector};
