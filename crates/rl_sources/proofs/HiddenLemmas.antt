@@ -1,5 +1,5 @@
 -- Lemmas about the lines for invisible and bidirectional characters.
-use Rattle.rl_syntax.proofs.Common.{Bool, List, [], ap, append-nil, append_assoc, arith, chars, chars-nil, encode_utf8, encode_utf8_all, false, inl, inr, length, length-append, nat_tests, not, refl, subst, sym, true, ℕ, ◌&&◌, ◌++◌, ◌+◌, ◌∙◌, ◌∷◌, ◌≡◌, ◌≤◌}
+use Rattle.rl_syntax.proofs.Common.{List, [], ap, append-nil, append_assoc, arith, chars, chars-nil, encode_utf8, encode_utf8_all, false, inl, inr, length, length-append, nat_tests, refl, subst, sym, true, ℕ, ◌++◌, ◌+◌, ◌∙◌, ◌∷◌, ◌≡◌, ◌≤◌}
 use Rattle.rl_syntax.specs.Texts.{byte_len}
 use Rattle.rl_lexer.specs.Cursors.{IsCursorState}
 use Rattle.rl_lexer.proofs.ErrorKinds.{char_len}
