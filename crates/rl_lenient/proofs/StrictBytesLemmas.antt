@@ -32,8 +32,7 @@ line_allowed ByteStr blanks s h = h
 line_allowed CStr blanks s h = h
 line_allowed kind blanks s h = absurd (cc)
 
--- If a character or escape may end before the text of a sequence, each escaped line end of the longer sequence includes all white
--- space after it.
+-- One more character or escape before a sequence.
 pub blanks_cons : (u : StrictUnit) (us : List StrictUnit) → MayEnd u (flat_map strict_text us) → BlanksEnd us
     → BlanksEnd (u ∷ us)
 blanks_cons (LineBreak blanks) us m b = (m, b)
@@ -55,8 +54,7 @@ IsByteKind _ = ⊥
 
 -- ---- a character or escape
 
--- The character or escape of Rust's grammar with the text and the value of one of `syn`'s grammar. It may end before each text
--- before which that one may end.
+-- The character or escape of Rust's grammar with the text and the value of one of `syn`'s, and with an equal end.
 record Same (k : Kind) (u : QuotedUnit) : Type 0 where
   unit : StrictUnit
   is_unit : is_strict_unit k unit ≡ true
@@ -119,7 +117,7 @@ unit_same k (Unicode first more) b h n = escape_same k (Unicode first more)
     (unicode_escape k first more (quoted_kind k b) h)
 unit_same k (Continuation c run) b h n = line_same k c run h n
 
--- ---- sequences of characters and escapes
+-- ---- a sequence of them
 
 record SameRow (k : Kind) (us : List QuotedUnit) : Type 0 where
   units : List StrictUnit
@@ -145,9 +143,9 @@ row_same k (u ∷ us) b e c n =
           r.value_is;
     }
 
--- ---- byte strings with escapes, and byte literals
+-- ---- the two forms
 
--- If a text contains no CR, neither does the part between its first two characters and the text `after`.
+-- The text between an opening delimiter of two characters and the rest contains no CR.
 inner_clean : (a b : ℕ) (text inner after : List ℕ) → text ≡ a ∷ b ∷ (inner ++ after) → list_all no_return text ≡ true
     → list_all no_return inner ≡ true
 inner_clean a b text inner after e n =

@@ -61,8 +61,8 @@ next_by p c b e =
     ap (λ (t : Bool). cond t (spot_by (p.line + 1) 1 1)
     (spot_by p.line (p.column + 1) (p.byte_column + length (encode_utf8 c)))) e
 
-after_line_feed : (p : Position) (c : ℕ) → (next_position p c).line ≡ p.line + end_count (c == 10)
-after_line_feed p c = go (c == 10) refl
+next_line : (p : Position) (c : ℕ) → (next_position p c).line ≡ p.line + end_count (c == 10)
+next_line p c = go (c == 10) refl
   where
     go : (b : Bool) → (c == 10) ≡ b → (next_position p c).line ≡ p.line + end_count (c == 10)
     go true e = omega (arith, ap (λ (q : Position). q.line) (next_by p c true e), ap end_count e)
@@ -70,7 +70,7 @@ after_line_feed p c = go (c == 10) refl
 
 line_after : (p : Position) (cs : List ℕ) → (position_after p cs).line ≡ p.line + ends_among (encode_utf8_all cs)
 line_after p [] = omega arith
-line_after p (c ∷ cs) = omega (arith, line_after (next_position p c) cs, after_line_feed p c, ends_more c cs)
+line_after p (c ∷ cs) = omega (arith, line_after (next_position p c) cs, next_line p c, ends_more c cs)
 
 -- ---- positions in one line
 

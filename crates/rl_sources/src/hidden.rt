@@ -18,7 +18,7 @@ use rl_output::{
     Form, Level, Places, is_selector, push_annotation_end, push_ascii, push_line_start,
     push_member, takes_selector,
 };
-use rl_tokens::text::{begins_with_char, split_char};
+use rl_tokens::text::{begins_with, split_char};
 use std::alloc::{AllocError, Allocator};
 
 /// Whether `c` is a control character of the layout: a tab, an LF, a form feed, or a CR before an LF. `after` is the text after
@@ -26,7 +26,7 @@ use std::alloc::{AllocError, Allocator};
 fn is_layout(c: char, after: &str) -> bool
     ensures { result ≡ layout c (chars after.now) }
 {
-    matches!(c, '\t' | '\n' | '\u{c}') || c == '\r' && begins_with_char(after, '\n')
+    matches!(c, '\t' | '\n' | '\u{c}') || c == '\r' && begins_with(after, '\n')
 }
 
 /// Whether `c` is reported: an invisible or bidirectional character that isn't part of the layout, or a variation selector after a

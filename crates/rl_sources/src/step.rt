@@ -28,7 +28,7 @@ use rl_lenient::{Found, find};
 use rl_output::{
     Form, Level, Place, Places, Spelling, first_line, push_annotation_end, push_line_start,
 };
-use rl_program::{label_of, push_found, push_unescaped_line, unescaped_value};
+use rl_program::{label_of, push_found, push_unescaped, unescaped_value};
 use rl_tokens::{LexError, LexKind, SourceForm, SourceToken, Sources};
 use std::alloc::{AllocError, Allocator};
 
@@ -70,7 +70,7 @@ fn push_text_line<A: Allocator + Copy>(
         (chars (string_bytes out.old)) (chars (string_bytes out.new))) }
 {
     match unescaped_value(text) {
-        Some(value) => push_unescaped_line(out, value),
+        Some(value) => push_unescaped(out, value),
         None => push_made_line(alloc, out, text, *found),
     }
 }

@@ -48,8 +48,7 @@ escape_short c h = elim (scalar_cases c h) [
   | inr a ↦ omega (arith, escape_length c, numeral_short 5 c (omega (arith, a.1)))
 ]
 
--- The number of bytes of a character from U+0800 on: 3 if `less` is true, since the character is below U+10000 then, and
--- otherwise 4.
+-- The number of bytes of a non-ASCII character.
 abbrev by_four : Bool → ℕ
 by_four less = cond less 3 4
 
@@ -79,7 +78,7 @@ escape_fits c h wide =
 
 -- ---- the value of an escape
 
--- Each digit with the number of underscores after it, which is 0.
+-- Digits without underscores.
 abbrev pub plain_digits : List ℕ → List (ℕ × ℕ)
 plain_digits ds = map (λ d. (d, 0)) ds
 
@@ -141,7 +140,7 @@ escape_low c = low_join (numeral 16 false c) (125 ∷ [])
 
 -- ---- the written bytes
 
--- With group size 0, the digits are written without underscores.
+-- The digits that were written without underscores.
 digits_put : (c n : ℕ) (ds : List ℕ) → ds ≡ numeral 16 false n → n ≡ c → grouped 0 ds ≡ numeral 16 false c
 digits_put c n ds e same = ungrouped ds ∙ e ∙ ap (numeral 16 false) same
 

@@ -6,7 +6,7 @@
 use crate::rl_lenient::found::{find, find_float, found_in};
 use crate::rl_lenient::units::{Piece, split_plain, unit};
 #[cfg(feature = "__rendered")]
-use crate::rl_lenient::units::piece_code;
+use crate::rl_lenient::units::piece_unit;
 use crate::rl_syntax::Kind;
 use crate::rl_syntax::slice_writer::{put, put_byte, put_char};
 
@@ -79,7 +79,7 @@ fn body_unit(kind: Kind, body: &str) -> u32 {
     let Some((piece, _)) = unit(kind, body) else {
         unreachable!()
     };
-    piece_code(kind, piece)
+    piece_unit(kind, piece)
 }
 
 /// Returns the value of the byte literal `text`. The text must be a byte literal: [`shape`](crate::rl_lenient::shape) returns the

@@ -3,7 +3,7 @@
 //! the caller's.
 
 use crate::rl_lenient::digit_runs::after_minus;
-use crate::rl_syntax::scan::{Marks, split_after_mark};
+use crate::rl_syntax::scan::{Marks, next_mark};
 use crate::rl_syntax::slice_writer::{put_byte, put_char};
 use crate::rl_syntax::text::split_char;
 
@@ -41,7 +41,7 @@ pub fn is_plain_integer(body: &str) -> bool {
 
 /// Whether the digits of a float literal are its body as written. `numeral` is the text before the suffix.
 pub(crate) fn is_plain_float(numeral: &str) -> bool {
-    match split_after_mark(CHANGED, numeral) {
+    match next_mark(CHANGED, numeral) {
         Some(_) => false,
         None => true,
     }

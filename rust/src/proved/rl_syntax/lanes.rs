@@ -138,7 +138,7 @@ fn likely_among(bytes: &[u8], at: usize) -> u64 {
 /// Returns a number of leading bytes that can be skipped in a search for literals: neither a literal nor a comment
 /// begins at one of them. Sixteen bytes are tested at once. The search stops where sixteen bytes or fewer are left.
 #[inline(never)]
-pub fn skippable_len(bytes: &[u8]) -> usize {
+pub fn unlikely_len(bytes: &[u8]) -> usize {
     if bytes.is_empty() || is_likely(bytes[0]) {
         return 0;
     }

@@ -14,8 +14,7 @@ pub use crate::rl_program::digits::decoded;
 pub use crate::rl_program::exit::{Ending, RunError, arguments, finish};
 pub use crate::rl_program::found_line::{push_found, truth_word};
 pub use crate::rl_program::line::{
-    label_of, need_no_escapes, push_line_of_kind, push_unescaped_line, push_verbatim_line,
-    unescaped_value,
+    label_of, need_no_escapes, push_kind, push_unescaped, push_verbatim, unescaped_value,
 };
 pub use crate::rl_program::program_error::ProgramError;
 pub use crate::rl_program::rejection::Rejection;

@@ -4,7 +4,7 @@
 use crate::rattle_std::prelude::{String};
 use crate::rl_files::push_visible;
 use crate::rl_output::{push_ascii, without_dot};
-use crate::rl_syntax::lines::after_line_feed;
+use crate::rl_syntax::lines::next_line;
 use crate::rl_syntax::text::{before, split_char};
 use crate::rattle_std::alloc::{AllocError, Allocator};
 
@@ -17,7 +17,7 @@ fn split_line(text: &str) -> Option<(&str, &str)> {
     if text.is_empty() {
         return None;
     }
-    match after_line_feed(text) {
+    match next_line(text) {
         Some(rest) => Some((before(text, rest), rest)),
         None => Some((text, "")),
     }
@@ -57,7 +57,7 @@ fn count_lines(text: &str) -> usize {
 
 /// Whether a text has an LF.
 fn has_end(text: &str) -> bool {
-    after_line_feed(text).is_some()
+    next_line(text).is_some()
 }
 
 /// Whether two texts are equal.

@@ -15,7 +15,7 @@ use crate::rl_lenient::{Found, find};
 use crate::rl_output::{
     Form, Level, Place, Places, Spelling, first_line, push_annotation_end, push_line_start,
 };
-use crate::rl_program::{label_of, push_found, push_unescaped_line, unescaped_value};
+use crate::rl_program::{label_of, push_found, push_unescaped, unescaped_value};
 use crate::rl_tokens::{LexError, LexKind, SourceForm, SourceToken, Sources};
 use crate::rattle_std::alloc::{AllocError, Allocator};
 
@@ -49,7 +49,7 @@ fn push_text_line<A: Allocator + Copy>(
     found: &Option<Found>,
 ) -> Result<(), AllocError> {
     match unescaped_value(text) {
-        Some(value) => push_unescaped_line(out, value),
+        Some(value) => push_unescaped(out, value),
         None => push_made_line(alloc, out, text, *found),
     }
 }

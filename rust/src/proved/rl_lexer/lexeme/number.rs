@@ -4,7 +4,7 @@
 use super::suffix::after_suffix;
 use crate::rl_syntax::characters::is_start;
 use crate::rl_syntax::classes::{CharClass, skip_class};
-use crate::rl_syntax::text::{split_ascii, split_char, without_first_char};
+use crate::rl_syntax::text::{split_ascii, split_char, without_first};
 
 /// Returns the text after a decimal number, where `text` begins after some of the digits before its dot.
 #[inline(never)]
@@ -45,7 +45,7 @@ pub(crate) fn ends_number(text: &str) -> bool {
 /// number, the result is the text itself.
 fn after_fraction(text: &str) -> &str {
     if begins_dot(text) {
-        skip_class(CharClass::Numeral, without_first_char(text))
+        skip_class(CharClass::Numeral, without_first(text))
     } else {
         text
     }

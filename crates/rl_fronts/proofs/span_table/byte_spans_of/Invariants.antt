@@ -1,6 +1,6 @@
 use Rattle.rl_syntax.proofs.Common.{length}
 use Rattle.rl_lenient.proofs.SegmentLemmas.{IsTabled}
-use Rattle.rl_fronts.proofs.span_table.value_byte_spans.Given as goal
+use Rattle.rl_fronts.proofs.span_table.byte_spans_of.Given as goal
 
 abbrev pub invariant-loop-segment : goal.invariant-loop-segment
 invariant-loop-segment g l = IsTabled l.fn.segments l.segments l.base l.spans.items

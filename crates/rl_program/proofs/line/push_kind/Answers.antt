@@ -1,7 +1,7 @@
 use Rattle.rl_syntax.proofs.Common.{ap, chars, ◌∙◌, ◌≡◌}
 use Rattle.rl_program.specs.Lines.{kind_label}
 use Rattle.rl_program.proofs.PrintLemmas.{word_chars}
-use Rattle.rl_program.proofs.line.push_line_of_kind.Goals as goal
+use Rattle.rl_program.proofs.line.push_kind.Goals as goal
 
 pub returns : goal.returns
 returns g c =

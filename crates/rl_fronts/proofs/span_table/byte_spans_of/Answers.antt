@@ -1,7 +1,7 @@
 use Rattle.rl_syntax.proofs.Common.{◌≡◌, ◌<◌, ◌∙◌, [], ◌∷◌, ◌++◌, ap, arith, rules}
 use Rattle.rl_lenient.specs.Segments.{SegmentsState, span_from}
 use Rattle.rl_lenient.proofs.SegmentLemmas.{place_below, segment_fits, tabled_all, tabled_more}
-use Rattle.rl_fronts.proofs.span_table.value_byte_spans.Goals as goal
+use Rattle.rl_fronts.proofs.span_table.byte_spans_of.Goals as goal
 
 pub push_spans-requires-clause-within : goal.push_spans-requires-clause-within
 push_spans-requires-clause-within g c = λ i small.

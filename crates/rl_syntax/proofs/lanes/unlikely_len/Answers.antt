@@ -1,6 +1,6 @@
 use Rattle.rl_syntax.proofs.Common.{arith}
 use Rattle.rl_syntax.proofs.UnlikelyPlaces.{first_place, none_among}
-use Rattle.rl_syntax.proofs.lanes.skippable_len.Goals as goal
+use Rattle.rl_syntax.proofs.lanes.unlikely_len.Goals as goal
 
 pub returns-then-found-ne0 : goal.returns-then-found-ne0
 returns-then-found-ne0 c =

@@ -1,10 +1,10 @@
 use Rattle.rl_syntax.proofs.Common.{◌-◌, ◌<◌, ◌≤◌, length}
-use Rattle.rl_syntax.specs.Mirrors.UnlikelyAt.{skippable_len}
-use Rattle.rl_syntax.proofs.lanes.skippable_len.Given as goal
+use Rattle.rl_syntax.specs.Mirrors.UnlikelyAt.{unlikely_len}
+use Rattle.rl_syntax.proofs.lanes.unlikely_len.Given as goal
 
 abbrev pub invariant-loop-at : goal.invariant-loop-at
 invariant-loop-at l = record {
-  front : l.at ≤ skippable_len l.bytes;
+  front : l.at ≤ unlikely_len l.bytes;
   in_range : l.at ≤ length l.bytes;
   past_first : 0 < l.at;
 }

@@ -2,7 +2,7 @@ use Rattle.rl_syntax.proofs.Common.{◌<◌, ap, sym, ◌∙◌, rules}
 use Rattle.rl_lenient.proofs.Names.{IsScalar}
 use Rattle.rl_lenient.specs.Mirrors.UnitAt.{piece_value}
 use Rattle.rl_lenient.proofs.SingleBodies.{character_unit, byte_unit}
-use Rattle.rl_lenient.proofs.units.piece_code.Goals as goal
+use Rattle.rl_lenient.proofs.units.piece_unit.Goals as goal
 
 pub returns-in-Character : goal.returns-in-Character
 returns-in-Character c =

@@ -1,7 +1,7 @@
 use Rattle.rl_syntax.proofs.Common.{chars, on_ok_weaker}
 use Rattle.rl_program.specs.Lines.{verbatim_line}
 use Rattle.rl_program.proofs.PrintLemmas.{verbatim_chars, no_chars, appends_is}
-use Rattle.rl_program.proofs.line.push_verbatim_line.Goals as goal
+use Rattle.rl_program.proofs.line.push_verbatim.Goals as goal
 
 pub returns : goal.returns
 returns g c =

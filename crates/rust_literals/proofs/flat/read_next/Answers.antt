@@ -1,7 +1,7 @@
 use Rattle.rl_syntax.proofs.Common.{arith, common_steps, subst}
 use Rattle.rl_lenient.specs.NextLiterals.{HasNoNextLiteral}
 use Rattle.rust_literals.proofs.FlatLemmas.{no_some}
-use Rattle.rust_literals.proofs.flat.push_next_literal.Goals as goal
+use Rattle.rust_literals.proofs.flat.read_next.Goals as goal
 
 pub returns-in_default-clause-none : goal.returns-in_default-clause-none
 returns-in_default-clause-none g c = λ _. subst HasNoNextLiteral c.fork-ahead.ensures
