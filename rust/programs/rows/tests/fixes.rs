@@ -104,7 +104,7 @@ fn lines_of_changes() {
             "\"a\nb\"",
             "\"\u{202e}\""
         ),
-        "2..9 \"a\\nb\" -> \"\\u{202e}\"\n"
+        "2..9 \"a\\nb\" -> \"<U+202E>\"\n"
     );
     assert_eq!(
         change(Form::Colored, Some("a.rs"), &place, "1", "2"),
