@@ -1,5 +1,5 @@
 -- The end of an invalid character or escape, step by step. The invalid piece isn't empty.
-use Rattle.rl_flaws.proofs.Names.{◌≡◌, ◌≢◌, ◌≤◌, ◌<◌, ◌==◌, ◌||◌, ℕ, Bool, true, false, List, [], ◌∷◌, ◌++◌, length, length-append, refl, sym, ap, ◌∙◌, arith, cond, both_ways, chars, is_hex_digit, IsTail, is_underscore, is_some_text, read_of, LineEnds, groups_if_any, after_bad_piece, after_brace, after_code_digits, after_escape, after_hex, after_one, after_unicode}
+use Rattle.rl_flaws.proofs.Names.{◌≡◌, ◌≢◌, ◌≤◌, ◌<◌, ◌==◌, ◌||◌, ℕ, Bool, true, false, List, [], ◌∷◌, ◌++◌, length, length-append, refl, sym, ap, ◌∙◌, arith, cond, both_ways, chars, is_hex_digit, IsTail, is_underscore, is_some_text, read_of, LineEnds, some_text_of, after_bad_piece, after_brace, after_code_digits, after_escape, after_hex, after_one, after_unicode}
 
 -- ---- the digits of an invalid escape
 
@@ -65,7 +65,7 @@ never_same q (c ∷ cs) some e = omega (arith, ap length e, piece_shorter q c cs
 
 some_read : (how : LineEnds) (t : List ℕ) → t ≢ [] → read_of how t ≢ []
 some_read how [] some none = some refl
-some_read how (c ∷ cs) some none = both_ways true (sym (groups_if_any how (c ∷ cs)) ∙ ap is_some_text none) refl
+some_read how (c ∷ cs) some none = both_ways true (sym (some_text_of how (c ∷ cs)) ∙ ap is_some_text none) refl
 
 pub less_after : (how : LineEnds) (q : ℕ) (piece rest : List ℕ) → chars piece ≢ [] → read_of how (chars rest) ≡
     after_bad_piece q (read_of how (chars piece)) → IsTail piece rest → length rest < length piece

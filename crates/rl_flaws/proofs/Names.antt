@@ -14,7 +14,7 @@ pub use Rattle.rl_flaws.specs.declared.invalid_piece.InvalidPiece.{InvalidPiece}
 pub use Rattle.rl_flaws.specs.declared.walks.Opened.{Opened}
 pub use Rattle.rl_lenient.proofs.Names.{AsciiEscape, BoolKind, Byte, ByteEscape, ByteStr, CStr, Char, Contents, Float, IfOk-weaker, Int, Itself, Kind, LineBreak, Plain, PlainEscape, QuoteEscape, QuotedUnit, Str, StrictUnit, UnicodeEscape, is_dropped_blank, is_single, is_strict_unit, is_string, opener, raw_opener, strict_text, truth_text, ◌↔◌}
 pub use Rattle.rl_lexer.proofs.Pieces.{is_equal}
-pub use Rattle.rl_strict.proofs.EndLemmas.{first_of, free_in, free_of, groups_if_any, nil_of, self_in, step_in, suffix_in}
+pub use Rattle.rl_strict.proofs.EndLemmas.{first_of, free_in, free_of, some_text_of, nil_of, self_in, step_in, suffix_in}
 pub use Rattle.rl_strict.proofs.FileTextLemmas.{lacks_cr, rest_text}
 pub use Rattle.rl_strict.proofs.FileUnits.{hashes_free}
 unfoldable pub use Rattle.rl_strict.proofs.Names.{radix_at, raw_stop}
