@@ -44,10 +44,12 @@ TRIED += [(UNCALLED, *change) for change in [
 # entry. After a plus: functions that their callers compile, where the file, the crate or the function doesn't exist, or the
 # function is inlined already.
 TRIED += [(INLINING, *change) for change in [
-    ('skip_raw_characters', 'skip_raw_characters', None), ('strict.rs skip_raw_characters', 'strictly.rs skip_raw_characters', 'strictly.rs'),
+    ('skip_raw_characters', 'skip_raw_characters', None),
+    ('strict.rs skip_raw_characters', 'strictly.rs skip_raw_characters', 'strictly.rs'),
     ('strict.rs skip_raw_characters', 'strict.rs skip_outside', 'skip_outside'),
     ('strict.rs skip_raw_characters', 'strict.rs skip_units', 'skip_units'),
-    ('skip_raw_characters: ', 'skip_raw_characters ', 'no entry'), ('+ rl_lenient/ranges.rs *', '+ rl_lenient/range.rs *', 'range.rs'),
+    ('skip_raw_characters: ', 'skip_raw_characters ', 'no entry'),
+    ('+ rl_lenient/ranges.rs *', '+ rl_lenient/range.rs *', 'range.rs'),
     ('+ rl_settings/ *', '+ rl_setting/ *', 'rl_setting/'), ('found.rs find_number, ', 'found.rs find_numbers, ', 'find_numbers'),
     ('strict_reading.rs read_rare', 'strict_reading.rs read_next', 'read_next'),
     ('strict_reading.rs read_rare', 'strict_reading.rs number_at', 'number_at'),
