@@ -7,7 +7,6 @@ the end of a line for oracle/compared.tsv). Most take `--count N` (generated tex
 rl_tool and rl_scan as Cargo builds them. With `--proved` they are crates/NAME/out/NAME. `--rl-scan PROGRAM` and similar options
 name others. The status is 0 if every difference is explained.
 """
-import argparse
 import collections
 import json
 import os
@@ -30,19 +29,10 @@ POINTED = ('read', 'spans', 'attr', 'source')
 
 def run(compare, words, *places, what='texts', ours=(), **options):
     """Runs a comparison as a script. `compare` gets the arguments and the report, and returns the number of texts, whose name is
-    `what`. `words` is the text of --help. A place is the name of a positional argument, with `?`, `*` or `+` after it if it is
-    optional or has several values. An option has its default. `ours` names this repository's programs that the comparison runs."""
-    parser = argparse.ArgumentParser(description=words, formatter_class=argparse.RawDescriptionHelpFormatter)
-    for place in places:
-        parser.add_argument(place.rstrip('?*+'), nargs=place[-1] if place[-1] in '?*+' else None)
-    for name, default in {'seed': 1, 'show': 20, 'row': False, **options}.items():
-        how = {'action': 'store_true'} if default is False else {'type': type(default), 'default': default}
-        parser.add_argument(f'--{name.replace("_", "-")}', **how)
-    for name in ours:
-        parser.add_argument(f'--{name.replace("_", "-")}', metavar='PROGRAM')
-    if ours:
-        parser.add_argument('--proved', action='store_true', help=programs.HELP)
-    asked = parser.parse_args()
+    `what`. The words, places and options are those of `programs.arguments`. `ours` names this repository's programs that the
+    comparison runs."""
+    options |= {**dict.fromkeys(ours, ''), 'proved': False} if ours else {}
+    asked = programs.arguments(words, *places, seed=1, show=20, row=False, **options)
     for name in ours:
         setattr(asked, name, programs.chosen(name, getattr(asked, name), asked.proved))
     report = Report(asked)

@@ -20,7 +20,7 @@ import frame
 SCRIPT = r'for (0 .. 0xd7ff, 0xe000 .. 0x10ffff) { print "$_\n" if chr =~ /%s/ }'
 HIDING = r'[\p{Default_Ignorable_Code_Point}\p{Zl}\p{Zp}\p{Cc}]'
 TURNING = r'\p{Bidi_Control}'
-ANNOTATIONS, LAYOUT = range(0xfff9, 0xfffc), {0x9, 0xa, 0xc}
+ANNOTATIONS, SELECTORS, LAYOUT = range(0xfff9, 0xfffc), range(0xfe00, 0xfe10), {0x9, 0xa, 0xc}
 
 
 def codes(of):
@@ -30,8 +30,9 @@ def codes(of):
 
 @functools.cache
 def hiding():
-    """Returns the invisible and bidirectional characters."""
-    return frozenset(map(chr, codes(HIDING) - LAYOUT | set(ANNOTATIONS)))
+    """Returns the invisible and bidirectional characters, without the variation selectors from U+FE00 to U+FE0F, which printed
+    literals and a style leave."""
+    return frozenset(map(chr, codes(HIDING) - set(SELECTORS) - LAYOUT | set(ANNOTATIONS)))
 
 
 def line_of(character, turning):
@@ -53,7 +54,7 @@ def found_by(program, every):
 
 def compare(asked, report):
     every, turning = [chr(code) for code in (*range(0xd800), *range(0xe000, 0x110000))], codes(TURNING)
-    wanted = {character: line_of(character, turning) for character in hiding()}
+    wanted = {character: line_of(character, turning) for character in hiding() | set(map(chr, SELECTORS))}
     found = found_by(asked.rl_scan, every)
     for it in every:
         report.judge('hidden', it.encode(), wanted.get(it), found.get(it))

@@ -22,6 +22,7 @@ from pathlib import Path
 
 import frame
 
+MISTYPED = '_(8|16|32|64);'
 TYPES = {'r': '&str', 'br': '&[u8]', 'cr': '&core::ffi::CStr'}
 
 
@@ -77,11 +78,12 @@ def ours(program, text, style, room):
 
 
 # For each rule: the style, the function that generates its literals, their type if all have the same, the other program and its
-# options, and a pattern of the literals for which the two programs may differ. rustfmt drops a zero before an exponent or a suffix,
-# and a style doesn't. clippy skips the second of two quotes, so its raw string may end too early.
+# options, and a pattern of the lines in which the two programs may differ. rustfmt drops a zero before an exponent or a suffix, and a
+# style doesn't. rustfmt also rewrites a number whose suffix may be mistyped. clippy skips the second of two quotes, so its raw string
+# may end too early.
 RULES = [
-    ('hex_digits = "lower"', number, 'u128', rustfmt, ['hex_literal_case=Lower'], '(?!)'),
-    ('hex_digits = "upper"', number, 'u128', rustfmt, ['hex_literal_case=Upper'], '(?!)'),
+    ('hex_digits = "lower"', number, 'u128', rustfmt, ['hex_literal_case=Lower'], MISTYPED),
+    ('hex_digits = "upper"', number, 'u128', rustfmt, ['hex_literal_case=Upper'], MISTYPED),
     ('float_zero = true', decimal, 'f64', rustfmt, ['float_literal_trailing_zero=IfNoPostfix'], r'\.[0_]+[eEf]'),
     ('fewest_hashes = true', raw, None, clippy, ['needless_raw_string_hashes'], '""#'),
     ('fewest_hashes = true\ndrop_raw = true', raw, None, clippy, ['needless_raw_string_hashes', 'needless_raw_strings'], '""#'),

@@ -1,8 +1,8 @@
 #!/usr/bin/env python3
 """Compares the tokens of texts before and after the package rewrites literals, by rustc's own lexer.
 
-    oracle/restyled_rustc.py FOLDER.. ..                                    a quarter of an hour for 48,000 files
-    oracle/restyled_rustc.py [--fixed N] [--random N] [--minutes M] ..      some 10 s for 12,000 texts; ten minutes for all fixed ones
+    oracle/restyled_rustc.py FOLDER.. ..                      a quarter of an hour for 48,000 files
+    oracle/restyled_rustc.py [--fixed N] [--random N] ..      some 10 s for 12,000 texts; ten minutes for all fixed ones
 
 With FOLDERs, every Rust file below them is rewritten in two styles that have all rules, with digits in lower and in upper case. The
 tokens must be the same except for literals. Each pair of literals that differ must have the same kind, value and suffix by the
@@ -11,17 +11,15 @@ model. Rewriting the result again must leave it unchanged.
 Without a FOLDER, a literal is rewritten between other texts, in three editions. The fixed cases combine each text before, each literal
 and each text after it, or N of these combinations at random. The random cases are N more, of two or three of these texts and a
 literal. If rustc lexes the literal as a token there, `rewrite_in_context` rewrites it with each rule alone and with all rules. With
-the new literal in place of the old one, rustc must lex the same tokens, and must report no error if it reported none before. After M
-minutes no more cases are run. Other options: frame.py.
+the new literal in place of the old one, rustc must lex the same tokens, and must report no error if it reported none before. Other
+options: frame.py.
 """
 import collections
 import itertools
 import random
-import struct
 import subprocess
 import sys
 import tempfile
-import time
 
 import frame
 import rustc
@@ -89,12 +87,8 @@ def replaced(old, new):
 
 def rewritten(program, style, texts):
     """Returns the sources as the package rewrites them."""
-    out, at, found = frame.output_of([program, style], frame.with_lengths([text.encode() for text in texts])), 0, []
-    while at < len(out):
-        begin, (size,) = at + 4, struct.unpack_from('<I', out, at)
-        at = begin + size
-        found.append(out[begin:at].decode())
-    return found
+    out = frame.output_of([program, style], frame.with_lengths([text.encode() for text in texts]))
+    return [bytes.fromhex(line).decode() for line in out.decode().split('\n')[:-1]]
 
 
 def told(it):
@@ -181,7 +175,7 @@ def compare_cases(report, program, libraries, batch):
 
 
 def compare(asked, report):
-    program, end, count = f'{frame.helper("restyled")}/restyle', time.time() + 60 * asked.minutes, 0
+    program, count = f'{frame.helper("restyled")}/restyle', 0
     with tempfile.TemporaryDirectory() as room:
         if asked.folders:
             return compare_files(asked, report, program, room)
@@ -189,10 +183,8 @@ def compare(asked, report):
         for batch in frame.batches(cases(random.Random(asked.seed), asked.fixed, asked.random), AT_ONCE):
             count += len(batch)
             compare_cases(report, program, libraries, batch)
-            if time.time() > end:
-                break
     return count
 
 
 if __name__ == '__main__':
-    frame.run(compare, __doc__, 'folders*', fixed=-1, random=200_000, minutes=10_000.0)
+    frame.run(compare, __doc__, 'folders*', fixed=-1, random=200_000)

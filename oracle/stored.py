@@ -11,8 +11,8 @@
 Other options: frame.py.
 """
 import collections
-import os
 import subprocess
+from pathlib import Path
 
 import frame
 import listed
@@ -135,9 +135,8 @@ def texts_of(row):
 
 
 def lines_of(path):
-    """Returns the lines of a file of this repository, or at another path."""
-    with open(os.path.join(frame.TOP, path), encoding='utf-8', errors='replace', newline='\n') as file:
-        return file.read().split('\n')
+    """Returns the lines of a file of this repository."""
+    return Path(frame.TOP, path).read_bytes().decode(errors='replace').split('\n')
 
 
 def compare_rows(asked, report):

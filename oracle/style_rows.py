@@ -20,6 +20,7 @@ import random
 import frame
 from model import style as model
 from model.literals import OPENERS, RAW_OPENERS
+from texts import words
 
 HEX = '0123456789abcdefABCDEF'
 ROWS = os.path.join(frame.TOP, 'rust/tests/style.txt')
@@ -33,6 +34,9 @@ LONG_PIECES = PIECES + ['\r\n', '\\\r', '\\\r\n\r \n', '\\\n\\\n', '\\r', '\\t',
                         '\\u{1F_600}', '\\u{10FFFF}', '\\u{0_0_0_0_0_1__}', '\u20ac', '\U0001f600', '}', '#', '(1',
                         ')', ', ', 'x' * 17, 'y' * 64, '\u00df' * 9]
 RAW_PIECES = ['"', '"#', '#', 'a', '\\', '\n', '"##', ' ', 'é', '"#"', '\u202e', '\x1b', '\t', '\0']
+# Numbers, and digits after their last underscore: `2_32` may be meant as `2_i32`.
+MISTYPED = ['0', '09', '1', '1_000', '0xA', '0o7', '0b1', '1.', '1.5', '1e5', '1.5E+1', '1e']
+WIDTHS = ['8', '16', '32', '64', '128', '9', '032', '3_2']
 FRONTS = ['', '', '', '#', '.', '1.', '.#', '#.', '# ', '. ', 'é', 'a', '(', '\n']
 # Rules of one group exclude each other.
 GROUPS = (*'uzfcanpqhri', 'xX', 'sS', 'gG', 'eE', 'dD')
@@ -42,12 +46,6 @@ TEXTS, STYLES, AT_ONCE = 250, 3, 60_000
 
 # ---- the texts and styles
 
-def words(letters, lengths):
-    """Returns the words of these lengths over the letters."""
-    for length in lengths:
-        yield from map(''.join, itertools.product(letters, repeat=length))
-
-
 def short_texts():
     """Returns all short texts over small alphabets, each once."""
     for front in '019':
@@ -56,6 +54,7 @@ def short_texts():
         yield from (front + word for word in words('01_.eE+-', (5, 6)))
     for prefix in ('0x', '0b', '0o'):
         yield from (prefix + word for word in words('01aAF_eg', range(6)))
+    yield from map(''.join, itertools.product(MISTYPED, ['', '_', '__'], WIDTHS, ['', '_', 'u8', 'x']))
     for opener in OPENERS.values():
         for inside in words(PIECES, range(1, 2 if opener[-1] == "'" else 3)):
             yield from (opener + inside + opener[-1] + suffix for suffix in SUFFIXES)

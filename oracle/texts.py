@@ -132,18 +132,16 @@ def single_edits():
                 yield text[:at] + c + text[at + 1:]
 
 
-def short():
-    for length in range(5):
-        for row in itertools.product(ALPHABET, repeat=length):
-            yield ''.join(row)
+def words(letters, lengths):
+    """Returns the words of these lengths over the letters."""
+    for length in lengths:
+        yield from map(''.join, itertools.product(letters, repeat=length))
 
 
 def framed():
-    for length in range(4):
-        for row in itertools.product(ALPHABET, repeat=length):
-            middle = ''.join(row)
-            for opener, closer in FRAMES if length < 3 else FRAMES[:35]:
-                yield opener + middle + closer
+    for middle in words(ALPHABET, range(4)):
+        for opener, closer in FRAMES if len(middle) < 3 else FRAMES[:35]:
+            yield opener + middle + closer
 
 
 def characters():
@@ -151,12 +149,6 @@ def characters():
         c = chr(code)
         yield '1' + c
         yield "'" + c + "'a" + c
-
-
-def trivia():
-    for length in range(8):
-        for row in itertools.product('/*!\n\r a', repeat=length):
-            yield ''.join(row)
 
 
 GAPS = [' ', ' ', '\n', '\t', '\r\n', '/**/', '/* a */', '// a\n', '//\n', '/* /* */ " */', '//// a\n', '/***/', '\u00a0', '\u200e', '\v']
@@ -226,8 +218,9 @@ def randoms(seed, count):
 def families(seed, count):
     """Returns the families by name. A family is a function that returns its texts. A random family returns `count` texts."""
     return {
-        'worked': lambda: iter(WORKED), 'cuts': cuts, 'edits': single_edits, 'short': short, 'framed': framed,
-        'trivia': trivia, 'random': lambda: randoms(seed, count), 'lists': lambda: lists(seed, count), 'characters': characters,
+        'worked': lambda: iter(WORKED), 'cuts': cuts, 'edits': single_edits, 'short': lambda: words(ALPHABET, range(5)),
+        'framed': framed, 'trivia': lambda: words('/*!\n\r a', range(8)), 'random': lambda: randoms(seed, count),
+        'lists': lambda: lists(seed, count), 'characters': characters,
         'attributes': lambda: attributes(seed, count), 'printed': lambda: printed(seed, count),
     }
 

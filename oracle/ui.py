@@ -12,6 +12,7 @@ import functools
 import math
 import os
 import re
+from pathlib import Path
 
 import frame
 from rustc import kinds
@@ -40,8 +41,7 @@ Ours = collections.namedtuple('Ours', 'id begin end lo')
 
 def text_of(path):
     """Returns the text of a file."""
-    with open(path, encoding='utf-8', errors='replace', newline='\n') as file:
-        return file.read()
+    return Path(path).read_bytes().decode(errors='replace')
 
 
 # The identifier that rl_scan prints for each kind of flaw.
@@ -68,8 +68,7 @@ def errors_of(folder, name):
 def scanned(program, path):
     """Returns the bad literals that rl_scan reports in a file, and the position of the error that ends its lexing, if there is
     one."""
-    with open(path, 'rb') as file:
-        data = file.read()
+    data = Path(path).read_bytes()
     literals = [(it['line'], it['column']) for it in frame.scanned(program, data, '-') if 'kind' in it]
     found, end = [], None
     # Types and reserved prefixes are compared with rustc itself by bad.py.

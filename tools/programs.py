@@ -1,8 +1,10 @@
-"""Finds the programs that comparisons run: those that Cargo builds of rust/programs, or the proved ones, crates/NAME/out/NAME.
+"""Parses the arguments of scripts, and finds the programs that they run: those that Cargo builds of rust/programs, or the proved
+ones, crates/NAME/out/NAME.
 
 Cargo first builds the whole workspace. From nothing that takes a minute, and a line on standard error reports it. The status is 2
 if a program can't be found or built.
 """
+import argparse
 import functools
 import os
 import shutil
@@ -12,7 +14,18 @@ import sys
 TOP = os.path.dirname(os.path.dirname(os.path.abspath(__file__)))
 FOLDER = os.path.join(TOP, 'rust/programs')
 BY_BUILD = ('rl_tool', 'rl_scan')
-HELP = "run the proved programs, crates/NAME/out/NAME, in place of those that Cargo builds"
+
+
+def arguments(words, *places, **options):
+    """Returns the arguments of a script. `words` is the text of --help. A place is the name of a positional argument, with `?`, `*`
+    or `+` after it if it is optional or has several values. An option has its default, which is `False` if it takes no value."""
+    parser = argparse.ArgumentParser(description=words, formatter_class=argparse.RawDescriptionHelpFormatter)
+    for place in places:
+        parser.add_argument(place.rstrip('?*+'), nargs=place[-1] if place[-1] in '?*+' else None)
+    for name, default in options.items():
+        how = {'action': 'store_true'} if default is False else {'type': type(default), 'default': default}
+        parser.add_argument(f'--{name.replace("_", "-")}', **how)
+    return parser.parse_args()
 
 
 def fail(words):

@@ -1,20 +1,23 @@
-# One document of SARIF 2.1.0 of the objects that `rl_scan --json` prints with `--bad` or `--invisible`:
+# Makes one document of SARIF 2.1.0 from the objects that `rl_scan --json` prints with `--bad`, `--invisible` or `--check`:
 #
 #     rl_scan --json --bad src | jq -s -f tools/sarif.jq
 #
-# Columns are counted in characters. The object of `--stats` is passed over. Standard input has no path: its artifact is `-`. What objects don't hold may be said:
-# `--arg version "$(rl_scan -V)"`, the program's version; `--arg status N`, how it ended, without which no invocation is told:
+# Columns are counted in characters. The object of `--stats` is left out. For standard input the path is `-`.
+#
+# Two arguments add what the objects don't contain. `--arg version "$(rl_scan -V)"` is the program's version. `--arg status N` is its exit
+# status; without it the document has no invocation:
 #
 #     rl_scan --json --bad src > found; jq -s --arg status $? --arg version "$(rl_scan -V)" -f tools/sarif.jq found
 def uri:
   sub("^(\\./+)+"; "") | split("/") | map(@uri) | join("/") | if startswith("/") then "file://" + . else . end;
-def rule: .id;
-def description: if has("hidden") then "a character that turns or hides text" else .error end;
+def rule: if has("new") then "style" else .id end;
+def description: if has("hidden") then (.id | gsub("-"; " ")) elif has("new") then "literal in another style" else .error end;
 def message:
   if has("hidden") then .hidden
+  elif has("new") then "\(.text) -> \(.new)"
   elif has("piece") and .piece != "" then "\(.error): \(.piece)"
   elif has("error") then .error
-  else error("an object of neither --bad nor --invisible") end;
+  else error("an object of none of --bad, --invisible and --check") end;
 def result:
   {
     ruleId: rule,

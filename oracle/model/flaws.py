@@ -1,24 +1,20 @@
 """Decides which texts are tokens of the strict grammar, and returns the flaw of any other text: its kind, its piece and its
 position.
 
-The position of a flaw follows from its definition. The grammar is written as regular forms. A machine is built from these forms,
-which is in all states at once that can be continued to some token. Each of its states leads to the end of a token. So the longest
-prefix of a text that is also a prefix of some token is the text up to which the machine has a state. The kind and the piece come
-from the one row of a table that fits this prefix and the character after it.
+The position of a flaw follows from its definition. The grammar is written as regular expressions. Debian's package python3-regex
+also tells whether a text can be continued to a text that matches. So the longest prefix of a text that is also a prefix of some
+token is the text up to which the grammar can be continued. The kind and the piece come from the one row of a table that fits this
+prefix and the character after it.
 """
+import bisect
 import functools
 import re
+
+import regex
 
 # In a sketch of a text, each non-ASCII character is replaced by one of these: a character that begins an identifier, one that only
 # continues an identifier, and any other.
 STARTS, CONTINUES, OTHER = '\u00e9', '\u00b7', '\u20ac'
-ASCII = frozenset(map(chr, range(128)))
-ANY = ASCII | {STARTS, CONTINUES, OTHER}
-LETTERS = frozenset('abcdefghijklmnopqrstuvwxyzABCDEFGHIJKLMNOPQRSTUVWXYZ')
-DIGITS, OCTAL, BINARY = frozenset('0123456789'), frozenset('01234567'), frozenset('01')
-HEX = frozenset('0123456789abcdefABCDEF')
-START = LETTERS | {STARTS}
-CONTINUE = START | DIGITS | {'_', CONTINUES}
 MOST_HASHES = 255
 
 
@@ -27,194 +23,103 @@ def sketch(text):
     return ''.join(c if c.isascii() else STARTS if c.isidentifier() else CONTINUES if ('a' + c).isidentifier() else OTHER for c in text)
 
 
-# ---- forms: each function takes the state after the form, and returns the state before it
+# ---- the strict grammar, without lookaheads, which would ask for the text after the end
 
-class State:
-    """A state of the machine: for each set of characters the next states, and the states that are reached without a character."""
-
-    def __init__(self, steps=(), free=()):
-        self.steps, self.free = list(steps), list(free)
-
-
-def one(characters):
-    return lambda after: State(steps=[(frozenset(characters), after)])
-
-
-def row(*forms):
-    return lambda after: functools.reduce(lambda state, form: form(state), reversed(forms), after)
-
-
-def either(*forms):
-    return lambda after: State(free=[form(after) for form in forms])
-
-
-def word(text):
-    return row(*map(one, text))
-
-
-def many(form):
-    def made(after):
-        state = State(free=[after])
-        state.free.append(form(state))
-        return state
-    return made
-
-
-def maybe(form):
-    return either(form, row())
-
-
-def times(form, count):
-    return row(*[form] * count)
-
-
-def up_to(form, count):
-    def made(after):
-        state = after
-        for _ in range(count):
-            state = State(free=[after, form(state)])
-        return state
-    return made
-
-
-# ---- the strict grammar
-
-SUFFIX = maybe(either(row(one(START), many(one(CONTINUE))), row(one('_'), one(CONTINUE), many(one(CONTINUE)))))
-
-
-def digit(characters):
-    """A digit between the braces of `\\u{..}`, and underscores after it."""
-    return row(one(characters), many(one('_')))
-
-
-def scalar(with_zero):
-    """One to six digits of a Unicode scalar value: zeros, and then digits that begin with another digit."""
-    h, some = digit(HEX), digit(HEX - {'0'})
-    significant = {
-        1: some, 2: row(some, h), 3: row(some, h, h), 5: row(some, h, h, h, h), 6: row(digit('1'), digit('0'), h, h, h, h),
-        4: either(row(digit(HEX - set('0dD')), h, h, h), row(digit('dD'), digit(OCTAL), h, h)),
-    }
-    zero = digit('0')
-    numbers = [row(times(zero, zeros), form) for count, form in significant.items() for zeros in range(7 - count)]
-    return either(*numbers, *[times(zero, count) for count in range(1, 7) if with_zero])
-
-
-def escape(kind):
-    hexes = {
-        'Str': row(one(OCTAL), one(HEX)), 'Char': row(one(OCTAL), one(HEX)), 'Byte': times(one(HEX), 2), 'ByteStr': times(one(HEX), 2),
-        'CStr': either(row(one(HEX - {'0'}), one(HEX)), row(one('0'), one(HEX - {'0'}))),
-    }[kind]
-    forms = [one('nrt\\\'"'), row(one('x'), hexes)]
-    if kind != 'CStr':
-        forms.append(one('0'))
-    if kind not in ('Byte', 'ByteStr'):
-        forms.append(row(word('u{'), scalar(kind != 'CStr'), one('}')))
-    if kind in ('Str', 'ByteStr', 'CStr'):
-        forms.append(row(one('\n'), many(one(' \t\n'))))
-    return row(one('\\'), either(*forms))
-
-
-ALONE = {
-    'Str': ANY - set('"\\\r'), 'ByteStr': ASCII - set('"\\\r'), 'CStr': ANY - set('"\\\r\0'), 'Char': ANY - set("'\\\n\r\t"),
-    'Byte': ASCII - set("'\\\n\r\t"),
-}
-INSIDE_RAW = {'Str': ANY - {'\r'}, 'ByteStr': ASCII - {'\r'}, 'CStr': ANY - set('\r\0')}
+H, DIGIT, NON_ASCII = '[0-9A-Fa-f]', '[0-9]', STARTS + CONTINUES + OTHER
+AFTER = '[0-9A-Za-z_\u00e9\u00b7]*'
+SUFFIX = '(?:[A-Za-z\u00e9]%s|_[0-9A-Za-z_\u00e9\u00b7]%s)?' % (AFTER, AFTER)
+# For each kind, the characters that no literal of the kind contains as they are.
+REJECTED = {
+    'Str': r'"\\\r', 'ByteStr': r'"\\\r' + NON_ASCII, 'CStr': r'"\\\r\0', 'Char': r"'\\\n\r\t", 'Byte': r"'\\\n\r\t" + NON_ASCII}
+REJECTED_RAW = {'Str': r'\r', 'ByteStr': r'\r' + NON_ASCII, 'CStr': r'\r\0'}
 COOKED = {'Str': '"', 'ByteStr': 'b"', 'CStr': 'c"'}
 SINGLE = {'Byte': "b'", 'Char': "'"}
 RAW = {'Str': 'r', 'ByteStr': 'br', 'CStr': 'cr'}
 
 
+def scalar(with_zero):
+    """Returns the form of one to six digits of a Unicode scalar value, with underscores after each: zeros, and then digits that
+    begin with another digit."""
+    h, some = H + '_*', '[1-9A-Fa-f]_*'
+    four = '(?:[1-9A-CEFa-cef]_*%s|[Dd]_*[0-7]_*%s)' % (h * 3, h * 2)
+    significant = {1: some, 2: some + h, 3: some + h * 2, 4: four, 5: some + h * 4, 6: '1_*0_*' + h * 4}
+    numbers = ['(?:0_*){0,%d}%s' % (6 - count, form) for count, form in significant.items()]
+    return '(?:%s)' % '|'.join(numbers + ['(?:0_*){1,6}'] * with_zero)
+
+
+def escape(kind):
+    """Returns the form of an escape."""
+    hexes = {'Byte': H + H, 'ByteStr': H + H, 'CStr': '(?:[1-9A-Fa-f]%s|0[1-9A-Fa-f])' % H}.get(kind, '[0-7]' + H)
+    forms = [r"""[nrt\\'"]""", 'x' + hexes]
+    if kind != 'CStr':
+        forms.append('0')
+    if kind not in ('Byte', 'ByteStr'):
+        forms.append(r'u\{%s\}' % scalar(kind != 'CStr'))
+    if kind not in SINGLE:
+        forms.append(r'\n[ \t\n]*')
+    return r'\\(?:%s)' % '|'.join(forms)
+
+
 def raw(kind, hashes):
-    """A raw string that closes at its first quote with this number of hashes after it."""
-    inside = INSIDE_RAW[kind]
-    few = row(one('"'), up_to(one('#'), hashes - 1)) if hashes else None
-    plain = one(inside - {'"'})
-    # Quotes with fewer hashes, each followed by a character that is neither a quote nor one more hash.
-    middle = many(either(plain, row(few, many(few), one(inside - set('"#'))))) if hashes else many(plain)
-    return row(word(RAW[kind] + '#' * hashes + '"'), middle, *([many(few)] if hashes else []), word('"' + '#' * hashes), SUFFIX)
-
-
-def number_suffix(but=''):
-    return maybe(row(one(START - set(but)), many(one(CONTINUE))))
+    """Returns the form of a raw string that closes at its first quote with this number of hashes after it. Each quote inside has
+    fewer hashes after it, and then a character that is neither a quote nor one more hash, or the closing quote."""
+    plain = '[^"%s]' % REJECTED_RAW[kind]
+    few, other = '(?:"#{0,%d})' % (hashes - 1), '[^"#%s]' % REJECTED_RAW[kind]
+    inside = '(?:%s|%s+%s)*%s*' % (plain, few, other, few) if hashes else plain + '*'
+    return '%s#{%d}"%s"#{%d}%s' % (RAW[kind], hashes, inside, hashes, SUFFIX)
 
 
 def numbers():
-    rest = many(one(DIGITS | {'_'}))
-    digits = row(one(DIGITS), rest)
-    power = row(one('eE'), maybe(one('+-')), many(one('_')), digits)
+    """Returns the forms of numbers."""
+    suffix = lambda letters: '(?:[%s\u00e9]%s)?' % (letters, AFTER)
+    no_exponent, power = suffix('A-DF-Za-df-z'), '[eE][-+]?_*[0-9][0-9_]*'
     return [
-        row(one(DIGITS - {'0'}), rest, number_suffix('eE')), row(one('0'), one(DIGITS | {'_'}), rest, number_suffix('eE')), row(one('0'), number_suffix('eExob')),
-        *[row(word(front), many(one('_')), one(base), many(one(base | {'_'})), number_suffix(HEX if base == HEX else 'eE'))
-          for front, base in (('0x', HEX), ('0o', OCTAL), ('0b', BINARY))],
-        row(digits, one('.')), row(digits, one('.'), digits, number_suffix('eE')), row(digits, maybe(row(one('.'), digits)), power, number_suffix()),
+        '[1-9][0-9_]*' + no_exponent, '0[0-9_]+' + no_exponent, '0' + suffix('A-DF-Za-ac-df-np-wyz'),
+        '0x_*%s[0-9A-Fa-f_]*%s' % (H, suffix('G-Zg-z')), '0o_*[0-7][0-7_]*' + no_exponent, '0b_*[01][01_]*' + no_exponent,
+        r'[0-9][0-9_]*\.', r'[0-9][0-9_]*\.[0-9][0-9_]*' + no_exponent,
+        r'[0-9][0-9_]*(?:\.[0-9][0-9_]*)?%s%s' % (power, suffix('A-Za-z')),
     ]
 
 
-class Machine:
-    """The machine of a grammar, which is in all states that can be continued to some token. Each set of states is computed once."""
-
-    def __init__(self, forms):
-        self.end = State()
-        self.first = self.closed([form(self.end) for form in forms])
-        self.known = {}
-
-    def closed(self, states):
-        found, left = set(), list(states)
-        while left:
-            state = left.pop()
-            if state not in found:
-                found.add(state)
-                left += state.free
-        return frozenset(found)
-
-    def after(self, states, c):
-        if (states, c) not in self.known:
-            self.known[states, c] = self.closed(to for state in states for characters, to in state.steps if c in characters)
-        return self.known[states, c]
-
-    def run(self, drawn):
-        """Returns the length of the longest prefix that is a prefix of some token, and whether the whole text is a token."""
-        states = self.first
-        for at, c in enumerate(drawn):
-            later = self.after(states, c)
-            if not later:
-                return at, False
-            states = later
-        return len(drawn), self.end in states
+def plain_tokens():
+    """Returns the expression of all tokens except raw strings."""
+    units = {kind: '(?:[^%s]|%s)' % (REJECTED[kind], escape(kind)) + '*' * (kind in COOKED) for kind in REJECTED}
+    quoted = [opener + units[kind] + opener[-1] + SUFFIX for kind, opener in {**COOKED, **SINGLE}.items()]
+    return regex.compile('|'.join([*quoted, *numbers(), 'true', 'false']))
 
 
-def plain_machine():
-    """Returns the machine for all tokens except raw strings."""
-    forms = [row(word(COOKED[kind]), many(either(one(ALONE[kind]), escape(kind))), one('"'), SUFFIX) for kind in COOKED]
-    forms += [row(word(SINGLE[kind]), either(one(ALONE[kind]), escape(kind)), one("'"), SUFFIX) for kind in SINGLE]
-    return Machine(forms + numbers() + [word('true'), word('false')])
-
-
-PLAIN = plain_machine()
+PLAIN = plain_tokens()
 
 
 @functools.lru_cache(maxsize=None)
-def raw_machine(hashes):
-    return Machine([raw(kind, hashes) for kind in RAW])
+def raw_tokens(hashes):
+    """Returns the expression of the raw strings with this number of hashes."""
+    return regex.compile('|'.join(raw(kind, hashes) for kind in RAW))
+
+
+def tokens_like(drawn):
+    """Returns the expressions of the tokens that a sketch may begin. A text that continues after its hashes can only begin a raw
+    string with this number of hashes."""
+    hashes = re.match('(?:br|cr|r)?(#*)', drawn)[1]
+    return PLAIN, raw_tokens(min(len(hashes), MOST_HASHES))
 
 
 def longest_front(drawn):
-    """Returns the length of the longest prefix of a sketch that is a prefix of some token, and whether the whole sketch is a
-    token."""
-    # A text that continues after its hashes can only begin a raw string with this number of hashes.
-    hashes = re.match('(?:br|cr|r)?(#*)', drawn)[1]
-    return max(PLAIN.run(drawn), raw_machine(min(len(hashes), MOST_HASHES)).run(drawn))
+    """Returns the length of the longest prefix of a sketch that is a prefix of some token."""
+    tokens = tokens_like(drawn)
+    is_beyond = lambda count: not any(it.fullmatch(drawn[:count], partial=True) for it in tokens)
+    return bisect.bisect_left(range(1, len(drawn) + 1), True, key=is_beyond)
 
 
 def is_token(text):
     """Whether the text is a literal token of Rust."""
-    return longest_front(sketch(text))[1]
+    drawn = sketch(text)
+    return any(it.fullmatch(drawn) for it in tokens_like(drawn))
 
 
 # ---- the kinds of flaws: for each row a pattern of the prefix, and one of the character after it or the end; the piece begins at
 # the group p, or at the flaw's position
 
-H, DIGIT = '[0-9A-Fa-f]', '[0-9]'
 UNIT = r"""(?:[^"'\\\r]|\\[nrt\\'"0]|\\x%s{2}|\\u\{%s[0-9A-Fa-f_]*\}|\\\n[ \t\n]*)""" % (H, H)
 PART = r'(?:\\(?:x%s?|u(?:\{[0-9A-Fa-f_]*)?)?)' % H
 STRING, LETTER = r"""[bc]?"(?:%s|')*+""" % UNIT, "b?'"
@@ -224,7 +129,6 @@ RAW_OPENER = '(?:br|cr|r)'
 RAW_INSIDE = r'%s(?P<h>\#*)"(?:(?!"(?P=h)).)*' % RAW_OPENER
 # Literals that are closed: a pattern of the text before the closing quote, and the closing delimiter.
 CLOSED = [(STRING, '"', '"'), ('%s(?:%s|")' % (LETTER, UNIT), "'", "'"), (RAW_INSIDE, '"(?P=h)', '"')]
-AFTER = '[0-9A-Za-z_\u00e9\u00b7]*'
 WORD = '[A-Za-z_\u00e9]' + AFTER
 SUFFIX_OF_NUMBER = '[A-Za-z\u00e9]' + AFTER
 HEX_NUMBER, OTHER_BASE = '0x_*%s[0-9A-Fa-f_]*+' % H, '0[ob]_*[0-9][0-9_]*+'
@@ -286,10 +190,10 @@ def rows_at(front, c):
 def flaw(text):
     """Returns the kind of a text's flaw, the byte offset at which its piece begins, and its own byte offset, or None for a
     token."""
-    drawn = sketch(text)
-    count, is_token = longest_front(drawn)
-    if is_token:
+    if is_token(text):
         return None
+    drawn = sketch(text)
+    count = longest_front(drawn)
     found = rows_at(drawn[:count], drawn[count:count + 1])
     if len(found) != 1:
         return '%d rows fit' % len(found), 0, 0, 0
@@ -299,7 +203,7 @@ def flaw(text):
 
 def number_after_minus(text):
     """Returns the flaw of the number after a minus. The piece is the whole text."""
-    if text[1:2] not in DIGITS:
+    if not re.match('-[0-9]', text):
         return 'NoNumber' if text[1:] else 'UnexpectedEnd', 0, 1, len(text[:2].encode())
     found = flaw(text[1:])
     return found and (found[0], 0, found[2] + 1, found[3] + 1)

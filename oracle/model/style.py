@@ -2,12 +2,12 @@
 again.
 
 A style is a sequence of letters, one for each rule. `x` and `X`: hexadecimal digits in lower and in upper case. `u`: no underscores
-in numbers. `z`: no zeros at the start of integers of base ten. `s` and `S`: no separator and an underscore before a suffix. `g` and
+in numbers. `z`: no zeros at the start of integers of base ten, except if all digits are octal. `s` and `S`: no separator and an underscore before a suffix. `g` and
 `G`: digits in the groups of GROUPS. `f`: a zero after a float's last dot. `e` and `E`: the case of the exponent's letter. `d` and
 `D`: the case of the digits of escapes. `c`: the fewest digits in the braces of a Unicode escape. `a`: visible ASCII characters in
 place of numeric escapes. `n`: letters in place of numeric escapes for LF, CR, TAB and NUL (NUL not before a digit). `p`: no plus.
 `q`: no unneeded backslash before a quote. `h`: the fewest hashes. `r`: no raw strings that need not be raw. `i`: escapes for
-invisible and bidirectional characters, by Unicode's table in perl.
+invisible and bidirectional characters, by Unicode's table in perl. No rule changes a number whose suffix may be mistyped.
 """
 import itertools
 import re
@@ -93,11 +93,19 @@ def numeral_in_groups(style, suffix, numeral):
     return in_groups(style, 10, suffix, whole) + dot + in_groups(style, 10, suffix, fraction, True) + power
 
 
+def is_mistyped(it, text):
+    """Whether a number may have a mistyped suffix, as `2_32` for `2_i32` and `1e5_32` for `1e5_f32`."""
+    number = it.form == 'int' or it.form == 'float' and 'e' in text.lower()
+    return number and not it.suffix and text.endswith(('_8', '_16', '_32', '_64'))
+
+
 def rewrite(style, text, front=''):
     """Returns the literal in the style, where `front` is the text before it, or None if the text isn't a literal."""
     it = literal(text)
     if it is None:
         return None
+    if is_mistyped(it, text):
+        return text
     if it.form == 'raw' and loses_raw(style, it.kind, front, it.parts['inside']):
         it = it._replace(form='escapes', parts={'units': [unit_of(it.kind, c) for c in it.parts['inside']]})
     parts = dict(it.parts)
@@ -108,7 +116,8 @@ def rewrite(style, text, front=''):
     if last and ('S' in style or 's' in style and it.suffix[:1] not in ('b', 'o', 'x')):
         parts[last] = parts[last].rstrip('_')
     if 'z' in style and it.form == 'int' and parts['base'] == 10 and it.suffix[:1] not in ('b', 'o', 'x'):
-        parts['row'] = parts['row'].lstrip('0_') or '0'
+        # `0123` may be meant as an octal number.
+        parts['row'] = parts['row'].lstrip('0_') if set(parts['row']) & set('89') else parts['row']
     if it.form == 'int' and parts['base'] == 16:
         parts['row'] = cased(style, 'x', 'X', parts['row'])
     if it.form == 'float':

@@ -154,16 +154,11 @@ impl Attrs {
     /// ```
     #[inline]
     pub fn check(&self, known: &[&str]) -> Result<(), MacroError> {
-        let mut all: Option<MacroError> = None;
-        for meta in &self.entries {
-            if !known.contains(&meta.name()) {
-                match &mut all {
-                    Some(all) => all.combine(meta.unknown()),
-                    None => all = Some(meta.unknown()),
-                }
-            }
-        }
-        all.map_or(Ok(()), Err)
+        let unknown = self
+            .entries
+            .iter()
+            .filter(|meta| !known.contains(&meta.name()));
+        MacroError::combine_all(unknown.map(Meta::unknown))
     }
 
     /// Returns the string that `name` is set to, or `None` if the name isn't set.
@@ -183,7 +178,8 @@ impl Attrs {
         self.read(name, Meta::string)
     }
 
-    /// Returns the number that `name` is set to, or `None` if the name isn't set.
+    /// Returns the number that `name` is set to, or `None` if the name isn't set. An integer without a suffix is also accepted for
+    /// `f32` and `f64`.
     ///
     /// # Errors
     ///

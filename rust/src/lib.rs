@@ -33,8 +33,8 @@
 //! | Read `name = literal` settings | [`Settings`], [`Key`]; [`parse_settings`](fn@parse_settings), [`parse_config`](fn@parse_config) | `settings` |
 //! | Write a value as a literal | [`write_str`], [`write_integer`], ..; [`LitStr::new`], [`LitInt::suffixed`], .. | `writers` |
 //! | Rewrite literals in a style | [`rewrite`], [`Style`]; with `sources` [`rewrite_source`](fn@rewrite_source) | `style` |
-//! | Read an attribute in a procedural macro | [`Attrs`], [`Meta`], [`MacroError`] | `proc-macro` |
-//! | Read literals in a procedural macro | [`next_literal_of`], [`next_literal`], [`next_value`]; with `settings` [`MacroInput`] | `proc-macro` |
+//! | Read an attribute in a procedural macro | [`Attrs`], [`Meta`]; [`MacroError`], [`AtSpan`] | `proc-macro` |
+//! | Read literals in a procedural macro | [`next_literal_of`], [`only_literal_of`], [`next_literal`], [`next_value`]; with `settings` [`MacroInput`] | `proc-macro` |
 //!
 //! Ranges and places are byte offsets. All features except `proc-macro` are on by default.
 //!
@@ -194,7 +194,7 @@ pub use list::{parse_list, Literals};
 pub use list_error::ListError;
 pub use lit::Lit;
 #[cfg(feature = "proc-macro")]
-pub use macro_error::MacroError;
+pub use macro_error::{AtSpan, MacroError};
 #[cfg(all(feature = "proc-macro", feature = "settings"))]
 pub use macro_settings::{parse_macro_settings, MacroEntry, MacroInput};
 #[cfg(feature = "proc-macro")]
@@ -204,7 +204,7 @@ pub use parse_error::{FlawKind, ParseError, ParseErrorKind};
 #[cfg(feature = "sources")]
 pub use prefix::{skip_token, skip_trivia};
 #[cfg(feature = "proc-macro")]
-pub use proc_macros::{next_literal, next_literal_of, LitOfKind};
+pub use proc_macros::{next_literal, next_literal_of, only_literal_of, LitOfKind};
 #[cfg(all(feature = "sources", feature = "style"))]
 pub use restyle::{rewrite_source, Edit, Edits};
 /// The reason why a literal has no type in Rust. [`Lit::type_error`] returns it.

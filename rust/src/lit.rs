@@ -393,7 +393,9 @@ impl<'t> Lit<'t> {
         each_kind!(self, literal => literal.into_text())
     }
 
-    /// Returns the literal's suffix, which may be empty. The suffix of `Verbatim` is always empty.
+    /// Returns the literal's suffix, which may be empty. The suffix of `Verbatim` is always empty. For an integer above 128 bits,
+    /// `LitFloat::new(text)?.suffix()` returns the suffix `f32` or `f64`. Another suffix begins where the range of the error of
+    /// [`Lit::parse`] begins.
     ///
     /// ```
     /// use navyspindle::Lit;

@@ -12,11 +12,12 @@ use proc_macro::{Delimiter, Group, LexError, Literal, Span, TokenStream, TokenTr
 
 /// An error in the input of a procedural macro, with the tokens that the error is about.
 ///
-/// `?` converts errors of this crate to a `MacroError` at the macro's call. [`MacroError::at`] moves the `MacroError` to a token.
+/// `?` converts errors of this crate to a `MacroError` at the macro's call. `.at(span)?` moves the error to a token; see [`AtSpan`].
+/// In this example, `LitStr::new` needs the feature `writers`.
 ///
 /// ```no_run
 /// extern crate proc_macro;
-/// use navyspindle::{next_literal_of, LitInt, LitStr, MacroError};
+/// use navyspindle::{next_literal_of, AtSpan, LitInt, LitStr, MacroError};
 /// use proc_macro::TokenStream;
 ///
 /// /// `repeat!("ab", 2)` is `"abab"`.
@@ -30,7 +31,7 @@ use proc_macro::{Delimiter, Group, LexError, Literal, Span, TokenStream, TokenTr
 ///     let (string, span) = next_literal_of::<LitStr>(&mut tokens)?;
 ///     tokens.next();
 ///     let (count, at) = next_literal_of::<LitInt>(&mut tokens)?;
-///     let count: u8 = count.value().map_err(|error| MacroError::from(error).at(at))?;
+///     let count: u8 = count.value().at(at)?;
 ///     LitStr::new(&string.value().repeat(count.into())).to_token_stream(span)
 /// }
 /// ```
@@ -120,15 +121,17 @@ impl MacroError {
     }
 
     /// Moves the error to `span`. Use this method after `?` or `from`, whose errors are at the macro's call. If errors are
-    /// combined, only the first one moves.
+    /// combined, only the first one moves. For a `Result`, use [`AtSpan::at`].
     ///
     /// ```no_run
     /// extern crate proc_macro;
     /// use navyspindle::{LitInt, MacroError};
     /// use proc_macro::Span;
     ///
-    /// fn port(number: &LitInt, span: Span) -> Result<u16, MacroError> {
-    ///     number.value::<u16>().map_err(|error| MacroError::from(error).at(span))
+    /// /// Reads a port. An error of each of the two calls is at `span`.
+    /// fn port(text: &str, span: Span) -> Result<u16, MacroError> {
+    ///     let port = || -> Result<u16, MacroError> { Ok(LitInt::parse(text)?.value()?) };
+    ///     port().map_err(|error| error.at(span))
     /// }
     /// ```
     #[inline]
@@ -142,23 +145,48 @@ impl MacroError {
     ///
     /// ```no_run
     /// extern crate proc_macro;
-    /// use navyspindle::{LitInt, MacroError};
-    /// use proc_macro::TokenStream;
+    /// use navyspindle::{Attrs, MacroError};
     ///
-    /// /// Checks that each token is an integer. Each other token is an error.
-    /// fn integers(input: TokenStream) -> Result<(), MacroError> {
-    ///     let errors = input.into_iter().filter_map(|tree| LitInt::try_from(&tree).err());
-    ///     let all = errors.reduce(|mut all, error| {
-    ///         all.combine(error);
-    ///         all
-    ///     });
-    ///     all.map_or(Ok(()), Err)
+    /// /// Reads `width = 1, height = 2`. If both numbers are wrong, both are reported.
+    /// fn size(attrs: &Attrs) -> Result<(Option<u8>, Option<u8>), MacroError> {
+    ///     match (attrs.number("width"), attrs.number("height")) {
+    ///         (Ok(width), Ok(height)) => Ok((width, height)),
+    ///         (Err(mut first), Err(second)) => {
+    ///             first.combine(second);
+    ///             Err(first)
+    ///         }
+    ///         (Err(error), _) | (_, Err(error)) => Err(error),
+    ///     }
     /// }
     /// ```
     #[inline]
     pub fn combine(&mut self, other: MacroError) {
         self.others.push(other.first);
         self.others.extend(other.others);
+    }
+
+    /// Combines all of `errors` into one error, in their order. Without errors the result is `Ok`.
+    ///
+    /// # Errors
+    ///
+    /// Returns the combined error if `errors` has at least one error.
+    ///
+    /// ```no_run
+    /// extern crate proc_macro;
+    /// use navyspindle::{LitInt, MacroError};
+    /// use proc_macro::TokenStream;
+    ///
+    /// /// Checks that each token is an integer. Each other token is an error.
+    /// fn integers(input: TokenStream) -> Result<(), MacroError> {
+    ///     MacroError::combine_all(input.into_iter().filter_map(|tree| LitInt::try_from(&tree).err()))
+    /// }
+    /// ```
+    pub fn combine_all(errors: impl IntoIterator<Item = MacroError>) -> Result<(), MacroError> {
+        let combined = errors.into_iter().reduce(|mut first, other| {
+            first.combine(other);
+            first
+        });
+        combined.map_or(Ok(()), Err)
     }
 
     /// Creates the error for a literal of another kind than the expected one: `expected string literal, found byte literal`.
@@ -223,6 +251,45 @@ impl MacroError {
     #[must_use]
     pub fn into_compile_error(self) -> TokenStream {
         self.to_compile_error()
+    }
+}
+
+/// A `Result` whose error can be moved to a span. It is any `Result` whose error `?` converts to a [`MacroError`].
+///
+/// `?` alone reports the error at the macro's call.
+///
+/// ```no_run
+/// extern crate proc_macro;
+/// use navyspindle::{next_literal_of, AtSpan, LitInt, MacroError};
+///
+/// fn port(input: proc_macro::TokenStream) -> Result<u16, MacroError> {
+///     let (number, span) = next_literal_of::<LitInt>(&mut input.into_iter())?;
+///     let port: u16 = number.value().at(span)?;
+///     Ok(port.max(1024))
+/// }
+/// ```
+pub trait AtSpan<V> {
+    /// Returns the value, or the error as a [`MacroError`] at `span`.
+    ///
+    /// # Errors
+    ///
+    /// Returns the error of the `Result`, moved by [`MacroError::at`].
+    ///
+    /// ```no_run
+    /// extern crate proc_macro;
+    /// use navyspindle::{AtSpan, LitInt, MacroError};
+    ///
+    /// fn digits(number: &LitInt, span: proc_macro::Span) -> Result<u16, MacroError> {
+    ///     number.base10_parse().at(span)
+    /// }
+    /// ```
+    fn at(self, span: Span) -> Result<V, MacroError>;
+}
+
+impl<V, E: Into<MacroError>> AtSpan<V> for Result<V, E> {
+    #[inline]
+    fn at(self, span: Span) -> Result<V, MacroError> {
+        self.map_err(|error| error.into().at(span))
     }
 }
 
@@ -361,6 +428,21 @@ mod tests {
             let error = MacroError::from(crate::TypeError::OutOfRange);
             assert_eq!(error.to_string(), "out of its type's range");
         }
+    }
+
+    #[test]
+    fn all_errors_of_an_iterator_in_order() {
+        let error = |text| MacroError::from(LitInt::parse(text).unwrap_err());
+        assert!(MacroError::combine_all([]).is_ok());
+        let one = MacroError::combine_all([error("0b2")]).unwrap_err();
+        let first = "invalid digit for this base";
+        assert_eq!(format!("{one:?}"), format!("MacroError({first:?})"));
+        let mut two = error("0o8");
+        two.combine(error("1.5"));
+        let all = MacroError::combine_all([error("0b2"), two, error("")]).unwrap_err();
+        let third = "expected integer literal, found floating point literal";
+        let shown = format!("MacroError({first:?}, {first:?}, {third:?}, \"empty text\")");
+        assert_eq!(format!("{all:?}"), shown);
     }
 
     #[test]

@@ -152,7 +152,8 @@ impl MacroInput {
         Settings::read(&self.text).map_err(|error| self.error(&error))
     }
 
-    /// Converts an error of settings that were read from this text. The `MacroError` is at the tokens of the error's range.
+    /// Converts an error of settings that were read from this text. The `MacroError` is at the tokens of the error's range. If the
+    /// range is empty, the `MacroError` is at the token before it.
     ///
     /// ```no_run
     /// extern crate proc_macro;
@@ -166,7 +167,12 @@ impl MacroInput {
     #[inline]
     #[must_use]
     pub fn error(&self, error: &SettingError) -> MacroError {
-        let (first, last) = self.spans(error.range());
+        let mut bytes = error.range();
+        if bytes.is_empty() {
+            // The range of an integer above 128 bits is where its digits end.
+            bytes.start = bytes.start.saturating_sub(1);
+        }
+        let (first, last) = self.spans(bytes);
         MacroError::between(error.kind(), first, last)
     }
 
@@ -200,14 +206,13 @@ impl MacroInput {
 ///
 /// ```no_run
 /// extern crate proc_macro;
-/// use navyspindle::{parse_macro_settings, Lit, MacroError};
+/// use navyspindle::{parse_macro_settings, AtSpan, Lit, MacroError};
 ///
 /// /// The size that `size = 10` sets, among other settings.
 /// fn size_of(input: proc_macro::TokenStream) -> Result<Option<u32>, MacroError> {
 ///     for entry in parse_macro_settings(input)? {
 ///         if let ("size", Lit::Int(size)) = (&*entry.name, &entry.value) {
-///             let size = size.value::<u32>();
-///             return size.map(Some).map_err(|error| MacroError::new(error.message(), entry.value_span));
+///             return size.value().map(Some).at(entry.value_span);
 ///         }
 ///     }
 ///     Ok(None)

@@ -276,6 +276,8 @@ impl Meta {
     /// Returns the entry's value as a number of type `N`, if Rust accepts the literal for `N`
     /// ([`LitInt::value`](crate::LitInt::value), [`LitFloat::value`]).
     ///
+    /// An integer without a suffix is also accepted for `f32` and `f64`, as in `ratio = 1`.
+    ///
     /// # Errors
     ///
     /// Returns an error if there is no value, if it isn't one number, or if the number isn't of the type.
@@ -284,6 +286,7 @@ impl Meta {
     /// extern crate proc_macro;
     /// let meta = navyspindle::Meta::parse("size = 0x1F".parse().unwrap())?;
     /// assert_eq!(meta.number::<u8>()?, 31);
+    /// assert_eq!(meta.number::<f64>()?, 31.0);
     /// # Ok::<(), navyspindle::MacroError>(())
     /// ```
     pub fn number<N: Number>(&self) -> Result<N, MacroError> {
@@ -293,7 +296,7 @@ impl Meta {
             span,
         } = self.placed()?;
         let number = match &literal {
-            Lit::Int(literal) => literal.value(),
+            Lit::Int(literal) => literal.value_or_float(),
             Lit::Float(literal) => literal.value(),
             // An integer above 128 bits that is a float by its suffix.
             Lit::Verbatim(large) => LitFloat::new(large.text())?.value(),

@@ -9,7 +9,7 @@ use crate::lit::Lit;
 use crate::parse_error::ParseError;
 use crate::rl_lenient::number_forms::float_suffix;
 use crate::rl_lenient::{float_parts, integer_parts, FloatParts};
-use crate::rl_syntax::scan::{near_len_before, Marks};
+use crate::rl_syntax::scan::{len_before_near_mark, Marks};
 use alloc::borrow::Cow;
 use alloc::format;
 use alloc::string::String;
@@ -398,7 +398,7 @@ const CHANGED: Marks = Marks {
 /// Returns the number of bytes at the start of a float's text that its digits repeat unchanged.
 #[inline(never)]
 fn plain_len(numeral: &str) -> usize {
-    near_len_before(CHANGED, numeral.as_bytes())
+    len_before_near_mark(CHANGED, numeral.as_bytes())
 }
 
 impl<'t> LitFloat<'t> {

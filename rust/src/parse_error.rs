@@ -186,7 +186,8 @@ impl ParseError {
     /// Returns the byte range of the first character that can't continue a literal.
     ///
     /// The text before this character begins some literal. If the text ends too soon, the range is empty at the text's end. For an
-    /// integer above 128 bits the range is at the end of the digits. For a literal of another kind the range is the whole text.
+    /// integer above 128 bits the range is the first character of the suffix, or empty without a suffix. For a literal of another
+    /// kind the range is the whole text.
     ///
     /// ```
     /// use navyspindle::Lit;

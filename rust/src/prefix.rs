@@ -22,7 +22,7 @@ impl<'t> Lit<'t> {
     /// with the text. If the first characters can't begin a literal, at most five characters are read.
     ///
     /// The token is read as [`Lit::of_text`] reads it, so `0b12` is a float. [`Lit::check`] applies Rust's grammar. For the reason
-    /// why the result is `None`, call [`Lit::parse`] with the text.
+    /// why the result is `None` and its range, call [`parse_list(text).next()`](crate::parse_list).
     ///
     /// A parser reads literals among its own tokens like this:
     ///

@@ -20,7 +20,8 @@ fn parsed(text: String, span: Span) -> Result<Lit<'static>, MacroError> {
 ///
 /// The literal may be a literal token, `true` or `false`, a minus and a number, or a literal that a `macro_rules!` macro passes on
 /// as `$e:literal`, in a group without delimiters. The span is that of the literal's own token, inside a group too. After a minus
-/// it is the span of the number.
+/// it is the span of the number. For an error at the minus too, take the span of `tokens.peek()` before the call, and pass both
+/// spans to [`MacroError::between`].
 ///
 /// # Errors
 ///
@@ -30,12 +31,19 @@ fn parsed(text: String, span: Span) -> Result<Lit<'static>, MacroError> {
 /// ```no_run
 /// extern crate proc_macro;
 /// use navyspindle::{next_literal, MacroError};
+/// use proc_macro::{TokenStream, TokenTree};
 ///
-/// fn count(input: proc_macro::TokenStream) -> Result<usize, MacroError> {
+/// /// Counts the literals of `1, "a", -2.5`.
+/// fn count(input: TokenStream) -> Result<usize, MacroError> {
 ///     let (mut tokens, mut count) = (input.into_iter().peekable(), 0);
 ///     while tokens.peek().is_some() {
 ///         next_literal(&mut tokens)?;
 ///         count += 1;
+///         match tokens.next() {
+///             None => break,
+///             Some(TokenTree::Punct(mark)) if mark.as_char() == ',' => {}
+///             Some(tree) => return Err(MacroError::new("expected `,`", tree.span())),
+///         }
 ///     }
 ///     Ok(count)
 /// }
@@ -56,21 +64,44 @@ pub fn next_literal(
 ///
 /// ```no_run
 /// extern crate proc_macro;
-/// use navyspindle::{next_literal_of, LitInt, LitStr, MacroError};
+/// use navyspindle::{next_literal_of, AtSpan, LitInt, LitStr, MacroError};
 ///
 /// /// A string and a number.
 /// fn read(input: proc_macro::TokenStream) -> Result<(String, u8), MacroError> {
 ///     let mut tokens = input.into_iter();
 ///     let (name, _) = next_literal_of::<LitStr>(&mut tokens)?;
 ///     let (number, span) = next_literal_of::<LitInt>(&mut tokens)?;
-///     let number = number.value::<u8>().map_err(|error| MacroError::from(error).at(span))?;
-///     Ok((name.value().into_owned(), number))
+///     Ok((name.value().into_owned(), number.value().at(span)?))
 /// }
 /// ```
 pub fn next_literal_of<L: LitOfKind>(
     tokens: &mut impl Iterator<Item = TokenTree>,
 ) -> Result<(L, Span), MacroError> {
     next_placed(tokens)?.of_kind()
+}
+
+/// Returns the literal that is the whole input of a macro, which must be of one kind, with its span. It reads like
+/// [`next_literal_of`]. Without the span, `LitStr::try_from(input)` returns the same literal.
+///
+/// # Errors
+///
+/// Returns the errors of [`next_literal_of`], and an error if a token follows the literal.
+///
+/// ```no_run
+/// extern crate proc_macro;
+/// use navyspindle::{only_literal_of, LitStr, MacroError};
+///
+/// /// Reads the input `"a"`. An empty path is an error at the string.
+/// fn path(input: proc_macro::TokenStream) -> Result<String, MacroError> {
+///     let (path, span) = only_literal_of::<LitStr>(input)?;
+///     match path.into_value().into_owned() {
+///         path if path.is_empty() => Err(MacroError::new("empty path", span)),
+///         path => Ok(path),
+///     }
+/// }
+/// ```
+pub fn only_literal_of<L: LitOfKind>(input: TokenStream) -> Result<(L, Span), MacroError> {
+    whole(input)?.of_kind()
 }
 
 mod sealed {
@@ -296,7 +327,7 @@ macro_rules! of_kinds {
 
             #[inline]
             fn try_from(input: TokenStream) -> Result<Self, MacroError> {
-                whole(input)?.of_kind().map(|(literal, _)| literal)
+                only_literal_of(input).map(|(literal, _)| literal)
             }
         }
 

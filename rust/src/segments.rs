@@ -183,7 +183,8 @@ impl OffsetMap {
     }
 
     /// Returns the byte range of the text that gives the byte of the value at the offset `at`. For an escape it is the whole
-    /// escape. For a plain character it is the one byte. At and beyond the value's end it is an empty range at the closing quote.
+    /// escape. For plain text it is that one byte, so the range may begin or end inside a character: slice the text's bytes, not the
+    /// `str`. At and beyond the value's end it is an empty range at the closing quote.
     ///
     /// ```
     /// use navyspindle::LitStr;

@@ -154,6 +154,7 @@ impl SettingError {
     ///
     /// - for an unknown or repeated name, the name;
     /// - for a value that Rust rejects, the part that it rejects;
+    /// - for an incomplete number such as `1e`, and for an integer above 128 bits without a suffix, the empty range at its end;
     /// - for another wrong value, the value, or the part of it that is wrong, such as its suffix;
     /// - for a missing setting, the empty range at the text's end;
     /// - for a quote that isn't closed, the range from the quote to the text's end.

@@ -220,6 +220,9 @@ impl Default for DigitGroups {
 
 /// The rules by which [`rewrite`] rewrites literals. Each rule is set separately, and at first none is set.
 ///
+/// No rule changes a number whose suffix may be mistyped, since `2_32` may be meant as `2_i32`. Such a number has no suffix, and ends
+/// with `_8`, `_16`, `_32` or `_64`. It is an integer, or a float with an exponent.
+///
 /// With the feature `settings`, `Style::from_settings` reads a style from settings.
 ///
 /// ```
@@ -324,15 +327,15 @@ impl Style {
     }
 
     /// Sets whether zeros at the start of integers of base ten are removed. An integer whose suffix begins with `b`, `o` or `x`
-    /// keeps its zeros.
+    /// keeps its zeros. An integer whose digits are all octal keeps them too, since `0123` may be meant as an octal number.
     ///
     /// ```
     /// use navyspindle::{rewrite, Style};
     ///
     /// let style = Style::new().drop_leading_zeros(true);
-    /// assert_eq!(rewrite("007_i32", style)?, "7_i32");
-    /// assert_eq!(rewrite("0_00", style)?, "0");
-    /// assert_eq!(rewrite("0x07", style)?, "0x07");
+    /// assert_eq!(rewrite("089_i32", style)?, "89_i32");
+    /// assert_eq!(rewrite("0123", style)?, "0123");
+    /// assert_eq!(rewrite("0x09", style)?, "0x09");
     /// # Ok::<(), navyspindle::ParseError>(())
     /// ```
     #[inline]
@@ -384,7 +387,7 @@ impl Style {
     /// let style = Style::new().digit_groups(DigitGroups::new().decimal(3));
     /// assert_eq!(rewrite("1000_u32", style)?, "1_000_u32");
     /// assert_eq!(rewrite("1000_u32", style.drop_underscores(true))?, "1_000u32");
-    /// assert_eq!(rewrite("0001000", style.drop_leading_zeros(true))?, "1_000");
+    /// assert_eq!(rewrite("0009000", style.drop_leading_zeros(true))?, "9_000");
     /// # Ok::<(), navyspindle::ParseError>(())
     /// ```
     #[inline]

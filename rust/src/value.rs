@@ -327,7 +327,7 @@ fn number_of<N: Number>(
     }
 }
 
-/// Creates the error for the requested type `N`.
+/// Creates the error of a value that was requested as the type `N`.
 fn error_of<N: Number>((kind, range): (ValueErrorKind, Range<usize>)) -> ValueError {
     let wanted = N::TYPE;
     ValueError {
@@ -378,7 +378,7 @@ impl LitInt<'_> {
     }
 }
 
-#[cfg(feature = "settings")]
+#[cfg(any(feature = "settings", feature = "proc-macro"))]
 impl LitInt<'_> {
     /// Returns the value, as [`LitInt::value`] does. If `N` is a float type, an integer without a suffix is accepted too.
     #[inline]

@@ -40,24 +40,98 @@ fn numbers_behind_a_dot_stay() {
 #[test]
 fn other_numbers_do_not() {
     for (text, written) in [
-        ("0_1..0_2", "1..2"),
-        ("0xF_F..=0_2", "0xff..=2"),
-        ("0_1.max(0_2)", "1.max(2)"),
+        ("0_1..0_2", "01..02"),
+        ("0xF_F..=0_2", "0xff..=02"),
+        ("0_1.max(0_2)", "01.max(02)"),
         ("1.5E+3.max(2.)", "1.5e3.max(2.)"),
         ("// t.\n\n0xF", "// t.\n\n0xf"),
         ("\"t.\" 0xF", "\"t.\" 0xf"),
         ("t.0.f(0xF)", "t.0.f(0xf)"),
         ("a. .0_1", "a. .0_1"),
-        ("(0_1, .. 0_1)", "(1, .. 1)"),
-        ("\".\" 0_1", "\".\" 1"),
-        ("t.r\"a\" 0_1", "t.r\"a\" 1"),
+        ("(0_1, .. 0_1)", "(01, .. 01)"),
+        ("\".\" 0_1", "\".\" 01"),
+        ("t.r\"a\" 0_1", "t.r\"a\" 01"),
         ("[1, // t.\n 0xF]", "[1, // t.\n 0xf]"),
         ("[1, 2,\n 0xF]", "[1, 2,\n 0xf]"),
         ("\r 0xF \r\r\n\r", "\r 0xf \r\r\n\r"),
-        ("00", "0"),
+        ("09", "9"),
         ("1_", "1"),
     ] {
         assert_eq!(styled(text), written, "{text:?}");
+    }
+}
+
+// Of these numbers clippy's `mistyped_literal_suffixes` warns, except of `300_8` and `0x_32`.
+#[test]
+fn numbers_with_mistyped_suffixes_stay() {
+    let grouped = STYLE.digit_groups(DigitGroups::new().decimal(3).hexadecimal(4));
+    for text in [
+        "2_32",
+        "250_8",
+        "300_8",
+        "40000_16",
+        "5_64",
+        "1_000_32",
+        "2__32",
+        "0_8",
+        "00_8",
+        "0_32",
+        "09_32",
+        "0xAB_32",
+        "0x_32",
+        "0o7_16",
+        "1e5_32",
+        "1E5_64",
+        "1.0e+1_32",
+        "1e_32",
+        "1E-_32",
+    ] {
+        for style in [STYLE, grouped, grouped.suffix_separator(Separator::Nothing)] {
+            assert_eq!(rewrite_source(text, style).apply().unwrap(), text);
+        }
+    }
+}
+
+// Of these numbers clippy doesn't warn so.
+#[test]
+fn numbers_that_end_otherwise_do_not() {
+    for (text, written) in [
+        ("2_32_", "232"),
+        ("2_032", "2032"),
+        ("2_128", "2128"),
+        ("2_3_2", "232"),
+        ("2_32i64", "232i64"),
+        ("2_32_i64", "232i64"),
+        ("1.5_32", "1.532"),
+        ("1.123_456_64", "1.12345664"),
+        ("1_32.", "132."),
+        ("1_32.0", "132.0"),
+        ("1_32e1", "132e1"),
+        ("1_32f32", "132f32"),
+    ] {
+        assert_eq!(styled(text), written, "{text:?}");
+    }
+}
+
+// clippy's `zero_prefixed_literal` suggests an octal number for those that stay, except for `00`.
+#[test]
+fn leading_zeros_of_octal_digits_stay() {
+    let style = Style::new().drop_leading_zeros(true);
+    for (text, written) in [
+        ("0123", "0123"),
+        ("007", "007"),
+        ("0_7_u8", "0_7_u8"),
+        ("0755i32", "0755i32"),
+        ("00", "00"),
+        ("0_1_7_", "0_1_7_"),
+        ("089", "89"),
+        ("09u8", "9u8"),
+        ("0_1_8", "0_1_8"),
+        ("0_18", "18"),
+        ("0_008_1", "8_1"),
+        ("07_9u8", "7_9u8"),
+    ] {
+        assert_eq!(rewrite_source(text, style).apply().unwrap(), written);
     }
 }
 
@@ -91,25 +165,28 @@ fn numbers_before_one_colon_stay() {
 #[test]
 fn other_numbers_beside_braces_and_colons_do_not() {
     for (text, written) in [
-        ("S { 0: 0_1, 1: 0xF }", "S { 0: 1, 1: 0xf }"),
-        ("S { 0_1: 0_2, 0_3: 0_4 }", "S { 0_1: 2, 0_3: 4 }"),
-        ("{ 0_1::a(), 0_2 :: a }", "{ 1::a(), 2 :: a }"),
-        ("{ 0_1:::a }", "{ 1:::a }"),
-        ("x = 0_1: a", "x = 1: a"),
-        ("let 0_1: u8 = x else { 0_2 };", "let 1: u8 = x else { 2 };"),
-        ("(0_1: a) |0_2: a|", "(1: a) |2: a|"),
-        ("{ -0_1: a, (0_2): a }", "{ -1: a, (2): a }"),
-        ("{ &0_1: a, x 0_2: a }", "{ &1: a, x 2: a }"),
-        ("{ 0_1, 0_2; 0_3 }", "{ 1, 2; 3 }"),
-        ("{ 0_1 = :, 0_2 /// b\n : a }", "{ 1 = :, 2 /// b\n : a }"),
-        ("{ 0_1 } : 0_2", "{ 1 } : 2"),
-        ("} 0_1: a", "} 1: a"),
-        ("{ 0_1; } /* { */ 0_2: a", "{ 1; } /* { */ 2: a"),
-        ("\"{\" 0_1: a // ,\n 0_2: a", "\"{\" 1: a // ,\n 2: a"),
-        ("{ ..0_1: a, .. 0_2: a }", "{ ..1: a, .. 2: a }"),
+        ("S { 0: 0_1, 1: 0xF }", "S { 0: 01, 1: 0xf }"),
+        ("S { 0_1: 0_2, 0_3: 0_4 }", "S { 0_1: 02, 0_3: 04 }"),
+        ("{ 0_1::a(), 0_2 :: a }", "{ 01::a(), 02 :: a }"),
+        ("{ 0_1:::a }", "{ 01:::a }"),
+        ("x = 0_1: a", "x = 01: a"),
+        (
+            "let 0_1: u8 = x else { 0_2 };",
+            "let 01: u8 = x else { 02 };",
+        ),
+        ("(0_1: a) |0_2: a|", "(01: a) |02: a|"),
+        ("{ -0_1: a, (0_2): a }", "{ -01: a, (02): a }"),
+        ("{ &0_1: a, x 0_2: a }", "{ &01: a, x 02: a }"),
+        ("{ 0_1, 0_2; 0_3 }", "{ 01, 02; 03 }"),
+        ("{ 0_1 = :, 0_2 /// b\n : a }", "{ 01 = :, 02 /// b\n : a }"),
+        ("{ 0_1 } : 0_2", "{ 01 } : 02"),
+        ("} 0_1: a", "} 01: a"),
+        ("{ 0_1; } /* { */ 0_2: a", "{ 01; } /* { */ 02: a"),
+        ("\"{\" 0_1: a // ,\n 0_2: a", "\"{\" 01: a // ,\n 02: a"),
+        ("{ ..0_1: a, .. 0_2: a }", "{ ..01: a, .. 02: a }"),
         ("{ r##\"a\"##: a }", "{ r\"a\": a }"),
-        ("{ 0_1", "{ 1"),
-        ("0_1: a", "1: a"),
+        ("{ 0_1", "{ 01"),
+        ("0_1: a", "01: a"),
     ] {
         assert_eq!(styled(text), written, "{text:?}");
     }
@@ -338,7 +415,7 @@ fn each_rule_is_named_as_its_setter() {
     for (name, style, text) in [
         ("hex_digits", new.hex_digits(Case::Lower), "0xA"),
         ("drop_underscores", new.drop_underscores(true), "1_0"),
-        ("drop_leading_zeros", new.drop_leading_zeros(true), "01"),
+        ("drop_leading_zeros", new.drop_leading_zeros(true), "09"),
         (
             "suffix_separator",
             new.suffix_separator(Separator::Underscore),

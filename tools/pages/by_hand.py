@@ -8,12 +8,6 @@ import programs
 from .items import TOP, read
 
 
-def tried(name, words, given):
-    """Runs a program that Cargo builds. Returns its output and its error output."""
-    ran = subprocess.run([programs.cargos(name), *words], input=given, capture_output=True, check=False)
-    return ran.stdout.decode(), ran.stderr.decode()
-
-
 def run_commands(tell):
     """Runs the calls of programs that the pages show. Each call is a line after `$`, with its output below it."""
     found_first = dict(os.environ, PATH=f'{programs.cargo_folder()}:{os.environ["PATH"]}')
@@ -30,10 +24,8 @@ def run_commands(tell):
                 tell(f'{command} writes {found!r}')
 
 
-# The calls of docs/ERRORS.md, as commands of programs that read many texts at once (`attr` reads one).
-CALLS = {
-    'read': ('rl_rows', 'read'), 'text': ('rl_rows', 'text'), 'attr': ('rl_tool', 'attr'),
-}
+# The calls of docs/ERRORS.md that are commands of rl_rows.
+COMMANDS = ('read', 'text', 'attr')
 # The other calls, by the table and heading in rust/programs/rows/tests/calls that must have the row.
 STORED = {
     'LitInt::new': ('numbers', 'integer'), 'LitFloat::new': ('numbers', 'real'), 'LitStr::parse': ('parsers', 'inside'),
@@ -57,17 +49,16 @@ def rows_of_errors():
     for line in read('docs/ERRORS.md').split('\n'):
         cells = [it.strip() for it in re.split(r'(?<!\\)\|', line)[1:-1]]
         called = re.fullmatch(r'`([^`]+)`: (.*)', cells[1]) if len(cells) == 4 else None
-        row = [called[1], text_of(called[2]), text_of(cells[2])] if called and called[1] in {**CALLS, **STORED} else [None]
+        row = [called[1], text_of(called[2]), text_of(cells[2])] if called and called[1] in (*COMMANDS, *STORED) else [None]
         if None not in row:
             yield row
 
 
-def answers_of(crate, rows):
-    """Returns the results of a program for commands and texts."""
-    if crate == 'rl_tool':
-        return [''.join(tried(crate, [command], text.encode())) for command, text in rows]
-    given = ''.join(f'{it} {text.encode().hex()}\n{MARK} {b"===".hex()}\n' for it, text in rows)
-    return tried(crate, [], given.encode())[0].split(LINE)
+def answers_of(rows):
+    """Returns the results of rl_rows for commands and texts."""
+    given = ''.join(f'{command} {text.encode().hex()}\n{MARK} {b"===".hex()}\n' for command, text, _ in rows)
+    ran = subprocess.run([programs.cargos('rl_rows')], input=given, capture_output=True, encoding='utf-8', check=False)
+    return ran.stdout.split(LINE)
 
 
 def stored_answer(call, text):
@@ -86,10 +77,8 @@ def run_errors(tell):
     for call, text, message in shown:
         if call in STORED and message not in stored_answer(call, text):
             tell(f'docs/ERRORS.md: no row of rust/programs/rows/tests/calls has {message} for {call} of {text}')
-    for crate in ('rl_rows', 'rl_tool'):
-        rows = [it for it in shown if it[0] in CALLS and CALLS[it[0]][0] == crate]
-        answers = answers_of(crate, [(CALLS[call][1], text) for call, text, _ in rows])
-        for (call, text, message), found in zip(rows, answers):
-            print(f'{"as shown" if message in found else "OTHER"}: {call} {text[:60]}', flush=True)
-            if message not in found:
-                tell(f'docs/ERRORS.md: {call} of {text} tells {found!r}')
+    rows = [it for it in shown if it[0] in COMMANDS]
+    for (call, text, message), found in zip(rows, answers_of(rows)):
+        print(f'{"as shown" if message in found else "OTHER"}: {call} {text[:60]}', flush=True)
+        if message not in found:
+            tell(f'docs/ERRORS.md: {call} of {text} tells {found!r}')

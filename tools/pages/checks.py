@@ -6,7 +6,7 @@ import re
 import textwrap
 
 from .graph import graph
-from .items import TOP, code_files, core, definition_files, libraries, pages, paths, prose_pages, public_items, read, signature_end
+from .items import LIBRARIES, TOP, code_files, core, definition_files, pages, paths, prose_pages, public_items, read, signature_end
 from .snippets import EXAMPLE, VALUE, Source, blanked, whole_items
 from .style import DEFINED, check_habits, check_public_names
 
@@ -21,7 +21,7 @@ EXAMPLES = {
     'rl_quoted': """
         LitStr LitByteStr LitCStr LitByte LitChar LitStr::new LitStr::value LitStr::value_ref LitByteStr::value
         LitByteStr::value_ref LitCStr::value LitByte::value LitChar::value LitStr::parse LitStr::parse_with""",
-    'rust_literals': 'Lit Lit::new LitInt LitFloat LitBool Number::base10_digits Number::base10_parse read_all read_next',
+    'rust_literals': 'Lit Lit::new LitInt LitFloat LitBool Number::base10_digits Number::base10_parse read_all push_next_literal',
     'rl_attributes': 'Attrs Attrs::get read',
 }
 # Words that other projects define, and names that no crate has.
@@ -34,7 +34,7 @@ OF_OTHERS = ['docs/DIFFERENCES.md', 'docs/COMPARISON.md', 'docs/PERFORMANCE.md']
 def check_items(tell):
     """Checks that each public item has documentation, that an item that returns a Result has `# Errors`, and that the items of
     EXAMPLES have an example with a value, or name the item that has it. Returns the number of public items."""
-    public = {crate: public_items(crate) for crate in libraries()}
+    public = {crate: public_items(crate) for crate in LIBRARIES}
     shown = {item.name for items in public.values() for _, item in items if item.examples()}
     for crate, items in public.items():
         wanted = EXAMPLES.get(crate, '').split()
@@ -224,6 +224,29 @@ def check_limits(tell):
         tell(f'docs/PERFORMANCE.md: {above} of the {len(limits)} limits are above the lowest that they were')
 
 
+# A row of the table of options of rl_scan, and a line of its help that begins an option.
+OPTION_ROW = re.compile(r"""name: "(--[\w-]*)",\s+letter: (?:None|Some\('(.)'\)),\s+effect: Effect::(\w+).*,\s+modes: Modes::(\w+),""")
+OPTION_LINE = re.compile(r'(?m)^ {2,6}(?:-(\w), )?(--[\w-]*)( [A-Z][A-Z,.]*)?(?: |$)')
+
+
+def check_options(tell):
+    """Checks that the help of rl_scan has the options, letters and values of the table, and the manual its modes."""
+    rows = OPTION_ROW.findall(read('crates/rl_options/src/table.rt'))
+    table = {(name, letter, effect == 'Takes') for name, letter, effect, _ in rows}
+    shown = {(name, letter, bool(value)) for letter, name, value in OPTION_LINE.findall(read('crates/rl_options/src/help.rt'))}
+    for name, *_ in sorted(table ^ shown):
+        tell(f'crates/rl_options/src/help.rt: {name} differs from its row in table.rt')
+    names = {f'-{letter}': name for name, letter, *_ in rows}
+    part = read('docs/PROGRAMS.md').split('| Modes in which they have an effect |\n|---|---|\n')[1].split('\n\n')[0]
+    groups = [{names.get(it, it) for it in re.findall('`(-.*?)`', line.split('|')[1])} for line in part.split('\n')]
+    modes = {}
+    for name, _, _, of_row in rows:
+        modes.setdefault(of_row, set()).add(name)
+    wanted = [modes[it] for it in modes if it not in ('All', 'Printing')]
+    if sorted(map(sorted, filter(None, groups))) != sorted(map(sorted, wanted)):
+        tell('docs/PROGRAMS.md: the options and their modes differ from table.rt')
+
+
 # Files of the repository that the package has a copy of, since Cargo packs no file from outside its folder.
 COPIES = {'rust/' + name: name for name in ('CHANGELOG.md', 'LICENSE-APACHE', 'LICENSE-MIT')}
 
@@ -253,4 +276,4 @@ def check_diagrams(tell):
 
 OF_PAGES = (
     check_core, check_paths, check_snippets, check_definitions, check_names, check_words, check_owners,
-    check_errors, check_diagrams, check_copies, check_limits, check_habits, check_public_names)
+    check_errors, check_diagrams, check_copies, check_limits, check_options, check_habits, check_public_names)

@@ -213,7 +213,3 @@ def public_items(crate):
             if names is None or holder in names or method and at not in before and holder in shown:
                 found.append((path, item))
     return found
-
-
-def libraries():
-    return [it for it in LIBRARIES if os.path.isdir(os.path.join(TOP, 'crates', it))]

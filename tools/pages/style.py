@@ -1,7 +1,7 @@
 """Checks the words and the style rules of docs/STYLE.md in comments, pages and public names."""
 import re
 
-from .items import code_files, definition_files, libraries, paths, prose_pages, public_items, read
+from .items import LIBRARIES, code_files, definition_files, paths, prose_pages, public_items, read
 
 # A public definition of specs/. Fields are indented.
 DEFINED = re.compile(r'^(?:(?:abbrev|unfoldable) )?pub (?!mod |use )(?:record |data )?([\w-]+)', re.M)
@@ -65,7 +65,7 @@ def check_habits(tell):
 
 def check_public_names(tell):
     """Checks that no public item and no public definition has a rejected word in its name."""
-    names = [(path, item.name) for crate in libraries() for path, item in public_items(crate)]
+    names = [(path, item.name) for crate in LIBRARIES for path, item in public_items(crate)]
     names += [(path, name) for path in paths('crates/*/specs/**/*.antt') for name in DEFINED.findall(read(path))]
     for path, name in names:
         if habit := HABITS.search(' '.join(re.findall(r'[A-Z]?[a-z]+', name))):

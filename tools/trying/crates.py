@@ -41,9 +41,13 @@ class Crates:
                 found += [lower for lower in [*self.below(it), it] if lower not in found]
         return found
 
+    def with_those_below(self, names):
+        """Returns the crates and those below them. Each crate comes after the crates that it names."""
+        return list(dict.fromkeys(it for name in names for it in [*self.below(name), name]))
+
     def copy_parts(self, names, to):
         """Copies the files that the prover reads of these crates and of those below them to a folder."""
-        for name in dict.fromkeys(it for name in names for it in [*self.below(name), name]):
+        for name in self.with_those_below(names):
             for part in PARTS:
                 if os.path.isdir(f'{self.top}/crates/{name}/{part}'):
                     shutil.copytree(f'{self.top}/crates/{name}/{part}', f'{to}/{name}/{part}')

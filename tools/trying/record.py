@@ -35,16 +35,16 @@ class Record:
         is_clean = differs.returncode == 0 and not differs.stdout and head.returncode == 0
         return head.stdout.strip() if is_clean else None
 
-    def holds(self, name, folder):
-        """Whether all wrong bodies in this folder of the crate were rejected at a commit, and nothing on which their verdicts
-        depend has changed since. A commit that the clone doesn't have, or that isn't an ancestor, doesn't count."""
+    def holds(self, name):
+        """Whether all wrong bodies of the crate were rejected at a commit, and nothing on which their verdicts depend has changed since.
+        A commit that the clone doesn't have, or that isn't an ancestor, doesn't count."""
         if name not in self.rows:
             return False
         commit, tried, rejected = self.rows[name]
         if tried != rejected or self.git('merge-base', '--is-ancestor', commit, 'HEAD').returncode != 0:
             return False
         below = self.crates.below(name)
-        paths = [*COMMON, *[f'crates/{name}/{part}' for part in (*PARTS, folder)]]
+        paths = [*COMMON, *[f'crates/{name}/{part}' for part in (*PARTS, 'wrong')]]
         paths += [f'crates/{it}/{part}' for it in below for part in SEEN_ABOVE]
         return self.are_unchanged(commit, paths) and self.are_lines_unchanged(commit, [*below, name])
 

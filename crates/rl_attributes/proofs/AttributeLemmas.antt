@@ -284,7 +284,8 @@ refused_next trees done rest scope e t d some r = record {
       never_refused done on.more rest scope e some (subst NamesDiffer on.list_is are.differ) on.listed r;
 }
 
--- If two tests of the names before give the same results, the errors of the next attribute are the same.
+-- If two tests of names give the same results, a name at the start of token trees is new for both or for neither. So both give
+-- the next attribute the same errors (`same_seen`).
 same_new : (s t : List ℕ → Bool) (trees : List Tree) (name : SpannedText) (following : List Tree)
     → ((n : List ℕ) → s n ≡ t n) → HasNewName s trees name following → HasNewName t trees name following
 same_new s t trees name following e h = record { named = h.named; anew = sym (e name.text) ∙ h.anew }

@@ -294,7 +294,7 @@ apart entries name i k d e differ order within one other =
     let both = rw (first, second) at differs in
     absurd (cc)
 
--- If an attribute at an index has the name, the value of each attribute with the name is the same value.
+-- If the names differ, and the attribute at an index has the name, each attribute with the name has the value of that attribute.
 pub value_lent : {A : Type 0} (entries : List (Entry A)) (name : List ℕ) (i : ℕ) (entry : Entry A)
     → EntriesDiffer entries → i < length entries → entry ≡ get_or entries i entry → HasName name entry
     → (k : ℕ) (d : Entry A) → k < length entries → HasName name (get_or entries k d) → entry.value
@@ -333,7 +333,8 @@ parted_at xs i x below is =
     sym (take-append-drop i xs) ∙ ap (λ z. take i xs ++ z) (drop_more xs i x below
     ∙ ap (λ z. z ∷ drop (i + 1) xs) (sym is))
 
--- If an attribute has the name and its value has a property, an attribute with the name has a value with the property.
+-- If some attribute has the name, each attribute with the name has the value `value`, and that value has the property `P`, then
+-- some attribute with the name has a value with the property.
 pub value_rejected : {A : Type 0} (entries : List (Entry A)) (name : List ℕ) (value : Lit A) (P : Lit A → Type 0)
     → Any (HasName name) entries → All (λ e. HasName name e → value ≡ e.value) entries → P value
     → Any (λ e. HasName name e × P e.value) entries

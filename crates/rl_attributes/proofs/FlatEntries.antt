@@ -1,6 +1,6 @@
 -- Lemmas about reading the attributes of a text token by token: the attributes that were read, and the set of their
 -- names.
-use Rattle.rl_syntax.proofs.Common.{◌≡◌, ◌≢◌, ℕ, Bool, true, false, cond, List, [], ◌∷◌, ◌++◌, refl, sym, ◌∙◌, ap, subst, append-nil, append_assoc, chars, chars-nil, arith, string_bytes, IsFalse}
+use Rattle.rl_syntax.proofs.Common.{◌≡◌, ◌≢◌, ℕ, true, false, cond, List, [], ◌∷◌, ◌++◌, refl, sym, ◌∙◌, ap, subst, append-nil, append_assoc, chars, chars-nil, arith, string_bytes, IsFalse}
 use Rattle.std.specs.Prelude.{All}
 use Rattle.std.specs.BTreeSet.{BTreeSet, IsEmpty}
 use Rattle.std.specs.Str.{bytes_eq}
@@ -23,7 +23,7 @@ use Rattle.rl_attributes.specs.Attributes.{Attribute, AreListed, is_named, Names
 use Rattle.rl_attributes.specs.Entries.{attribute_of, attributes_of, IsReadEntry, EntriesDiffer}
 use Rattle.rl_attributes.specs.Names.{has_name}
 use Rattle.rl_attributes.specs.AttributeSteps.{AddsName}
-use Rattle.rl_attributes.specs.NextEntries.{borrowed_token, value_token, attribute_at, IsEntryOf}
+use Rattle.rl_attributes.specs.NextEntries.{borrowed_token, attribute_at, IsEntryOf}
 use Rattle.rl_attributes.proofs.AttributeLemmas.{listed_more, differ_more, differ_none, named_more}
 use Rattle.rl_attributes.proofs.FlatSettings.{TakesAttribute, takes_attribute}
 

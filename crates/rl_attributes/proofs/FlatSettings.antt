@@ -1,13 +1,12 @@
 -- Lemmas about the token trees of a setting that is lexed token by token.
-use Rattle.rl_syntax.proofs.Common.{◌≡◌, ◌≢◌, ℕ, ◌+◌, ◌<◌, ◌≤◌, ◌⊎◌, inl, inr, Bool, true, false, List, [], ◌∷◌, ◌++◌, length, length-append, Option, Some, None, refl, sym, ◌∙◌, ap, subst, arith, nat_tests, append_assoc, chars, codes, encode_ascii, length-encode, len_utf8_bounds, replicate, if◌then◌else◌, ◌==◌}
+use Rattle.rl_syntax.proofs.Common.{◌≡◌, ℕ, ◌+◌, ◌≤◌, inl, inr, true, List, [], ◌∷◌, ◌++◌, length, length-append, Option, Some, None, refl, sym, ◌∙◌, ap, subst, arith, nat_tests, append_assoc, chars, codes, encode_ascii, length-encode, len_utf8_bounds, replicate, if◌then◌else◌, ◌==◌}
 use Rattle.std.specs.Prelude.{min, max, IsSomeAnd}
-use Prim.Native.Char.{code}
 use Rattle.rl_syntax.specs.declared.span.Span.{Span}
-use Rattle.rl_syntax.specs.Texts.{SpannedText, IsTail, byte_len}
+use Rattle.rl_syntax.specs.Texts.{SpannedText, byte_len}
 use Rattle.rl_syntax.proofs.Rests.{tail_length}
 use Rattle.rl_syntax.specs.declared.kind.Kind.{Kind}
 use Rattle.rl_syntax.specs.declared.kind.Kind.TheVariants.{Bool as BoolKind}
-use Rattle.rl_syntax.specs.Reading.{ReadsAs, Reads}
+use Rattle.rl_syntax.specs.Reading.{ReadsAs}
 use Rattle.rl_lexer.specs.declared.cursor.Lexeme.{Lexeme as Lent}
 use Rattle.rl_lexer.specs.Lexemes.{Lexeme, QuotedLexeme, RawLexeme, CharacterLexeme, BasedLexeme, DecimalLexeme, IdentifierLexeme, DelimiterLexeme, MarkLexeme, lexeme_text, prefix_text, body_text, character_body_text, lexed_fraction_text, lexed_exponent_text, LexemeForm, LiteralForm, IdentifierForm, DelimiterForm, MarkForm, form_of}
 use Rattle.rl_lexer.specs.Cursors.{form_view, CursorState, TakesNext}
@@ -15,9 +14,9 @@ use Rattle.rl_lexer.proofs.CutLemmas.{byte_len-append}
 use Rattle.rl_lenient.specs.declared.found.Found.{Found}
 use Rattle.rl_lenient.specs.declared.next_literals.NextLiteral.{NextLiteral}
 use Rattle.rl_lenient.specs.Founds.{IsFound, suffix_in}
-use Rattle.rl_lenient.specs.NextLiterals.{IsLiteralToken, TakesLiteralToken, TakesNegative, TakesNextLiteral}
+use Rattle.rl_lenient.specs.NextLiterals.{IsLiteralToken, TakesNegative, TakesNextLiteral}
 use Rattle.rl_settings.specs.declared.settings.NextSetting.{NextSetting}
-use Rattle.rl_settings.specs.SettingSteps.{TakesName, TakesMark, TakesComma, SetsValue, TakesSetting}
+use Rattle.rl_settings.specs.SettingSteps.{TakesName, TakesMark, TakesSetting}
 use Rattle.rl_tokens.specs.Puncts.{Mark}
 use Rattle.rl_tokens.specs.Trees.{Tree, IdentTree, PunctTree, LiteralTree}
 use Rattle.rl_tokens.specs.Buffers.{IsAfterMark}

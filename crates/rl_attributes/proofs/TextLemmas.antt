@@ -1,10 +1,10 @@
 -- Lemmas about the values of settings in terms of the text: of its attributes, and of the texts of their literals.
-use Rattle.std.proofs.Common.{◌≡◌, ◌≢◌, ◌⊎◌, inl, inr, ℕ, ◌+◌, ◌<◌, suc, zero, Bool, true, false, List, [], ◌∷◌, ◌++◌, map, get_or, length, Option, Some, None, Result, Ok, Err, refl, sym, ◌∙◌, ap, subst, arith, rules, IsTrue, IsFalse, codes, ◌||◌}
+use Rattle.std.proofs.Common.{◌≡◌, ◌≢◌, ◌⊎◌, inl, inr, ℕ, ◌+◌, ◌<◌, suc, zero, Bool, true, false, List, [], ◌∷◌, ◌++◌, map, get_or, length, Option, Some, None, Result, Ok, Err, refl, sym, ◌∙◌, ap, subst, arith, rules, IsTrue, codes, ◌||◌}
 use Rattle.std.proofs.Props.{props}
 use Rattle.std.proofs.Math.Logic.{∥∥₁_elim}
 use Rattle.std.specs.Prelude.{String, string_bytes, MatchOption, IfOk, IfErr, IsOkAnd, encode_utf8_all}
 use Rattle.std.specs.List.{All, Any, Contains}
-use Rattle.std.specs.Option.{unwrap_or, IsSomeAnd}
+use Rattle.std.specs.Option.{unwrap_or}
 use Rattle.std.specs.Str.{chars, bytes_eq, IsUtf8}
 use Rattle.std.proofs.lemmas.Bool.{false≢true}
 use Rattle.std.proofs.lemmas.List.{length-map, get_or-map}
@@ -18,8 +18,7 @@ use Rattle.rl_syntax.specs.Reading.{Characters, Digits, Truth, Contents, Reads, 
 use Rattle.rl_syntax.proofs.OneReading.{one_reading}
 use Rattle.rust_literals.specs.declared.lit.Lit.{Lit}
 use Rattle.rust_literals.specs.declared.lit.Lit.TheVariants.{Str, ByteStr, CStr, Byte, Char, Int, Float, Bool as BoolLit, Verbatim}
-use Rattle.rust_literals.specs.Base10.{AreBase10Digits, IsMadeOf}
-use Rattle.rust_literals.specs.Held.{HasDigits, HasOwnSuffix}
+use Rattle.rust_literals.specs.Held.{HasDigits}
 use Rattle.rust_literals.specs.Literals.{kind_of, token_of}
 use Rattle.rust_literals.specs.LitParts.{HasLitSuffix, IsSuffixAs}
 use Rattle.rl_attributes.specs.declared.attributes.Entry.{Entry}
@@ -27,7 +26,7 @@ use Rattle.rl_attributes.specs.declared.settings.Setting.{Setting}
 use Rattle.rl_attributes.specs.declared.settings.SettingError.{SettingError}
 use Rattle.rl_attributes.specs.Attributes.{Attribute}
 use Rattle.rl_attributes.specs.Entries.{attribute_of, attributes_of, AreReadValues, EntriesDiffer, IsReadLit, HasName}
-use Rattle.rl_attributes.specs.Settings.{knows, HasSomeLitSuffix, IsStringSet, IsTruthSet, IsNumberSet, RejectsString, RejectsTruth, RejectsNumber, RejectsFirst, RejectsSetValue, IsSetAs, IsRejectedEntry}
+use Rattle.rl_attributes.specs.Settings.{knows, IsStringSet, IsTruthSet, IsNumberSet, RejectsString, RejectsTruth, RejectsNumber, RejectsFirst, RejectsSetValue, IsSetAs, IsRejectedEntry}
 use Rattle.rl_attributes.specs.TextSettings.{IsNamed, IsOneOf, setting_names, AreNamedOf, HasBareText, HaveBareTexts, IsUnset, IsSetWith, IsSetOr, IsStringOf, IsTruthOf, HasNumberDigits, IsStringAt, IsTruthAt, AreDigitsAt, IsNumberAt, IsTruthOr, IsMemoryError, IsSomeStringOrMemory, IsSomeNumberOrRejected}
 use Rattle.rl_attributes.proofs.EntryLemmas.{value_lent}
 
@@ -208,9 +207,9 @@ are_named settings es h =
     All-map (λ a. IsOneOf (setting_names settings) a.name.text) attribute_of es
     (λ k d lt. knows_one settings (string_bytes (get_or es k d).name) (h k d lt))
 
-pub need_no_escapes : {A : Type 0} (es : List (Entry A)) → AreReadValues es → All (λ e. HasLitSuffix e.value []) es
+pub have_no_suffix : {A : Type 0} (es : List (Entry A)) → AreReadValues es → All (λ e. HasLitSuffix e.value []) es
     → HaveBareTexts (attributes_of es)
-need_no_escapes es rd h =
+have_no_suffix es rd h =
     All-map (λ a. HasBareText a.literal) attribute_of es
     (λ k d lt kind v x r. sym (suffix_is (get_or es k d).value (rd k d lt) kind v x [] r (h k d lt)))
 

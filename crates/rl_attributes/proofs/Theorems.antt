@@ -1,6 +1,6 @@
--- The theorems of src/laws.rt, as lemmas that callers may cite. Further lemmas for callers: a fact of all entries, or
--- of one, is a fact of their attributes; a setting with a default follows from a setting that is set or not set, and
--- the reverse; and an optional result has one of two cases.
+-- The theorems of src/laws.rt, as lemmas that callers may cite. There are more lemmas for callers. A fact of all entries, or of
+-- one, is a fact of their attributes. The value of a setting with a default follows from the value that is set, or from the fact
+-- that none is set, and the reverse. A fact of an optional result follows for each of its two cases.
 pub use Rattle.rl_attributes.proofs.TextLemmas.{set_or_of_set, set_or_of_unset, set_of_set_or, default_of_set_or, rejected_named, in_some, in_none}
 use Rattle.std.proofs.Common.{◌↔◌, List, All, Any}
 use Rattle.rl_attributes.specs.declared.attributes.Entry.{Entry}

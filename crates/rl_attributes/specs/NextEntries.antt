@@ -1,7 +1,6 @@
 -- The attribute that is built from a setting of a text, which was lexed token by token.
-use Rattle.std.specs.Prelude.{◌≡◌, ℕ, List, ◌∷◌, Option, Some, None, string_bytes}
+use Rattle.std.specs.Prelude.{◌≡◌, ℕ, ◌∷◌, Option, Some, None, string_bytes}
 use Prim.Native.Char.{code}
-use Rattle.rl_syntax.specs.declared.span.Span.{Span}
 use Rattle.rl_syntax.specs.Texts.{SpannedText}
 use Rattle.rl_lexer.specs.declared.cursor.Lexeme.{Lexeme}
 use Rattle.rl_lenient.specs.declared.next_literals.NextLiteral.{NextLiteral}

@@ -16,7 +16,7 @@ use Rattle.rl_program.specs.declared.program_error.ProgramError.TheVariants.{Mem
 use Rattle.rl_commands.specs.Runs.{Shows, IsRejectionOf}
 use Rattle.rl_commands.specs.Lists.{Lengthens, HasLines}
 
--- The output lines of some literals with the line of one more.
+-- If the line of one more literal is appended to the output lines of some literals, the result is the lines of all of them.
 lengthened : {A : Type 0} (lines longer : Option (String A)) (list : List (Lit A)) (lit : Lit A)
     → IfSome lines (λ l. AreLinesOfLits list (chars (string_bytes l))) → IfSome longer (Lengthens lines lit)
     → IfSome longer (λ l. AreLinesOfLits (list ++ lit ∷ []) (chars (string_bytes l)))

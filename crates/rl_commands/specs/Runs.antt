@@ -41,7 +41,7 @@ PrintsBeginning command bytes old new =
 abbrev pub whole_token : List ℕ → SpannedText
 whole_token bytes = record { text = bytes; span = record { file = 0; lo = 0; hi = length bytes } }
 
--- The program's error is that of a literal, and has the property.
+-- The program's error is an error of the library that satisfies `rejects`.
 abbrev pub IsLiteralError : {A : Type 0} → (Error A → Type 0) → ProgramError A → Type 0
 IsLiteralError rejects (Literal error) = rejects error
 IsLiteralError rejects _ = ⊥
@@ -53,8 +53,8 @@ RejectsAsCommand Text bytes error =
 RejectsAsCommand ReadCommand bytes error = RejectsText (chars bytes) 0 (length bytes) error
 RejectsAsCommand Attr bytes error = RejectsAttributeText (chars bytes) 0 (length bytes) error
 
--- An allocation may fail that isn't one for a literal. For `text` it is for the token or its output line. For `read` and `attr` it
--- is for output lines, after all literals or attributes were parsed.
+-- An allocation that isn't for a literal may fail. The command `text` makes it for the token or the output line. The commands
+-- `read` and `attr` make it for output lines, after they parsed all literals or attributes.
 abbrev pub MayWantMemory : Type 0 → Command → List ℕ → Type 0
 MayWantMemory A Text bytes = ⊤
 MayWantMemory A ReadCommand bytes = (list : List (Lit A)) × AreRead (chars bytes) 0 list

@@ -8,7 +8,7 @@ ghost use Rattle.rl_commands.specs.EntryLines.{IsLineOfEntry, AreLinesOfEntries}
 ghost use Rattle.rl_commands.specs.Runs.{Shows, IsRejectionOf};
 
 use crate::attr::{Entry, read};
-use crate::lit_line::push_literal;
+use crate::lit_line::push_literal_line;
 use rl_program::ProgramError;
 use std::alloc::{AllocError, Allocator};
 
@@ -23,7 +23,7 @@ fn push_entry<A: Allocator + Copy>(
 {
     out.push_str(entry.name.as_str())?;
     out.push_str(" ")?;
-    push_literal(alloc, out, &entry.value)
+    push_literal_line(alloc, out, &entry.value)
 }
 
 /// Returns the output lines of attributes, in order. Each has the attribute's name, a space, and the output line of its literal.

@@ -13,5 +13,5 @@ pub mod run;
 pub use crate::attribute_lines::entry_lines;
 pub use crate::command::Command;
 pub use crate::exit::call;
-pub use crate::lit_line::{line_of, push_literal};
+pub use crate::lit_line::{line_of, push_literal_line};
 pub use rl_program::{Ending, ProgramError};

@@ -6,7 +6,7 @@ ghost use Rattle.rl_commands.specs.declared.command.Command.TheVariants.{Read};
 ghost use Rattle.rl_commands.specs.Runs.{Shows, IsRejectionOf};
 ghost use Rattle.rl_commands.specs.Lists.{Lengthens};
 
-use crate::lit_line::push_literal;
+use crate::lit_line::push_literal_line;
 use rl_program::ProgramError;
 use rust_literals::{Lit, Literals};
 use std::alloc::Allocator;
@@ -21,7 +21,7 @@ fn with_line<A: Allocator + Copy>(
     ensures { IfSome result (Lengthens lines literal) }
 {
     let mut longer = lines?;
-    let pushed = push_literal(alloc, &mut longer, &literal);
+    let pushed = push_literal_line(alloc, &mut longer, &literal);
     // A call of `drop`: dropping the literal in place, without a call, doubles the steps of the proof.
     drop(literal);
     match pushed {

@@ -6,7 +6,7 @@ ghost use Rattle.rl_program.specs.Lines.{IsLineOfKind, Appends};
 ghost use Rattle.rl_lenient.specs.Founds.{is_quoted};
 ghost use Rattle.rl_commands.specs.LitLines.{IsLineOfLit};
 
-use rl_program::{push_found, push_kind, push_verbatim, truth_word};
+use rl_program::{push_found, push_line_of_kind, push_verbatim_line, truth_word};
 use rl_quoted::{Quoted, QuotedKind};
 use rl_tokens::Kind;
 use rust_literals::Lit;
@@ -30,7 +30,7 @@ fn push_quoted_literal<K: QuotedKind, A: Allocator + Copy>(
 /// # Errors
 ///
 /// Returns an error if an allocation fails. The error is the standard library's. A part of the line may have been appended then.
-pub fn push_literal<A: Allocator + Copy>(
+pub fn push_literal_line<A: Allocator + Copy>(
     alloc: A,
     out: &mut String<A>,
     literal: &Lit<A>,
@@ -44,10 +44,20 @@ pub fn push_literal<A: Allocator + Copy>(
         Lit::CStr(literal) => push_quoted_literal(alloc, out, literal),
         Lit::Byte(literal) => push_quoted_literal(alloc, out, literal),
         Lit::Char(literal) => push_quoted_literal(alloc, out, literal),
-        Lit::Int(number) => push_kind(out, Kind::Int, number.base10_digits(), number.suffix()),
-        Lit::Float(number) => push_kind(out, Kind::Float, number.base10_digits(), number.suffix()),
-        Lit::Bool(truth) => push_kind(out, Kind::Bool, truth_word(truth.value()), ""),
-        Lit::Verbatim(token) => push_verbatim(out, token.text()),
+        Lit::Int(number) => push_line_of_kind(
+            out,
+            Kind::Int,
+            number.base10_digits(),
+            number.suffix(),
+        ),
+        Lit::Float(number) => push_line_of_kind(
+            out,
+            Kind::Float,
+            number.base10_digits(),
+            number.suffix(),
+        ),
+        Lit::Bool(truth) => push_line_of_kind(out, Kind::Bool, truth_word(truth.value()), ""),
+        Lit::Verbatim(token) => push_verbatim_line(out, token.text()),
     }
 }
 
@@ -60,6 +70,6 @@ pub fn line_of<A: Allocator + Copy>(alloc: A, literal: &Lit<A>) -> Result<String
     ensures { IfOk result (λ line. IsLineOfLit literal.now (chars (string_bytes line))) }
 {
     let mut line = String::new(alloc);
-    push_literal(alloc, &mut line, literal)?;
+    push_literal_line(alloc, &mut line, literal)?;
     Ok(line)
 }

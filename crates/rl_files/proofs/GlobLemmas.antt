@@ -35,10 +35,10 @@ module _ {X : Type 0} (test : List X → Bool) where
       go true e later = absurd (none 0 e)
       go false e later = later
 
--- ---- up to the first star
+-- ---- matching up to the first star
 
 module _ {P X : Type 0} (star : P → Bool) (one : P → X → Bool) where
-  -- The next part of the pattern isn't a star and matches one element.
+  -- If the first part of a pattern isn't a star, it must match the first element, and the other parts the rest of the list.
   pub one_more : (p : P) (ps : List P) (xs : List X) → star p ≡ false
       → all_match star one (p ∷ ps) xs ≡ first_and (one p) (all_match star one ps) xs
   one_more p ps xs e = cond-false (star p) _ _ e
@@ -138,7 +138,8 @@ module _ {P X : Type 0} (star : P → Bool) (one : P → X → Bool) where
         → StopsAs star one pattern_of text_of pattern text (Decided (length rest == 0))
     stops_at_end pattern text rest g = record { same = g.same; stands = tt }
 
-    -- The pattern doesn't match, since no element is left for a part, or the part doesn't match the next element.
+    -- If no element is left for a part, the pattern doesn't match. The next lemma is for a part that doesn't match the next
+    -- element.
     pub stops_short : (pattern : List P) (text : List X) (p : P) (after : List P) → Goes pattern text (p ∷ after) []
         → star p ≡ false → StopsAs star one pattern_of text_of pattern text (Decided false)
     stops_short pattern text p after g plain = record {
@@ -158,7 +159,7 @@ module _ {P X : Type 0} (star : P → Bool) (one : P → X → Bool) where
         and_false true b e = absurd (false≢true (sym e))
         and_false false b e = refl
 
-    -- ---- after a star
+    -- ---- matching after a star
 
     reached_smaller : (pattern : List P) (text : List X) (after : List P) (rest : List X)
         → IsReached star pattern text after rest → length after + 1 ≤ length pattern
@@ -182,7 +183,7 @@ module _ {P X : Type 0} (star : P → Bool) (one : P → X → Bool) where
       smaller = reached_smaller pattern text (pattern_of after) (text_of rest) s.stands;
     }
 
-    -- The pattern doesn't match from this start, so a later start is tried.
+    -- If the pattern after a star doesn't match from one start, it matches exactly if it matches from a later start.
     pub fails_here : (pattern : List P) (first : List X) (x : X) (rest : List X)
         → any_end (all_match star one pattern) first ≡ any_end (all_match star one pattern) (x ∷ rest)
         → all_match star one pattern (x ∷ rest) ≡ false

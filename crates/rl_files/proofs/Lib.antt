@@ -3,3 +3,4 @@ pub mod WalkLemmas
 pub mod VisibleLemmas
 pub mod GlobLemmas
 pub mod PartLemmas
+pub mod PathTextLemmas

@@ -16,7 +16,7 @@ use Rattle.rl_files.proofs.GlobLemmas.{Goes, stops_at_end}
 abbrev pub NoSlash : ℕ → Type 0
 NoSlash b = (b == 47) ≡ false
 
--- The first bytes with one more byte that isn't a slash contain no slash.
+-- If the first bytes contain no slash, and the next byte isn't a slash, the first bytes with the next one contain no slash.
 pub no_slash_more : (xs : List ℕ) (at : ℕ) → at < length xs → All NoSlash (take at xs) → slice_index xs at ≢ 47
     → All NoSlash (take (at + 1) xs)
 no_slash_more xs at within before differs =

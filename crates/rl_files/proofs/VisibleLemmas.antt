@@ -21,7 +21,7 @@ written_more f first old new done c before now =
     ∙ ap (λ (z : List ℕ). first ++ encode_utf8_all z)
     (ap (λ (z : List ℕ). flat_map f done ++ z) (sym (append-nil (f c))) ∙ sym (flat_map-append f done (c ∷ [])))
 
--- The characters of a text after a piece is appended in UTF-8.
+-- If the UTF-8 encoding of a piece is appended to a text, the characters of the piece are appended to those of the text.
 pub chars_written : (old new piece : List ℕ) → IsUtf8 old → IsUtf8 new → new ≡ old ++ encode_utf8_all piece
     → chars new ≡ chars old ++ piece
 chars_written old new piece u v e =

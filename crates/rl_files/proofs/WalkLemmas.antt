@@ -11,8 +11,8 @@ use Rattle.rl_files.specs.Trees.{World, string_texts}
 use Rattle.rl_files.specs.declared.walk.Selection.{Selection}
 use Rattle.rl_files.specs.declared.walk.WalkError.TheVariants.{TooManyDirectories}
 use Rattle.rl_files.specs.declared.tree.PathError.{PathError}
-use Rattle.rl_files.specs.declared.tree.PathError.TheVariants.{NotADirectory, OutOfMemory, NameNotUtf8}
-use Rattle.rl_files.specs.Walks.{Waypoint, AtDirectory, AtFile, AtBadName, Visited, FileAt, ErrorAt, Visits, VisitsNothing, VisitsFile, VisitsBadName, EntersDirectory, MissesDirectory, IsGivenFile, WalksOn, VisitsFirst, VisitsNone, EntersInOrder, EntersInTurn, EntersNone, EntersNext, EndsEarly, given_length, waypoints_in}
+use Rattle.rl_files.specs.declared.tree.PathError.TheVariants.{NotADirectory, OutOfMemory, NameNotUtf8, PathNotUtf8}
+use Rattle.rl_files.specs.Walks.{Waypoint, AtDirectory, AtFile, AtBadName, AtBadPath, Visited, FileAt, ErrorAt, Visits, VisitsNothing, VisitsFile, VisitsBadName, VisitsBadPath, EntersDirectory, MissesDirectory, IsGivenFile, WalksOn, VisitsFirst, VisitsNone, EntersInOrder, EntersInTurn, EntersNone, EntersNext, EndsEarly, given_length, waypoints_in}
 
 -- If strings are in order, the lists of their bytes are in order.
 pub texts_sorted : {A : Type 0} (xs : List (String A)) → IsSorted string_cmp xs
@@ -40,7 +40,7 @@ enters {A} selection from directory names sorted old new same inorder is = (
   is,
 )
 
--- The invariant of a walk before its first step.
+-- The invariant of a walk holds before its first step.
 pub go_start : (selection : Selection) (holds : Option World) (old : List Waypoint) → WalksOn selection holds old old
 go_start selection None old = tt
 go_start selection (Some w) old = λ visits m. m
@@ -63,6 +63,13 @@ pub go_bad_name : (selection : Selection) (holds : Option World) (old mid rest :
 go_bad_name selection None old mid rest path on is = tt
 go_bad_name selection (Some w) old mid rest path on is = λ visited m. on (ErrorAt path NameNotUtf8 ∷ visited)
     (subst (λ (z : List Waypoint). Visits selection w z (ErrorAt path NameNotUtf8 ∷ visited)) (sym is) (VisitsBadName m))
+
+-- The next entry is a path that isn't UTF-8, which the walk reports.
+pub go_bad_path : (selection : Selection) (holds : Option World) (old mid rest : List Waypoint) (path : List ℕ) → WalksOn selection holds old mid → mid
+    ≡ AtBadPath path ∷ rest → VisitsFirst selection holds old (ErrorAt path PathNotUtf8) rest
+go_bad_path selection None old mid rest path on is = tt
+go_bad_path selection (Some w) old mid rest path on is = λ visited m. on (ErrorAt path PathNotUtf8 ∷ visited)
+    (subst (λ (z : List Waypoint). Visits selection w z (ErrorAt path PathNotUtf8 ∷ visited)) (sym is) (VisitsBadPath m))
 
 -- The next entry is a directory that can't be read, which the walk reports.
 pub go_missing : (selection : Selection) (holds : Option World) (old mid rest : List Waypoint) (given : Option ℕ) (path : List ℕ) (why : PathError)
@@ -91,12 +98,14 @@ go_enter selection (Some w) old mid rest new given path names on is found (sorte
     (subst (λ (z : List Waypoint). Visits selection w z visited) (sym is) (EntersDirectory names sorted found order
     (subst (λ (z : List Waypoint). Visits selection w z visited) new_is m)))
 
--- For any entries, a walk with some results exists: an allocation failure for each directory.
+-- For any entries, some list is the results of a walk: for example that with an allocation failure for each directory.
 pub some_visits : (selection : Selection) (w : World) (waypoints : List Waypoint) → (visits : List Visited) × Visits selection w waypoints visits
 some_visits selection w [] = ([], VisitsNothing)
 some_visits selection w (AtFile path ∷ rest) = let more = some_visits selection w rest in (FileAt path ∷ more.0, VisitsFile more.1)
 some_visits selection w (AtBadName path ∷ rest) = let more = some_visits selection w rest in
     (ErrorAt path NameNotUtf8 ∷ more.0, VisitsBadName more.1)
+some_visits selection w (AtBadPath path ∷ rest) = let more = some_visits selection w rest in
+    (ErrorAt path PathNotUtf8 ∷ more.0, VisitsBadPath more.1)
 some_visits selection w (AtDirectory given path ∷ rest) = let more = some_visits selection w rest in
     (ErrorAt path OutOfMemory ∷ more.0, MissesDirectory OutOfMemory (inl refl) more.1)
 
@@ -117,7 +126,7 @@ entered_next selection (Some w) old mid rest new turns given path names entered 
     subst (λ (z : List Waypoint). EntersInTurn selection w old (turns + 1) z) (sym new_is) (EntersNext names sorted
     (subst (λ (z : List Waypoint). EntersInTurn selection w old turns z) is entered) found order)
 
--- The walk has entered the largest number of directories, and ends early.
+-- If the walk has entered the largest number of directories, it ends early.
 pub ended_early : (selection : Selection) (holds : Option World) (old new : List Waypoint) (turns : ℕ)
     → HasEntered selection holds old turns new → turns ≡ 4294967295 → EndsEarly selection holds old TooManyDirectories
 ended_early selection None old new turns entered all = tt

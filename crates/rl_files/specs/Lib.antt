@@ -5,4 +5,5 @@ pub mod Replacements
 pub mod SystemErrors
 pub mod Visible
 pub mod Globs
+pub mod PathTexts
 pub mod GlobStops

@@ -8,15 +8,16 @@ use Rattle.std.specs.Cmp.Lexicographic.{slice_cmp}
 use Rattle.std.specs.Ordering.{nat_cmp}
 use Rattle.std.specs.declared.result.Result.TheVariants.{Ok, Err}
 use Rattle.rl_files.specs.declared.tree.PathError.{PathError}
-use Rattle.rl_files.specs.declared.tree.PathError.TheVariants.{NotFound, PermissionDenied, IsADirectory, NotADirectory, PathTooLong, NameNotUtf8, NotUtf8, TooLong, OutOfMemory, NotAFile, Changed, NoRoom, ReadOnly, DirectoryDenied, OwnerChanges, ReadFailed, WriteFailed}
+use Rattle.rl_files.specs.declared.tree.PathError.TheVariants.{NotFound, PermissionDenied, IsADirectory, NotADirectory, PathTooLong, NameNotUtf8, PathNotUtf8, NotUtf8, TooLong, OutOfMemory, NotAFile, Changed, NoRoom, ReadOnly, DirectoryDenied, OwnerChanges, ReadFailed, WriteFailed}
 use Rattle.rl_files.specs.declared.walk.WalkError.{WalkError}
 use Rattle.rl_files.specs.declared.walk.WalkError.TheVariants as walk
 use Rattle.rl_files.specs.declared.walk.WalkEntry.{WalkEntry}
-use Rattle.rl_files.specs.declared.walk.WalkEntry.TheVariants.{Directory, File, BadName}
+use Rattle.rl_files.specs.declared.walk.WalkEntry.TheVariants.{Directory, File, BadName, BadPath}
 use Rattle.rl_files.specs.declared.walk.Selection.{Selection}
 use Rattle.rl_files.specs.declared.walk.Visit.{Visit}
 use Rattle.rl_files.specs.declared.walk.Visit.TheVariants as visit
 use Rattle.rl_files.specs.Globs.{is_excluded, borrowed_texts}
+use Rattle.rl_files.specs.PathTexts.{is_marked, unmarked}
 use Rattle.rl_files.specs.Trees.{World}
 
 -- The message of the reason why a path can't be read, or why its file can't be replaced.
@@ -27,6 +28,7 @@ path_error_message IsADirectory = codes "is a directory"
 path_error_message NotADirectory = codes "not a directory"
 path_error_message PathTooLong = codes "path too long"
 path_error_message NameNotUtf8 = codes "skipped a name that is not UTF-8"
+path_error_message PathNotUtf8 = codes "skipped a path that is not UTF-8"
 path_error_message (NotUtf8 at) = codes "not UTF-8 at byte " ++ decimal at
 path_error_message TooLong = codes "longer than 1 GiB"
 path_error_message OutOfMemory = codes "out of memory"
@@ -79,11 +81,12 @@ path_in directory name = cond (is_directory directory) directory (directory ++ c
 
 -- An entry that a walk still has to visit. `AtDirectory` is a directory with the length of its start that is the directory passed
 -- by the user. Without that length, the path itself was passed, and may also be a file. `AtFile` is a file. `AtBadName` is a
--- directory with a name that isn't UTF-8.
+-- directory with a name that isn't UTF-8. `AtBadPath` is a path that the user passed and that isn't UTF-8, with its bytes escaped.
 pub data Waypoint : Type 0 where
   AtDirectory : (from : Option ℕ) → (path : List ℕ) → Waypoint
   AtFile : (path : List ℕ) → Waypoint
   AtBadName : (directory : List ℕ) → Waypoint
+  AtBadPath : (path : List ℕ) → Waypoint
 
 -- A result of a walk: a file to read, or a path that can't be read.
 pub data Visited : Type 0 where
@@ -94,14 +97,19 @@ abbrev pub waypoint : {A : Type 0} → WalkEntry A → Waypoint
 waypoint (Directory from path) = AtDirectory from (string_bytes path)
 waypoint (File path) = AtFile (string_bytes path)
 waypoint (BadName directory) = AtBadName (string_bytes directory)
+waypoint (BadPath path) = AtBadPath (string_bytes path)
 
 abbrev pub visited : {A : Type 0} → Visit A → Visited
 visited (visit.File path) = FileAt (string_bytes path)
 visited (visit.Failed path why) = ErrorAt (string_bytes path) why
 
+-- The entry to visit for a path that the user passed.
+abbrev pub given_waypoint : List ℕ → Waypoint
+given_waypoint path = cond (is_marked path) (AtBadPath (unmarked path)) (AtDirectory None path)
+
 -- The entries to visit for the paths that the user passed.
 abbrev pub given_waypoints : List (List ℕ) → List Waypoint
-given_waypoints paths = map (λ path. AtDirectory None path) paths
+given_waypoints paths = map given_waypoint paths
 
 -- The length, with a slash, of the directory that the user passed. Without the first argument, that directory is `path`. Else
 -- `path` is below it, and the first argument is the length.
@@ -142,6 +150,8 @@ pub data Visits (selection : Selection) (w : World) : List Waypoint → List Vis
       → Visits selection w (AtFile path ∷ rest) (FileAt path ∷ visits)
   VisitsBadName : {directory : List ℕ} {rest : List Waypoint} {visits : List Visited} → Visits selection w rest visits
       → Visits selection w (AtBadName directory ∷ rest) (ErrorAt directory NameNotUtf8 ∷ visits)
+  VisitsBadPath : {path : List ℕ} {rest : List Waypoint} {visits : List Visited} → Visits selection w rest visits
+      → Visits selection w (AtBadPath path ∷ rest) (ErrorAt path PathNotUtf8 ∷ visits)
   EntersDirectory : {from : Option ℕ} {path : List ℕ} {rest : List Waypoint} {visits : List Visited}
       (names sorted : List (List ℕ))
       → w.names path ≡ Ok names → IsOrderOf names sorted
@@ -154,7 +164,7 @@ pub data Visits (selection : Selection) (w : World) : List Waypoint → List Vis
       → Visits selection w rest visits
       → Visits selection w (AtDirectory None path ∷ rest) (FileAt path ∷ visits)
 
--- Each result of a walk with the entries `new` is one with the entries `old`.
+-- The results of a walk with the entries `new` are also the results of a walk with the entries `old`.
 abbrev pub WalksOn : Selection → Option World → List Waypoint → List Waypoint → Type 0
 WalksOn selection holds old new = IfSome holds (λ w. (visits : List Visited) → Visits selection w new visits → Visits selection w old visits)
 

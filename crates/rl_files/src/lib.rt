@@ -4,6 +4,7 @@
 mod glob;
 mod host;
 mod memory;
+mod path_texts;
 mod replace;
 mod tree;
 mod visible;
@@ -15,6 +16,7 @@ pub use crate::host::{Host, LONGEST};
 pub use crate::memory::{
     MemoryDirectory, MemoryFile, MemoryReplacement, MemoryReplacements, MemoryTree, Unwritable,
 };
+pub use crate::path_texts::{escaped_path, path_text};
 pub use crate::replace::Replace;
 pub use crate::tree::{PathError, Tree};
 pub use crate::visible::{make_visible, push_visible};

@@ -16,8 +16,10 @@ pub enum PathError {
     NotADirectory,
     /// The path is longer than the system allows.
     PathTooLong,
-    /// A name in the path isn't UTF-8.
+    /// A name in the directory isn't UTF-8.
     NameNotUtf8,
+    /// The path isn't UTF-8.
+    PathNotUtf8,
     /// The file isn't UTF-8. The field is the offset of the first invalid byte.
     NotUtf8(usize),
     /// The file has more than `LONGEST` bytes, which is 1 GiB.
@@ -56,6 +58,7 @@ impl fmt::Display for PathError {
             PathError::NotADirectory => write!(f, "not a directory"),
             PathError::PathTooLong => write!(f, "path too long"),
             PathError::NameNotUtf8 => write!(f, "skipped a name that is not UTF-8"),
+            PathError::PathNotUtf8 => write!(f, "skipped a path that is not UTF-8"),
             PathError::NotUtf8(at) => write!(f, "not UTF-8 at byte {at}"),
             PathError::TooLong => write!(f, "longer than 1 GiB"),
             PathError::OutOfMemory => write!(f, "out of memory"),

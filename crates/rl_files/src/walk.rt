@@ -2,11 +2,11 @@
 
 ghost use Rattle.std.specs.Prelude.{◌≡◌, ◌≢◌, None, [], ◌∷◌, ◌++◌, drop, OnOk, IfOk, MatchBool, MatchOption, MatchResult, string_bytes};
 ghost use Rattle.rl_files.specs.Globs.{is_excluded as excluded, borrowed_texts};
-ghost use Rattle.rl_files.specs.declared.walk.WalkEntry.TheVariants.{Directory};
 ghost use Rattle.rl_files.specs.Trees.{string_texts};
-ghost use Rattle.rl_files.specs.Walks.{has_extension as has_ending, are_of_package as of_package, is_left_out as left_out, is_wanted as wanted, has_one_of as has_ending_of, is_directory as directory, given_length as base, path_in as path_of, waypoint, waypoint_of, visited, waypoints_of, waypoints_in, given_waypoints, EndsEarly, EntersInOrder, WalksOn, VisitsFirst, VisitsNone};
+ghost use Rattle.rl_files.specs.Walks.{has_extension as has_ending, are_of_package as of_package, is_left_out as left_out, is_wanted as wanted, has_one_of as has_ending_of, is_directory as directory, given_length as base, path_in as path_of, waypoint, waypoint_of, visited, waypoints_of, waypoints_in, given_waypoint, given_waypoints, EndsEarly, EntersInOrder, WalksOn, VisitsFirst, VisitsNone};
 
 use crate::glob::is_excluded;
+use crate::path_texts::escaped_path;
 use crate::tree::{PathError, Tree};
 use std::alloc::{AllocError, Allocator, Global};
 use std::fmt;
@@ -36,6 +36,8 @@ pub enum WalkEntry<A: Allocator = Global> {
     File(String<A>),
     /// A directory with a name that isn't UTF-8. The path is that of the directory.
     BadName(String<A>),
+    /// A path that the user passed and that isn't UTF-8. Its bytes are escaped.
+    BadPath(String<A>),
 }
 
 /// The next result of a walk.
@@ -215,6 +217,16 @@ fn pending_of<A: Allocator>(
     Ok(WalkEntry::File(path))
 }
 
+/// Returns the entry to visit for a path that the user passed.
+fn entry_given<A: Allocator>(alloc: A, path: String<A>) -> Result<WalkEntry<A>, AllocError>
+    ensures { IfOk result (λ entry. waypoint entry ≡ given_waypoint (string_bytes path)) }
+{
+    if let Some(shown) = escaped_path(path.as_str()) {
+        return Ok(WalkEntry::BadPath(String::from_str(alloc, shown)?));
+    }
+    Ok(WalkEntry::Directory(None, path))
+}
+
 impl<A: Allocator> Walk<A> {
     /// Returns a walk without any entries.
     fn new(alloc: A) -> Walk<A>
@@ -234,13 +246,15 @@ impl<A: Allocator> Walk<A> {
     }
 
     /// Adds a path that the user passed. It is visited next, before the other entries.
-    fn push_given(&mut self, path: String<A>) -> Result<(), AllocError>
-        ensures { OnOk result (self.new ≡ waypoint (Directory None path) ∷ self.old) }
+    fn push_given(&mut self, alloc: A, path: String<A>) -> Result<(), AllocError>
+        ensures { OnOk result (self.new ≡ given_waypoint (string_bytes path) ∷ self.old) }
     {
-        self.push(WalkEntry::Directory(None, path))
+        let entry = entry_given(alloc, path)?;
+        self.push(entry)
     }
 
-    /// Returns a walk that visits the paths in their order.
+    /// Returns a walk that visits the paths in their order. A path that isn't UTF-8, as `path_text` represents it, is visited to be
+    /// reported.
     ///
     /// # Errors
     ///
@@ -252,7 +266,7 @@ impl<A: Allocator> Walk<A> {
     {
         let mut walk = Walk::new(alloc);
         while let Some(path) = paths.pop() {
-            walk.push_given(path)?;
+            walk.push_given(alloc, path)?;
         }
         Ok(walk)
     }
@@ -360,6 +374,9 @@ impl<A: Allocator> Walk<A> {
                 WalkEntry::File(path) => return Ok(Some(Visit::File(path))),
                 WalkEntry::BadName(directory) => {
                     return Ok(Some(Visit::Failed(directory, PathError::NameNotUtf8)));
+                }
+                WalkEntry::BadPath(path) => {
+                    return Ok(Some(Visit::Failed(path, PathError::PathNotUtf8)));
                 }
                 WalkEntry::Directory(from, path) => match tree.names(alloc, path.as_str()) {
                     Ok(mut names) => {

@@ -9,13 +9,13 @@ ghost use Rattle.rl_flaws.specs.Closings.{IsClosedBy, ReachesQuote};
 
 use rl_strict::LineEnds;
 use rl_strict::walk_units::split;
-use rl_syntax::text::{begins_with, strip_byte};
+use rl_syntax::text::{begins_with_char, strip_byte};
 
 /// Whether the search for a closing quote ends at `c`: at a slash, or at an LF that a quote doesn't follow directly.
 fn ends_search(c: char, following: &str) -> bool
     ensures { result ≡ (c == code "/" || (c == code "\n" && not (begins_char (code "'") (chars following.now)))) }
 {
-    c == '/' || (c == '\n' && !begins_with(following, '\''))
+    c == '/' || (c == '\n' && !begins_with_char(following, '\''))
 }
 
 /// Returns the text after the character `c`, or `None` if the search for a closing quote ends there. A backslash skips the
@@ -70,7 +70,7 @@ pub fn closing_quote(ends: LineEnds, text: &str) -> Option<&str>
     let Some(second) = strip_byte(text, b'\'') else {
         return next_quote(ends, text);
     };
-    if begins_with(second, '\'') {
+    if begins_with_char(second, '\'') {
         Some(second)
     } else {
         next_quote(ends, text)

@@ -19,7 +19,7 @@ use rl_lenient::quoted_forms::QuotedForm;
 use rl_strict::read_quoted::suffix_flaw;
 use rl_strict::{FlawKind, LineEnds, read};
 use rl_syntax::Kind;
-use rl_syntax::text::{before, without_first};
+use rl_syntax::text::{before, without_first_char};
 use std::marker::Model;
 
 /// The part of a text that is still to be checked for flaws.
@@ -147,7 +147,7 @@ fn judge_closed<'t>(ends: LineEnds, len: usize, kind: Kind, closing: &'t str) ->
     ensures left { result.left ≡ Nothing }
     ensures good { result.good.now ≡ [] }
 {
-    let suffix = without_first(closing);
+    let suffix = without_first_char(closing);
     match suffix_flaw(QuotedForm::Single, closing, suffix) {
         None => NextFlaw {
             good: "",

@@ -10,4 +10,4 @@ pub mod span_table;
 pub use crate::contents::{bytes_of, bytes_of_body, str_of, str_of_body};
 pub use crate::digits::{digits_of, digits_of_found};
 pub use crate::front::{Front, Negative, begins_with_kind, take_literal_of_kind};
-pub use crate::span_table::byte_spans_of;
+pub use crate::span_table::value_byte_spans;

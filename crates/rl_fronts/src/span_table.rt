@@ -47,7 +47,7 @@ fn push_spans<A: Allocator>(
 /// # Errors
 ///
 /// Returns an error if an allocation fails.
-pub fn byte_spans_of<A: Allocator>(
+pub fn value_byte_spans<A: Allocator>(
     alloc: A,
     mut segments: Segments<'_>,
     base: Span,

@@ -2,9 +2,9 @@
 //! theorem about all texts.
 
 pub use rl_lenient::laws::{
-    a_found_literal_reads, a_minus_before_bytes_is_one_character, a_taken_literal_is_read,
-    bytes_are_strict, offsets_are_in_the_body, places_keep_the_order, segments_make_the_literal,
-    units_are_one_segment,
+    a_found_literal_reads, a_segment_has_one_value, a_taken_literal_is_read, bytes_are_strict,
+    decoding_keeps_a_leading_minus, offsets_are_in_the_body, places_keep_the_order,
+    segments_make_the_literal,
 };
 pub use rl_strict::laws::{
     a_bad_quote_has_no_reading, a_text_has_one_flaw, a_text_has_one_signed_flaw,

@@ -23,8 +23,8 @@ pub mod laws;
 pub mod strict;
 
 pub use rl_fronts::{
-    Front, Negative, begins_with_kind, byte_spans_of, bytes_of, bytes_of_body, digits_of,
-    digits_of_found, str_of, str_of_body, take_literal_of_kind,
+    Front, Negative, begins_with_kind, bytes_of, bytes_of_body, digits_of, digits_of_found, str_of,
+    str_of_body, take_literal_of_kind, value_byte_spans,
 };
 pub use rl_lenient::{
     Body, FloatParts, Found, IntegerParts, ListStep, NextLiteral, Parts, Rejection, RejectionKind,

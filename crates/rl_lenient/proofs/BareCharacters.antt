@@ -12,7 +12,7 @@ use Rattle.rl_lenient.specs.Founds.{IsFound, IsQuotedAt}
 use Rattle.rl_lenient.proofs.FoundLemmas.{OfUnit, quoted_found}
 use Rattle.rl_lenient.proofs.SingleBodies.{byte_unit}
 
--- The text after an ASCII character is UTF-8.
+-- The text after the first character of a UTF-8 text, if that is ASCII, is UTF-8.
 after : (c : ℕ) (x : List ℕ) → c < 128 → IsUtf8 (c ∷ x) → IsUtf8 x
 after c x small u = IsUtf8-drop (c ∷ x) 1 u (IsCharBoundary-after_ascii (c ∷ x) 0 u (omega arith) small)
 
@@ -60,7 +60,8 @@ bare_found c x small other u =
     } in
     quoted_found t Char BareBody c _ u at (byte_unit Char c refl (omega (arith, small))) refl
 
--- The parse result of an ASCII character between single quotes, from the text's bytes.
+-- If the bytes of a text begin with an ASCII character between single quotes, other than a backslash, the text is a character
+-- literal with that character as its value.
 pub bare_text : (t b : List ℕ) (found : Found) → b ≡ t → IsUtf8 t → 3 ≤ length t → get_or t 0 0 ≡ 39 → get_or b 2 0 ≡ 39
     → (get_or b 1 0 ≡ 92 → ⊥) → get_or b 1 0 < 128 → found ≡ OfUnit Char BareBody (get_or b 1 0) → IsFound t found
 bare_text t b found same u long first last other small found_is =

@@ -144,7 +144,8 @@ held_in ByteStr t s p = record { contents = Bytes p.body; reads = p.reads; held_
 held_in CStr t s p = record { contents = Bytes p.body; reads = p.reads; held_are = λ ub. sym (bytes_are p.body p.reads.value p.reads.contents_is) }
 held_in kind t s p = absurd (cc)
 
--- The parts of a string literal, as those of any literal.
+-- For the three kinds of strings, the split of a literal into its parts (`IsSplit`) is that of a quoted literal
+-- (`IsQuotedSplit`).
 string_cut : (kind : Kind) (t b x : List ℕ) → is_string kind ≡ true → IsSplit kind t b x → IsQuotedSplit kind t b x
 string_cut Str t b x s c = c
 string_cut ByteStr t b x s c = c
@@ -211,7 +212,7 @@ not_false : (z : Bool) → (z ≡ false → ⊥) → z ≡ true
 not_false true n = refl
 not_false false n = absurd (n refl)
 
--- If the text is plain, the body of its parts is plain.
+-- If a string literal's body is its value (`IsPlain`), the body of the given parts is plain.
 pub parts_plain : (form : QuotedForm) (kind k : Kind) (t w b x : List ℕ) → is_string k ≡ true → IsUtf8 t → IsUtf8 b
     → IsUtf8 x → PartsAre form kind (chars t) w (chars b) (chars x) → IsPlain k t → (kind ≡ k)
     × (is_plain_body form kind (chars b) ≡ true)

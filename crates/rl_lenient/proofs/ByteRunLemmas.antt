@@ -11,7 +11,7 @@ use Rattle.std.proofs.Math.Bool.{and-true}
 
 -- ---- sequences of bytes that pass a test, as characters
 
--- A sequence of bytes, for a test that passes all non-ASCII bytes.
+-- If a test passes all non-ASCII bytes, the leading bytes that pass it are the leading characters that pass it.
 high_cut : (q : ℕ → Bool) → PassesHigh q → (bs : List ℕ) → IsUtf8 bs → RunCut q bs
 high_cut q high bs u = record { boundary = run_boundary q high bs; cut = run_cut q high bs u; plain = run_plain q high bs u; stops = run_stop q high bs u; behind = run_tail q high bs u }
 
@@ -26,7 +26,7 @@ other_cut m bs u = low_cut (is_ascii_other m) (other_low m) bs u
 plain_low : PassesLow (is_plain ByteStr)
 plain_low c h = ltb-true c 128 (and_parts (nat_lt c 128) (is_plain Str c) h).0
 
--- The sequence of characters that a string of the kind may contain unescaped.
+-- The leading bytes that a string of the kind may contain unescaped are the leading characters that it may contain unescaped.
 pub plain_cut : (kind : Kind) (bs : List ℕ) → is_string kind ≡ true → IsUtf8 bs → RunCut (is_plain kind) bs
 plain_cut Str bs h u = high_cut (is_plain Str) (plain_high Str refl (λ e. absurd (cc))) bs u
 plain_cut ByteStr bs h u = low_cut (is_plain ByteStr) plain_low bs u

@@ -1,9 +1,9 @@
 -- The digits of an escape `\u{..}`, parsed one at a time.
 use Rattle.rl_syntax.proofs.Common.{◌≡◌, ℕ, ◌+◌, ◌*◌, ◌≤◌, ◌<◌, ◌&&◌, Bool, true, false, cond, eqb, ltb, List, [], ◌∷◌, Option, Some, None, refl, sym, ap, subst, inl, inr, arith, option_and_then, digit_value, scalar, both_ways, cases_Bool, eq-eqb, eqb-true, lt-ltb, ltb-true, ltb-false, ne_eqb}
-use Rattle.rl_lenient.proofs.Names.{Kind, allows_code, has_unicode, is_hex_digit}
+use Rattle.rl_lenient.proofs.Names.{Kind, allows_code, allows_unicode_escapes, is_hex_digit}
 use Rattle.rl_lenient.specs.Mirrors.UnitAt.{◌>>=◌, brace_at, closed_at, code_digits_at, digit_at, first_code_digits_at, number_if, unicode_at}
 
--- ---- the parse result
+-- ---- the parse result of an escape `\u{..}`
 
 -- The number of an escape `\u{..}` and the text after its closing brace, after n digits that represent the number v.
 unfoldable pub unicode_digits_at : ℕ → ℕ → List ℕ → Option (ℕ × List ℕ)
@@ -54,14 +54,14 @@ unicode_by kind t = do
   inside ← brace_at t
   first ← digit_at inside
   whole ← unicode_digits_at first.0 1 first.1
-  number_if (has_unicode kind && allows_code kind whole.0) whole.0 whole.1
+  number_if (allows_unicode_escapes kind && allows_code kind whole.0) whole.0 whole.1
 
 pub unicode_is : (kind : Kind) (t : List ℕ) → unicode_at kind t ≡ unicode_by kind t
 unfolding unicode_at
 unicode_is kind t = go (brace_at t)
   where
     coded : ℕ × List ℕ → Option (ℕ × List ℕ)
-    coded p = number_if (has_unicode kind && allows_code kind p.0) p.0 p.1
+    coded p = number_if (allows_unicode_escapes kind && allows_code kind p.0) p.0 p.1
 
     digits : (inside : List ℕ) (o : Option (ℕ × List ℕ)) → option_and_then (λ d. option_and_then coded (closed_at d))
         (option_and_then (λ p. Some (code_digits_at p.0 1 inside p.1)) o)

@@ -1,6 +1,6 @@
 -- The decoders write the value of every parse result.
 use Rattle.rl_syntax.proofs.Common.{◌≡◌, ℕ, ◌<◌, ◌||◌, Bool, true, false, not, cond, ltb, List, [], ◌∷◌, ◌++◌, length, Some, refl, sym, ap, subst, ◌∙◌, arith, append-nil, encode_utf8, encode_utf8_all, AllByRecursion, list_all, IsUtf8, scalar, and_from, and_parts, lt-ltb, ltb-true, encodes-append, encodes-chars, length-encode}
-use Rattle.rl_lenient.proofs.Names.{Kind, Str, Char, QuotedUnit, Letter, Plain, CrLf, Named, Hex, Unicode, Continuation, LowerN, LowerR, LowerT, Backslash, Apostrophe, Quote, Zero, letter_value, unit_text, unit_value, hex_value, unicode_value, content_of, holds_characters, is_string, is_single, is_plain, has_unicode, IsUnit, texts, values, Characters}
+use Rattle.rl_lenient.proofs.Names.{Kind, Str, Char, QuotedUnit, Letter, Plain, CrLf, Named, Hex, Unicode, Continuation, LowerN, LowerR, LowerT, Backslash, Apostrophe, Quote, Zero, letter_value, unit_text, unit_value, hex_value, unicode_value, content_of, holds_characters, is_string, is_single, is_plain, allows_unicode_escapes, IsUnit, texts, values, Characters}
 use Rattle.std.specs.Char.{len_utf8}
 use Rattle.std.specs.Str.{chars}
 use Rattle.std.proofs.Math.Utf8.{scalars}
@@ -204,7 +204,7 @@ one_plain Char c s h = (c, refl)
 one_plain ByteKind c s h = (c, ascii_byte c (ltb-true c 128 (and_parts (ltb c 128) _ h).0))
 one_plain kind c s h = absurd (cc)
 
-one_unicode : (kind : Kind) (c : ℕ) → is_single kind ≡ true → has_unicode kind ≡ true → (n : ℕ)
+one_unicode : (kind : Kind) (c : ℕ) → is_single kind ≡ true → allows_unicode_escapes kind ≡ true → (n : ℕ)
     × (content_of kind (c ∷ []) ≡ n ∷ [])
 one_unicode Char c s h = (c, refl)
 one_unicode kind c s h = absurd (cc)

@@ -16,7 +16,7 @@ use Rattle.rl_syntax.proofs.OneNumber.{int_once, float_once}
 pub float_digits-append : (xs ys : List ℕ) → float_digits (xs ++ ys) ≡ float_digits xs ++ float_digits ys
 float_digits-append xs ys = simp (filter-append, map-append)
 
--- The digits of a float's text with one more character.
+-- If the digits of one more character are appended to the digits of a float's text, they are the digits of the longer text.
 pub plain_more : (a b xs : List ℕ) (c : ℕ) → a ≡ encode_utf8_all (float_digits xs) → b ≡ a
     ++ encode_utf8_all (float_digits (c ∷ [])) → b ≡ encode_utf8_all (float_digits (xs ++ (c ∷ [])))
 plain_more a b xs c e h =

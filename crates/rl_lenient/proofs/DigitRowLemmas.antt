@@ -28,11 +28,11 @@ append_capped r v d h = elim (within_or_past v limit) [
   | inr k ↦ ap (λ o. append_digit r o d) (capped_past v k) ∙ sym (capped_past (v * r + d) (mul_grows v r d k h))
 ]
 
--- The number of digits with one more digit before them, multiplied out.
+-- The number that digits represent with one more digit before them, multiplied out.
 place_with : (v r d q p : ℕ) → (v * r + d) * q + p ≡ v * (q * r) + (d * q + p)
 place_with v r d q p = omega arith
 
--- The number of digits with one more digit before them, by a power of the base.
+-- The number that digits represent with one more digit before them, by a power of the base.
 place_step : (v r d n p : ℕ) → (v * r + d) * r ^ n + p ≡ v * r ^ suc n + (d * r ^ n + p)
 place_step v r d n p = place_with v r d (r ^ n) p ∙ ap (λ q. v * q + (d * r ^ n + p)) (sym (pow-suc r n))
 
@@ -75,7 +75,7 @@ at_mark r some v ds x h =
       x,
     )) e
 
--- The parse result of a sequence of digits with one more digit.
+-- Parsing one digit, and then the other digits with the number so far, gives the parse result of the whole sequence.
 at_digit : (r : ℕ) (some : Bool) (v c : ℕ) (ds x : List ℕ) → (c == 95) ≡ false → nat_lt (digit_value c) r ≡ true
     → At r true (v * r + digit_value c) ds x ≡ At r some v (c ∷ ds) x
 at_digit r some v c ds x n d =
@@ -104,7 +104,8 @@ pub run_no : (test : ℕ → Bool) (c : ℕ) (cs : List ℕ) → test c ≡ fals
 unfolding run
 run_no test c cs h = (ap (λ b. cond b (c ∷ run test cs) []) h, ap (λ b. cond b (after_run test cs) (c ∷ cs)) h)
 
--- The parse result of a sequence of digits, with the sequence and the text after it by their definitions.
+-- A parse result `At` doesn't change if the sequence and the text after it are replaced by equal texts: those that `digit_run_at`
+-- and `after_digits` return.
 at_parts : (r : ℕ) (some : Bool) (v : ℕ) (t ds x : List ℕ) → digit_run_at r t ≡ ds → after_digits r t ≡ x
     → At r some v ds x ≡ At r some v (digit_run_at r t) (after_digits r t)
 at_parts r some v t ds x d a = ap (λ u. At r some v u x) (sym d) ∙ ap (λ y. At r some v (digit_run_at r t) y) (sym a)
@@ -152,17 +153,18 @@ row_is r some v (c ∷ cs) h k = go (λ s w. row_is r s w cs h k) (c == 95) (nat
         let y = run_no (is_run_part (has_value r)) c cs (part_none r c hu hg) in
         at_end r some v (c ∷ cs) ∙ at_parts r some v (c ∷ cs) [] (c ∷ cs) y.0 y.1
 
--- Zero before digits adds nothing to their number.
+-- A zero before digits adds nothing to the number that they represent.
 zero_times : (q p : ℕ) → 0 * q + p ≡ p
 zero_times q p = omega arith
 
--- The parse result of the digits and underscores at the start of a text.
+-- The parse result of the digits and underscores at the start of a text: whether there is a digit, the magnitude within 128 bits,
+-- and the text after them.
 pub row_start : (r : ℕ) (t : List ℕ) → 1 ≤ r → r ≤ 36 → run_from r false (Some 0) t
     ≡ (has_digit_at r t, capped (magnitude_at r t), after_digits r t)
 row_start r t h k = row_is r false 0 t h k ∙ ap (λ n. (has_digit_at r t, capped n, after_digits r t))
     (zero_times (r ^ length (without_underscores (digit_run_at r t))) (magnitude_at r t))
 
--- The length of a sequence doesn't depend on the number before it.
+-- The length of a sequence of digits doesn't depend on the number that the digits before it represent.
 row_without : (r : ℕ) (some : Bool) (m : Option ℕ) (t : List ℕ) → run_from r some None t
     ≡ ((run_from r some m t).0, None, (run_from r some m t).2)
 unfolding run_from
@@ -188,12 +190,13 @@ row_without r some m (c ∷ cs) = go (c == 95) (nat_lt (digit_value c) r) (row_w
     go false true marked digit = digit
     go false false marked digit = refl
 
--- The parse result of the digits and underscores at the start of a text, without their number.
+-- If no magnitude is computed, the parse result of the digits and underscores at the start of a text is whether there is a digit,
+-- and the text after them.
 pub row_skipped : (r : ℕ) (t : List ℕ) → 1 ≤ r → r ≤ 36 → run_from r false None t
     ≡ (has_digit_at r t, None, after_digits r t)
 row_skipped r t h k = row_without r false (Some 0) t ∙ ap (λ p. (p.0, None, p.2)) (row_start r t h k)
 
--- One iteration of the loop, at a digit.
+-- One iteration of the loop at a digit doesn't change the parse result.
 pub row_digit : (r : ℕ) (some : Bool) (m n : Option ℕ) (t : List ℕ) (c : ℕ) (cs : List ℕ) (d : ℕ) → t ≡ c ∷ cs → c ≢ 95
     → digit_value c < r → d ≡ digit_value c → n ≡ append_digit r m d → run_from r true n cs ≡ run_from r some m t
 unfolding run_from

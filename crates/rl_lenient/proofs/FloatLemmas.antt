@@ -47,12 +47,12 @@ no_dot NoExponent (c ∷ cs) h k =
     not-true (c == 46) (and_parts (not (c == 46)) (list_all (λ c. not (c == 46)) cs) w).0
 no_dot (Power letter us sg row) x h k = letter_no_dot letter k.0
 
--- If the text doesn't begin with a dot, no fraction is consumed.
+-- If the text doesn't begin with a dot, `after_fraction` returns the text itself.
 no_fraction : (z : List ℕ) → first_passes (λ c. c == 46) z ≡ false → after_fraction z ≡ z
 no_fraction [] h = refl
 no_fraction (c ∷ cs) h = ap (λ b. cond b (after_digits 10 cs) (c ∷ cs)) h
 
--- A fraction is consumed completely.
+-- `after_fraction` returns the text after a whole fraction.
 fraction_past : (f : Fraction) (z : List ℕ) → IsFraction f → first_passes (is_run_part (has_value 10)) z ≡ false
     → first_passes (λ c. c == 46) z ≡ false → after_fraction (fraction_text f ++ z) ≡ z
 fraction_past NoFraction z k h d = no_fraction z d
@@ -108,7 +108,7 @@ record Powered (t x : List ℕ) : Type 0 where
   each : list_all (is_run_part (has_value 10)) more ≡ true
   some : list_any (has_value 10) more ≡ true
 
--- After underscores, a sign is consumed.
+-- `power_at` skips underscores and the sign after them.
 pub signed_past : (c : ℕ) (us w : List ℕ) → (c == 43 || c == 45) ≡ true → list_all is_underscore us ≡ true
     → power_at (us ++ (c ∷ w)) ≡ w
 unfolding power_at
@@ -117,7 +117,7 @@ signed_past c us w h k =
     ap after_power_sign (run_off is_underscore us (c ∷ w) k ∙ (run_no is_underscore c w n).1)
     ∙ ap (λ b. cond b w (c ∷ w)) h
 
--- The underscores and the sign before an exponent's digits are consumed.
+-- `power_at` skips the underscores and the sign before an exponent's digits.
 powered : (us sg row x : List ℕ) → list_all is_underscore us ≡ true → is_power_sign sg ≡ true
     → list_all (is_run_part (has_value 10)) row ≡ true → list_any (has_value 10) row ≡ true
     → Powered (us ++ (sg ++ (row ++ x))) x
@@ -134,7 +134,7 @@ powered us [] row x a b each some =
 powered us (c ∷ []) row x a b each some = record { more = row; is = signed_past c us (row ++ x) b a; each = each; some = some }
 powered us (c ∷ d ∷ sg) row x a b each some = absurd (cc)
 
--- An exponent with a digit is consumed completely.
+-- `after_exponent` returns the text after a whole exponent, if the exponent has a digit.
 power_past : (letter : ℕ) (cs x : List ℕ) → is_exponent_letter letter ≡ true
     → first_passes (is_run_part (has_value 10)) x ≡ false → Powered cs x → after_exponent (letter ∷ cs) ≡ x
 unfolding after_exponent
@@ -179,7 +179,7 @@ first_digit (c ∷ cs) h k = go (has_value 10 c) refl
         let m = sym (ap (list_any (has_value 10)) (run_no (is_run_part (has_value 10)) c cs n).0) ∙ k in
         absurd (cc)
 
--- A suffix that is parsed as an exponent begins like an exponent.
+-- If the code's test for an exponent is true for a suffix, the suffix begins like an exponent.
 suffix_begins : (c : ℕ) (cs : List ℕ) → is_suffix (c ∷ cs) ≡ true → is_exponent_letter c ≡ true
     → has_digit_at 10 (power_at cs) ≡ true → BeginsExponent (c ∷ cs)
 unfolding power_at
@@ -199,7 +199,7 @@ suffix_begins c cs h l k =
       text_is = ap (λ z. c ∷ z) (run_join is_underscore cs ∙ ap (λ z. run is_underscore cs ++ z) f.3);
     }
 
--- If no exponent begins a suffix, none is consumed.
+-- If a suffix doesn't begin with an exponent, `after_exponent` returns the suffix itself.
 no_exponent : (x : List ℕ) → is_suffix x ≡ true → (BeginsExponent x → ⊥) → after_exponent x ≡ x
 unfolding after_exponent
 no_exponent [] h k = refl
@@ -208,13 +208,13 @@ no_exponent (c ∷ cs) h k =
     (false_from_ne_true (is_exponent_letter c && has_digit_at 10 (power_at cs))
     (λ e. let b = and_parts (is_exponent_letter c) _ e in k (suffix_begins c cs h b.0 b.1)))
 
--- The text of an exponent and the text after it, as its parts.
+-- The text of an exponent, with a text after it, is the exponent's parts and that text, joined from the right.
 power_text : (letter : ℕ) (us sg row x : List ℕ) → exponent_text (Power letter us sg row) ++ x
     ≡ letter ∷ (us ++ (sg ++ (row ++ x)))
 power_text letter us sg row x = ap (λ z. letter ∷ z) (append_assoc us (sg ++ row) x
     ∙ ap (λ z. us ++ z) (append_assoc sg row x))
 
--- An exponent is consumed completely, and a suffix isn't consumed.
+-- `after_exponent` returns the suffix after a float's exponent, or the suffix itself if the float has no exponent.
 exponent_past : (e : Exponent) (x : List ℕ) → is_suffix x ≡ true → IsExponent e x
     → after_exponent (exponent_text e ++ x) ≡ x
 exponent_past NoExponent x h k = no_exponent x h k
@@ -223,7 +223,7 @@ exponent_past (Power letter us sg row) x h (l, a, b, each, some) =
     ∙ power_past letter (us ++ (sg ++ (row ++ x))) x l (suffix_no_part x (suffix_sound x h))
     (powered us sg row x a b each (sym (any_same is_ascii_digit (has_value 10) digit_is_ten row) ∙ some))
 
--- The parts of a float, joined from the right.
+-- The parts of a float, joined in the order of the definition, are the same text as those joined from the right.
 float_text : (s w f e x : List ℕ) → (s ++ (w ++ (f ++ e))) ++ x ≡ s ++ (w ++ (f ++ (e ++ x)))
 float_text s w f e x = simp append_assoc
 
@@ -250,13 +250,13 @@ float_past t n x h =
     ∙ ap (λ k. cond (first_passes is_ascii_digit u && is_suffix k) (Some k) None) rest
     ∙ ap (λ b. cond b (Some x) None) (and_from (first_passes is_ascii_digit u) (is_suffix x) first ok)
 
--- The fraction that is consumed from a text.
+-- The fraction that `after_fraction` skips at the start of a text.
 record Fractioned (y : List ℕ) : Type 0 where
   fraction : Fraction
   is : IsFraction fraction
   text_is : y ≡ fraction_text fraction ++ after_fraction y
 
--- The text that is consumed as a fraction is one.
+-- The text that `after_fraction` skips is a fraction, perhaps an empty one.
 fraction_sound : (y : List ℕ) → Fractioned y
 fraction_sound [] = record { fraction = NoFraction; is = tt; text_is = refl }
 fraction_sound (c ∷ cs) = go (c == 46) refl
@@ -275,7 +275,7 @@ abbrev power_sign : List ℕ → List ℕ
 power_sign [] = []
 power_sign (c ∷ cs) = cond (c == 43 || c == 45) (c ∷ []) []
 
--- A sign, and the text after it.
+-- A text is its sign, perhaps an empty one, and the text after the sign.
 sign_splits : (v : List ℕ) → (v ≡ power_sign v ++ after_power_sign v) × (is_power_sign (power_sign v) ≡ true)
 sign_splits [] = (refl, refl)
 sign_splits (c ∷ cs) = go (c == 43 || c == 45) refl
@@ -285,7 +285,7 @@ sign_splits (c ∷ cs) = go (c == 43 || c == 45) refl
     go true e = (refl, e)
     go false e = (refl, refl)
 
--- A text that begins like an exponent is consumed as one.
+-- If a text begins like an exponent, the code's test for an exponent is true.
 begins_true : (c : ℕ) (cs : List ℕ) → BeginsExponent (c ∷ cs) → (is_exponent_letter c && has_digit_at 10 (power_at cs))
     ≡ true
 unfolding power_at
@@ -303,13 +303,13 @@ begins_true c cs b =
     (ap (has_digit_at 10) p ∙ ap (list_any (has_value 10)) y.0
     ∙ ap (λ z. z || list_any (has_value 10) (run (is_run_part (has_value 10)) b.rest)) d)
 
--- The exponent that is consumed from a text, or none.
+-- The exponent that `after_exponent` skips at the start of a text, or none.
 record Powers (z : List ℕ) : Type 0 where
   exponent : Exponent
   is : IsExponent exponent (after_exponent z)
   text_is : z ≡ exponent_text exponent ++ after_exponent z
 
--- The text that is consumed as an exponent is one.
+-- The text that `after_exponent` skips is an exponent, perhaps none.
 exponent_sound : (z : List ℕ) → Powers z
 unfolding after_exponent power_at
 exponent_sound [] = record { exponent = NoExponent; is = λ b. let e = b.text_is in absurd (cc); text_is = refl }

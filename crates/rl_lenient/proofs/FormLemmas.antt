@@ -12,7 +12,7 @@ use Rattle.rl_lenient.proofs.UnitLemmas.{some_pair, unit_sound, unit_complete, u
 use Rattle.rl_lenient.proofs.RowLemmas.{ends_before, row_after, row_ends_on, row_ends_off, row_once}
 use Rattle.rl_lenient.proofs.RawLemmas.{raw_once}
 
--- ---- the start
+-- ---- the start of a quoted literal
 
 -- The text begins like a literal of this form and kind, which can occur together.
 pub record Reports (t : List ℕ) (p : QuotedForm × Kind × List ℕ) : Type 0 where
@@ -106,14 +106,15 @@ cooked_once kind a v x w y c d =
     (unit_quote kind x c.string) (unit_quote kind y c.string) in
     (same.0, let e = same.1 in cc)
 
--- The characters and escapes of a text that begins with plain characters.
+-- If characters and escapes follow plain characters, all of them are a sequence of characters and escapes.
 pub cooked_units : (kind : Kind) (a run following v rest : List ℕ) → a ≡ run ++ following → list_all (is_plain kind) run
     ≡ true → BeginsRun kind following v rest → (w : List ℕ) × BeginsRun kind a w rest
 cooked_units kind a run following v rest cut plain row =
     let (w, whole) = row_after kind run following v rest plain row in
     (w, subst (λ t. BeginsRun kind t w rest) (sym cut) whole)
 
--- The body and the suffix of a string whose closing quote follows its last character or escape.
+-- If a closing quote follows the characters and escapes of a string, these are the string's body, and the text after the quote is
+-- its suffix.
 pub cooked_found : (kind : Kind) (a v rest b x : List ℕ) → is_string kind ≡ true → BeginsRun kind a v rest → a ≡ b
     ++ rest → rest ≡ 34 ∷ x → PartsAre CookedForm kind (opener kind ++ a) v b x
 cooked_found kind a v rest b x s row cut quote =
@@ -134,7 +135,7 @@ pub cooked_none : (kind : Kind) (a v rest : List ℕ) → BeginsRun kind a v res
 cooked_none kind a v rest row stuck h w b x p = h x (row_once kind a v rest w (34 ∷ x) row
     (cooked_row_of kind a w x p.0) stuck (unit_quote kind x p.0.string)).1
 
--- ---- characters and bytes
+-- ---- the body of a character or byte literal
 
 single_at : (kind : Kind) (a v x : List ℕ) → Single kind (opener kind ++ a) v x → unit_at kind a ≡ Some (v, 39 ∷ x)
 single_at kind a v x s =
@@ -149,7 +150,8 @@ single_once kind a v x w y s q =
     let same = some_pair (v, 39 ∷ x) (w, 39 ∷ y) (sym (single_at kind a v x s) ∙ single_at kind a w y q) in
     (same.0, let e : 39 ∷ x ≡ 39 ∷ y = same.1 in cc)
 
--- The body and the suffix of a character or byte literal whose closing quote follows its character or escape.
+-- If a closing quote follows the character or escape of a character or byte literal, this is the literal's body, and the text
+-- after the quote is its suffix.
 pub single_found : (kind : Kind) (a : List ℕ) (q : List ℕ × List ℕ) (b x : List ℕ) → is_single kind ≡ true
     → unit_at kind a ≡ Some q → a ≡ b ++ q.1 → q.1 ≡ 39 ∷ x → PartsAre SingleForm kind (opener kind ++ a) q.0 b x
 single_found kind a q b x s h cut quote =
@@ -172,7 +174,7 @@ single_none kind a q h ne v b x p = ne x (some_pair q (v, 39 ∷ x) (sym h ∙ s
 pub single_stuck : (kind : Kind) (a : List ℕ) → unit_at kind a ≡ None → HasNoParts SingleForm kind (opener kind ++ a)
 single_stuck kind a h v b x p = let e : None ≡ found v (39 ∷ x) = sym h ∙ single_at kind a v x p.0 in absurd (cc)
 
--- ---- one parse result
+-- ---- a quoted literal has one parse result
 
 pub parts_once : (form : QuotedForm) (kind : Kind) (a v b x w d y : List ℕ)
     → PartsAre form kind (form_opener form kind ++ a) v b x → PartsAre form kind (form_opener form kind ++ a) w d y
@@ -211,7 +213,7 @@ formed t k v x r =
       ]
     ]
 
--- The text is a quoted literal with these parts, in one of the forms.
+-- The text is a quoted literal of some form, with this value, body and suffix.
 pub record HasParts (kind : Kind) (t value body suffix : List ℕ) : Type 0 where
   pub form : QuotedForm
   pub parts : PartsAre form kind t value body suffix
@@ -267,7 +269,7 @@ formed_once t k l v w x y r s =
     let same = parts_once r.form k r.inside v a.body x w b.body y a.parts b.parts in
     (b.kind_is, same.0, same.1)
 
--- ---- the steps of the code
+-- ---- texts that aren't quoted literals, by the tests of the code
 
 pub no_front : (t : List ℕ) → opener_at t ≡ None → HasNoQuoted t
 no_front t h k v x p =

@@ -19,7 +19,7 @@ quoted_at : (kind : Kind) (t : List ℕ) (found : Found) → found.kind ≡ kind
 quoted_at kind t found same q f = subst (λ (k : Kind). IsQuotedAt k t found.body) same
     (f.quoted (ap is_quoted same ∙ q))
 
--- The body of a string literal, at the offsets of its parse result.
+-- The text at the offsets that a string literal's parse result has for the body is the literal's body.
 pub string_body : (kind : Kind) (t body : List ℕ) (found : Found) → body ≡ body_in t found.body → found.kind ≡ kind
     → is_string kind ≡ true → IsFound t found → HasBody kind (chars t) body found.body.plain
 string_body kind t body found is same s f =
@@ -27,7 +27,7 @@ string_body kind t body found is same s f =
     subst (λ z. HasBody kind (chars t) z found.body.plain) (sym is)
     (record { string = s; form = q.form; value = q.value; suffix = _; parts = q.parts; plain_is = q.plain_is })
 
--- The body of a byte string or C string literal, at the offsets of its parse result.
+-- The text at the offsets that the parse result of a byte string or C string literal has for the body is the literal's body.
 pub bytes_body : (t body : List ℕ) (found : Found) → body ≡ body_in t found.body
     → ((kind : Kind) → ReadsAs kind (chars t) → found.kind ≡ kind) → IsFound t found → ReadsAs ByteStr (chars t)
     ⊎ ReadsAs CStr (chars t) → HasBody found.kind (chars t) body found.body.plain
@@ -41,7 +41,7 @@ pub one_of_two : (found : Kind) (t : List ℕ) (contents : Contents) → ((kind 
 one_of_two found t contents kind (inl r) h = inl (subst (λ (k : Kind). HasContents k t contents) (kind ByteStr r) h)
 one_of_two found t contents kind (inr r) h = inr (subst (λ (k : Kind). HasContents k t contents) (kind CStr r) h)
 
--- The value of a character or byte literal in its parse result.
+-- The number in the parse result of a character or byte literal is the literal's value.
 pub unit_of : (kind : Kind) (t : List ℕ) (found : Found) → found.kind ≡ kind → is_single kind ≡ true → IsFound t found
     → IsUnitOf kind (chars t) found.unit
 unit_of kind t found same s f = subst (λ (k : Kind). IsUnitOf k (chars t) found.unit) same

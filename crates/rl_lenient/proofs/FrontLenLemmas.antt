@@ -47,7 +47,7 @@ pub hashes_long : (n : ℕ) → byte_len (replicate n 35) ≡ n
 hashes_long zero = refl
 hashes_long (suc n) = omega (arith, byte_len_ascii 35 (replicate n 35) (omega arith), hashes_long n)
 
--- The number of bytes before an end of a text.
+-- The byte offset where an end of a text begins is the number of bytes of the text before it.
 lo_of_cut : (front t opened : List ℕ) (lo : ℕ) → IsUtf8 t → IsUtf8 opened → chars t ≡ front ++ chars opened
     → lo + length opened ≡ length t → lo ≡ byte_len front
 lo_of_cut front t opened lo ut uo e at =
@@ -55,7 +55,7 @@ lo_of_cut front t opened lo ut uo e at =
     ∙ encodes-append front (chars opened) ∙ ap (λ z. encode_utf8_all front ++ z) (encodes-chars opened uo) in
     omega (arith, at, ap length whole, length-append (encode_utf8_all front) opened)
 
--- The number of bytes before the body of a literal that isn't raw: those of its opening delimiter.
+-- The body of a quoted literal that isn't raw begins after the bytes of its opening delimiter.
 pub opener_lo : (form : QuotedForm) (kind : Kind) (t inside : List ℕ) (lo : ℕ) → (form ≡ RawForm → ⊥) → IsUtf8 t
     → IsUtf8 inside → opener_at (chars t) ≡ found_opener form kind (chars inside) → lo + length inside ≡ length t → lo
     ≡ length (opener kind)
@@ -65,7 +65,7 @@ opener_lo SingleForm kind t inside lo other u w front at = lo_of_cut (opener kin
     (front_sound (chars t) (SingleForm, kind, chars inside) front).text_is at ∙ opener_long kind
 opener_lo RawForm kind t inside lo other u w front at = absurd (other refl)
 
--- The number of bytes before the body of a raw string: those of its prefix, its hashes and its quote.
+-- The body of a raw string begins after the bytes of its prefix, its hashes and its quote.
 pub raw_lo : (kind : Kind) (t inside opened hashes rest : List ℕ) (n lo : ℕ) → IsUtf8 t → IsUtf8 opened
     → opener_at (chars t) ≡ found_opener RawForm kind (chars inside) → chars inside ≡ hashes ++ rest → rest
     ≡ 34 ∷ chars opened → hashes ≡ replicate n 35 → lo + length opened ≡ length t → lo

@@ -34,7 +34,7 @@ no_base (z ∷ c ∷ cs) h = go (z == 48) refl
     go true e = let d : is_ascii_digit z ≡ true = ap is_ascii_digit (eqb-true z 48 e) in absurd (cc)
     go false e = refl
 
--- If the base is ten, no prefix is consumed.
+-- If `radix_at` returns the base ten, it returns the whole text with it.
 ten_whole : (u : List ℕ) → (radix_at u).0 ≡ 10 → radix_at u ≡ ten u
 unfolding radix_at
 ten_whole [] h = refl
@@ -49,7 +49,7 @@ ten_whole (z ∷ c ∷ cs) h = go (z == 48 && not (radix_of c == 10)) refl h
         absurd (cc)
     go false e h = refl
 
--- The result of parsing an integer, by cases of its tests.
+-- If an integer is parsed only on a condition, its magnitude is limited to 128 bits on that condition too.
 capped_cond : (s : Sign) (b : Bool) (n : ℕ) (x : List ℕ) → capped_int (with_sign s (cond b (Some (n, x)) None))
     ≡ cond b (Some (capped n, x)) None
 capped_cond s true n x = refl
@@ -103,7 +103,8 @@ head_float t r some m x h e =
     let y = after_exponent (after_fraction (after_digits 10 u)) in
     ap float_tail_at is ∙ sym (ap (λ b. cond (b && is_suffix y) (Some y) None) h.first)
 
--- The parse result of the code is the start of the number.
+-- If the code's base, digits, magnitude and remaining text are those of the models, they are the parsed start of the number
+-- (`IsHead`).
 pub head_read : (u ds x : List ℕ) (r : ℕ) (some : Bool) (m : Option ℕ) → first_passes is_ascii_digit u ≡ true
     → ◌≡◌ {A = ℕ × List ℕ} (r, ds) (radix_at u) → some ≡ has_digit_at r ds → m ≡ capped (magnitude_at r ds) → x
     ≡ after_digits r ds → IsHead u r some m x

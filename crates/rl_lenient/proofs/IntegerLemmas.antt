@@ -77,7 +77,7 @@ not_based (z ∷ c ∷ cs) h = go (z == 48) (c == 98) (c == 111) (c == 120) h
     go true false false true e = absurd (cc)
     go true false false false e = refl
 
--- The prefix of each base is consumed.
+-- For the text of a number in a base, `radix_at` returns the base and the text after its prefix.
 pub radix_past : (base : Base) (w : List ℕ) → IsAfterPrefix base w → (radix_at (prefix base ++ w) ≡ (radix base, w))
     × (first_passes is_ascii_digit (prefix base ++ w) ≡ true)
 unfolding radix_at
@@ -86,14 +86,14 @@ radix_past Octal w h = (refl, refl)
 radix_past Hexadecimal w h = (refl, refl)
 radix_past Decimal w h = (not_based w h.1, h.0)
 
--- The condition of a base on the number's start passes the test.
+-- If the text after the prefix meets the condition of the base, the test `may_begin_number` is true for it.
 base_begins : (base : Base) (w : List ℕ) → IsAfterPrefix base w → may_begin_number (radix base) w ≡ true
 base_begins Binary w h = refl
 base_begins Octal w h = refl
 base_begins Decimal w h = h.0
 base_begins Hexadecimal w h = refl
 
--- The condition of a base on the suffix passes the test.
+-- If a suffix meets the condition of the base, the test `may_end` is true for it.
 base_ends : (base : Base) (x : List ℕ) → IsSuffix x → AllowsSuffix base x → may_end (radix base) x ≡ true
 base_ends Binary x h k = and_from (is_suffix x) true (suffix_complete x h) refl
 base_ends Octal x h k = and_from (is_suffix x) true (suffix_complete x h) refl
@@ -102,7 +102,7 @@ base_ends Decimal x h k = and_from (is_suffix x) (not (is_exponent_suffix x)) (s
     (not_from_false (is_exponent_suffix x) (false_from_ne_true (is_exponent_suffix x)
     (λ e. k (exponent_suffix_sound x e))))
 
--- Digits and the suffix after them are parsed.
+-- `based_at` parses digits and the suffix after them.
 based_past : (r : ℕ) (ds x : List ℕ) → may_begin_number r (ds ++ x) ≡ true → list_all (is_run_part (has_value r)) ds
     ≡ true → list_any (has_value r) ds ≡ true → first_passes (is_run_part (has_value r)) x ≡ false → may_end r x ≡ true
     → based_at r (ds ++ x) ≡ Some (place_value r (without_underscores ds), x)
@@ -153,22 +153,22 @@ begins_is (k ∷ p) (c ∷ cs) h =
     let front : ℕ → List ℕ → List ℕ = λ a z. a ∷ z in
     (ih.0, ap (λ a. front a cs) (eqb-true c k b.0) ∙ ap (front k) ih.1)
 
--- The base of a text that begins with `0b`.
+-- A text that begins with `0b` is in base two.
 based_binary : (cs : List ℕ) → Based (48 ∷ 98 ∷ cs)
 unfolding radix_at
 based_binary cs = record { base = Binary; rest = cs; at = refl; text_is = refl; front = λ h. tt }
 
--- The base of a text that begins with `0o`.
+-- A text that begins with `0o` is in base eight.
 based_octal : (cs : List ℕ) → Based (48 ∷ 111 ∷ cs)
 unfolding radix_at
 based_octal cs = record { base = Octal; rest = cs; at = refl; text_is = refl; front = λ h. tt }
 
--- The base of a text that begins with `0x`.
+-- A text that begins with `0x` is in base sixteen.
 based_hexadecimal : (cs : List ℕ) → Based (48 ∷ 120 ∷ cs)
 unfolding radix_at
 based_hexadecimal cs = record { base = Hexadecimal; rest = cs; at = refl; text_is = refl; front = λ h. tt }
 
--- The base of a text without a prefix.
+-- A text without the prefix of a base is in base ten.
 based_decimal : (t : List ℕ) → begins_base t ≡ false → Based t
 based_decimal t h = record { base = Decimal; rest = t; at = not_based t h; text_is = refl; front = λ d. (d, h) }
 
@@ -207,7 +207,7 @@ hex_stops (c ∷ cs) h = go (has_value 16 c) h
     go true e = e
     go false e = refl
 
--- A suffix that passes the test meets the condition of the base.
+-- If the test `may_end` is true for the text after the digits, this suffix meets the condition of the base.
 suffix_of : (base : Base) (x : List ℕ) → first_passes (is_run_part (has_value (radix base))) x ≡ false
     → may_end (radix base) x ≡ true → AllowsSuffix base x
 suffix_of Binary x h k = tt
@@ -262,7 +262,7 @@ based_sound r t p h =
     let b = and_parts (has_digit_at r t) _ a.1 in
     record { front = a.0; some = b.0; ends = b.1; is = k.1 }
 
--- If a parse result with a sign is returned, there is one without the sign.
+-- If `with_sign` returns a parse result, it was called with a parse result without the sign.
 pub sign_of_some : (s : Sign) (o : Option (ℕ × List ℕ)) (p : Sign × ℕ × List ℕ) → with_sign s o ≡ Some p
     → (q : ℕ × List ℕ) × (o ≡ Some q) × ((s, q.0, q.1) ≡ p)
 sign_of_some s None p h = absurd (cc)
@@ -280,7 +280,7 @@ int_sound t p h =
     ≡ p = ap (λ q. (sign_at t, q.0, q.1)) r.is ∙ k.2 in
     subst (λ (q : Sign × ℕ × List ℕ). IntReads t q.0 q.1 q.2) whole (int_built t b r.front r.some r.ends)
 
--- If a number is dropped because of the limit, it is above the limit.
+-- If `capped` returns `None` for a number, the number is above the limit.
 capped_none : (n : ℕ) → capped n ≡ None → limit < n
 capped_none n h = elim (within_or_past n limit) [
   | inl k ↦ let e = capped_within n k in absurd (cc)
@@ -294,12 +294,12 @@ capped_some n k h = elim (within_or_past n limit) [
   | inr l ↦ let e = capped_past n l in absurd (cc)
 ]
 
--- If no limited result is returned, no result was.
+-- If `capped_int` returns `None`, its argument is `None`.
 none_int : (o : Option (Sign × ℕ × List ℕ)) → None ≡ capped_int o → o ≡ None
 none_int None h = refl
 none_int (Some p) h = absurd (cc)
 
--- If a limited result is returned, a result was.
+-- If `capped_int` returns a result, its argument is that result before the limit.
 some_int : (o : Option (Sign × ℕ × List ℕ)) (q : Option ℕ × List ℕ) → Some q ≡ capped_int o → (p : Sign × ℕ × List ℕ)
     × (o ≡ Some p) × (q ≡ (capped p.1, p.2))
 some_int None q h = absurd (cc)
@@ -327,11 +327,11 @@ is_within t x m h =
       within = subst (λ (n : ℕ). n ≤ limit) c.1 c.0;
     }
 
--- By equations: an integer that is parsed without a magnitude is above the limit.
+-- The lemma `is_past`, with equations for the parse result: an integer that is parsed without a magnitude is above the limit.
 pub is_past_at : (t x : List ℕ) (k : Option ℕ) → Some (k, x) ≡ capped_int (int_at t) → k ≡ None → IsPast t
 is_past_at t x k h e = is_past t x (sym (ap (λ o. Some (o, x)) e) ∙ h)
 
--- By equations: an integer that is parsed with a magnitude is within the limit.
+-- The lemma `is_within`, with equations for the parse result: an integer that is parsed with a magnitude is within the limit.
 pub is_within_at : (t x y : List ℕ) (m : ℕ) (k : Option ℕ) → Some (k, x) ≡ capped_int (int_at t) → k ≡ Some m → y ≡ x
     → HasMagnitude t m y
 is_within_at t x y m k h e q = is_within t y m (ap (λ z. Some (Some m, z)) q ∙ sym (ap (λ o. Some (o, x)) e) ∙ h)

@@ -10,7 +10,7 @@ use Rattle.rl_lenient.proofs.FloatLemmas.{float_past, float_sound}
 use Rattle.rl_lenient.proofs.DigitLemmas.{int_sign}
 use Rattle.std.specs.Str.{chars}
 
--- An integer without a sign is an integer with a minus before it.
+-- If a text is an integer without a sign, the text with a minus before it is an integer too.
 pub int_on : (t : List ℕ) (s : Sign) (m : ℕ) (x : List ℕ) → sign_at t ≡ NoSign → IntReads t s m x
     → IntReads (45 ∷ t) Minus m x
 int_on t s m x e h = minus_int t x m (subst (λ (k : Sign). IntReads t k m x) (sym (int_sign t s m x h) ∙ e) h)
@@ -57,7 +57,7 @@ negative_twice t e Float c x r =
     absurd (cc)
 negative_twice t e kind c x r = r
 
--- An integer is an integer with a minus before it, with an equal suffix.
+-- If a text is an integer without a sign, the text with a minus before it is an integer with the same suffix.
 negative_int : (t x : List ℕ) → sign_at t ≡ NoSign → HasSuffix Int t x → HasSuffix Int (45 ∷ t) x
 negative_int t x e (c, r) = (_, record { sign = Minus; magnitude = r.magnitude; reads = int_on t r.sign r.magnitude x e r.reads; within = r.within; contents_is = refl })
 

@@ -15,7 +15,7 @@ pub if_none : {T P : Type 0} (o : Option T) → P → IfNone o P
 if_none None p = p
 if_none (Some x) p = tt
 
--- A form that isn't a literal's.
+-- If a form in the code isn't that of a literal, neither is the form in the definitions.
 pub other_form : (f : FoundForm) → (f ≡ found.Literal → ⊥) → form_view f ≢ LiteralForm
 other_form found.Literal h e = h refl
 other_form found.Identifier h e = absurd (cc)

@@ -1,6 +1,6 @@
 -- The parts of numbers, as the code finds them.
-use Rattle.rl_syntax.proofs.Common.{◌≡◌, ℕ, Bool, true, false, ◌==◌, cond, List, [], ◌∷◌, ◌++◌, Option, Some, None, refl, sym, ap, subst, ◌∙◌, append_assoc, append_cancel_right, is_ascii_digit, chars}
-use Rattle.rl_lenient.proofs.Names.{first_passes, is_run_part, prefix, radix, Sign, sign_text, Fraction, NoFraction, Dot, fraction_text, IsFraction, IntReads, FloatReads, Kind, Int, Float, Contents, Reads, ReadsAs, HasNoReading, HasSuffix}
+use Rattle.rl_syntax.proofs.Common.{◌≡◌, ℕ, true, false, cond, List, ◌∷◌, ◌++◌, Option, Some, None, refl, sym, ap, subst, ◌∙◌, append_cancel_right, is_ascii_digit}
+use Rattle.rl_lenient.proofs.Names.{first_passes, is_run_part, prefix, radix, Sign, Fraction, NoFraction, Dot, fraction_text, IsFraction, IntReads, FloatReads, Kind, Float, ReadsAs, HasNoReading, HasSuffix}
 use Rattle.rl_syntax.specs.Numbers.{Exponent, NoExponent, Power, exponent_text, IsExponent}
 use Rattle.rl_syntax.proofs.OneNumber.{float_once}
 use Rattle.rl_syntax.proofs.OneReading.{one_reading}
@@ -23,13 +23,13 @@ reads_as_none t kind h (v, x, r) = h kind v x r
 pub reads_as_other : (t x : List ℕ) (found kind : Kind) → HasSuffix found t x → (found ≡ kind → ⊥) → ReadsAs kind t → ⊥
 reads_as_other t x found kind (v, r) other (w, y, s) = other (one_reading t found kind v w x y r s).0
 
--- A text that is parsed as a float is a float.
+-- If the kind in a text's parse result is `Float`, the text is a float literal.
 pub found_float : (t x : List ℕ) (kind : Kind) → kind ≡ Float → HasSuffix kind t x → (n : List ℕ) × FloatReads t n x
 found_float t x kind e h = let r = subst (λ (k : Kind). HasSuffix k t x) e h in (r.1.numeral, r.1.reads)
 
 -- ---- sequences of digits
 
--- A sequence of digits, by the text after it.
+-- The text before the rest after a sequence of digits is the sequence.
 pub row_front : (t front rest : List ℕ) → t ≡ front ++ rest → rest ≡ after_digits 10 t → front ≡ digit_run_at 10 t
 row_front t front rest is stops =
     append_cancel_right front (digit_run_at 10 t) rest (sym is ∙ run_join (is_run_part (has_value 10)) t
@@ -78,7 +78,7 @@ letter_past : (e : Exponent) → after_letter (exponent_text e) ≡ power_run e
 letter_past NoExponent = refl
 letter_past (Power letter us sg row) = refl
 
--- After the fraction, the exponent is left.
+-- `fraction_at` returns the digits of a float's fraction, and the exponent after it.
 fraction_past : (f : Fraction) (e : Exponent) (x : List ℕ) → IsFraction f → IsExponent e x
     → fraction_at (fraction_text f ++ exponent_text e) ≡ (fraction_run f, exponent_text e)
 fraction_past NoFraction NoExponent x h k = refl

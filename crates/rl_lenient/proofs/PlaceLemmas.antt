@@ -15,7 +15,8 @@ use Rattle.rl_lenient.proofs.CutLemmas.{tail_chars}
 use Rattle.rl_lenient.proofs.FormLemmas.{front_sound}
 use Rattle.rl_lenient.proofs.ShapeLemmas.{closed_cut}
 
--- The byte offsets of the parts of a literal, from three ends of its text.
+-- The byte offsets of the parts of a literal. They are computed from three ends of its text: the text after the opening
+-- delimiter, the text from the closing delimiter on, and the suffix.
 pub record Placed (t opened closer suffix : List ℕ) (body : Body) : Type 0 where
   pub stands : IsBodyWithin t body
   pub body_is : chars opened ≡ chars (body_in t body) ++ chars closer

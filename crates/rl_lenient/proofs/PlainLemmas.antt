@@ -73,12 +73,13 @@ changed_some t mark rest n =
     sym (sym (all_same t) ∙ ap (list_all (is_other changed)) n.text_is
     ∙ all_breaks (is_other changed) n.front mark rest (marked_stops (is_one_of changed mark) n.is_mark))
 
--- A body is one sequence of plain characters if the sequence and the body are followed by one text.
+-- If a body and a sequence of characters that pass a test are equal when the same text follows both, all characters of the body
+-- pass the test.
 pub one_run : (q : ℕ → Bool) (body run rest : List ℕ) → body ++ rest ≡ run ++ rest → list_all q run ≡ true → true
     ≡ list_all q body
 one_run q body run rest cut plain = sym (ap (list_all q) (append_cancel_right body run rest cut) ∙ plain)
 
--- A body isn't one sequence of plain characters if more characters are between the sequence and the body's end.
+-- If the sequence of characters that pass a test ends before the body does, not all characters of the body pass the test.
 pub no_run : (q : ℕ → Bool) (body run following rest more : List ℕ) → body ++ rest ≡ run ++ following → following ≡ more
     ++ rest → first_passes q following ≡ false → (following ≡ rest → ⊥) → false ≡ list_all q body
 no_run q body run following rest [] cut after_is stops goes_on = absurd (goes_on after_is)

@@ -28,7 +28,7 @@ pub record IsSplitInteger (text : List ℕ) (magnitude : ℕ) (body : List ℕ) 
 abbrev glyph : ℕ → ℕ
 glyph n = digit_glyph false (n % 10)
 
--- The digit of a number's last decimal place.
+-- `glyph` returns the digit of a number's last decimal place.
 glyph_is : (n : ℕ) → glyph n ≡ 48 + n % 10
 glyph_is n = let e : nat_lt (n % 10) 10 ≡ true = grind (arith, nat_tests) in ap
     (λ b. cond b (48 + n % 10) (87 + n % 10)) e
@@ -144,7 +144,7 @@ onto_more (suc k) n acc = go (n / 10 == 0) (onto_more k (n / 10) (glyph n ∷ ac
     go false all one = all ∙ sym (ap (λ z. z ++ acc) one ∙ append_assoc (digits_onto k 10 false (n / 10) [])
         (glyph n ∷ []) acc)
 
--- The digits of a number with one more digit.
+-- If a digit is appended to a number above 0, it is appended to the number's digits.
 push : (k v d : ℕ) → 0 < v → d < 10 → digits_onto (suc k) 10 false (v * 10 + d) [] ≡ digits_onto k 10 false v []
     ++ ((48 + d) ∷ [])
 push k v d l h =
@@ -165,7 +165,7 @@ digit_code c h = let e : (48 ≤ c) × (c ≤ 57) = grind (arith, nat_tests) in 
 spread : (v d q p : ℕ) → v * (q * 10) + (d * q + p) ≡ (v * 10 + d) * q + p
 spread v d q p = omega arith
 
--- The digits of a number above 0, followed by further digits.
+-- If digits are appended to a number above 0, they are appended to the number's digits.
 written_more : (ds : List ℕ) (v j k : ℕ) → 0 < v → v < 10 ^ suc j → list_all is_ascii_digit ds ≡ true
     → v * 10 ^ length ds + place_value 10 ds < 10 ^ suc k → digits_onto (suc k) 10 false
     (v * 10 ^ length ds + place_value 10 ds) [] ≡ digits_onto (suc j) 10 false v [] ++ ds
@@ -192,7 +192,7 @@ written_more (d ∷ ds) v j k l small all h =
     c.0)
     ∙ append_assoc (digits_onto (suc j) 10 false v []) (d ∷ []) ds
 
--- The digits of a number below 10.
+-- A number below 10 has one digit.
 written_one : (k v : ℕ) → v < 10 → digits_onto (suc k) 10 false v [] ≡ (48 + v) ∷ []
 written_one k v h =
     let e : (v / 10 == 0) ≡ true = grind (arith, nat_tests) in
@@ -272,7 +272,7 @@ bytes_cut t b x ut ub e =
     sym (encodes-chars t ut) ∙ ap encode_utf8_all e ∙ encodes-append (chars b) x
     ∙ ap (λ z. z ++ encode_utf8_all x) (encodes-chars b ub)
 
--- An integer that passes the test is plain.
+-- An integer whose body passes the test `is_plain_integer` is plain.
 integer_plain : (t b : List ℕ) (m : ℕ) → IsUtf8 t → IsUtf8 b → IsSplitInteger (chars t) m (chars b)
     → is_plain_integer (chars b) ≡ true → IsPlain Int t
 integer_plain t b m ut ub w p =
@@ -335,7 +335,7 @@ digits_kept (c ∷ cs) = go (c == 95 || c == 43) refl (digits_kept cs)
     go true e more = more
     go false e more = and_from (is_kept (change c)) (list_all is_kept (float_digits cs)) (changed_once c e) more
 
--- A float that passes the test is plain.
+-- A float whose body passes the test `is_plain_float` is plain.
 float_plain : (t b x : List ℕ) → IsUtf8 t → IsUtf8 b → FloatReads (chars t) (chars b) x → is_plain_float (chars b)
     ≡ true → IsPlain Float t
 float_plain t b x ut ub r p = record {
@@ -369,7 +369,7 @@ plain_numeral t body x r p numeral y s =
 pub held : (k : Kind) (t bytes s : List ℕ) → AreDigits k t (chars bytes) → s ≡ bytes → AreDigits k t (chars s)
 held k t bytes s d e = subst (λ z. AreDigits k t (chars z)) (sym e) d
 
--- ---- the results of the test
+-- ---- the results of the test for plain numbers
 
 abbrev Whether : Bool → Kind → List ℕ → Type 0
 Whether b k t = (IsTrue b → IsPlain k t) × (IsPlain k t → IsTrue b)

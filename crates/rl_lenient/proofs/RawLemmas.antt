@@ -62,7 +62,8 @@ raw_front kind t v x hashes r e =
     let rest : (after_run is_hash) t ≡ 34 ∷ y = ap (after_run is_hash) text ∙ hashes_past n y in
     (append_cancel_right hashes (replicate n 35) (34 ∷ y) (ap (λ z. hashes ++ z) (sym rest) ∙ sym e ∙ text), rest)
 
--- The text after a raw string's first quote, split at its last quote.
+-- If the text after a raw string's first quote is split at its last quote, the parts are the body, and the hashes with the
+-- suffix.
 raw_inner : (n : ℕ) (inside x body after : List ℕ) → list_all no_quote x ≡ true → list_all no_quote after ≡ true → body
     ++ (34 ∷ after) ≡ inner n inside x → (body ≡ inside) × (after ≡ replicate n 35 ++ x)
 raw_inner n inside x body after hx ha e = last_same body inside after (replicate n 35 ++ x) ha
@@ -96,7 +97,7 @@ raw_same kind t v x w y r s =
     (hashes_no_quote r.hashes x ∙ r.no_quote) insides in
     (sym (length-replicate r.hashes 35) ∙ ap length (sym a.0 ∙ b.0) ∙ length-replicate s.hashes 35, parts.0)
 
--- ---- the steps of the code
+-- ---- the parts of a raw string, by the tests of the code
 
 -- If no quote follows the hashes, the text isn't a raw string.
 pub raw_unopened : (kind : Kind) (t rest : List ℕ) → rest ≡ (after_run is_hash) t → ((y : List ℕ) → rest ≢ 34 ∷ y)

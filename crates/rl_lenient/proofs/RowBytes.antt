@@ -141,7 +141,7 @@ row_of_bytes r some m n t rest h is is_rest e =
     let left : chars rest ≡ p.2 = sym (chars_from_encodes p.2 rest is_rest (sym (ap (λ q. q.2) same))) in
     ap (λ q. (q.0, q.1, chars rest)) same ∙ ap (λ x. (p.0, p.1, x)) left
 
--- The sequence that the loop has parsed, at its end.
+-- At its end, the loop has parsed the digits and underscores at the start of the text.
 pub row_read : (r : ℕ) (some : Bool) (m n : Option ℕ) (t s rest : List ℕ) (i : ℕ) → r ≤ 36 → IsUtf8 t → IsUtf8 rest → s
     ≡ t → rest ≡ drop i t → run_from r some m (drop i s) ≡ run_from r false n s → run_from r some m (drop i s)
     ≡ (some, m, drop i s) → (some, m, chars rest) ≡ run_from r false n (chars t)

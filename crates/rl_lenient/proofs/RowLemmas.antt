@@ -8,7 +8,7 @@ use Rattle.rl_lenient.proofs.UnitLemmas.{some_pair, unit_sound, unit_complete}
 
 -- ---- the ends of escaped line ends
 
--- A text continues with white space exactly if it does so before a text that doesn't begin with white space.
+-- If `r` doesn't begin with white space, the text `t` begins with white space exactly if `t` followed by `r` does.
 passes_on : (t r : List ℕ) → first_passes is_blank r ≡ false → first_passes is_blank (t ++ r) ≡ first_passes is_blank t
 passes_on [] r h = h
 passes_on (c ∷ t) r h = refl
@@ -121,7 +121,7 @@ row_run kind a v (c ∷ run) b plain row =
     ∙ ap (λ z. v ++ z) (held_more kind c run) in
     subst (λ w. BeginsRun kind a w b) value (row_run kind a (v ++ content_of kind (c ∷ [])) run b parts.1 one)
 
--- Plain characters before a sequence of characters and escapes.
+-- Plain characters before a sequence of characters and escapes are a sequence together with it.
 pub row_after : (kind : Kind) (run b v r : List ℕ) → list_all (is_plain kind) run ≡ true → BeginsRun kind b v r
     → (w : List ℕ) × BeginsRun kind (run ++ b) w r
 row_after kind [] b v r plain row = (v, row)

@@ -37,7 +37,8 @@ run_join test (c ∷ cs) = go (run_join test cs) (test c)
     go ih true = ap (λ z. c ∷ z) ih
     go ih false = refl
 
--- Characters that pass the test, before a text that doesn't begin with another one, are the sequence.
+-- If all characters of `row` pass the test, and `x` doesn't begin with a character that does, `row` is the sequence at the start
+-- of `row ++ x`, and `x` follows it.
 pub run_past : (test : ℕ → Bool) (row x : List ℕ) → list_all test row ≡ true → first_passes test x ≡ false
     → (run test (row ++ x) ≡ row) × (after_run test (row ++ x) ≡ x)
 unfolding run
@@ -62,7 +63,7 @@ suffix_sound (c ∷ cs) h =
     let b = and_parts (not (c == 95)) (xid_ok (c ∷ cs)) h in
     (inr b.1, not-true (c == 95) b.0)
 
--- The text after leading white space, by two definitions that agree.
+-- `after_run is_blank` and `after_blanks` return the same text: the text after leading white space.
 pub run_is_blanks : (t : List ℕ) → after_run is_blank t ≡ after_blanks t
 unfolding after_blanks
 run_is_blanks [] = refl

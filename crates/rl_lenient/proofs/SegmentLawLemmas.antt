@@ -116,8 +116,8 @@ all_make kind text start end ss whole p none =
 
 -- ---- offsets in order
 
--- The requirements on an offset in a character or escape: it is within its text, later bytes have later offsets, and
--- two with one text have equal offsets if both or neither represent themselves.
+-- The requirements on an offset in a character or escape: it is within its text, later bytes have later offsets, and two
+-- characters or escapes with equal texts have equal offsets if both or neither represent themselves.
 pub record IsPlacing (inside : QuotedUnit → ℕ → ℕ) : Type 0 where
   pub within : (kind : Kind) (u : QuotedUnit) (at : ℕ) → at < length (unit_bytes kind u)
       → inside u at ≤ byte_len (unit_text u)
@@ -135,7 +135,7 @@ itself_within kind (Hex high low) at d small one is = absurd (cc)
 itself_within kind (Unicode first more) at d small one is = absurd (cc)
 itself_within kind (Continuation c run) at d small one is = absurd (cc)
 
--- A choice by whether a unit is its own value.
+-- A property that holds for each of two numbers holds for the one that a condition chooses.
 chosen : (P : ℕ → Type 0) (b : Bool) (x y : ℕ) → (b ≡ true → P x) → P y → P (cond b x y)
 chosen P true x y f g = f refl
 chosen P false x y f g = g
@@ -178,7 +178,7 @@ order_in inside p kind (u ∷ us) at next h =
     (λ small. absurd (omega (arith, h, large, small)))
     (λ large_too. omega (arith, order_in inside p kind us (at - n) (next - n) (omega (arith, h, large)))))
 
--- The range that a byte comes from begins before it ends.
+-- The range that a byte comes from begins no later than it ends.
 ends_after : (kind : Kind) (us : List QuotedUnit) (at : ℕ) → unit_place begins_in kind us at ≤ unit_place ends_in kind
     us at
 ends_after kind [] at = omega arith
@@ -193,7 +193,7 @@ ends_after kind (u ∷ us) at =
     go true more = cond_order (is_itself u) at (at + 1) 0 (byte_len (unit_text u)) (omega arith) (omega arith)
     go false more = omega (arith, more)
 
--- ---- a byte comes from one offset in a text
+-- ---- each byte of the value of a text between quotes comes from one offset
 
 -- The first character of a unit tells whether the unit is its own value.
 told : (kind : Kind) (u : QuotedUnit) → IsUnit kind u → is_itself u ≡ first_passes (is_plain kind) (unit_text u)
@@ -239,7 +239,7 @@ rows_place inside p kind (u ∷ us) (w ∷ ws) t a b at =
     (rows_place inside p kind us ws (texts us) (record { each = a.each.1; ends = a.ends.1; text_is = refl })
     (record { each = b.each.1; ends = b.ends.1; text_is = same.1 }))
 
--- ---- of one literal
+-- ---- each byte of a literal's value has one offset in the literal's text
 
 abbrev Same : (QuotedUnit → ℕ → ℕ) → Kind → List QuotedUnit → List QuotedUnit → ℕ → ℕ → Type 0
 Same inside kind us ws lo start = (lo ≡ start) × ((at : ℕ) → unit_place inside kind us at
@@ -355,7 +355,7 @@ itself_places inside d itself kind true body us at is are h =
     ap (λ z. unit_place inside kind z at) (are ∙ sym (append-nil (map Plain body)))
     ∙ place_in_run inside d kind body [] at itself h
 
--- The offset that a cursor over the segments of this body returns.
+-- The offset that a byte of the value comes from is that in the body, plus the offset where the body begins.
 of_body : (inside : QuotedUnit → ℕ → ℕ) → IsPlacing inside → (kind : Kind) (t : List ℕ) (body : Body) (at place : ℕ)
     → IsUtf8 t → IsQuotedAt kind t body → IsGivenAt inside kind (chars t) at place → (us : List QuotedUnit)
     × AreUnitsIn kind body.plain (chars (body_in t body)) us × (place ≡ body.lo + unit_place inside kind us at)

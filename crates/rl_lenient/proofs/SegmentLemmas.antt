@@ -172,7 +172,7 @@ pub cut_bytes : (t a b : List ℕ) → IsUtf8 t → IsUtf8 a → IsUtf8 b → ch
 cut_bytes t a b ut ua ub e = sym (encodes-chars t ut) ∙ ap encode_utf8_all e ∙ encodes-append (chars a) (chars b)
     ∙ ap (λ z. z ++ encode_utf8_all (chars b)) (encodes-chars a ua) ∙ ap (λ z. a ++ z) (encodes-chars b ub)
 
--- The remaining proof that a unit begins the text.
+-- If the text isn't its own value byte for byte, it is a sequence of characters and escapes.
 pub row_of : (kind : Kind) (plain : Bool) (t : List ℕ) → plain ≡ false → (us : List QuotedUnit)
     × AreUnitsIn kind plain t us → (us : List QuotedUnit) × IsUnitRun kind t us
 row_of kind false t is has = has
@@ -235,7 +235,7 @@ other_longest kind Nothing rest none = tt
 
 -- ---- offsets
 
--- A choice by whether a byte's offset is below a length.
+-- A property that holds for each of two values holds for the one that the test of an offset against a length chooses.
 pub tested : {A : Type 0} (P : A → Type 0) (a n : ℕ) (x y : A) → (a < n → P x) → (n ≤ a → P y) → P (cond (ltb a n) x y)
 tested P a n x y f g = go (ltb a n) refl
   where
@@ -261,7 +261,7 @@ place_past inside kind (u ∷ done) us at left e =
     (λ small. absurd (omega (arith, total, small)))
     (λ large. omega (arith, more, byte_len_append (unit_text u) (texts done)))
 
--- Places in text that is its own value.
+-- The offset of a byte in a sequence of plain characters is the byte's own offset, plus `d`.
 pub place_in_run : (inside : QuotedUnit → ℕ → ℕ) (d : ℕ) (kind : Kind) (cs : List ℕ) (us : List QuotedUnit) (at : ℕ)
     → ((c i : ℕ) → inside (Plain c) i ≡ i + d) → at < length (encode_utf8_all cs)
     → unit_place inside kind (map Plain cs ++ us) at ≡ at + d
@@ -352,7 +352,7 @@ ends_in_segment kind (Byte b) units us lo hi at s long small = omega
     (arith, long, one_ends kind units us at (one_place_in ends_in kind (Byte b) units us at s.are s.bytes_are small))
 ends_in_segment kind Nothing units us lo hi at s long small = absurd (omega (arith, small))
 
--- A text is as long as its value.
+-- A segment of text is as long as its value.
 pub text_long : (kind : Kind) (v : SegmentValue) (run : Bor (List ℕ)) (units : List QuotedUnit)
     → IsSegmentOf kind v units → v ≡ Text run → length (value_bytes v) ≡ byte_len (texts units)
 text_long kind v run units s e = go v e s
@@ -383,7 +383,7 @@ place_below kind s units i is_segment long some small = go s.value refl
     go (Byte b) e = omega (arith, some, ap (λ z. value_place z i) e)
     go Nothing e = omega (arith, some, ap (λ z. value_place z i) e)
 
--- Places past the values of the units.
+-- An offset after the values of all characters and escapes is mapped to the end of their text.
 pub place_at_end : (inside : QuotedUnit → ℕ → ℕ) (kind : Kind) (us : List QuotedUnit) (at : ℕ)
     → length (units_bytes kind us) ≤ at → unit_place inside kind us at ≡ byte_len (texts us)
 place_at_end inside kind us at h =
@@ -589,7 +589,7 @@ tabled_all start now base table grown t none is =
           (omega (arith, t.place_is, ends)));
     }
 
--- The segment is within the base.
+-- The segment ends within the span `base`.
 pub segment_fits : (start old new : SegmentsState) (base : Span) (table : List Span) (s : Segment)
     → IsTabled start old base table → TakesSegment old s new → base.lo + (start.at + length start.rest) ≤ base.hi
     → base.lo + s.hi ≤ base.hi

@@ -173,7 +173,7 @@ given_in_whole inside kind t s at place whole left = record {
   place_is = left.place_is ∙ ap (λ (k : Kind). s.at + unit_place inside k left.units at) whole.kind_is;
 }
 
--- ---- other literals
+-- ---- literals that aren't quoted
 
 pub quoted_reads_as : (kind : Kind) (t : List ℕ) (v : Contents) (x : List ℕ) → ReadsQuoted t kind v x → is_quoted kind
     ≡ true → Reads t kind v x

@@ -1,5 +1,5 @@
--- The segment of a character or escape that isn't its own value. A sequence of characters and escapes is at most one
--- segment.
+-- The segment values of escapes, CR LF and escaped line ends. The characters and escapes of one segment have only one segment
+-- value.
 use Rattle.rl_syntax.proofs.Common.{◌≡◌, ◌==◌, ℕ, ◌||◌, Bool, true, false, not, cond, ltb, List, [], ◌∷◌, ◌++◌, refl, sym, ap, subst, ◌∙◌, both_ways, encode_utf8_all, eqb-true, ltb-true, or_cases}
 use Rattle.rl_lenient.proofs.Names.{IsScalar, Kind, QuotedUnit, Plain, CrLf, Named, Hex, Unicode, Continuation, LowerN, LowerR, LowerT, Backslash, Apostrophe, Quote, Zero, letter_value, hex_value, unicode_value, unit_text, unit_value, content_of, holds_characters, is_line_end, IsUnit}
 use Rattle.std.proofs.Common.{inl, inr, map}

@@ -45,9 +45,9 @@ quote_bytes : (cs : List ℕ) → encode_utf8_all (39 ∷ cs) ≡ 39 ∷ encode_
 unfolding lib.Utf8.encode
 quote_bytes cs = refl
 
--- ---- joined
+-- ---- the parts of a literal, joined as bytes
 
--- The bytes of an ASCII text and a text after it.
+-- The bytes of an ASCII text that precedes another text are its characters.
 front_bytes : (front cs bs : List ℕ) → encode_utf8_all front ≡ front → encode_utf8_all cs ≡ bs
     → encode_utf8_all (front ++ cs) ≡ front ++ bs
 front_bytes front cs bs f e = encodes-append front cs ∙ ap (λ z. z ++ encode_utf8_all cs) f ∙ ap (λ z. front ++ z) e

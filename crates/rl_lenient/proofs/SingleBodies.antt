@@ -30,7 +30,7 @@ unit_one kind a p s unit =
     let begun = unit_sound kind a p unit in
     let one = one_value kind begun.unit s begun.allowed in (one.0, begun.value_is ∙ one.1)
 
--- The value of a character that is its own value, or is escaped.
+-- If the value of a character in a literal of the kind is one number, that number is the character.
 pub character_unit : (kind : Kind) (c n : ℕ) → is_single kind ≡ true → IsScalar c → piece_value kind (Character c)
     ≡ n ∷ [] → IsUnitValue kind (piece_value kind (Character c)) c
 character_unit kind c n s scalar one = by_single (λ k. piece_value k (Character c) ≡ n ∷ []
@@ -80,13 +80,13 @@ body_unit kind t body has =
     ap (unit_at kind) (has.parts.1 ∙ sym (append-nil (unit_text s.unit)))
     ∙ (unit_complete kind s.unit [] s.is_unit (ends_before s.unit [] refl) ∙ ap (λ v. found v []) (sym s.value_is))
 
--- So the body begins with a unit.
+-- The body of a character or byte literal begins with a character or escape.
 pub body_stands : (kind : Kind) (t body : List ℕ) → HasSingleBody kind t body → unit_at kind (chars body) ≡ None → ⊥
 body_stands kind t body has none =
     let e : None ≡ found has.value [] = sym none ∙ body_unit kind t body has in
     absurd (cc)
 
--- The unit's value is one number.
+-- The value of the character or escape in the body is one number.
 pub body_one : (kind : Kind) (t body : List ℕ) (p : List ℕ × List ℕ) → HasSingleBody kind t body
     → unit_at kind (chars body) ≡ Some p → (n : ℕ) × (p.0 ≡ n ∷ [])
 body_one kind t body p has unit = unit_one kind (chars body) p has.parts.0.single unit
@@ -107,7 +107,7 @@ single_parts : (form : QuotedForm) (kind : Kind) (t value body suffix : List ℕ
 single_parts SingleForm kind t value body suffix s p = p
 single_parts k kind t value body suffix s p = absurd (not_both kind p.0.string s)
 
--- The text at the places of its body.
+-- The text at the byte offsets of the body of a character or byte literal is its body.
 pub single_at : (kind : Kind) (t : List ℕ) (body : Body) → is_single kind ≡ true → IsQuotedAt kind t body
     → HasSingleBody kind (chars t) (body_in t body)
 single_at kind t body s at =

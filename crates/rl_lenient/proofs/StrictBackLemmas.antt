@@ -70,7 +70,7 @@ named_escape k kind h = quote_escape k kind refl refl
 
 -- ---- numbers
 
--- A hexadecimal digit by both definitions.
+-- A hexadecimal digit of Rust's grammar is an ASCII hexadecimal digit.
 hex_digit_back : (c : ℕ) → is_hex_digit c ≡ true → is_ascii_hexdigit c ≡ true
 hex_digit_back c h = hex_is_sixteen c ∙ h
 
@@ -110,12 +110,12 @@ abbrev group : ℕ → ℕ → List ℕ → List (ℕ × ℕ)
 group first n [] = (first, n) ∷ []
 group first n (c ∷ cs) = cond (eqb c 95) (group first (suc n) cs) ((first, n) ∷ group c 0 cs)
 
--- One more underscore after n underscores.
+-- One more underscore than n is n underscores with an underscore after them.
 underscore_more : (n : ℕ) (cs : List ℕ) → replicate (suc n) 95 ++ cs ≡ replicate n 95 ++ (95 ∷ cs)
 underscore_more zero cs = refl
 underscore_more (suc n) cs = ap (λ z. 95 ∷ z) (underscore_more n cs)
 
--- The text of the grouped digits.
+-- The digits in the list, each with its underscores, are the text from which the list was made.
 group_text : (first n : ℕ) (cs : List ℕ) → flat_map spaced_digit (group first n cs) ≡ first ∷ (replicate n 95 ++ cs)
 group_text first n [] = refl
 group_text first n (c ∷ cs) =
@@ -127,7 +127,7 @@ group_text first n (c ∷ cs) =
           ∙ ap (λ z. first ∷ (replicate n 95 ++ z)) (group_text c 0 cs)
     ]
 
--- Each grouped digit is hexadecimal.
+-- Each digit in the list is hexadecimal.
 group_hex : (first n : ℕ) (cs : List ℕ) → is_hex_digit first ≡ true
     → list_all (λ c. is_underscore c || is_hex_digit c) cs ≡ true → list_all hex_first (group first n cs) ≡ true
 group_hex first n [] h each = and_from _ _ (hex_digit_back first h) refl
@@ -140,7 +140,7 @@ group_hex first n (c ∷ cs) h each =
           ∙ and_from _ _ (hex_digit_back first h) (group_hex c 0 cs (ap (λ b. b || is_hex_digit c) (sym a) ∙ p.0) p.1)
     ]
 
--- There is at least one grouped digit.
+-- The list of digits isn't empty.
 group_some : (first n : ℕ) (cs : List ℕ) → nat_le 1 (length (group first n cs)) ≡ true
 group_some first n [] = refl
 group_some first n (c ∷ cs) =
@@ -151,7 +151,7 @@ group_some first n (c ∷ cs) =
           ∙ le-leb 1 _ (omega arith)
     ]
 
--- The grouped digits represent the escape's number.
+-- The digits in the list represent the escape's number.
 unicode_number : (first : ℕ) (more : List ℕ) → list_all hex_first (group first 0 more) ≡ true
     → place_value 16 (map (λ d. d.0) (group first 0 more)) ≡ unicode_value first more
 unicode_number first more h =
@@ -172,7 +172,7 @@ unicode_allowed first more h each few s =
     (and_from (scalar (place_value 16 (map (λ d. d.0) (group first 0 more)))) true (subst IsScalar (sym same) s)
     refl)
 
--- An escape `\u{..}` has an equal one in Rust's grammar, if its grouped digits are allowed.
+-- An escape `\u{..}` has an equal one in Rust's grammar, if Rust's grammar allows the list of its digits.
 spaced_escape : (k : Kind) (first : ℕ) (more : List ℕ) → is_strict_unit k (UnicodeEscape (group first 0 more)) ≡ true
     → content_of k (unicode_value first more ∷ []) ≡ strict_content_of k (unicode_value first more ∷ [])
     → place_value 16 (map (λ d. d.0) (group first 0 more)) ≡ unicode_value first more → Back k (Unicode first more)

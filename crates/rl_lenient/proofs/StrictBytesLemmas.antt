@@ -32,7 +32,8 @@ line_allowed ByteStr blanks s h = h
 line_allowed CStr blanks s h = h
 line_allowed kind blanks s h = absurd (cc)
 
--- One more character or escape before a sequence.
+-- If a character or escape may end before the text of a sequence, each escaped line end of the longer sequence includes all white
+-- space after it.
 pub blanks_cons : (u : StrictUnit) (us : List StrictUnit) → MayEnd u (flat_map strict_text us) → BlanksEnd us
     → BlanksEnd (u ∷ us)
 blanks_cons (LineBreak blanks) us m b = (m, b)
@@ -54,7 +55,8 @@ IsByteKind _ = ⊥
 
 -- ---- a character or escape
 
--- The character or escape of Rust's grammar with the text and the value of one of `syn`'s, and with an equal end.
+-- The character or escape of Rust's grammar with the text and the value of one of `syn`'s grammar. It may end before each text
+-- before which that one may end.
 record Same (k : Kind) (u : QuotedUnit) : Type 0 where
   unit : StrictUnit
   is_unit : is_strict_unit k unit ≡ true
@@ -117,7 +119,7 @@ unit_same k (Unicode first more) b h n = escape_same k (Unicode first more)
     (unicode_escape k first more (quoted_kind k b) h)
 unit_same k (Continuation c run) b h n = line_same k c run h n
 
--- ---- a sequence of them
+-- ---- sequences of characters and escapes
 
 record SameRow (k : Kind) (us : List QuotedUnit) : Type 0 where
   units : List StrictUnit
@@ -143,9 +145,9 @@ row_same k (u ∷ us) b e c n =
           r.value_is;
     }
 
--- ---- the two forms
+-- ---- byte strings with escapes, and byte literals
 
--- The text between an opening delimiter of two characters and the rest contains no CR.
+-- If a text contains no CR, neither does the part between its first two characters and the text `after`.
 inner_clean : (a b : ℕ) (text inner after : List ℕ) → text ≡ a ∷ b ∷ (inner ++ after) → list_all no_return text ≡ true
     → list_all no_return inner ≡ true
 inner_clean a b text inner after e n =

@@ -4,11 +4,11 @@ use Rattle.std.proofs.Math.Nat.{mul-le-mul_left}
 use Rattle.rl_lenient.specs.Mirrors.NumberAt.{append_digit, capped}
 use Rattle.rl_lenient.proofs.DigitRowLemmas.{append_capped, capped_within}
 
--- One more digit after the last digits, multiplied out.
+-- A number whose last digits get one more digit, multiplied out.
 spread : (w s r v d : ℕ) → w * (s * r) + (v * r + d) ≡ (w * s + v) * r + d
 spread w s r v d = omega arith
 
--- Appending a digit to the last digits appends it to all digits.
+-- If a digit is appended to the last digits of a number, it is appended to all of its digits.
 pub append_last : (s r : ℕ) (m : Option ℕ) (v d : ℕ) → 1 ≤ r → append_digit (s * r) m (v * r + d)
     ≡ append_digit r (append_digit s m v) d
 append_last s r None v d h = refl

@@ -8,13 +8,14 @@ pub passes_more : (test : ℕ → Bool) (a b : List ℕ) → first_passes test a
 passes_more test [] b h = absurd (cc)
 passes_more test (c ∷ cs) b h = h
 
--- A text with an equal start and an equal next character begins like the text.
+-- If a text doesn't begin with a character that passes the test, neither does a text with the same start `front` and the same
+-- next character.
 pub goes_on : (test : ℕ → Bool) (front rest t : List ℕ) (c : ℕ) (cs e : List ℕ) → t ≡ front ++ rest → rest ≡ c ∷ cs
     → first_passes test t ≡ false → first_passes test (front ++ (c ∷ e)) ≡ false
 goes_on test [] rest t c cs e a b k = sym (ap (first_passes test) (a ∙ b)) ∙ k
 goes_on test (x ∷ xs) rest t c cs e a b k = sym (ap (first_passes test) a) ∙ k
 
--- The start of a text begins like the text, or is empty.
+-- If a text doesn't begin with a character that passes the test, neither does the start `front` of the text.
 pub front_passes : (test : ℕ → Bool) (front rest t : List ℕ) → t ≡ front ++ rest → first_passes test t ≡ false
     → first_passes test front ≡ false
 front_passes test [] rest t e h = refl

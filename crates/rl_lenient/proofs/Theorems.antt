@@ -1,5 +1,5 @@
 -- The laws of src/laws.rt, as lemmas that callers can cite.
-use Rattle.rl_lenient.specs.Laws.{BytesWithoutReturnsAreStrict, SegmentsMakeTheLiteral, UnitsAreOneSegment, ThePlacesOfBytesAreInOrder, TheOffsetsOfBytesAreInTheBody, AMinusBeforeBytesIsOneCharacter, ATakenLiteralIsRead, AFoundLiteralReads}
+use Rattle.rl_lenient.specs.Laws.{BytesWithoutReturnsAreStrict, SegmentsMakeTheLiteral, ASegmentHasOneValue, ThePlacesOfBytesAreInOrder, TheOffsetsOfBytesAreInTheBody, DecodingKeepsALeadingMinus, ATakenLiteralIsRead, AFoundLiteralReads}
 use Rattle.rl_lenient.proofs.StrictBytesLemmas.{bytes_are_strict}
 use Rattle.rl_lenient.proofs.SegmentLawLemmas.{all_make, keep_order, stands_in}
 use Rattle.rl_lenient.proofs.SegmentValues.{one_segment}
@@ -12,8 +12,8 @@ bytes_without_returns_are_strict = bytes_are_strict
 pub segments_make_the_literal : SegmentsMakeTheLiteral
 segments_make_the_literal = all_make
 
-pub units_are_one_segment : UnitsAreOneSegment
-units_are_one_segment = one_segment
+pub a_segment_has_one_value : ASegmentHasOneValue
+a_segment_has_one_value = one_segment
 
 pub the_places_of_bytes_are_in_order : ThePlacesOfBytesAreInOrder
 the_places_of_bytes_are_in_order = keep_order
@@ -21,8 +21,8 @@ the_places_of_bytes_are_in_order = keep_order
 pub the_offsets_of_bytes_are_in_the_body : TheOffsetsOfBytesAreInTheBody
 the_offsets_of_bytes_are_in_the_body = stands_in
 
-pub a_minus_before_bytes_is_one_character : AMinusBeforeBytesIsOneCharacter
-a_minus_before_bytes_is_one_character = minus_chars
+pub decoding_keeps_a_leading_minus : DecodingKeepsALeadingMinus
+decoding_keeps_a_leading_minus = minus_chars
 
 pub a_taken_literal_is_read : ATakenLiteralIsRead
 a_taken_literal_is_read = taken_read

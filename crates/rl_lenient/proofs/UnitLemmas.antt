@@ -1,6 +1,6 @@
 -- A text begins with a unit exactly where `unit_at` returns it.
 use Rattle.rl_syntax.proofs.Common.{◌≡◌, ℕ, suc, ◌+◌, ◌*◌, ◌^◌, ◌<◌, ◌≤◌, ◌||◌, ◌&&◌, Bool, true, false, cond, eqb, ltb, List, [], ◌∷◌, ◌++◌, length, Option, Some, None, refl, sym, ap, subst, ◌∙◌, ◌⊎◌, inl, inr, arith, append_assoc, option_and_then, list_all, digit_value, scalar, and_from, and_parts, both_ways, cases_Bool, eqb-true, ltb-true, lt-ltb, ne_eqb, or_cases, or_right}
-use Rattle.rl_lenient.proofs.Names.{IsScalar, pow-suc, Kind, Str, ByteStr, CStr, Byte, Char, Int, Float, BoolKind, first_passes, is_underscore, QuotedUnit, Letter, Plain, CrLf, Named, Hex, Unicode, Continuation, LowerN, LowerR, LowerT, Backslash, Apostrophe, Quote, Zero, letter_value, letter_text, unit_text, unit_value, unicode_value, without_underscores, place_value, content_of, hex_value, is_hex_digit, is_blank, is_line_end, is_string, is_plain, allows_code, may_be_hex, has_unicode, IsUnit, EndsBefore}
+use Rattle.rl_lenient.proofs.Names.{IsScalar, pow-suc, Kind, Str, ByteStr, CStr, Byte, Char, Int, Float, BoolKind, first_passes, is_underscore, QuotedUnit, Letter, Plain, CrLf, Named, Hex, Unicode, Continuation, LowerN, LowerR, LowerT, Backslash, Apostrophe, Quote, Zero, letter_value, letter_text, unit_text, unit_value, unicode_value, without_underscores, place_value, content_of, hex_value, is_hex_digit, is_blank, is_line_end, is_string, is_plain, allows_code, may_be_hex, allows_unicode_escapes, IsUnit, EndsBefore}
 use Rattle.std.proofs.lemmas.Bool.Decides.{eqb_tells}
 use Rattle.rl_lenient.specs.Mirrors.UnitAt.{found, number_if, named_of, named_in, named_at, digit_at, hex_at, brace_at, unicode_at, after_blanks, escape_at, line_feed_at, unit_at}
 use Rattle.rl_lenient.proofs.CodeDigitLemmas.{unicode_digits_at, unicode_is, digit_apart}
@@ -231,9 +231,9 @@ value_first : (first : ℕ) (more : List ℕ) → is_hex_digit first ≡ true �
 value_first first more h = ap (place_value 16) (sym (kept_digit first more (digit_apart first 95 h refl)))
 
 unicode_built : (kind : Kind) (t b d r : List ℕ) (c v w : ℕ) → t ≡ 123 ∷ b → b ≡ c ∷ d → is_hex_digit c ≡ true → v
-    ≡ digit_value c → Digits v 1 d w r → (has_unicode kind && allows_code kind w) ≡ true → UnicodeAt kind t w r
+    ≡ digit_value c → Digits v 1 d w r → (allows_unicode_escapes kind && allows_code kind w) ≡ true → UnicodeAt kind t w r
 unicode_built kind t b d r c v w brace first digit v_is more allowed =
-    let tests = and_parts (has_unicode kind) (allows_code kind w) allowed in
+    let tests = and_parts (allows_unicode_escapes kind) (allows_code kind w) allowed in
     let long = length_on_digit c more.more (digit_apart c 95 digit refl) in
     let fits = more.few in
     let value : w ≡ unicode_value c more.more = more.value_is ∙ ap (λ x. value_on x more.more) v_is
@@ -260,7 +260,7 @@ unicode_sound kind t p h =
     let d = bind_some (digit_at b.0) _ p b.2 in
     let first = digit_sound b.0 d.0 d.1 in
     let e = bind_some (unicode_digits_at d.0.0 1 d.0.1) _ p d.2 in
-    let a = allowed_some (has_unicode kind && allows_code kind e.0.0) e.0 p e.2 in
+    let a = allowed_some (allows_unicode_escapes kind && allows_code kind e.0.0) e.0 p e.2 in
     let fields = some_pair e.0 p a.1 in
     let more = digits_sound d.0.0 1 d.0.1 e.0.0 e.0.1 (omega arith) e.1 in
     let built = unicode_built kind t b.0 d.0.1 e.0.1 first.0 d.0.0 e.0.0 (brace_sound t b.0 b.1) first.1 first.2 first.3
@@ -277,7 +277,7 @@ unicode_complete kind first more r u =
     let digits : unicode_digits_at (digit_value first) 1 (more ++ (125 ∷ r))
     ≡ Some (unicode_value first more, r) = digits_complete (digit_value first) 1 more r u.2 (omega arith)
     (subst IsScalar (sym value) u.4) ∙ ap (λ w. Some (w, r)) value in
-    let has : has_unicode kind ≡ true = u.0 in
+    let has : allows_unicode_escapes kind ≡ true = u.0 in
     let holds : allows_code kind (unicode_value first more) ≡ true = u.5 in
     unicode_is kind (123 ∷ first ∷ (more ++ (125 ∷ r))) ∙ rw (a, digits, has, holds) refl
 
@@ -352,7 +352,7 @@ pub record Begins (kind : Kind) (t v r : List ℕ) : Type 0 where
   pub text_is : t ≡ unit_text unit ++ r
   pub value_is : v ≡ unit_value kind unit
 
--- Literals of each kind may contain every number except 0.
+-- A literal of any kind may contain each character or byte whose number isn't 0.
 pub holds_more : (kind : Kind) (n : ℕ) → eqb n 0 ≡ false → allows_code kind n ≡ true
 holds_more Str n h = refl
 holds_more ByteStr n h = refl

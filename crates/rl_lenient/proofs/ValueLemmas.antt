@@ -152,12 +152,12 @@ minus_sign o place t e =
 value_reads : (t x : List ℕ) (z : ℤ) → HasIntegerValue t x z → (v : Contents) × Reads t Int v x
 value_reads t x z h = (_, within_reads t h.sign h.magnitude x h.reads h.within)
 
-pub unescaped_value : (t : List ℕ) (o : Option ℤ) → IfSome o (λ z. (x : List ℕ) × HasIntegerValue t x z)
+pub value_without_suffix : (t : List ℕ) (o : Option ℤ) → IfSome o (λ z. (x : List ℕ) × HasIntegerValue t x z)
     → ((k : Kind) (v : Contents) (x : List ℕ) → Reads t k v x → x ≡ []) → IfSome o (HasIntegerValue t [])
-unescaped_value t (Some z) h bare =
+value_without_suffix t (Some z) h bare =
     let r = value_reads t h.0 z h.1 in
     subst (λ (y : List ℕ). HasIntegerValue t y z) (bare Int r.0 h.0 r.1) h.1
-unescaped_value t None h bare = tt
+value_without_suffix t None h bare = tt
 
 pub no_bare_value : (t : List ℕ) (o : Option ℤ) → IfNone o ((x : List ℕ) → HasNoValue t x) → IfNone o (HasNoValue t [])
 no_bare_value t (Some z) h = tt

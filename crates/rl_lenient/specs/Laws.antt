@@ -30,8 +30,8 @@ SegmentsMakeTheLiteral =
 
 -- A segment of a literal has one value. Plain characters are text. An escape, and a line end CR LF, is a character, a
 -- byte or nothing, by the literal's kind.
-abbrev pub UnitsAreOneSegment : Type 0
-UnitsAreOneSegment =
+abbrev pub ASegmentHasOneValue : Type 0
+ASegmentHasOneValue =
     (kind : Kind) (units : List QuotedUnit) → AreOneSegment kind units
 
 -- Two bytes of a literal's value come from ranges of the literal's text in the same order: the later byte's range
@@ -50,8 +50,8 @@ TheOffsetsOfBytesAreInTheBody =
     → IsQuotedAt kind text body → OffsetsAreIn kind text body
 
 -- If a minus precedes bytes of UTF-8, their decoded characters are the minus and the characters of the bytes.
-abbrev pub AMinusBeforeBytesIsOneCharacter : Type 0
-AMinusBeforeBytesIsOneCharacter = (bytes : List ℕ) → chars (code "-" ∷ bytes) ≡ code "-" ∷ chars bytes
+abbrev pub DecodingKeepsALeadingMinus : Type 0
+DecodingKeepsALeadingMinus = (bytes : List ℕ) → chars (code "-" ∷ bytes) ≡ code "-" ∷ chars bytes
 
 -- The parse result of a literal that was consumed from tokens is that of the literal's text.
 abbrev pub ATakenLiteralIsRead : Type 0

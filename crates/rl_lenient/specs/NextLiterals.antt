@@ -88,7 +88,8 @@ IsRejected t why =
     ⊎ ((l : Lexeme) × (new : CursorState) × TakesNext t l new
     × (why ≡ token_rejection (form_view l.form)))
 
--- The error of a list is at the start of the cursor's rest, and has its reason.
+-- The error of a list: it is at the start of the cursor's rest, and its kind is the reason why the rest doesn't begin with a
+-- literal.
 pub record RejectsNext (t : CursorState) (r : Rejection) : Type 0 where
   pub reason : IsRejected t r.kind
   pub place : r.at + length t.rest ≡ length t.text

@@ -1,5 +1,5 @@
--- The parts of integer and float literals, without sign and suffix. They are the parts of the trees to which the text
--- is parsed.
+-- The parts of integer and float literals, without sign and suffix. They are fields of the records `IntReads` and `FloatReads`,
+-- which say how a text is parsed.
 use Rattle.std.specs.Prelude.{◌≡◌, ℕ, List, ◌++◌, Option, Some, None}
 use Rattle.rl_syntax.specs.Numbers.{Sign, IntReads, radix, FloatReads, Fraction, NoFraction, Dot, Exponent, NoExponent, Power}
 

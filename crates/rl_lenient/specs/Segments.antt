@@ -136,7 +136,7 @@ unit_segment kind (Hex high low) = number_segment kind (hex_value high low)
 unit_segment kind (Unicode first more) = Char (unicode_value first more)
 unit_segment kind (Continuation line_end run) = Nothing
 
--- The segment is one escape or one line end CR LF, and has its value.
+-- The segment is one escape or one line end CR LF, and `value` is its value.
 pub record IsOtherUnit (kind : Kind) (value : SegmentValue) (units : List QuotedUnit) : Type 0 where
   pub unit : QuotedUnit
   pub are : units ≡ unit ∷ []

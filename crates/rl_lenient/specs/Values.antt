@@ -1,5 +1,5 @@
 -- The value of an integer literal, with its sign.
-use Rattle.std.specs.Prelude.{◌≡◌, ℕ, ◌^◌, ◌≤◌, ◌<◌, ℤ, pos, neg_ℤ, List, [], ◌∷◌, Option, Some, None}
+use Rattle.std.specs.Prelude.{◌≡◌, ℕ, ◌^◌, ◌≤◌, ◌<◌, ℤ, pos, neg_ℤ, List, ◌∷◌, Option, Some, None}
 use Prim.Native.Char.{code}
 use Rattle.rl_syntax.specs.Numbers.{Sign, NoSign, Minus, IntReads, limit}
 use Rattle.rl_lenient.specs.declared.next_literals.NextLiteral.{NextLiteral}

@@ -13,7 +13,7 @@ ghost use Rattle.rl_lenient.specs.Decoded.{piece_bytes};
 ghost use Rattle.rl_lenient.specs.Mirrors.Decodes.{Decodes};
 
 use crate::found::{find, find_float, found_in};
-use crate::units::{Piece, piece_unit, split_plain, unit};
+use crate::units::{Piece, piece_code, split_plain, unit};
 use rl_syntax::Kind;
 use rl_syntax::slice_writer::{put, put_byte, put_char};
 
@@ -113,7 +113,7 @@ fn body_unit(kind: Kind, body: &str) -> u32
     let Some((piece, _)) = unit(kind, body) else {
         unreachable!()
     };
-    piece_unit(kind, piece)
+    piece_code(kind, piece)
 }
 
 /// Returns the value of the byte literal `text`. The text must be a byte literal: [`shape`](crate::shape) returns the

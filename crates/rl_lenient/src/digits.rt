@@ -9,7 +9,7 @@ ghost use Rattle.rl_syntax.specs.Numbers.{float_digits};
 ghost use Rattle.rl_lenient.specs.Mirrors.PlainAt.{is_plain_digits, is_plain_float, is_plain_integer};
 
 use crate::digit_runs::after_minus;
-use rl_syntax::scan::{Marks, next_mark};
+use rl_syntax::scan::{Marks, split_after_mark};
 use rl_syntax::slice_writer::{put_byte, put_char};
 use rl_syntax::text::split_char;
 
@@ -58,7 +58,7 @@ pub fn is_plain_integer(body: &str) -> bool
 pub(crate) fn is_plain_float(numeral: &str) -> bool
     ensures { result ≡ is_plain_float (chars numeral.now) }
 {
-    match next_mark(CHANGED, numeral) {
+    match split_after_mark(CHANGED, numeral) {
         Some(_) => false,
         None => true,
     }

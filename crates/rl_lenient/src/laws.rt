@@ -1,6 +1,6 @@
 //! Laws of the definitions of `syn`'s grammar of literals. Each function does nothing, and its contract is the law.
 
-ghost use Rattle.rl_lenient.specs.Laws.{BytesWithoutReturnsAreStrict, SegmentsMakeTheLiteral, UnitsAreOneSegment, ThePlacesOfBytesAreInOrder, TheOffsetsOfBytesAreInTheBody, AMinusBeforeBytesIsOneCharacter, ATakenLiteralIsRead, AFoundLiteralReads};
+ghost use Rattle.rl_lenient.specs.Laws.{BytesWithoutReturnsAreStrict, SegmentsMakeTheLiteral, ASegmentHasOneValue, ThePlacesOfBytesAreInOrder, TheOffsetsOfBytesAreInTheBody, DecodingKeepsALeadingMinus, ATakenLiteralIsRead, AFoundLiteralReads};
 ghost use Rattle.rl_lenient.specs.PartLaws.{AnIntegerHasOneBase, AFloatHasOneOfEachPart};
 
 /// By `syn`'s grammar, a text without CR is a byte literal, or a byte string literal that isn't raw, with an empty
@@ -17,8 +17,8 @@ pub fn segments_make_the_literal()
 
 /// A segment of a literal has one value. Plain characters are text. An escape, and a line end CR LF, is a character, a
 /// byte or nothing, by the literal's kind.
-pub fn units_are_one_segment()
-    ensures { UnitsAreOneSegment }
+pub fn a_segment_has_one_value()
+    ensures { ASegmentHasOneValue }
 {}
 
 /// Two bytes of a literal's value come from ranges of the literal's text in the same order: the later byte's range
@@ -36,8 +36,8 @@ pub fn offsets_are_in_the_body()
 {}
 
 /// If a minus precedes bytes of UTF-8, their decoded characters are the minus and the characters of the bytes.
-pub fn a_minus_before_bytes_is_one_character()
-    ensures { AMinusBeforeBytesIsOneCharacter }
+pub fn decoding_keeps_a_leading_minus()
+    ensures { DecodingKeepsALeadingMinus }
 {}
 
 /// The parse result of a literal that [`next_literal`](crate::next_literal) returns is that of the literal's text.

@@ -14,7 +14,7 @@ ghost use Rattle.rl_syntax.specs.Reading.{HasNoReading};
 ghost use Rattle.rl_syntax.specs.Classes.{after_run, is_hash};
 
 use crate::found::{Body, Found};
-use crate::units::{is_ascii, piece_unit, split_plain, unit};
+use crate::units::{is_ascii, piece_code, split_plain, unit};
 use rl_syntax::Kind;
 use rl_syntax::classes::skip_hashes;
 use rl_syntax::text::{after_prefix, before, split_ascii};
@@ -268,7 +268,7 @@ pub(crate) fn find_single(kind: Kind, text: &str, inside: &str) -> Option<Found>
     let (piece, closer) = unit(kind, inside)?;
     let suffix = after_quote(Kind::Char, closer)?;
     let body = places(text, inside, closer, suffix, false);
-    Some(quoted(kind, body, piece_unit(kind, piece)))
+    Some(quoted(kind, body, piece_code(kind, piece)))
 }
 
 /// Whether the text begins with `'`, and has the three bytes that a character literal has at least.

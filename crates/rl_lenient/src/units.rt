@@ -3,8 +3,8 @@
 ghost use Rattle.std.specs.Prelude.{◌≡◌, ◌<◌, ◌≤◌, ◌∷◌, [], ℕ, length, option_map, IfSome, IsTrue, IsFalse, ◌+◌, ◌++◌, drop, map, ◌≢◌, List, not, IfNone};
 ghost use Rattle.std.specs.Str.{chars, IsCharBoundary};
 ghost use Rattle.rl_syntax.specs.Texts.{begins_char, first_passes, IsTail, code};
-ghost use Rattle.rl_syntax.specs.Quoted.{holds_characters, is_plain, is_single, allows_code, may_be_hex, has_unicode, is_string};
-ghost use Rattle.rl_syntax.specs.Strict.{is_bare_character};
+ghost use Rattle.rl_syntax.specs.Quoted.{holds_characters, is_plain, is_single, allows_code, may_be_hex, allows_unicode_escapes, is_string};
+ghost use Rattle.rl_syntax.specs.Strict.{is_allowed_in_single_quotes};
 ghost use Rattle.rl_lenient.specs.Bodies.{IsUnitValue};
 ghost use Rattle.rl_lenient.specs.Mirrors.UnitAt.{piece_value, is_character, is_character_at, IsHeldBy, named_in, digit_at, hex_at, code_digits, code_digits_at, first_code_digits_at, closed_at, unicode_at, after_blanks, escape_at, unit_at};
 ghost use Rattle.std.specs.Char.{is_ascii};
@@ -36,7 +36,7 @@ pub enum Piece {
 
 /// Returns the number of the character or byte `piece`, the only one of a character or byte literal.
 #[inline(always)]
-pub fn piece_unit(kind: Kind, piece: Piece) -> u32
+pub fn piece_code(kind: Kind, piece: Piece) -> u32
     requires single { IsTrue (is_single kind) }
     requires one { (n : ℕ) × (piece_value kind piece ≡ n ∷ []) }
     ensures { IsUnitValue kind (piece_value kind piece) result }
@@ -51,8 +51,8 @@ pub fn piece_unit(kind: Kind, piece: Piece) -> u32
 /// Returns `true` if a literal between single quotes may contain the character unescaped: each character except `'`,
 /// the backslash, LF, CR and TAB. Byte literals have this rule in `syn`'s and in Rust's grammar, and character literals
 /// in Rust's grammar alone.
-pub fn is_bare_character(c: char) -> bool
-    ensures { result ≡ is_bare_character c }
+pub fn is_allowed_in_single_quotes(c: char) -> bool
+    ensures { result ≡ is_allowed_in_single_quotes c }
 {
     !matches!(c, '\'' | '\\' | '\n' | '\r' | '\t')
 }
@@ -66,7 +66,7 @@ pub fn is_plain(kind: Kind, c: char) -> bool
         Kind::ByteStr => c.is_ascii() && !matches!(c, '"' | '\\' | '\r'),
         Kind::CStr => !matches!(c, '"' | '\\' | '\r' | '\0'),
         Kind::Char => c != '\\',
-        Kind::Byte => c.is_ascii() && is_bare_character(c),
+        Kind::Byte => c.is_ascii() && is_allowed_in_single_quotes(c),
         Kind::Int | Kind::Float | Kind::Bool => false,
     }
 }
@@ -88,8 +88,8 @@ fn may_be_hex(kind: Kind, code: u32) -> bool
 }
 
 /// Returns `true` if literals of the kind may contain escapes `\u{..}`: all kinds except byte strings and bytes.
-pub fn has_unicode(kind: Kind) -> bool
-    ensures { result ≡ has_unicode kind }
+pub fn allows_unicode_escapes(kind: Kind) -> bool
+    ensures { result ≡ allows_unicode_escapes kind }
 {
     !matches!(kind, Kind::ByteStr | Kind::Byte)
 }
@@ -261,7 +261,7 @@ fn unicode_escape(kind: Kind, text: &str, at: usize) -> Option<(char, usize)>
         return None;
     };
     let (c, after) = closed_code(text, code_digits(text, inside)?)?;
-    if has_unicode(kind) && allows_code(kind, c as u32) {
+    if allows_unicode_escapes(kind) && allows_code(kind, c as u32) {
         Some((c, after))
     } else {
         None

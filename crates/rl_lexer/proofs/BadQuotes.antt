@@ -388,7 +388,7 @@ bare_other (c ∷ t) h =
     (cond (is_start c) (option_and_then after_closing (after_any_name (c ∷ t))) (after_other (c ∷ t)))) q.0
     ∙ ap (λ b. cond b (option_and_then after_closing (after_any_name (c ∷ t))) (after_other (c ∷ t))) q.1
 
--- A text that begins neither with an identifier or a number nor with an escape doesn't begin with an escape.
+-- If a text's first character fails the test `begins_word_or_escape`, it fails the test `begins_escape`.
 no_escape : (t : List ℕ) → first_passes begins_word_or_escape t ≡ false → first_passes begins_escape t ≡ false
 no_escape [] h = refl
 no_escape (c ∷ t) h = (or_parts (begins_escape c) (is_ascii_digit c || is_start c) h).0

@@ -129,7 +129,7 @@ run_inside m s i n e l = omega (
   length-drop i s,
 )
 
--- ---- lines
+-- ---- line comments
 
 pub one_line : (m : Marks) (s : List ℕ) → m.first ≡ 10 → list_all (is_other m) s ≡ true → OneLine s
 one_line m [] is h = refl
@@ -156,7 +156,7 @@ line_open m s is h = chars_nil ∙ sym (after_line-open s (one_line m s (ap (λ 
 pub nothing_tail : (t : List ℕ) → IsTail t []
 nothing_tail t = record { front = t; text_is = sym (append-nil t); is_text = IsUtf8-nil }
 
--- The text after the first LF, or an empty text if there is no LF.
+-- The rest that the code returns, after the first LF or empty without one, is the text after the line.
 pub line_rest : (s : List ℕ) (found : Option (Bor (List ℕ))) (none rest : Bor (List ℕ))
     → IfSome found (λ r. IsNextMark line_ends (chars s) 10 (chars r.now))
     → IfNone found (list_all (is_other line_ends) (chars s) ≡ true) → IfSome found (λ r. IsTail s r.now)

@@ -52,7 +52,7 @@ reach_comment (c ∷ t) u r is h = go (c == 47) (c == 42) refl refl is
     go false true e f is = subst (λ (k : ℕ). Reaches (47 ∷ k ∷ t) r) (sym (is_equal c 42 f)) (reach_block t u r is h)
     go false false e f is = absurd (none-some u is)
 
--- If neither a doc comment nor a plain comment begins at a slash, no plain one does.
+-- If `after_any_comment` finds neither a doc comment nor a plain one after a slash, `after_comment` finds no plain one.
 pub no_comment : (t : List ℕ) → after_any_comment t ≡ None → after_comment t ≡ None
 no_comment [] none = refl
 no_comment (c ∷ t) none = go (c == 47) (c == 42) (is_comment_block t) refl refl refl none

@@ -44,7 +44,7 @@ token_len : {text rest following token : List ℕ} {form : LexemeForm} {lo hi : 
 token_len {rest = rest} {following = following} {token = token} at = omega
     (arith, at.lo_place, at.hi_place, ap length at.rest_is, length-append token following)
 
--- The token's text is the part of the rest before the text after it.
+-- The token's text is the part of the rest before the text `following`.
 token_at : (text rest following token : List ℕ) (form : LexemeForm) → IsTail text rest → IsTail rest following
     → FormBefore (chars rest) form (chars following) → IsUtf8 token → token
     ≡ slice_range rest 0 (length rest - length following) → TokenAt text rest following token form

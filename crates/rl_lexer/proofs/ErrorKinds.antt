@@ -17,12 +17,12 @@ use Rattle.rl_lexer.specs.Lexemes.{begins_raw_identifier}
 pub char_len : (t : List ℕ) → IsUtf8 t → byte_len (chars t) ≡ length t
 char_len t is = ap length (encodes-chars t is)
 
--- The byte offset of the rest, by bytes and by characters.
+-- The byte offset of the rest, computed from the bytes of the text, is also the one computed from its characters.
 pub rest_place : (text rest : List ℕ) (at : ℕ) → IsUtf8 text → IsUtf8 rest → at + length rest ≡ length text
     → at + byte_len (chars rest) ≡ byte_len (chars text)
 rest_place text rest at is is_rest place = omega (arith, char_len text is, char_len rest is_rest, place)
 
--- The kind of the error at a rest that begins with no lexeme.
+-- If a rest isn't empty and begins with no lexeme, it has the error that `error_kind` returns.
 kind_here : (groups : List OpenGroup) (r : List ℕ) → r ≢ [] → BeginsNoLexeme r → ErrorAt (error_kind r) groups r
 kind_here groups r some none =
     go (begins_doc_comment r) (begins (codes "/*") r) (begins_quote r) (begins_lifetime r) (begins_raw_identifier r)

@@ -1,5 +1,5 @@
--- Theorems on single lexemes: at most one begins a text, and one other than a punctuation character is one before any
--- separator too.
+-- Theorems on single lexemes: a text begins with at most one lexeme, and a lexeme other than a punctuation character stays a
+-- lexeme if a separator follows it.
 use Rattle.rl_syntax.proofs.Common.{IsTrue, ⊤}
 use Rattle.std.specs.Prelude.{◌≡◌, ◌||◌, ◌==◌, ℕ, List, [], ◌∷◌, ◌++◌}
 use Rattle.rl_syntax.specs.Texts.{is_white}

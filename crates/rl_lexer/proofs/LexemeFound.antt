@@ -296,7 +296,7 @@ head_fact c true h = start_fact c h (c == 98) (c == 99) (c == 114) refl refl ref
 head_fact c false h = other_fact c (is_among delimiters c) (c == 47) (is_punct c) (is_ascii_digit c) (c == 34) (c == 39)
     refl refl refl refl refl refl
 
--- A lexeme that begins with a given character.
+-- If the characters `c` and `k` are equal, a lexeme that begins the text of `k` and `t` also begins the text of `c` and `t`.
 at_head : (c k : ℕ) (t : List ℕ) (p : LexemeForm × List ℕ) → c ≡ k → Found (k ∷ t) p → Found (c ∷ t) p
 at_head c k t p h (l, is, same, form) = (l, is, ap (λ x. x ∷ t) h ∙ same, form)
 
@@ -379,7 +379,8 @@ word_found c t p is other h =
 none3 : (p q r : Bool) → p ≡ false → q ≡ false → r ≡ false → (p || (q || r)) ≡ false
 none3 p q r a b d = ap (λ x. x || (q || r)) a ∙ ap (λ x. x || r) b ∙ d
 
--- A literal with a prefix of one character, which the character k follows.
+-- If `k` is the first character of `t`, a lexeme that begins the text of `c`, `k` and the rest of `t` begins the text of `c` and
+-- `t`.
 after_prefix : (c k : ℕ) (t : List ℕ) (p : LexemeForm × List ℕ) → begins_char k t ≡ true
     → Found (c ∷ k ∷ drop 1 t) p → Found (c ∷ t) p
 after_prefix c k t p e found = subst (λ (s : List ℕ). Found (c ∷ s) p) (sym (prefixed k t e)) found

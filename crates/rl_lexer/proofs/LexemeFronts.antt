@@ -12,7 +12,7 @@ use Rattle.rl_lexer.proofs.LexemeRows.{not_true, run_past, suffix_past, quote_pa
 use Rattle.rl_lexer.proofs.HashLemmas.{hashes_count, hashes_past}
 use Rattle.rl_lexer.proofs.LexemeOpeners.{raw_opens_here, exponent_past, no_otherwise}
 
--- The class of a character that doesn't begin an identifier.
+-- If a character doesn't begin an identifier, `other_class` returns its class.
 pub class_other : (c : ℕ) → is_start c ≡ false → head_class c ≡ other_class c
 class_other c h = ap (λ b. cond b (start_class c) (other_class c)) h
 
@@ -61,7 +61,7 @@ tail_slash c = cond (is_punct c) MarkHead (tail_punct c)
 abbrev pub after_delimiter : ℕ → HeadClass
 after_delimiter c = cond (c == 47) SlashHead (tail_slash c)
 
--- A character in no other class is a stray.
+-- A character in no other class is in the class of stray characters.
 pub stray_class : (c : ℕ) → is_start c ≡ false → is_among delimiters c ≡ false → (c == 47) ≡ false → is_among marks c
     ≡ false → is_ascii_digit c ≡ false → (c == 34) ≡ false → (c == 39) ≡ false → head_class c ≡ StrayHead
 stray_class c start delimiter slash mark digit quote apostrophe =
@@ -91,7 +91,7 @@ class99 = class_start 99 (start_ascii 99 (lit< tt))
 pub class114 : head_class 114 ≡ LetterRHead
 class114 = class_start 114 (start_ascii 114 (lit< tt))
 
--- The text after a string literal with escapes.
+-- After a string literal with escapes, `quoted_at` returns the text after the literal and its suffix.
 quoted_past : (parts : List BodyPart) (x t : List ℕ) → IsBody parts → IsLexedSuffix x t
     → quoted_at (body_text parts ++ 34 ∷ x ++ t) ≡ Some t
 quoted_past parts x t is suffix =
@@ -121,7 +121,7 @@ front_character false inside x t is suffix = at_class 39 (character_body_text in
 front_character true inside x t is suffix = at_class 98 (39 ∷ (character_body_text inside ++ 39 ∷ x ++ t)) LetterBHead
     class98 ∙ ap literal_at (single_front inside x t is suffix)
 
--- Delimiters and punctuation characters.
+-- If a list contains no delimiter, a character of the list isn't a delimiter.
 not_delimiter : (codes : List ℕ) (c : ℕ) → list_all (λ k. not (is_among delimiters k)) codes ≡ true → is_among codes c
     ≡ true → is_among delimiters c ≡ false
 not_delimiter codes c all is = not_true (is_among delimiters c)
@@ -145,7 +145,7 @@ front_mark c t (inl is) =
     ∙ ap (λ b. cond (b || c == 47) MarkHead (tail_punct c)) is)
 front_mark c t (inr (e, h)) = ap (λ x. lexeme_at (x ∷ t)) e ∙ front_slash t h ∙ ap (λ x. Some (MarkForm x, t)) (sym e)
 
--- The text of a raw literal and the text after it.
+-- The text of a raw literal, with a text after it, is the literal's parts and that text, joined from the right.
 pub raw_text : (n : ℕ) (body x t : List ℕ) → (((replicate n 35 ++ (34 ∷ body)) ++ (34 ∷ replicate n 35)) ++ x) ++ t
     ≡ replicate n 35 ++ (34 ∷ (body ++ (34 ∷ (replicate n 35 ++ (x ++ t)))))
 raw_text n body x t = simp append_assoc
@@ -182,7 +182,7 @@ front_raw CPrefix n body x t is suffix =
     ∙ raw_chosen u (word_at (114 ∷ u)) t (raw_opens_here n (body ++ 34 ∷ (replicate n 35 ++ (x ++ t))))
     (raw_front n body x t is suffix)
 
--- The text after a number with a prefix.
+-- After a number with a prefix, `lexeme_at` returns the text after the number.
 front_based : (letter : ℕ) (digits t : List ℕ) → IsTrue (is_base_letter letter) → IsRun is_continue digits t
     → lexeme_at (48 ∷ letter ∷ digits ++ t) ≡ Some (LiteralForm, t)
 front_based letter digits t is run =

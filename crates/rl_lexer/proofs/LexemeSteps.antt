@@ -19,7 +19,7 @@ quote_passes s t c e a b =
     go (e ∷ t) p q = ap (λ x. cond x (Some (e ∷ t)) (cond (c == 92) (after_quote t) (after_quote (e ∷ t)))) p
         ∙ ap (λ x. cond x (after_quote t) (after_quote (e ∷ t))) q
 
--- ---- by the next delimiter
+-- ---- the end of a literal, found by the next delimiter in its text
 
 quote_over : (m : Marks) (run s : List ℕ) → m.first ≡ 34 → m.second ≡ 92 → list_all (is_other m) run ≡ true
     → after_quote (run ++ s) ≡ after_quote s

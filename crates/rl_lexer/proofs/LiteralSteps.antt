@@ -21,7 +21,7 @@ all_join : (vs ws : List CutSource) → AllByRecursion IsOtherToken vs → AllBy
 all_join [] ws each more = more
 all_join (v ∷ vs) ws each more = (each.0, all_join vs ws each.1 more)
 
--- ---- by the characters of the rest
+-- ---- texts between which there are only tokens that aren't literals
 
 pub holds_start : (t : List ℕ) → HasOnlyOtherTokens t t
 holds_start t = record {
@@ -41,7 +41,7 @@ holds_join t u r p q = record {
       (q.goes_on whole (done ++ p.cuts whole) (omega (arith, p.within, long)) (p.goes_on whole done long cut));
 }
 
--- One token that isn't a literal leads from a text to the text after it.
+-- If a text begins with a token that isn't a literal, that token is the only one between the text and the text after the token.
 pub holds_one : (t after r : List ℕ) (kind : SourceKind) (token : SourceBefore t kind after)
     → (IsLiteralText kind (source_text token.token) → ⊥) → Skipped after r → byte_len r ≤ byte_len after
     → HasOnlyOtherTokens t r
@@ -82,14 +82,16 @@ reach_end t r skipped = record { start = r; skipped = skipped; holds = holds_sta
 pub reach_white : (c : ℕ) (t r : List ℕ) → is_white c ≡ true → Reaches t r → Reaches (c ∷ t) r
 reach_white c t r white h = record { start = h.start; skipped = skipped_after (c ∷ t) t h.start (after_piece-past (White c) t white) h.skipped; holds = h.holds }
 
--- White space or a plain comment leads from a text to the text after it.
+-- If a text begins with white space or a plain comment, and only tokens other than literals follow up to `r`, this also holds for
+-- the whole text.
 pub reach_piece : (t u r : List ℕ) → after_piece t ≡ Some u → Reaches u r → Reaches t r
 reach_piece t u r piece h = record { start = h.start; skipped = skipped_after t u h.start piece h.skipped; holds = h.holds }
 
 pub reach_run : (t u r : List ℕ) → u ≡ after_run is_white t → Reaches u r → Reaches t r
 reach_run t u r run h = record { start = h.start; skipped = skipped_run t u h.start run h.skipped; holds = h.holds }
 
--- A token that isn't a literal, at a text that begins with neither white space nor a comment.
+-- If a text begins with a token that isn't a literal, and only tokens other than literals follow up to `r`, this also holds for
+-- the whole text. The text begins with neither white space nor a comment.
 pub reach_first : (t after r : List ℕ) (kind : SourceKind) → after_piece t ≡ None
     → (token : SourceBefore t kind after) → (IsLiteralText kind (source_text token.token) → ⊥) → Reaches after r
     → Reaches t r
@@ -106,7 +108,7 @@ pub reach_token : (c : ℕ) (t after r : List ℕ) (kind : SourceKind) → (c ==
 reach_token c t after r kind slash white token other h = reach_first (c ∷ t) after r kind (rw (slash, white) refl) token
     other h
 
--- ---- by the cursor
+-- ---- states of the cursor between which there are only tokens that aren't literals
 
 pub passes_held : (text left rest : List ℕ) → IsCursorState text left → IsTail left rest
     → HasOnlyOtherTokens (chars left) (chars rest) → PassesTo (record { text = text; rest = left })
@@ -142,7 +144,7 @@ pub passed_join : (a b d : CursorState) → Passed a b → PassesTo b d → Pass
 passed_join a b d (inl same) q = subst (λ z. PassesTo z d) same q
 passed_join a b d (inr p) q = passes_join a b d p q
 
--- A token that isn't a literal was consumed.
+-- If the consumed token isn't a literal by its form and text in the code, it isn't one in the definitions.
 is_no_literal : (old new : CursorState) (l : SourceToken) → (t : TakesSource old l new)
     → (IsLiteralText (source_view l.form) (chars l.text.now) → ⊥) → IsOtherToken t.cut
 is_no_literal old new l t other = λ is. other (subst (λ z. IsLiteralText z (chars l.text.now)) t.is_cut.kind_is

@@ -5,7 +5,7 @@ use Rattle.rl_syntax.specs.declared.kind.Kind.{Kind}
 use Rattle.rl_syntax.specs.declared.kind.Kind.TheVariants.{Str, ByteStr, CStr, Byte, Char}
 use Rattle.rl_lexer.specs.Lexemes.{LiteralPrefix, NoPrefix, BytePrefix, CPrefix, prefix_text, BodyPart, PlainPart, EscapedPart, body_text, IsBody, CharacterBody, OneCharacter, EscapedCharacter, character_body_text, IsCharacterBody, begins_hashes, IsRawBody, QuotedLexeme, CharacterLexeme, lexeme_text}
 use Rattle.rl_syntax.specs.Reading.{Contents}
-use Rattle.rl_syntax.specs.Strict.{StrictUnit, Itself, QuoteEscape, PlainEscape, AsciiEscape, ByteEscape, UnicodeEscape, LineBreak, spaced_digit, spaced_value, strict_text, is_octal, is_unicode_escape, is_bare_character, is_bare_in_string, is_strict_unit, strict_opener, strict_closer, HasUnits, StrictCooked}
+use Rattle.rl_syntax.specs.Strict.{StrictUnit, Itself, QuoteEscape, PlainEscape, AsciiEscape, ByteEscape, UnicodeEscape, LineBreak, spaced_digit, spaced_value, strict_text, is_octal, is_unicode_escape, is_allowed_in_single_quotes, is_bare_in_string, is_strict_unit, strict_opener, strict_closer, HasUnits, StrictCooked}
 use Rattle.rl_syntax.specs.Texts.{is_dropped_blank}
 use Rattle.rl_lexer.proofs.HashLemmas.{hashes_split}
 use Rattle.rl_syntax.proofs.Basics.{false_unless, apart, all_weaker, hex_is_sixteen}
@@ -233,7 +233,7 @@ pub character_kind : SingleKind Char
 character_kind = record { bare = bare_not_backslash; line = λ blanks h. absurd (cc); is_byte = false; opens_is = refl; ends_is = refl; one = λ us h. h }
 
 pub byte_kind : SingleKind Byte
-byte_kind = record { bare = λ c h. bare_not_backslash c (and_parts (nat_lt c 128) (is_bare_character c) h).1; line = λ blanks h. absurd (cc); is_byte = true; opens_is = refl; ends_is = refl; one = λ us h. h }
+byte_kind = record { bare = λ c h. bare_not_backslash c (and_parts (nat_lt c 128) (is_allowed_in_single_quotes c) h).1; line = λ blanks h. absurd (cc); is_byte = true; opens_is = refl; ends_is = refl; one = λ us h. h }
 
 -- The text between the quotes of a character or byte literal, for its one character or escape.
 record Between (s : StrictUnit) : Type 0 where

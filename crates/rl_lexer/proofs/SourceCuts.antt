@@ -18,7 +18,7 @@ use Rattle.rl_lexer.proofs.LexemeOpeners.{quote_begins}
 use Rattle.rl_lexer.proofs.SourceFronts.{proper_source, closed_here}
 use Rattle.rl_syntax.proofs.Rests.{tail_length}
 
--- The source cursor's invariant before any token was consumed.
+-- The source cursor's invariant holds before any token is consumed.
 pub begun : (text front rest : List ℕ) → IsUtf8 text → IsTail text front → IsWithoutPreamble (chars text) (chars front)
     → Skipped (chars front) (chars rest) → IsCutUpTo (chars text) [] (chars rest)
 begun text front rest is following is_front skipped = record {

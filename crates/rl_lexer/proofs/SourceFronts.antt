@@ -247,7 +247,8 @@ true_false : (b : Bool) → b ≡ true → b ≡ false → ⊥
 true_false true h k = absurd (cc)
 true_false false h k = absurd (cc)
 
--- A text that begins neither like a quoted literal nor like a block comment, by both definitions.
+-- If the model `opens` says that a text begins neither like a quoted literal nor like a block comment, the definition `Opens`
+-- says so too.
 pub closed_here : (r : List ℕ) → opens r ≡ false → Opens r → ⊥
 closed_here r h o =
     let e = or_parts (begins (codes "/*") r) (begins_quote r || begins_char 39 r) h in
@@ -270,7 +271,7 @@ opens_here r none = go (begins (codes "/*") r) (begins_quote r) (begins_char 39 
     go false false true p q s = absurd (none (inr (inl s)))
     go false false false p q s = refl
 
--- ---- by the definitions
+-- ---- the results of the models, in terms of the definitions
 
 pub plain_before : (t r : List ℕ) (form : LexemeForm) → FormBefore t form r → SourceBefore t (PlainKind form) r
 plain_before t r form is = record { token = PlainToken is.lexeme; is_source = is.is_lexeme; text_is = is.text_is; kind_is = ap PlainKind is.form_is }

@@ -12,7 +12,7 @@ use Rattle.rl_lexer.specs.Mirrors.LexemeAt.{StrayHead, LetterBHead, LetterCHead,
 use Rattle.rl_lexer.specs.Mirrors.SourceAt.{after_bad_quote, any_at, of_kind, opens, or_stray, other_at}
 use Rattle.rl_syntax.specs.Mirrors.RunsAt.{is_word_byte}
 use Rattle.rl_lexer.specs.Mirrors.LiteralsAt.{HasOnlyOtherTokens, Reaches, past_word}
-use Rattle.rl_syntax.specs.Mirrors.UnlikelyAt.{is_likely_mark, is_likely_head, goes_on_likely, may_begin, begins_none, first_or, unlikely_after, unlikely_len, last_of, byte_before}
+use Rattle.rl_syntax.specs.Mirrors.UnlikelyAt.{is_likely_mark, is_likely_head, goes_on_likely, may_begin, begins_none, first_or, unlikely_after, skippable_len, last_of, byte_before}
 use Rattle.rl_syntax.proofs.AsciiRuns.{held_agrees}
 use Rattle.rl_lexer.proofs.LexemeAnswers.{form_before, no_lexeme}
 use Rattle.rl_lexer.proofs.LexemeFronts.{at_class, class_start, class98, class99, class114, stray_class, start_ascii}
@@ -54,9 +54,9 @@ stray_table : (c : ℕ) → c < 128 → stray_here c ≡ true → stray_facts c 
 stray_table c low is = implied (stray_here c) (stray_facts c)
     (agree_below_at (λ k. not (stray_here k) || stray_facts k) (λ _. true) 128 c refl low) is
 
--- ---- the tokens before
+-- ---- characters that begin an identifier, and not a literal
 
--- An identifier whose first two letters are neither those of `true` nor those of `false` is neither.
+-- An identifier whose first two letters are neither those of `true` nor those of `false` is neither of these two words.
 word_no_truth : (c : ℕ) (u after : List ℕ) (token : SourceBefore (c ∷ u) (PlainKind IdentifierForm) after)
     → ((c == 116) && begins_char 114 u) ≡ false → ((c == 102) && begins_char 97 u) ≡ false
     → IsLiteralText (PlainKind IdentifierForm) (source_text token.token) → ⊥
@@ -173,7 +173,7 @@ reach_stray c u r low here white more =
     reach_token c u u r StrayKind (not_true (c == 47) a.0) white
     (any_found (c ∷ u) (StrayKind, u) (no_lexeme (c ∷ u) none) any) (λ is. is) more
 
--- ---- starts in ASCII
+-- ---- single bytes at which neither a literal nor a comment begins
 
 low_of : (p c : ℕ) → is_past (p, c) ≡ true → c < 128
 low_of p c h = go (nat_le 128 c) refl h
@@ -201,7 +201,8 @@ slash_of false true s b h = absurd (cc)
 slash_of false false true b h = absurd (cc)
 slash_of false false false b h = refl
 
--- A character that isn't part of an identifier leads from a text to the text after it.
+-- If a text begins with a character that begins neither an identifier nor a literal nor a comment, and only tokens other than
+-- literals follow up to `r`, this also holds for the whole text.
 reach_other : (c : ℕ) (u r : List ℕ) → c < 128 → is_word_byte c ≡ false → not (is_likely_mark c) ≡ true → Reaches u r
     → Reaches (c ∷ u) r
 reach_other c u r low plain unlikely more = go (is_white c) (is_always_token c) refl refl
@@ -221,7 +222,7 @@ Passes p c u r =
     (c < 128) × (not (is_likely_mark c) ≡ true)
     × (is_word_byte p ≡ false → is_word_byte c ≡ true → Reaches (after_run is_continue u) r → Reaches (c ∷ u) r)
 
--- The facts about a byte at which neither a literal nor a comment begins, where the byte before it shows this.
+-- If the byte before a byte shows that neither a literal nor a comment begins there, the facts `Passes` hold for the byte.
 passes_before : (p c : ℕ) (u r : List ℕ) → is_past (p, c) ≡ true → Passes p c u r
 passes_before p c u r past =
     let parts = parts_of (is_likely_mark c) (is_word_byte p) (is_likely_head c) past in (
@@ -246,7 +247,7 @@ three false true d h = absurd (cc)
 three false false true h = absurd (cc)
 three false false false h = (refl, refl, refl)
 
--- The facts about a byte at which neither a literal nor a comment begins, where the next byte shows this.
+-- If the byte after a byte shows that neither a literal nor a comment begins there, the facts `Passes` hold for the byte.
 passes_letter : (p c next : ℕ) (u r : List ℕ) → Agrees next u → goes_on_likely c next ≡ false → Passes p c u r
 passes_letter p c next u r agrees stops = go (c == 98) (c == 99) (c == 114) (c == 116) (c == 102) refl refl refl refl refl
     stops
@@ -305,7 +306,7 @@ both : (m : Bool) → not (m && true) ≡ true → not m ≡ true
 both true h = absurd (cc)
 both false h = refl
 
--- If neither a literal nor a comment begins at a byte, it is passed.
+-- If neither a literal nor a comment begins at a byte, the facts `Passes` hold for it.
 passes : (p c next : ℕ) (u r : List ℕ) → Agrees next u → begins_none p c next ≡ true → Passes p c u r
 passes p c next u r agrees none = go (goes_on_likely c next) refl none
   where
@@ -313,7 +314,7 @@ passes p c next u r agrees none = go (goes_on_likely c next) refl none
     go true e none = passes_before p c u r (both (may_begin (p, c)) none)
     go false e none = passes_letter p c next u r agrees e
 
--- ---- starts
+-- ---- sequences of bytes at which neither a literal nor a comment begins
 
 -- Neither a literal nor a comment begins at any of the bytes, where `next` is the byte after them.
 abbrev none_in : ℕ → List ℕ → ℕ → Bool
@@ -359,7 +360,7 @@ reach_front p next (c ∷ cs) t r agrees all h = go (reach_front c next cs t r a
         (sym (ap (λ b. cond b (after_run is_continue (c ∷ (cs ++ t))) (c ∷ (cs ++ t))) e))
         (reach_other c (cs ++ t) r facts.0 f facts.1 (here more false f))
 
--- ---- the bytes before
+-- ---- the bytes before the first one at which a literal or a comment may begin
 
 -- The byte after the first n bytes of a list is the next one in the list.
 first_same : (n : ℕ) (bs : List ℕ) → first_or (first_or 0 (drop n bs)) (take n bs) ≡ first_or 0 bs
@@ -417,7 +418,7 @@ get_taken (suc n) [] m h = refl
 get_taken (suc n) (b ∷ bs) zero h = refl
 get_taken (suc n) (b ∷ bs) (suc m) h = get_taken n bs m (omega arith)
 
-pub unlikely-within : (bs : List ℕ) → unlikely_len bs ≤ length bs
+pub unlikely-within : (bs : List ℕ) → skippable_len bs ≤ length bs
 unlikely-within bs = go 0 bs
   where
     go : (p : ℕ) (bs : List ℕ) → unlikely_after p bs ≤ length bs
@@ -428,7 +429,7 @@ unlikely-within bs = go 0 bs
         step true h = omega arith
         step false h = omega arith
 
-pub unlikely-boundary : (bs : List ℕ) (n : ℕ) → IsUtf8 bs → n ≤ unlikely_len bs → IsCharBoundary bs n
+pub unlikely-boundary : (bs : List ℕ) (n : ℕ) → IsUtf8 bs → n ≤ skippable_len bs → IsCharBoundary bs n
 unlikely-boundary bs zero u e = IsCharBoundary-start bs u
 unlikely-boundary bs (suc m) u e =
     let long = unlikely-within bs in
@@ -441,7 +442,7 @@ unlikely-boundary bs (suc m) u e =
 
 -- Between the text's start and the text after the skipped bytes, and after the identifier that continues there, there
 -- are only tokens that aren't literals.
-pub unlikely-reaches : (bs rest : List ℕ) (n : ℕ) (r : List ℕ) → IsUtf8 bs → IsUtf8 rest → n ≤ unlikely_len bs
+pub unlikely-reaches : (bs rest : List ℕ) (n : ℕ) (r : List ℕ) → IsUtf8 bs → IsUtf8 rest → n ≤ skippable_len bs
     → rest ≡ drop n bs → Reaches (past_word (byte_before bs n) (chars rest)) r → Reaches (chars bs) r
 unlikely-reaches bs rest n r u v e cut reaches =
     let front = take n bs in
@@ -456,8 +457,9 @@ unlikely-reaches bs rest n r u v e cut reaches =
     (agrees_bytes rest v) in
     subst (λ (z : List ℕ). Reaches z r) (sym whole) (reach_front 0 next front (chars rest) r agrees all reaches)
 
--- The fact in the form of the contract: with the byte before the text after the skipped bytes.
-pub unlikely-holds : (bs rest past next : List ℕ) (n before : ℕ) → IsUtf8 bs → IsUtf8 rest → n ≤ unlikely_len bs
+-- The lemma `unlikely-reaches` in the form in which the contract states it. `before` is the byte before the text after the
+-- skipped bytes.
+pub unlikely-holds : (bs rest past next : List ℕ) (n before : ℕ) → IsUtf8 bs → IsUtf8 rest → n ≤ skippable_len bs
     → rest ≡ drop n bs → before ≡ byte_before bs n → past ≡ past_word before (chars rest) → Reaches past next
     → HasOnlyOtherTokens (chars bs) next
 unlikely-holds bs rest past next n before u v e cut is word more =

@@ -63,7 +63,7 @@ word_found s t r c e is run =
     word_here s t r c e (at_class c t OtherLetterHead (class_start c parts.1
     ∙ other_letter (c == 98) (c == 99) (c == 114) parts.0)) run
 
--- ---- a letter that may begin a literal, where none follows
+-- ---- a first letter `b`, `c` or `r` that doesn't begin a literal
 
 -- A character from `@` on is neither a quote nor a hash.
 other_than : (d k : ℕ) → k < 64 → nat_le 64 d ≡ true → (d == k) ≡ false

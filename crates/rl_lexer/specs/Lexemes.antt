@@ -1,5 +1,5 @@
--- The lexemes of a text, which are its literals, identifiers, delimiters and punctuation characters. Each is a tree
--- with a text, and is as long as the text after it allows. A character is represented by its code.
+-- The lexemes of a text, which are its literals, identifiers, delimiters and punctuation characters. Each is a value of `Lexeme`,
+-- which has the parts of its text, and is as long as the text after it allows. A character is represented by its code.
 --
 -- Lexemes are the tokens of the Rust Reference, chapters Tokens (sections Literals, Punctuation, Delimiters) and
 -- Identifiers. The text in a literal isn't checked, and doc comments, lifetimes and raw identifiers aren't lexemes.

@@ -55,9 +55,9 @@ source_text (StrayToken c) = c ∷ []
 abbrev pub IsName : ℕ → List ℕ → List ℕ → Type 0
 IsName c more after = IsTrue (is_start c) × IsRun is_continue more after
 
--- The token is well formed, and as long as the text `after` it allows. It is neither an invalid quoted literal nor a
--- stray character. No apostrophe follows a lifetime. A text that begins with `'r#` and an identifier is a raw lifetime,
--- not another one.
+-- The token is well formed, and as long as the text `after` it allows. It is neither an invalid quoted literal nor a stray
+-- character. No apostrophe follows a lifetime. A text that begins with `'r#` and an identifier is a raw lifetime, and not the
+-- lifetime `'r`.
 abbrev pub IsProper : SourceLexeme → List ℕ → Type 0
 IsProper (PlainToken l) after = IsLexeme l after
 IsProper (RawIdentifierToken c more) after = IsName c more after

@@ -11,7 +11,7 @@ pub fn one_lexing()
 
 /// If a text begins with neither a byte order mark nor an interpreter's line, its tokens as a text are also its tokens
 /// as a whole Rust source.
-pub fn sources_hold_lexemes()
+pub fn text_tokens_are_source_tokens()
     ensures { HoldsLexemes }
 {}
 

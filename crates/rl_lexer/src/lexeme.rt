@@ -23,7 +23,7 @@ use quotes::{after_character, after_quoted, after_raw_literal};
 use rl_syntax::characters::is_start;
 use rl_syntax::classes::skip_word;
 use rl_syntax::lanes::has_bit;
-use rl_syntax::text::{begins_with, split_ascii, split_char, strip_byte, without_first};
+use rl_syntax::text::{begins_with_char, split_ascii, split_char, strip_byte, without_first_char};
 pub(crate) use suffix::after_suffix;
 
 /// The form of a token that [`Tokens`](crate::Tokens) returns, which its first characters decide. A token with the form
@@ -173,9 +173,9 @@ fn literal_or_identifier(letter: char, text: &str) -> Option<(Form, &str)>
     ensures following { IfSome result (λ p. IsTail text.now p.1.now) }
 {
     match letter {
-        'b' | 'c' if begins_with(text, '"') => quoted_literal(without_first(text)),
-        'b' if begins_with(text, '\'') => character_literal(without_first(text)),
-        'b' | 'c' if begins_raw_literal(text) => raw_literal(without_first(text)),
+        'b' | 'c' if begins_with_char(text, '"') => quoted_literal(without_first_char(text)),
+        'b' if begins_with_char(text, '\'') => character_literal(without_first_char(text)),
+        'b' | 'c' if begins_raw_literal(text) => raw_literal(without_first_char(text)),
         'r' if begins_hashed_quote(text) => raw_literal(text),
         'r' if begins_marked_identifier(text) => None,
         _ => Some((Form::Identifier, skip_word(text))),
@@ -379,7 +379,7 @@ fn begins_raw_literal(text: &str) -> bool
     ensures { result
         ≡ (begins_char (code "r") (chars text.now) && begins_hashed_quote (drop 1 (chars text.now))) }
 {
-    begins_with(text, 'r') && begins_hashed_quote(without_first(text))
+    begins_with_char(text, 'r') && begins_hashed_quote(without_first_char(text))
 }
 
 /// Whether the text begins with `#` and a character that may begin an identifier.

@@ -12,7 +12,7 @@ use crate::lex_error::LexKind;
 use crate::lexeme::{begins_hashed_quote, begins_marked_identifier};
 use rl_syntax::characters::is_start;
 use rl_syntax::kind::{BYTE_OPENER, BYTE_STR_OPENER, C_STR_OPENER, CHAR_OPENER, STR_OPENER};
-use rl_syntax::text::{begins, begins_with, split_char};
+use rl_syntax::text::{begins, begins_with_char, split_char};
 
 /// Returns the kind of the lexer's error at the start of `rest`, where no token begins. The first characters of `rest`
 /// decide.
@@ -50,7 +50,7 @@ pub fn source_error_kind(rest: &str) -> LexKind
 pub(crate) fn opens(text: &str) -> bool
     ensures { result ≡ opens (chars text.now) }
 {
-    begins(text, "/*") || (begins_quote(text) || begins_with(text, '\''))
+    begins(text, "/*") || (begins_quote(text) || begins_with_char(text, '\''))
 }
 
 fn begins_doc_comment(text: &str) -> bool

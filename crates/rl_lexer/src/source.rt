@@ -22,9 +22,9 @@ use crate::whitespace::{after_block, after_line, is_comment_block, is_comment_li
 use bad_quote::after_bad_quote;
 use rl_syntax::characters::is_start;
 use rl_syntax::classes::{skip_white, skip_word};
-use rl_syntax::lanes::{byte_before, is_word_byte, unlikely_len};
-use rl_syntax::lines::{next_line, split_line};
-use rl_syntax::text::{begins_with, split_ascii, split_char, strip_byte, without_first};
+use rl_syntax::lanes::{byte_before, is_word_byte, skippable_len};
+use rl_syntax::lines::{after_line_feed, split_line};
+use rl_syntax::text::{begins_with_char, split_ascii, split_char, strip_byte, without_first_char};
 
 /// The form of a token that [`Sources`](crate::Sources) returns.
 #[derive(Clone, Copy)]
@@ -73,7 +73,7 @@ pub(crate) fn skip_unlikely(text: &str) -> &str
     ensures shorter { length result.now ≤ length text.now }
 {
     let bytes = text.as_bytes();
-    let at = unlikely_len(bytes);
+    let at = skippable_len(bytes);
     let rest = after_word(byte_before(bytes, at), &text[at..]);
     skip_all_comments(skip_white(rest))
 }
@@ -263,7 +263,7 @@ pub(crate) fn after_first_line(text: &str) -> Option<&str>
     ensures following { IfSome result (λ lines. IsTail text.now lines.now) }
     ensures shorter { IfSome result (λ lines. length lines.now < length text.now) }
 {
-    next_line(text)
+    after_line_feed(text)
 }
 
 /// Returns the text after the identifier at its start, or `None` if it begins with no identifier.
@@ -295,7 +295,7 @@ fn after_any_name(text: &str) -> Option<&str>
     ensures following { IfSome result (λ rest. IsTail text.now rest.now) }
 {
     if begins_raw_identifier(text) {
-        return after_name(without_first(without_first(text)));
+        return after_name(without_first_char(without_first_char(text)));
     }
     after_name(text)
 }
@@ -345,7 +345,7 @@ fn without_line(text: &str) -> &str
     let Some(following) = strip_byte(second, b'!') else {
         return text;
     };
-    if begins_with(skip(following), '[') {
+    if begins_with_char(skip(following), '[') {
         return text;
     }
     line_end(following)

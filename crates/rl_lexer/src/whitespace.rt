@@ -9,9 +9,9 @@ ghost use Rattle.rl_lexer.specs.Mirrors.SkippedAt.{after_line, after_block, afte
 
 use rl_syntax::classes::skip_white;
 use rl_syntax::lanes::byte_at;
-use rl_syntax::lines::next_line;
-use rl_syntax::scan::{Marks, near_len_before};
-use rl_syntax::text::{begins_with, split_ascii, strip_byte};
+use rl_syntax::lines::after_line_feed;
+use rl_syntax::scan::{Marks, len_before_near_mark};
+use rl_syntax::text::{begins_with_char, split_ascii, strip_byte};
 
 /// Returns the text after its leading white space and plain comments, as a slice.
 ///
@@ -91,7 +91,8 @@ pub(crate) fn is_comment_line(body: &str) -> bool
     ensures { result ≡ is_comment_line (chars body.now) }
 {
     match split_ascii(body) {
-        Some((first, following)) => first != b'!' && (first != b'/' || begins_with(following, '/')),
+        Some((first, following)) => first != b'!'
+            && (first != b'/' || begins_with_char(following, '/')),
         None => true,
     }
 }
@@ -105,7 +106,9 @@ pub(crate) fn is_comment_block(inside: &str) -> bool
     match split_ascii(inside) {
         Some((first, following)) => {
             first != b'!'
-                && (first != b'*' || begins_with(following, '/') || begins_with(following, '*'))
+                && (first != b'*'
+                    || begins_with_char(following, '/')
+                    || begins_with_char(following, '*'))
         }
         None => true,
     }
@@ -116,7 +119,7 @@ pub(crate) fn after_line(text: &str) -> &str
     ensures rest { chars result.now ≡ after_line (chars text.now) }
     ensures following { IsTail text.now result.now }
 {
-    next_line(text).unwrap_or("")
+    after_line_feed(text).unwrap_or("")
 }
 
 /// Returns the text after a block comment, where `text` follows its `/*`. Returns `None` if the comment isn't closed.
@@ -147,7 +150,7 @@ pub(crate) fn after_block(text: &str) -> Option<&str>
                 depth += 1;
             }
         } else {
-            at += near_len_before(Marks::two(b'*', b'/'), &bytes[at..]);
+            at += len_before_near_mark(Marks::two(b'*', b'/'), &bytes[at..]);
         }
     }
     None

@@ -1,33 +1,34 @@
 -- Lemmas about the first error of options that contradict each other.
-use Rattle.rl_syntax.proofs.Common.{Bool, List, [], false, true, inl, inr, ◌++◌, ◌∷◌, ◌≡◌}
-use Rattle.rl_options.specs.declared.argument_error.ArgumentError.{ArgumentError}
-use Rattle.rl_options.specs.Wishes.{Wishes}
-use Rattle.rl_options.specs.Clashes.{IsFirstClash, PrintTogether, RestyleTogether, printing_clashes, restyling_clashes}
+use Rattle.rl_syntax.proofs.Common.{Bool, Bor, List, [], ap, ap₂, length-map, map, refl, string_bytes, sym, ◌&&◌, ◌==◌, ◌||◌, ◌∷◌, ◌≡◌, ℕ}
+use Rattle.std.specs.List.{list_any}
+use Rattle.std.specs.Prelude.{String}
+use Rattle.rl_options.specs.declared.command.Command.{Command}
+use Rattle.rl_files.specs.Globs.{borrowed_texts}
+use Rattle.rl_files.specs.Trees.{string_texts}
+use Rattle.rl_options.specs.Clashes.{is_input_among, is_input_name, is_input_read}
+use Rattle.rl_options.specs.Modes.{option_without_effect}
+use Rattle.rl_options.specs.Options.{options}
+use Rattle.rl_options.specs.Wishes.{wishes_of}
 
-pub not_both : (b : Bool) → b ≡ false → b ≡ true → ⊥
-not_both b off on = cc
+-- Whether an option has an effect doesn't depend on the texts, file extensions, patterns, lists and paths of the command line.
+pub same_options : (command : Command) (finds extensions excludes lists paths : List (List ℕ))
+    → option_without_effect (wishes_of command finds extensions excludes lists paths)
+    ≡ option_without_effect (wishes_of command [] [] [] [] [])
+unfolding option_without_effect options
+same_options command finds extensions excludes lists paths = refl
 
--- The first error of the list `front` is also the first error of a longer list that begins with `front`.
-pub first_of_front : {A : Type 0} (w : Wishes) (front others : List (ArgumentError A)) (error : ArgumentError A)
-    → IsFirstClash w front error → IsFirstClash w (front ++ others) error
-first_of_front w [] others error first = absurd first
-first_of_front w (clash ∷ front) others error (inl is) = inl is
-first_of_front w (clash ∷ front) others error (inr (none, first)) = inr (none, first_of_front w front others error first)
+-- A test of the elements of a list is a test of their texts.
+pub any_text : {X : Type 0} (text : X → List ℕ) (q : List ℕ → Bool) (xs : List X)
+    → list_any (λ x. q (text x)) xs ≡ list_any q (map text xs)
+any_text text q [] = refl
+any_text text q (x ∷ xs) = ap (λ (b : Bool). q (text x) || b) (any_text text q xs)
 
--- If no option contradicts the requested output, the first error of the later checks is the first error of all checks.
-pub past_printing : {A : Type 0} (w : Wishes) (others : List (ArgumentError A)) (error : ArgumentError A) → PrintTogether w
-    → IsFirstClash w others error → IsFirstClash w (printing_clashes ++ others) error
-past_printing w others error (texts, objects, stats) first = inr (
-  λ clash. clash.1 (texts clash.0),
-  inr (λ clash. not_both _ objects clash, inr (λ clash. not_both _ stats clash, first)),
-)
-
-pub past_restyling : {A : Type 0} (w : Wishes) (others : List (ArgumentError A)) (error : ArgumentError A) → RestyleTogether w
-    → IsFirstClash w others error → IsFirstClash w (restyling_clashes ++ others) error
-past_restyling w others error (prints, sums, style, macros) first = inr (
-  λ clash. not_both _ prints clash,
-  inr (
-    λ clash. not_both _ sums clash,
-    inr (λ clash. not_both _ style clash, inr (λ clash. not_both _ macros clash, first)),
-  ),
-)
+-- Standard input is read, by the values in the program as by their texts.
+pub same_input : {A : Type 0} (paths : List (String A)) (lists : List (Bor (List ℕ)))
+    → is_input_among paths lists ≡ is_input_read (string_texts paths) (borrowed_texts lists)
+same_input paths lists = ap₂ (λ (p q : Bool). p || q)
+    (ap₂ (λ (p q : Bool). p || q)
+    (ap₂ (λ (m n : ℕ). (m == 0) && (n == 0)) (sym (length-map paths string_bytes))
+    (sym (length-map lists (λ (list : Bor (List ℕ)). list.now))))
+    (any_text string_bytes is_input_name paths))
+    (any_text (λ (list : Bor (List ℕ)). list.now) is_input_name lists)

@@ -5,3 +5,4 @@ pub mod LetterLemmas
 pub mod ListedLemmas
 pub mod RulesLemmas
 pub mod ClashLemmas
+pub mod OptionLemmas

@@ -11,10 +11,9 @@ use Rattle.rl_style.specs.declared.style.Style.{Style}
 use Rattle.rl_restyle.specs.Styles.{SaysStyle}
 use Rattle.rl_options.specs.declared.rules.RulesError.{RulesError}
 use Rattle.rl_options.specs.declared.rules.RulesError.TheVariants as rules
-use Rattle.rl_options.specs.Listed.{IsUnmarked}
 use Rattle.rl_output.specs.Contexts.{ends_among}
 use Rattle.rl_options.specs.Reads.{IsNotUtf8, IsReadError}
-use Rattle.rl_options.specs.Rules.{HasNoRules, HasRules, IsNoStyle, line_of}
+use Rattle.rl_options.specs.Rules.{HasNoRules, HasRules, IsNoStyle, IsUnmarked, line_of}
 
 -- The number of a line is counted in the text before the byte offset.
 pub line_is : (text : List ℕ) (at : ℕ) → ends_among (take (min at (length text)) text) + 1 ≡ line_of text at

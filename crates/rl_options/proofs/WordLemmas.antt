@@ -1,13 +1,11 @@
 -- Lemmas about the arguments of a command line, one by one.
-use Rattle.rl_syntax.proofs.Common.{Bool, Bor, List, None, Option, Some, [], ap, arith, codes, common_steps, drop, get_or, inr, length, map, map-append, refl, string_bytes, subst, sym, take, take_all, ℕ, ◌++◌, ◌+◌, ◌-◌, ◌<◌, ◌∙◌, ◌∷◌, ◌≡◌, ◌≢◌, ◌≤◌}
+use Rattle.rl_syntax.proofs.Common.{Bool, Bor, List, None, Option, Some, [], ap, arith, common_steps, drop, get_or, inr, length, map, map-append, refl, string_bytes, subst, sym, take, take_all, ℕ, ◌++◌, ◌+◌, ◌-◌, ◌<◌, ◌∙◌, ◌∷◌, ◌≡◌, ◌≢◌, ◌≤◌}
 use Rattle.std.specs.Prelude.{IfNone, IfSome, MatchOption, String, Err, ◌^◌}
 use Rattle.std.specs.Str.Parse.{ParsesUnsigned}
 use Rattle.std.specs.Str.Pattern.{FindsTextPrefix}
 use Rattle.rl_options.specs.declared.flags.Next.{Next}
-use Rattle.rl_options.specs.declared.flags.Operand.{Operand}
-use Rattle.rl_options.specs.declared.flags.Operand.TheVariants.{Kinds, Text, Color, Extension, Pattern, List as Names, Edition, Format, Around, Before, After, Style, Macros}
 use Rattle.rl_options.specs.declared.argument_error.ArgumentError.{ArgumentError}
-use Rattle.rl_options.specs.Flags.{IsCountWord, joined_word}
+use Rattle.rl_options.specs.Flags.{IsCountWord}
 use Rattle.rl_options.specs.Wishes.{Wishes}
 use Rattle.rl_options.specs.Words.{IsStep, AreSteps, AskForWishes, AskSoFar, Asks, CannotAsk, IsRejectedWord, AreRejected}
 
@@ -25,30 +23,6 @@ pub front_none : (n bs : List ℕ) (r : Option (Bor (List ℕ))) → StripPrefix
     → IfNone r ((rest : List ℕ) → bs ≢ n ++ rest)
 front_none n bs None m = m
 front_none n bs (Some x) m = tt
-
--- The argument isn't an option with its value after `=`.
-pub no_joined : (word : List ℕ) → ((rest : List ℕ) → word ≢ codes "--only=" ++ rest)
-    → ((rest : List ℕ) → word ≢ codes "--find=" ++ rest) → ((rest : List ℕ) → word ≢ codes "--color=" ++ rest)
-    → ((rest : List ℕ) → word ≢ codes "--extension=" ++ rest) → ((rest : List ℕ) → word ≢ codes "--exclude=" ++ rest)
-    → ((rest : List ℕ) → word ≢ codes "--files-from=" ++ rest) → ((rest : List ℕ) → word ≢ codes "--edition=" ++ rest)
-    → ((rest : List ℕ) → word ≢ codes "--format=" ++ rest) → ((rest : List ℕ) → word ≢ codes "--context=" ++ rest)
-    → ((rest : List ℕ) → word ≢ codes "--before-context=" ++ rest)
-    → ((rest : List ℕ) → word ≢ codes "--after-context=" ++ rest)
-    → ((rest : List ℕ) → word ≢ codes "--style=" ++ rest) → ((rest : List ℕ) → word ≢ codes "--macros=" ++ rest)
-    → (operand : Operand) (text : List ℕ) → word ≢ joined_word operand text
-no_joined word kinds text color extension pattern list edition format around before after style macros Kinds x = kinds x
-no_joined word kinds text color extension pattern list edition format around before after style macros Text x = text x
-no_joined word kinds text color extension pattern list edition format around before after style macros Color x = color x
-no_joined word kinds text color extension pattern list edition format around before after style macros Extension x = extension x
-no_joined word kinds text color extension pattern list edition format around before after style macros Pattern x = pattern x
-no_joined word kinds text color extension pattern list edition format around before after style macros Names x = list x
-no_joined word kinds text color extension pattern list edition format around before after style macros Edition x = edition x
-no_joined word kinds text color extension pattern list edition format around before after style macros Format x = format x
-no_joined word kinds text color extension pattern list edition format around before after style macros Around x = around x
-no_joined word kinds text color extension pattern list edition format around before after style macros Before x = before x
-no_joined word kinds text color extension pattern list edition format around before after style macros After x = after x
-no_joined word kinds text color extension pattern list edition format around before after style macros Style x = style x
-no_joined word kinds text color extension pattern list edition format around before after style macros Macros x = macros x
 
 -- ---- a word that isn't a number: the lemma takes the postcondition of `parse`
 

@@ -8,8 +8,6 @@ use Rattle.rl_restyle.specs.declared.edit.Macros.{Macros as AnyMacros}
 use Rattle.rl_restyle.specs.declared.edit.Macros.TheVariants as macros
 use Rattle.rl_output.specs.declared.form.Form.{Form}
 use Rattle.rl_output.specs.declared.form.Form.TheVariants as written
-use Rattle.rl_options.specs.declared.flags.Flag.{Flag}
-use Rattle.rl_options.specs.declared.flags.Flag.TheVariants.{Bad, Hidden, Only, Find, IgnoreCase, WholeWords, Text, Json, Format, Context, Before, After, Color, Bytes, Lines, NoStray, AnySuffix, Edition, AllDirectories, Extension, Exclude, FilesFrom, NoMessages, Count, FilesWithMatches, Nul, Quiet, Files, Stats, Fix, Check, Diff, Style, Macros, Help, Version, Paths}
 use Rattle.rl_options.specs.declared.flags.Format.{Format as AnyFormat}
 use Rattle.rl_options.specs.declared.flags.Format.TheVariants as format
 use Rattle.rl_flaws.specs.declared.before.Edition.{Edition as AnyEdition}
@@ -19,94 +17,6 @@ use Rattle.rl_options.specs.declared.flags.Operand.TheVariants as takes
 use Rattle.rl_options.specs.declared.flags.When.{When}
 use Rattle.rl_options.specs.declared.flags.When.TheVariants.{Auto, Always, Never}
 use Rattle.rl_output.specs.Choices.{Names, words_of}
-
--- The name of an option, as `--bad`.
-abbrev pub IsOptionWord : Flag → List ℕ → Type 0
-IsOptionWord Bad word = word ≡ codes "--bad"
-IsOptionWord Hidden word = word ≡ codes "--invisible"
-IsOptionWord Only word = word ≡ codes "--only"
-IsOptionWord Find word = word ≡ codes "--find"
-IsOptionWord IgnoreCase word = word ≡ codes "--ignore-case"
-IsOptionWord WholeWords word = word ≡ codes "--word"
-IsOptionWord Text word = word ≡ codes "--text"
-IsOptionWord Json word = word ≡ codes "--json"
-IsOptionWord Format word = word ≡ codes "--format"
-IsOptionWord Context word = word ≡ codes "--context"
-IsOptionWord Before word = word ≡ codes "--before-context"
-IsOptionWord After word = word ≡ codes "--after-context"
-IsOptionWord Color word = word ≡ codes "--color"
-IsOptionWord Bytes word = word ≡ codes "--bytes"
-IsOptionWord Lines word = word ≡ codes "--lines"
-IsOptionWord NoStray word = word ≡ codes "--no-stray"
-IsOptionWord AnySuffix word = word ≡ codes "--any-suffix"
-IsOptionWord Edition word = word ≡ codes "--edition"
-IsOptionWord AllDirectories word = word ≡ codes "--all"
-IsOptionWord Extension word = word ≡ codes "--extension"
-IsOptionWord Exclude word = word ≡ codes "--exclude"
-IsOptionWord FilesFrom word = word ≡ codes "--files-from"
-IsOptionWord NoMessages word = word ≡ codes "--no-messages"
-IsOptionWord Count word = word ≡ codes "--count"
-IsOptionWord FilesWithMatches word = word ≡ codes "--files-with-matches"
-IsOptionWord Nul word = word ≡ codes "--null"
-IsOptionWord Quiet word = word ≡ codes "--quiet"
-IsOptionWord Files word = word ≡ codes "--files"
-IsOptionWord Stats word = word ≡ codes "--stats"
-IsOptionWord Fix word = word ≡ codes "--fix"
-IsOptionWord Check word = word ≡ codes "--check"
-IsOptionWord Diff word = word ≡ codes "--diff"
-IsOptionWord Style word = word ≡ codes "--style"
-IsOptionWord Macros word = word ≡ codes "--macros"
-IsOptionWord Help word = word ≡ codes "--help"
-IsOptionWord Version word = word ≡ codes "--version"
-IsOptionWord Paths word = word ≡ codes "--"
-
--- The letter of a short option.
-abbrev pub IsLetter : Flag → ℕ → Type 0
-IsLetter Find c = c ≡ code "e"
-IsLetter IgnoreCase c = c ≡ code "i"
-IsLetter WholeWords c = c ≡ code "w"
-IsLetter Count c = c ≡ code "c"
-IsLetter FilesWithMatches c = c ≡ code "l"
-IsLetter Nul c = c ≡ code "Z"
-IsLetter Context c = c ≡ code "C"
-IsLetter Before c = c ≡ code "B"
-IsLetter After c = c ≡ code "A"
-IsLetter Quiet c = c ≡ code "q"
-IsLetter Help c = c ≡ code "h"
-IsLetter Version c = c ≡ code "V"
-IsLetter _ c = ⊥
-
--- The argument of an option with its value after `=`.
-abbrev pub joined_word : Operand → List ℕ → List ℕ
-joined_word takes.Kinds text = codes "--only=" ++ text
-joined_word takes.Text text = codes "--find=" ++ text
-joined_word takes.Color text = codes "--color=" ++ text
-joined_word takes.Extension text = codes "--extension=" ++ text
-joined_word takes.Pattern text = codes "--exclude=" ++ text
-joined_word takes.List text = codes "--files-from=" ++ text
-joined_word takes.Edition text = codes "--edition=" ++ text
-joined_word takes.Format text = codes "--format=" ++ text
-joined_word takes.Around text = codes "--context=" ++ text
-joined_word takes.Before text = codes "--before-context=" ++ text
-joined_word takes.After text = codes "--after-context=" ++ text
-joined_word takes.Style text = codes "--style=" ++ text
-joined_word takes.Macros text = codes "--macros=" ++ text
-
--- The option whose value is of the given kind.
-abbrev pub taken_by : Operand → Flag
-taken_by takes.Kinds = Only
-taken_by takes.Text = Find
-taken_by takes.Color = Color
-taken_by takes.Extension = Extension
-taken_by takes.Pattern = Exclude
-taken_by takes.List = FilesFrom
-taken_by takes.Edition = Edition
-taken_by takes.Format = Format
-taken_by takes.Around = Context
-taken_by takes.Before = Before
-taken_by takes.After = After
-taken_by takes.Style = Style
-taken_by takes.Macros = Macros
 
 -- The value of `--color`: a word that determines whether lines have colours.
 abbrev pub color_word : When → List ℕ

@@ -1,7 +1,9 @@
 pub mod Reads
 pub mod Meant
+pub mod Options
 pub mod Flags
 pub mod Wishes
+pub mod Modes
 pub mod Clashes
 pub mod Words
 pub mod Listed

@@ -1,15 +1,10 @@
--- Suggestions of the option, or the rule of a style, that a misspelled word was likely meant to be. Words are lists of bytes.
+-- Similar words, and the part of an argument before `=`. Words are lists of bytes.
 use Rattle.std.specs.Prelude.{◌≡◌, ℕ, ◌==◌, Bool, true, false, cond, ◌||◌, List, [], ◌∷◌, ◌++◌, drop, codes, Option, Some, None}
 use denote.Ref.{Bor}
 use Prim.Native.Char.{code}
 use Rattle.std.specs.List.{All, before_first, starts_with}
 use Rattle.std.specs.Str.{bytes_eq}
 use Rattle.rl_output.specs.Choices.{words_of}
-
--- The names of the options of `rl_scan`. Commas separate them.
-abbrev pub option_list : List ℕ
-option_list =
-    codes "--bad,--invisible,--only,--find,--ignore-case,--word,--no-stray,--any-suffix,--edition,--all,--extension,--exclude,--files,--files-from,--no-messages,--bytes,--lines,--text,--json,--format,--context,--before-context,--after-context,--color,--count,--files-with-matches,--null,--quiet,--stats,--fix,--check,--diff,--style,--macros,--help,--version"
 
 -- The names of the rules of a style. Commas separate them.
 abbrev pub rule_list : List ℕ
@@ -49,7 +44,3 @@ IsNearest list word (Some meant) =
 -- The part of a word before the first `=`.
 abbrev pub option_part : List ℕ → List ℕ
 option_part word = before_first (λ b. b == code "=") word
-
--- The first option that the argument is similar to, or `None`. Only the part before `=` is compared.
-abbrev pub IsMeant : List ℕ → Option (Bor (List ℕ)) → Type 0
-IsMeant word meant = IsNearest option_list (option_part word) meant

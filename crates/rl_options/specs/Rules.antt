@@ -7,6 +7,7 @@ use Rattle.std.specs.Str.{IsUtf8, chars}
 use Rattle.rl_files.specs.Trees.{World}
 use Rattle.rl_files.specs.Visible.{visible}
 use Rattle.rl_files.specs.declared.tree.PathError.TheVariants.{OutOfMemory}
+use Rattle.rl_lexer.specs.Sources.{without_byte_order_mark}
 use Rattle.rl_style.specs.declared.style.Style.{Style}
 use Rattle.rl_restyle.specs.Styles.{RejectsStyle, SaysStyle, style_error_words}
 use Rattle.rl_restyle.specs.declared.style_error.StyleError.{StyleError}
@@ -15,10 +16,13 @@ use Rattle.rl_restyle.specs.declared.style_error.StyleErrorKind.TheVariants.{Unk
 use Rattle.rl_options.specs.declared.rules.LineError.{LineError}
 use Rattle.rl_options.specs.declared.rules.RulesError.{RulesError}
 use Rattle.rl_options.specs.declared.rules.RulesError.TheVariants as rules
-use Rattle.rl_options.specs.Listed.{IsUnmarked}
 use Rattle.rl_options.specs.Meant.{IsNearest, rule_list}
 use Rattle.rl_output.specs.Contexts.{ends_among}
 use Rattle.rl_options.specs.Reads.{IsReadError}
+
+-- The text without a byte order mark at its start.
+abbrev pub IsUnmarked : List ℕ → List ℕ → Type 0
+IsUnmarked text rest = IsUtf8 rest × (chars rest ≡ without_byte_order_mark (chars text))
 
 -- The file contains the rules `style`. A byte order mark at its start is skipped.
 abbrev pub HasRules : World → List ℕ → Style → Type 0

@@ -11,7 +11,10 @@ use Rattle.rl_restyle.specs.declared.edit.Macros.{Macros as AnyMacros}
 use Rattle.rl_output.specs.declared.form.Form.TheVariants as written
 use Rattle.rl_output.specs.declared.choice.Spelling.TheVariants.{Source}
 use Rattle.rl_options.specs.declared.flags.Flag.{Flag}
-use Rattle.rl_options.specs.declared.flags.Flag.TheVariants.{Bad, Hidden, Only, Find, IgnoreCase, WholeWords, Text, Json, Format, Context, Before, After, Color, Bytes, Lines, NoStray, AnySuffix, Edition, AllDirectories, Extension, Exclude, FilesFrom, NoMessages, Count, FilesWithMatches, Nul, Quiet, Files, Stats, Fix, Check, Diff, Style, Macros, Help, Version, Paths}
+use Rattle.rl_options.specs.declared.flags.Flag.TheVariants.{Bad, Hidden, IgnoreCase, WholeWords, Text, Json, Bytes, Lines, NoStray, AnySuffix, AllDirectories, NoMessages, Count, FilesWithMatches, Nul, Quiet, Files, Stats, Fix, Check, Diff, Help, Version}
+use Rattle.rl_options.specs.declared.flags.Effect.{Effect}
+use Rattle.rl_options.specs.declared.flags.Effect.TheVariants.{Sets, Takes, EndsOptions}
+use Rattle.rl_options.specs.Options.{IsJoinedWord, IsLetter, IsMeant, IsOptionWord, effect_lettered, effect_named}
 use Rattle.rl_options.specs.declared.flags.Format.{Format as AnyFormat}
 use Rattle.rl_flaws.specs.declared.before.Edition.{Edition as AnyEdition}
 use Rattle.rl_options.specs.declared.flags.Operand.{Operand}
@@ -20,60 +23,49 @@ use Rattle.rl_options.specs.declared.flags.Next.{Next}
 use Rattle.rl_options.specs.declared.flags.Next.TheVariants as next
 use Rattle.rl_options.specs.declared.flags.When.{When}
 use Rattle.rl_options.specs.declared.argument_error.ArgumentError.{ArgumentError}
-use Rattle.rl_options.specs.declared.argument_error.ArgumentError.TheVariants.{Memory, UnknownOption, UnknownLetter, NoValue, UnknownKind, NoKinds, TwoChoices, NoText, EmptyText, BadAndFind, TextlessKinds, ObjectsOfPaths, StatsOfPaths, TwoRestylings, RestylesAlone, SumsOfCheck, StyleAlone, MacrosAlone, SuffixAlone, EditionAlone, NoStyle, NoMacros, UnknownMacros, NoColor, UnknownColor, NoExtension, NoPattern, EmptyPattern, OtherPattern, UselessPattern, UnknownExtension, NoList, NoEdition, UnknownEdition, NoFormat, UnknownFormat, NoCount, UnknownCount}
-use Rattle.rl_options.specs.Meant.{IsMeant, option_part}
-use Rattle.rl_options.specs.Flags.{AreKindWords, IsCountWord, IsLetter, IsOptionWord, IsSide, IsUnknownKind, color_word, colored_form, edition_word, format_word, formatted, has_other_mark, is_more_than_extension, matches_nothing, is_path_word, joined_word, macros_word, recolored, taken_by}
+use Rattle.rl_options.specs.declared.argument_error.ArgumentError.TheVariants.{Memory, UnknownOption, UnknownLetter, NoValue, UnknownKind, NoKinds, TwoChoices, NoText, EmptyText, BadAndFind, TextlessKinds, ObjectsOfPaths, StatsOfPaths, TwoRestylings, NoEffect, InputTwice, NoStyle, NoMacros, UnknownMacros, NoColor, UnknownColor, NoExtension, NoPattern, EmptyPattern, OtherPattern, UselessPattern, UnknownExtension, NoList, NoEdition, UnknownEdition, NoFormat, UnknownFormat, NoCount, UnknownCount}
+use Rattle.rl_options.specs.Meant.{option_part}
+use Rattle.rl_options.specs.Flags.{AreKindWords, IsCountWord, IsSide, IsUnknownKind, color_word, colored_form, edition_word, format_word, formatted, has_other_mark, is_more_than_extension, matches_nothing, is_path_word, macros_word, recolored}
 use Rattle.rl_options.specs.Wishes.{AllWanted, BadWanted, HiddenWanted, OnlyWanted, Wishes, first_wishes}
-use Rattle.rl_options.specs.Clashes.{GoTogether, IsFirstClash, clashes}
+use Rattle.rl_options.specs.Clashes.{GoTogether, IsFirstClash}
 
 -- The option may be added: `--bad`, `--invisible` and `--only` only if the command has none of them.
-abbrev pub IsAllowed : Flag → Wishes → Type 0
-IsAllowed Bad w = w.wanted ≡ AllWanted
-IsAllowed Hidden w = w.wanted ≡ AllWanted
-IsAllowed Only w = w.wanted ≡ AllWanted
+abbrev pub IsAllowed : Effect → Wishes → Type 0
+IsAllowed (Sets Bad) w = w.wanted ≡ AllWanted
+IsAllowed (Sets Hidden) w = w.wanted ≡ AllWanted
+IsAllowed (Takes takes.Kinds) w = w.wanted ≡ AllWanted
 IsAllowed _ w = ⊤
 
 -- The option may be added: `--bad` and `--invisible` can't be combined with `--find`.
-abbrev pub GoesWithFind : Flag → Wishes → Type 0
-GoesWithFind Bad w = w.searches ≡ false
-GoesWithFind Hidden w = w.searches ≡ false
-GoesWithFind Find w = (w.wanted ≢ BadWanted) × (w.wanted ≢ HiddenWanted)
+abbrev pub GoesWithFind : Effect → Wishes → Type 0
+GoesWithFind (Sets Bad) w = w.searches ≡ false
+GoesWithFind (Sets Hidden) w = w.searches ≡ false
+GoesWithFind (Takes takes.Text) w = (w.wanted ≢ BadWanted) × (w.wanted ≢ HiddenWanted)
 GoesWithFind _ w = ⊤
 
 -- The option may be added: `--fix`, `--check` and `--diff` only if the command has none of them.
-abbrev pub RestylesOnce : Flag → Wishes → Type 0
-RestylesOnce Fix w = w.restyle ≡ None
-RestylesOnce Check w = w.restyle ≡ None
-RestylesOnce Diff w = w.restyle ≡ None
+abbrev pub RestylesOnce : Effect → Wishes → Type 0
+RestylesOnce (Sets Fix) w = w.restyle ≡ None
+RestylesOnce (Sets Check) w = w.restyle ≡ None
+RestylesOnce (Sets Diff) w = w.restyle ≡ None
 RestylesOnce _ w = ⊤
 
 -- The option doesn't contradict the earlier options of the command.
-abbrev pub GoesWithOptions : Flag → Wishes → Type 0
-GoesWithOptions flag w = IsAllowed flag w × GoesWithFind flag w × RestylesOnce flag w
+abbrev pub GoesWithOptions : Effect → Wishes → Type 0
+GoesWithOptions effect w = IsAllowed effect w × GoesWithFind effect w × RestylesOnce effect w
 
 abbrev pub with_flag : Flag → Wishes → Wishes
 with_flag Bad w = record w { wanted = BadWanted }
 with_flag Hidden w = record w { wanted = HiddenWanted }
-with_flag Only w = w
-with_flag Find w = w
 with_flag IgnoreCase w = record w { ignores_case = true }
 with_flag WholeWords w = record w { whole_words = true }
 with_flag Text w = record w { spelling = Source }
 with_flag Json w = record w { form = written.Json }
-with_flag Format w = w
-with_flag Context w = w
-with_flag Before w = w
-with_flag After w = w
-with_flag Color w = w
 with_flag Bytes w = record w { places = form.Bytes }
 with_flag Lines w = record w { places = form.Lines }
 with_flag NoStray w = record w { rejects_strays = true }
 with_flag AnySuffix w = record w { any_suffix = true }
-with_flag Edition w = w
 with_flag AllDirectories w = record w { all_directories = true }
-with_flag Extension w = w
-with_flag Exclude w = w
-with_flag FilesFrom w = w
 with_flag NoMessages w = record w { prints_errors = false }
 with_flag Count w = record w { output = output.Count }
 with_flag FilesWithMatches w = record w { output = output.Path }
@@ -84,29 +76,20 @@ with_flag Stats w = record w { prints_stats = true }
 with_flag Fix w = record w { restyle = Some restyling.Fix }
 with_flag Check w = record w { restyle = Some restyling.Check }
 with_flag Diff w = record w { restyle = Some restyling.Diff }
-with_flag Style w = w
-with_flag Macros w = w
 with_flag Help w = record w { action = action.Help }
 with_flag Version w = record w { action = action.Version }
-with_flag Paths w = w
+
+-- The command with an option added, without the option's value.
+abbrev pub with_effect : Effect → Wishes → Wishes
+with_effect (Sets flag) w = with_flag flag w
+with_effect (Takes operand) w = w
+with_effect EndsOptions w = w
 
 -- The kinds of argument that may follow an option. Options with a value need the value next. After `--` only paths follow.
-abbrev pub next_after : Flag → Next
-next_after Only = next.Operand takes.Kinds
-next_after Find = next.Operand takes.Text
-next_after Color = next.Operand takes.Color
-next_after Extension = next.Operand takes.Extension
-next_after Exclude = next.Operand takes.Pattern
-next_after FilesFrom = next.Operand takes.List
-next_after Edition = next.Operand takes.Edition
-next_after Format = next.Operand takes.Format
-next_after Context = next.Operand takes.Around
-next_after Before = next.Operand takes.Before
-next_after After = next.Operand takes.After
-next_after Style = next.Operand takes.Style
-next_after Macros = next.Operand takes.Macros
-next_after Paths = next.Path
-next_after _ = next.Any
+abbrev pub next_after : Effect → Next
+next_after (Sets flag) = next.Any
+next_after (Takes operand) = next.Operand operand
+next_after EndsOptions = next.Path
 
 abbrev pub with_path : List ℕ → Wishes → Wishes
 with_path path w = record w { paths = w.paths ++ path ∷ [] }
@@ -133,8 +116,9 @@ IsWithoutDot text extension =
     ⊎ (((rest : List ℕ) → text ≢ codes "." ++ rest) × (extension ≡ text))
 
 -- `new` is the command `old` with one more option, and `then` is what the next argument may be.
-abbrev pub IsAdded : Flag → Wishes → Next → Wishes → Type 0
-IsAdded flag old then new = GoesWithOptions flag old × (then ≡ next_after flag) × (new ≡ with_flag flag old)
+abbrev pub IsAdded : Effect → Wishes → Next → Wishes → Type 0
+IsAdded effect old then new =
+    GoesWithOptions effect old × (then ≡ next_after effect) × (new ≡ with_effect effect old)
 
 -- `new` is the command `old` with the value of an option added.
 abbrev pub IsTaken : Bool → Operand → Wishes → List ℕ → Wishes → Type 0
@@ -168,14 +152,14 @@ IsTaken has_colors takes.Macros old word new =
 -- option follows its letter, or is the next argument.
 pub data AreLetters (has_colors : Bool) : Wishes → List ℕ → Next → Wishes → Type 0 where
   NoLetters : {old : Wishes} → AreLetters has_colors old [] next.Any old
-  Letter : {old new : Wishes} {then : Next} {more : List ℕ} (flag : Flag) (c : ℕ) (middle : Wishes)
-      → IsLetter flag c → IsAdded flag old next.Any middle → AreLetters has_colors middle more then new
+  Letter : {old new : Wishes} {then : Next} {more : List ℕ} (effect : Effect) (c : ℕ) (middle : Wishes)
+      → IsLetter effect c → IsAdded effect old next.Any middle → AreLetters has_colors middle more then new
       → AreLetters has_colors old (c ∷ more) then new
-  LastLetter : {old new : Wishes} (flag : Flag) (operand : Operand) (c : ℕ)
-      → IsLetter flag c → IsAdded flag old (next.Operand operand) new
+  LastLetter : {old new : Wishes} (effect : Effect) (operand : Operand) (c : ℕ)
+      → IsLetter effect c → IsAdded effect old (next.Operand operand) new
       → AreLetters has_colors old (c ∷ []) (next.Operand operand) new
   LetterAndText : {old new : Wishes} {text : List ℕ} (operand : Operand) (c : ℕ)
-      → IsLetter (taken_by operand) c → GoesWithOptions (taken_by operand) old → text ≢ []
+      → IsLetter (Takes operand) c → GoesWithOptions (Takes operand) old → text ≢ []
       → IsTaken has_colors operand old text new → AreLetters has_colors old (c ∷ text) next.Any new
 
 -- `new` is the command `old` with one more argument, and `then` is what the argument after it may be. The first `Next` is what the
@@ -186,9 +170,9 @@ IsStep has_colors (next.Operand operand) old word then new =
 IsStep has_colors next.Path old word then new = (then ≡ next.Path) × (new ≡ with_path word old)
 IsStep has_colors next.Any old word then new =
     ((is_path_word word ≡ true) × (then ≡ next.Any) × (new ≡ with_path word old))
-    ⊎ ((flag : Flag) × (is_path_word word ≡ false) × IsOptionWord flag word × IsAdded flag old then new)
-    ⊎ ((operand : Operand) × (text : List ℕ) × (word ≡ joined_word operand text)
-    × GoesWithOptions (taken_by operand) old × (then ≡ next.Any) × IsTaken has_colors operand old text new)
+    ⊎ ((effect : Effect) × (is_path_word word ≡ false) × IsOptionWord effect word × IsAdded effect old then new)
+    ⊎ ((operand : Operand) × (text : List ℕ) × IsJoinedWord operand text word
+    × GoesWithOptions (Takes operand) old × (then ≡ next.Any) × IsTaken has_colors operand old text new)
     ⊎ ((letters : List ℕ) × (word ≡ codes "-" ++ letters) × AreLetters has_colors old letters then new)
 
 abbrev pub AreSteps : Bool → Next → Wishes → List (List ℕ) → Next → Wishes → Type 0
@@ -235,14 +219,9 @@ word_message ObjectsOfPaths =
     codes "--json and --format json, github can't be used with -c, --count, -l, --files-with-matches, --files"
 word_message StatsOfPaths = codes "--stats can't be used with --files, which reads none"
 word_message TwoRestylings = codes "--fix, --check and --diff can't be combined or repeated"
-word_message RestylesAlone =
-    codes "--fix, --check and --diff can't be used with --bad, --invisible, --only, -e, --find, --files, --text, --json, --format, -C, -B, -A, --stats"
-word_message SumsOfCheck =
-    codes "-c, --count, -l, --files-with-matches can't be used with --fix or --diff"
-word_message StyleAlone = codes "--style needs --fix, --check or --diff"
-word_message MacrosAlone = codes "--macros needs --fix, --check or --diff"
-word_message SuffixAlone = codes "--any-suffix needs --bad"
-word_message EditionAlone = codes "--edition needs --bad, --fix, --check or --diff"
+word_message (NoEffect option mode hint) =
+    option.now ++ (codes " has no effect " ++ (mode.now ++ (codes ": " ++ hint.now)))
+word_message InputTwice = codes "--style - reads standard input, so pass a PATH or --files-from FILE other than -"
 word_message NoStyle = codes "--style needs a value, such as --style style.txt"
 word_message NoMacros = codes "--macros needs a value: skip or all"
 word_message (UnknownMacros word) = codes "unknown value '" ++ (string_bytes word ++ codes "' of --macros: expected skip or all")
@@ -271,11 +250,11 @@ word_message (UnknownCount word) =
     codes "invalid number of lines '" ++ (string_bytes word ++ codes "': expected a number, such as 2")
 
 -- The error of an option that contradicts the earlier options of a command.
-abbrev pub IsRejectedFlag : {A : Type 0} → Flag → Wishes → ArgumentError A → Type 0
-IsRejectedFlag flag old TwoChoices = IsAllowed flag old → ⊥
-IsRejectedFlag flag old BadAndFind = GoesWithFind flag old → ⊥
-IsRejectedFlag flag old TwoRestylings = RestylesOnce flag old → ⊥
-IsRejectedFlag flag old _ = ⊥
+abbrev pub IsRejectedEffect : {A : Type 0} → Effect → Wishes → ArgumentError A → Type 0
+IsRejectedEffect effect old TwoChoices = IsAllowed effect old → ⊥
+IsRejectedEffect effect old BadAndFind = GoesWithFind effect old → ⊥
+IsRejectedEffect effect old TwoRestylings = RestylesOnce effect old → ⊥
+IsRejectedEffect effect old _ = ⊥
 
 -- The error of an invalid value of an option, or a failed allocation.
 abbrev pub IsRejectedText : {A : Type 0} → Operand → List ℕ → ArgumentError A → Type 0
@@ -312,12 +291,12 @@ IsRejectedText operand text _ = ⊥
 -- The error of an option with its value: the option contradicts earlier options, or the value is invalid.
 abbrev pub IsRejectedJoined : {A : Type 0} → Operand → Wishes → List ℕ → ArgumentError A → Type 0
 IsRejectedJoined operand old text error =
-    IsRejectedFlag (taken_by operand) old error
-    ⊎ (GoesWithOptions (taken_by operand) old × IsRejectedText operand text error)
+    IsRejectedEffect (Takes operand) old error
+    ⊎ (GoesWithOptions (Takes operand) old × IsRejectedText operand text error)
 
 -- The whole argument, or its part before the first `=`, is an option.
 abbrev pub HasOptionPart : List ℕ → Type 0
-HasOptionPart word = (flag : Flag) × IsOptionWord flag (option_part word)
+HasOptionPart word = effect_named (option_part word) ≢ None
 
 -- The error for an argument that isn't an option. It has the argument and the option that was likely meant. If the part before `=`
 -- is an option, the error is that the option has no value.
@@ -338,21 +317,21 @@ NamesLetter c word error = (word ≡ codes "-" ++ encode_utf8 c) × NamesUnknown
 -- The error for an argument that isn't an option, although it begins with a dash.
 abbrev pub IsUnknownOption : {A : Type 0} → List ℕ → ArgumentError A → Type 0
 IsUnknownOption word error =
-    (is_path_word word ≡ false) × ((flag : Flag) → IsOptionWord flag word → ⊥)
-    × ((operand : Operand) → (text : List ℕ) → word ≢ joined_word operand text) × NamesUnknown word error
+    (is_path_word word ≡ false) × (effect_named word ≡ None)
+    × ((operand : Operand) → (text : List ℕ) → IsJoinedWord operand text word → ⊥) × NamesUnknown word error
 
 -- The error in a group of short options: an unknown letter, an option that contradicts earlier ones, or an invalid value.
 pub data AreRejectedLetters {A : Type 0} (has_colors : Bool) (word : List ℕ) (error : ArgumentError A)
     : Wishes → List ℕ → Type 0 where
   StrangeLetter : {old : Wishes} {letters : List ℕ} (c : ℕ) (more : List ℕ) → letters ≡ encode_utf8 c ++ more
-      → ((flag : Flag) → IsLetter flag c → ⊥) → NamesLetter c word error
+      → (effect_lettered c ≡ None) → NamesLetter c word error
       → AreRejectedLetters has_colors word error old letters
-  RejectedLetter : {old : Wishes} {more : List ℕ} (flag : Flag) (c : ℕ) → IsLetter flag c
-      → IsRejectedFlag flag old error → AreRejectedLetters has_colors word error old (c ∷ more)
-  RejectedText : {old : Wishes} {text : List ℕ} (operand : Operand) (c : ℕ) → IsLetter (taken_by operand) c
+  RejectedLetter : {old : Wishes} {more : List ℕ} (effect : Effect) (c : ℕ) → IsLetter effect c
+      → IsRejectedEffect effect old error → AreRejectedLetters has_colors word error old (c ∷ more)
+  RejectedText : {old : Wishes} {text : List ℕ} (operand : Operand) (c : ℕ) → IsLetter (Takes operand) c
       → IsRejectedJoined operand old text error → AreRejectedLetters has_colors word error old (c ∷ text)
-  LaterLetter : {old : Wishes} {more : List ℕ} (flag : Flag) (c : ℕ) (middle : Wishes) → IsLetter flag c
-      → IsAdded flag old next.Any middle → AreRejectedLetters has_colors word error middle more
+  LaterLetter : {old : Wishes} {more : List ℕ} (effect : Effect) (c : ℕ) (middle : Wishes) → IsLetter effect c
+      → IsAdded effect old next.Any middle → AreRejectedLetters has_colors word error middle more
       → AreRejectedLetters has_colors word error old (c ∷ more)
 
 -- The error of an argument that may be an option or a path: a failed allocation, an unknown option, an option that contradicts
@@ -361,8 +340,8 @@ abbrev pub IsRejectedOption : {A : Type 0} → Bool → Wishes → List ℕ → 
 IsRejectedOption has_colors old word error =
     (error ≡ Memory)
     ⊎ IsUnknownOption word error
-    ⊎ ((flag : Flag) × IsOptionWord flag word × IsRejectedFlag flag old error)
-    ⊎ ((operand : Operand) × (text : List ℕ) × (word ≡ joined_word operand text)
+    ⊎ ((effect : Effect) × IsOptionWord effect word × IsRejectedEffect effect old error)
+    ⊎ ((operand : Operand) × (text : List ℕ) × IsJoinedWord operand text word
     × IsRejectedJoined operand old text error)
     ⊎ ((letters : List ℕ) × (word ≡ codes "-" ++ letters)
     × AreRejectedLetters has_colors word error old letters)
@@ -395,7 +374,7 @@ abbrev pub AreRejected : {A : Type 0} → Bool → List (List ℕ) → ArgumentE
 AreRejected has_colors words error =
     ((operand : Operand) × (old : Wishes) × IsMissing operand error
     × AskSoFar has_colors words (next.Operand operand) old)
-    ⊎ ((then : Next) × (wishes : Wishes) × AskSoFar has_colors words then wishes × IsFirstClash wishes clashes error)
+    ⊎ ((then : Next) × (wishes : Wishes) × AskSoFar has_colors words then wishes × IsFirstClash wishes error)
     ⊎ ((before after : List (List ℕ)) × (word : List ℕ) × (first : Next) × (old : Wishes)
     × (words ≡ before ++ word ∷ after) × AskSoFar has_colors before first old
     × IsRejectedWord has_colors first old word error)

@@ -2,23 +2,25 @@
 
 ghost use Rattle.std.specs.Prelude.{◌≡◌, ◌≢◌, ◌⊎◌, ◌++◌, ◌↔◌, ℕ, false, List, [], map, codes, string_bytes, IsTrue, IfOk, IfErr, IfSome, IfNone, MatchBool, MatchOption, OnOk};
 ghost use Rattle.rl_files.specs.Trees.{string_texts};
+ghost use Rattle.rl_options.specs.declared.flags.Effect.TheVariants as effects;
 ghost use Rattle.rl_options.specs.declared.flags.Next.TheVariants as next;
 ghost use Rattle.rl_options.specs.declared.flags.Operand.{Operand};
 ghost use Rattle.rl_options.specs.declared.flags.Operand.TheVariants as takes;
 ghost use Rattle.rl_options.specs.declared.argument_error.ArgumentError.TheVariants.{Memory};
-ghost use Rattle.rl_options.specs.Flags.{IsKindWord, AreKindWords, IsUnknownKind, is_path_word, taken_by as flag_before};
+ghost use Rattle.rl_options.specs.Flags.{IsKindWord, AreKindWords, IsUnknownKind, is_path_word};
 ghost use Rattle.rl_options.specs.Wishes.{first_wishes, wishes_of, wishes_in};
-ghost use Rattle.rl_options.specs.Words.{next_after as follows, NamesLetter, NamesUnknown, AreLetters, AreRejectedLetters, GoesWithOptions, with_kinds, with_path, with_text, with_pattern, with_list, IsWithoutDot, IsAdded, IsTaken, IsStep, Asks, IsRejectedFlag, IsRejectedText, IsRejectedJoined, IsRejectedWord, IsMissing, AreRejected};
+ghost use Rattle.rl_options.specs.Words.{NamesLetter, NamesUnknown, AreLetters, AreRejectedLetters, GoesWithOptions, with_kinds, with_path, with_text, with_pattern, with_list, IsWithoutDot, IsAdded, IsTaken, IsStep, Asks, IsRejectedEffect, IsRejectedText, IsRejectedJoined, IsRejectedWord, IsMissing, AreRejected};
 
 use crate::argument_error::ArgumentError;
 use crate::command::{Action, Command, Output, PlaceForm};
 use crate::conflicts::clash_of;
 use crate::flags::{
-    Flag, Next, Operand, When, add_flag, after_front, count_of, edition_of, flag_of, form_in,
-    form_when, format_of, has_more_than_extension, has_other_mark, joined_of, letter_of, macros_of,
-    matches_nothing, next_after, recolored, taken_by, when_of,
+    Effect, Next, Operand, When, add_option, after_front, count_of, edition_of, form_in, form_when,
+    format_of, has_more_than_extension, has_other_mark, macros_of, matches_nothing, next_after,
+    operand_of, recolored, when_of,
 };
-use crate::suggestion::{meant_by, option_part};
+use crate::suggestion::option_part;
+use crate::table::{effect_of, effect_of_letter, joined_of, meant_by};
 use crate::visible::visible_text;
 use rl_files::Selection;
 use rl_output::{Matching, Shown, Spelling, names};
@@ -91,10 +93,10 @@ fn unknown_option<A: Allocator>(alloc: A, word: &str) -> Result<ArgumentError<A>
     ensures { IfOk result (NamesUnknown word.now) }
 {
     let option = option_part(word);
-    if flag_of(option).is_some() {
-        return Ok(ArgumentError::NoValue(visible_text(alloc, option)?));
+    match effect_of(option) {
+        Some(_) => Ok(ArgumentError::NoValue(visible_text(alloc, option)?)),
+        None => Ok(ArgumentError::UnknownOption(visible_text(alloc, word)?, meant_by(word))),
     }
-    Ok(ArgumentError::UnknownOption(visible_text(alloc, word)?, meant_by(word)))
 }
 
 /// Returns the error for the unknown letter `c` in `word`, a group of short options.
@@ -140,19 +142,18 @@ fn letters_of(word: &str) -> Option<&str>
 ///
 /// `rest` is the argument after the option's letter. If `rest` is empty, the value isn't in this argument, and the result is
 /// `None`.
-#[tactic(auto, using(crate::proofs::LetterLemmas::taken_flag, crate::proofs::LetterLemmas::takes_nothing))]
-fn operand_in(flag: Flag, rest: &str) -> Option<Operand>
-    ensures some { IfSome result (λ operand. (flag ≡ flag_before operand) × (rest.now ≢ [])) }
-    ensures none { IfNone result ((rest.now ≡ []) ⊎ (follows flag ≡ next.Any) ⊎ (follows flag ≡ next.Path)) }
+fn operand_in(effect: Effect, rest: &str) -> Option<Operand>
+    ensures some { IfSome result (λ operand. (effect ≡ effects.Takes operand) × (rest.now ≢ [])) }
+    ensures none { IfNone result ((rest.now ≡ []) ⊎ ((operand : Operand) → effect ≢ effects.Takes operand)) }
 {
     if rest.is_empty() {
         return None;
     }
-    operand_of(next_after(flag))
+    operand_of(effect)
 }
 
 /// Returns the kind of value that the next argument must be, or `None` if the option before it doesn't need one.
-fn operand_of(wanted: Next) -> Option<Operand>
+fn operand_wanted(wanted: Next) -> Option<Operand>
     ensures some { IfSome result (λ operand. wanted ≡ next.Operand operand) }
     ensures none { IfNone result ((operand : Operand) → wanted ≢ next.Operand operand) }
 {
@@ -400,16 +401,16 @@ impl<'a, A: Allocator + Copy> ParsedArguments<'a, A> {
     }
 
     /// Adds an option to the parsed arguments, and determines what the next argument may be.
-    fn take_flag(&mut self, flag: Flag) -> Result<(), ArgumentError<A>>
+    fn take_effect(&mut self, effect: Effect) -> Result<(), ArgumentError<A>>
         ensures step { OnOk result
-            (IsAdded flag (wishes_in self.old) self.new.next (wishes_in self.new)) }
-        ensures rejected { IfErr result (IsRejectedFlag flag (wishes_in self.old)) }
+            (IsAdded effect (wishes_in self.old) self.new.next (wishes_in self.new)) }
+        ensures rejected { IfErr result (IsRejectedEffect effect (wishes_in self.old)) }
     {
-        match add_flag(self.command, flag) {
+        match add_option(self.command, effect) {
             Ok(command) => self.command = command,
             Err(error) => return Err(error),
         }
-        self.next = next_after(flag);
+        self.next = next_after(effect);
         Ok(())
     }
 
@@ -422,13 +423,13 @@ impl<'a, A: Allocator + Copy> ParsedArguments<'a, A> {
         operand: Operand,
         text: &'a str,
     ) -> Result<(), ArgumentError<A>>
-        ensures allowed { OnOk result (GoesWithOptions (flag_before operand) (wishes_in self.old)) }
+        ensures allowed { OnOk result (GoesWithOptions (effects.Takes operand) (wishes_in self.old)) }
         ensures taken { OnOk result
             (IsTaken has_colors operand (wishes_in self.old) text.now (wishes_in self.new)) }
         ensures next { OnOk result (self.new.next ≡ next.Any) }
         ensures rejected { IfErr result (IsRejectedJoined operand (wishes_in self.old) text.now) }
     {
-        match add_flag(self.command, taken_by(operand)) {
+        match add_option(self.command, Effect::Takes(operand)) {
             Ok(_) => self.take_operand(alloc, has_colors, operand, text),
             Err(error) => Err(error),
         }
@@ -452,13 +453,13 @@ impl<'a, A: Allocator + Copy> ParsedArguments<'a, A> {
     {
         let mut rest = letters;
         while let Some((c, after)) = split_char(rest) {
-            let Some(flag) = letter_of(c) else {
+            let Some(effect) = effect_of_letter(c) else {
                 return Err(unknown_letter(alloc, word, c)?);
             };
-            if let Some(operand) = operand_in(flag, after) {
+            if let Some(operand) = operand_in(effect, after) {
                 return self.take_joined(alloc, has_colors, operand, after);
             }
-            match self.take_flag(flag) {
+            match self.take_effect(effect) {
                 Ok(()) => {}
                 Err(error) => return Err(error),
             }
@@ -480,8 +481,8 @@ impl<'a, A: Allocator + Copy> ParsedArguments<'a, A> {
             (IsStep has_colors next.Any (wishes_in self.old) word.now self.new.next (wishes_in self.new)) }
         ensures rejected { IfErr result (IsRejectedWord has_colors next.Any (wishes_in self.old) word.now) }
     {
-        if let Some(flag) = flag_of(word) {
-            return self.take_flag(flag);
+        if let Some(effect) = effect_of(word) {
+            return self.take_effect(effect);
         }
         if let Some((operand, text)) = joined_of(word) {
             return self.take_joined(alloc, has_colors, operand, text);
@@ -559,7 +560,7 @@ fn first_command<'a>(has_colors: bool) -> Command<'a>
 ///
 /// Returns the error of the first invalid argument. After the last argument, it returns an error if that argument is an option
 /// without its value, as `NoKinds`. Then it returns an error if options contradict each other: `TextlessKinds`, `ObjectsOfPaths`,
-/// `StatsOfPaths`, `RestylesAlone`, `SumsOfCheck`, `StyleAlone`, `MacrosAlone`, `SuffixAlone`, `EditionAlone`.
+/// `StatsOfPaths`, `NoEffect` or `InputTwice`.
 pub fn parse_arguments<A: Allocator + Copy>(
     alloc: A,
     has_colors: bool,
@@ -583,10 +584,10 @@ pub fn parse_arguments<A: Allocator + Copy>(
             Err(error) => return Err(error),
         }
     }
-    if let Some(operand) = operand_of(asked.next) {
+    if let Some(operand) = operand_wanted(asked.next) {
         return Err(missing(operand));
     }
-    if let Some(error) = clash_of(asked.command) {
+    if let Some(error) = clash_of(&asked) {
         return Err(error);
     }
     Ok(asked)

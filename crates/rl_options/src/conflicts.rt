@@ -1,12 +1,17 @@
 //! Finds options of a command line that contradict each other.
 
-ghost use Rattle.std.specs.Prelude.{◌≡◌, ◌↔◌, ℕ, List, [], IfNone, IfSome, IsTrue, MatchBool};
-ghost use Rattle.rl_options.specs.Wishes.{wanted_of, wishes_of};
-ghost use Rattle.rl_options.specs.Clashes.{GoTogether, HasTextKind, IsFirstClash, JudgeTogether, MayHold, PrintTogether, RestyleTogether, asks_context as asks, lists_files as lists, picks_literals as picks, says_printed, has_needless_edition as needless_edition, has_needless_macros as needless_macros, has_needless_style as needless_style, has_needless_suffix as needless_suffix, wants_bad as bad_wanted, has_no_sums as no_sums, restyles_and_prints as with_printing, restyles_and_sums as with_sums, spells_lines as spells, prints_no_objects as no_objects, sums_lines as sums, printing_clashes, restyling_clashes, judging_clashes, clashes};
+ghost use Rattle.std.specs.Prelude.{◌≡◌, ◌↔◌, ℕ, List, None, string_bytes, IfNone, IfSome, IsTrue};
+ghost use Rattle.std.specs.List.{list_any};
+ghost use Rattle.rl_options.specs.Wishes.{style_of, wanted_of, wishes_in, wishes_of};
+ghost use Rattle.rl_options.specs.Clashes.{GoTogether, HasTextKind, IsFirstClash, IsFirstOf, IsWithoutEffect, is_input_among, is_input_name, is_input_read_twice, is_input_style, MayHold, PrintTogether, asks_context as asks, lists_files as lists, prints_no_objects as no_objects, sums_lines as sums, printing_clashes};
+ghost use Rattle.rl_options.specs.Modes.{option_without_effect};
 
 use crate::argument_error::ArgumentError;
-use crate::command::{Action, Command, Output, Restyling};
-use rl_output::{Shown, Spelling, has_extents, names};
+use crate::arguments::ParsedArguments;
+use crate::command::{Action, Command, Output};
+use crate::modes::{mode_of, mode_words, modes_hint};
+use crate::table::without_effect;
+use rl_output::{Shown, has_extents, names};
 use std::alloc::Allocator;
 
 /// The kinds of literals whose value may contain a text.
@@ -57,138 +62,10 @@ fn prints_no_objects(command: Command<'_>) -> bool
     lists_files(command.action) || sums_lines(command.output)
 }
 
-/// Whether an option selects the literals that are printed.
-fn picks_literals(command: Command<'_>) -> bool
-    ensures { result ≡ picks (wanted_of command.entry.shown) command.entry.searches }
-{
-    !matches!(command.shown, Shown::All) || command.searches
-}
-
-/// Whether an option selects the format of lines: literals as written, JSON objects or GitHub annotations.
-fn spells_lines(command: Command<'_>) -> bool
-    ensures { result ≡ spells command.entry.spelling command.entry.form }
-{
-    matches!(command.spelling, Spelling::Source) || has_extents(command.form)
-}
-
-/// Whether an option selects the output: the literals, the format of lines, the context, a list of files, or statistics.
-fn says_what_is_printed(command: Command<'_>) -> bool
-    ensures { result ≡ says_printed (wishes_of command.entry [] [] [] [] []) }
-{
-    picks_literals(command)
-        || spells_lines(command)
-        || asks_context(command)
-        || lists_files(command.action)
-        || command.prints_stats
-}
-
-/// Whether literals are rewritten by `--fix` or `--diff`, which print no paths or counts.
-fn has_no_sums(restyle: Option<Restyling>) -> bool
-    ensures { result ≡ no_sums restyle }
-{
-    matches!(restyle, Some(Restyling::Fix | Restyling::Diff))
-}
-
-/// Whether the command prints paths or counts, and rewrites literals by `--fix` or `--diff`, which don't print them.
-fn restyles_and_sums(command: Command<'_>) -> bool
-    ensures { result ≡ with_sums (wishes_of command.entry [] [] [] [] []) }
-{
-    sums_lines(command.output) && has_no_sums(command.restyle)
-}
-
-/// Whether the command rewrites literals, and an option selects other output.
-fn restyles_and_prints(command: Command<'_>) -> bool
-    ensures { result ≡ with_printing (wishes_of command.entry [] [] [] [] []) }
-{
-    command.restyle.is_some() && says_what_is_printed(command)
-}
-
-/// Whether the command has a style, but doesn't rewrite literals.
-fn has_needless_style(command: Command<'_>) -> bool
-    ensures { result ≡ needless_style (wishes_of command.entry [] [] [] [] []) }
-{
-    match (command.style, command.restyle) {
-        (Some(_), None) => true,
-        (Some(_), Some(_)) | (None, _) => false,
-    }
-}
-
-/// Whether the command has the option `--macros`, but doesn't rewrite literals.
-fn has_needless_macros(command: Command<'_>) -> bool
-    ensures { result ≡ needless_macros (wishes_of command.entry [] [] [] [] []) }
-{
-    match (command.restyle, command.macros) {
-        (None, Some(_)) => true,
-        (Some(_), Some(_)) | (_, None) => false,
-    }
-}
-
-/// Whether only invalid literals are printed.
-fn wants_bad(shown: Shown<'_>) -> bool
-    ensures { result ≡ bad_wanted (wanted_of shown.entry) }
-{
-    matches!(shown, Shown::Bad)
-}
-
-/// Whether literals may have any suffix, but the command doesn't print invalid literals.
-fn has_needless_suffix(command: Command<'_>) -> bool
-    ensures { result ≡ needless_suffix (wishes_of command.entry [] [] [] [] []) }
-{
-    command.any_suffix && !wants_bad(command.shown)
-}
-
-/// Whether the command has an edition, but neither prints invalid literals nor rewrites literals.
-fn has_needless_edition(command: Command<'_>) -> bool
-    ensures { result ≡ needless_edition (wishes_of command.entry [] [] [] [] []) }
-{
-    match (command.edition, command.restyle) {
-        (Some(_), None) => !wants_bad(command.shown),
-        (Some(_), Some(_)) | (None, _) => false,
-    }
-}
-
-/// Returns the first error of options that contradict the rewriting of literals, or `None`.
-fn restyling_clash<A: Allocator>(command: Command<'_>) -> Option<ArgumentError<A>>
-    ensures some { IfSome result (λ error. (finds extensions excludes lists paths : List (List ℕ))
-        → IsFirstClash (wishes_of command.entry finds extensions excludes lists paths) restyling_clashes error) }
-    ensures none { IfNone result ((finds extensions excludes lists paths : List (List ℕ))
-        → RestyleTogether (wishes_of command.entry finds extensions excludes lists paths)) }
-{
-    if restyles_and_prints(command) {
-        return Some(ArgumentError::RestylesAlone);
-    }
-    if restyles_and_sums(command) {
-        return Some(ArgumentError::SumsOfCheck);
-    }
-    if has_needless_style(command) {
-        return Some(ArgumentError::StyleAlone);
-    }
-    if has_needless_macros(command) {
-        return Some(ArgumentError::MacrosAlone);
-    }
-    None
-}
-
-/// Returns the first error of options that need `--bad` and are used without it, or `None`.
-fn judging_clash<A: Allocator>(command: Command<'_>) -> Option<ArgumentError<A>>
-    ensures some { IfSome result (λ error. (finds extensions excludes lists paths : List (List ℕ))
-        → IsFirstClash (wishes_of command.entry finds extensions excludes lists paths) judging_clashes error) }
-    ensures none { IfNone result ((finds extensions excludes lists paths : List (List ℕ))
-        → JudgeTogether (wishes_of command.entry finds extensions excludes lists paths)) }
-{
-    if has_needless_suffix(command) {
-        return Some(ArgumentError::SuffixAlone);
-    }
-    if has_needless_edition(command) {
-        return Some(ArgumentError::EditionAlone);
-    }
-    None
-}
-
 /// Returns the first error of options that contradict the requested output, or `None`.
 fn printing_clash<A: Allocator>(command: Command<'_>) -> Option<ArgumentError<A>>
     ensures some { IfSome result (λ error. (finds extensions excludes lists paths : List (List ℕ))
-        → IsFirstClash (wishes_of command.entry finds extensions excludes lists paths) printing_clashes error) }
+        → IsFirstOf (wishes_of command.entry finds extensions excludes lists paths) printing_clashes error) }
     ensures none { IfNone result ((finds extensions excludes lists paths : List (List ℕ))
         → PrintTogether (wishes_of command.entry finds extensions excludes lists paths)) }
 {
@@ -204,21 +81,74 @@ fn printing_clash<A: Allocator>(command: Command<'_>) -> Option<ArgumentError<A>
     None
 }
 
-/// Returns the first error of options that contradict each other, or `None`.
-pub(crate) fn clash_of<A: Allocator>(command: Command<'_>) -> Option<ArgumentError<A>>
+/// Returns the error of the first option that has no effect in the command's mode, or `None`.
+fn mode_clash<A: Allocator>(command: Command<'_>) -> Option<ArgumentError<A>>
     ensures some { IfSome result (λ error. (finds extensions excludes lists paths : List (List ℕ))
-        → IsFirstClash (wishes_of command.entry finds extensions excludes lists paths) clashes error) }
+        → IsWithoutEffect (wishes_of command.entry finds extensions excludes lists paths) error) }
     ensures none { IfNone result ((finds extensions excludes lists paths : List (List ℕ))
-        → GoTogether (wishes_of command.entry finds extensions excludes lists paths)) }
+        → option_without_effect (wishes_of command.entry finds extensions excludes lists paths) ≡ None) }
 {
-    if let Some(error) = printing_clash(command) {
+    match without_effect(command) {
+        Some((name, modes)) => {
+            let mode = mode_words(mode_of(command));
+            Some(ArgumentError::NoEffect(name, mode, modes_hint(modes)))
+        }
+        None => None,
+    }
+}
+
+/// Whether one of the paths is standard input.
+fn has_input_path<A: Allocator>(paths: &[String<A>]) -> bool
+    ensures { result ≡ list_any (λ path. is_input_name (string_bytes path)) paths.now }
+{
+    paths.iter().any(|path| path.as_str() == "-")
+}
+
+/// Whether one of the lists of paths is read from standard input.
+fn has_input_list(lists: &[&str]) -> bool
+    ensures { result ≡ list_any (λ list. is_input_name list.now) lists.now }
+{
+    lists.iter().any(|list| *list == "-")
+}
+
+/// Whether the rules of the style are read from standard input.
+fn has_input_style(style: Option<&str>) -> bool
+    ensures { result ≡ is_input_style (style_of style.entry) }
+{
+    match style {
+        Some(file) => file == "-",
+        None => false,
+    }
+}
+
+/// Whether sources or a list of paths are read from standard input. They are also if there are no paths and no lists.
+fn reads_input<A: Allocator>(paths: &[String<A>], lists: &[&str]) -> bool
+    ensures { result ≡ is_input_among paths.now lists.now }
+{
+    paths.is_empty() && lists.is_empty() || has_input_path(paths) || has_input_list(lists)
+}
+
+/// Whether the rules of a style are read from standard input, and sources or a list of paths too.
+fn reads_input_twice<A: Allocator>(asked: &ParsedArguments<'_, A>) -> bool
+    ensures { result ≡ is_input_read_twice (wishes_in asked.now) }
+{
+    has_input_style(asked.command.style)
+        && reads_input(asked.paths.as_slice(), asked.lists.as_slice())
+}
+
+/// Returns the first error of options that contradict each other, or `None`.
+pub(crate) fn clash_of<A: Allocator>(asked: &ParsedArguments<'_, A>) -> Option<ArgumentError<A>>
+    ensures some { IfSome result (IsFirstClash (wishes_in asked.now)) }
+    ensures none { IfNone result (GoTogether (wishes_in asked.now)) }
+{
+    if let Some(error) = printing_clash(asked.command) {
         return Some(error);
     }
-    if let Some(error) = restyling_clash(command) {
+    if let Some(error) = mode_clash(asked.command) {
         return Some(error);
     }
-    if let Some(error) = judging_clash(command) {
-        return Some(error);
+    if reads_input_twice(asked) {
+        return Some(ArgumentError::InputTwice);
     }
     None
 }

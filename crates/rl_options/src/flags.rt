@@ -2,14 +2,14 @@
 
 ghost use Rattle.std.specs.Prelude.{◌≡◌, ◌≢◌, ◌++◌, ℕ, List, IfOk, IfErr, IfSome, IfNone, MatchBool};
 ghost use Rattle.rl_restyle.specs.declared.edit.Macros.{Macros as AnyMacros};
-ghost use Rattle.rl_options.specs.declared.flags.Flag.{Flag};
+ghost use Rattle.rl_options.specs.declared.flags.Effect.TheVariants as effects;
 ghost use Rattle.rl_options.specs.declared.flags.Format.{Format as AnyFormat};
 ghost use Rattle.rl_flaws.specs.declared.before.Edition.{Edition as AnyEdition};
 ghost use Rattle.rl_options.specs.declared.flags.Operand.{Operand};
 ghost use Rattle.rl_options.specs.declared.flags.When.{When};
-ghost use Rattle.rl_options.specs.Flags.{IsCountWord, IsLetter, IsOptionWord, joined_word, taken_by as flag_before, color_word, macros_word, colored_form, recolored as with_colors, edition_word, format_word, formatted, has_other_mark as other_mark, is_more_than_extension, matches_nothing as is_useless};
+ghost use Rattle.rl_options.specs.Flags.{IsCountWord, color_word, macros_word, colored_form, recolored as with_colors, edition_word, format_word, formatted, has_other_mark as other_mark, is_more_than_extension, matches_nothing as is_useless};
 ghost use Rattle.rl_options.specs.Wishes.{wishes_of};
-ghost use Rattle.rl_options.specs.Words.{IsAllowed, GoesWithFind, GoesWithOptions, RestylesOnce, IsRejectedFlag, with_flag as flagged, next_after as follows};
+ghost use Rattle.rl_options.specs.Words.{IsAllowed, GoesWithFind, GoesWithOptions, RestylesOnce, IsRejectedEffect, with_effect as affected, with_flag as flagged, next_after as follows};
 
 use crate::argument_error::ArgumentError;
 use crate::command::{Action, Command, Macros, Output, PlaceForm, Restyling};
@@ -17,31 +17,20 @@ use rl_flaws::Edition;
 use rl_output::{Form, Matching, Shown, Spelling};
 use std::alloc::Allocator;
 
-/// An option of `rl_scan`.
+/// An option of `rl_scan` without a value.
 #[derive(Clone, Copy)]
 pub(crate) enum Flag {
     Bad,
     Hidden,
-    Only,
-    Find,
     IgnoreCase,
     WholeWords,
     Text,
     Json,
-    Format,
-    Context,
-    Before,
-    After,
-    Color,
     Bytes,
     Lines,
     NoStray,
     AnySuffix,
-    Edition,
     AllDirectories,
-    Extension,
-    Exclude,
-    FilesFrom,
     NoMessages,
     Count,
     FilesWithMatches,
@@ -52,11 +41,8 @@ pub(crate) enum Flag {
     Fix,
     Check,
     Diff,
-    Style,
-    Macros,
     Help,
     Version,
-    Paths,
 }
 
 /// The kind of value that an option has. The value is the next argument, or is in the option's own argument after `=`.
@@ -90,6 +76,17 @@ pub(crate) enum Operand {
     Macros,
 }
 
+/// The effect of an option.
+#[derive(Clone, Copy)]
+pub(crate) enum Effect {
+    /// The option sets a property of the command.
+    Sets(Flag),
+    /// The option has a value of this kind.
+    Takes(Operand),
+    /// Every argument that follows is a path.
+    EndsOptions,
+}
+
 /// The kinds of argument that may follow in a command line.
 #[derive(Clone, Copy)]
 pub(crate) enum Next {
@@ -121,75 +118,6 @@ pub(crate) enum Format {
     Github,
 }
 
-/// Returns the option with the name `word`, as `--bad`, or `None` if there is no such option.
-pub(crate) fn flag_of(word: &str) -> Option<Flag>
-    ensures known { IfSome result (λ flag. IsOptionWord flag word.now) }
-    ensures unknown { IfNone result ((flag : Flag) → IsOptionWord flag word.now → ⊥) }
-{
-    match word {
-        "--bad" => Some(Flag::Bad),
-        "--invisible" => Some(Flag::Hidden),
-        "--only" => Some(Flag::Only),
-        "--find" => Some(Flag::Find),
-        "--ignore-case" => Some(Flag::IgnoreCase),
-        "--word" => Some(Flag::WholeWords),
-        "--text" => Some(Flag::Text),
-        "--json" => Some(Flag::Json),
-        "--format" => Some(Flag::Format),
-        "--context" => Some(Flag::Context),
-        "--before-context" => Some(Flag::Before),
-        "--after-context" => Some(Flag::After),
-        "--color" => Some(Flag::Color),
-        "--bytes" => Some(Flag::Bytes),
-        "--lines" => Some(Flag::Lines),
-        "--no-stray" => Some(Flag::NoStray),
-        "--any-suffix" => Some(Flag::AnySuffix),
-        "--edition" => Some(Flag::Edition),
-        "--all" => Some(Flag::AllDirectories),
-        "--extension" => Some(Flag::Extension),
-        "--exclude" => Some(Flag::Exclude),
-        "--files-from" => Some(Flag::FilesFrom),
-        "--no-messages" => Some(Flag::NoMessages),
-        "--count" => Some(Flag::Count),
-        "--files-with-matches" => Some(Flag::FilesWithMatches),
-        "--null" => Some(Flag::Nul),
-        "--quiet" => Some(Flag::Quiet),
-        "--files" => Some(Flag::Files),
-        "--stats" => Some(Flag::Stats),
-        "--fix" => Some(Flag::Fix),
-        "--check" => Some(Flag::Check),
-        "--diff" => Some(Flag::Diff),
-        "--style" => Some(Flag::Style),
-        "--macros" => Some(Flag::Macros),
-        "--help" => Some(Flag::Help),
-        "--version" => Some(Flag::Version),
-        "--" => Some(Flag::Paths),
-        _ => None,
-    }
-}
-
-/// Returns the short option with the letter `c`, or `None` if there is no such option.
-pub(crate) fn letter_of(c: char) -> Option<Flag>
-    ensures known { IfSome result (λ flag. IsLetter flag c) }
-    ensures unknown { IfNone result ((flag : Flag) → IsLetter flag c → ⊥) }
-{
-    match c {
-        'e' => Some(Flag::Find),
-        'i' => Some(Flag::IgnoreCase),
-        'w' => Some(Flag::WholeWords),
-        'c' => Some(Flag::Count),
-        'l' => Some(Flag::FilesWithMatches),
-        'Z' => Some(Flag::Nul),
-        'C' => Some(Flag::Context),
-        'B' => Some(Flag::Before),
-        'A' => Some(Flag::After),
-        'q' => Some(Flag::Quiet),
-        'h' => Some(Flag::Help),
-        'V' => Some(Flag::Version),
-        _ => None,
-    }
-}
-
 /// Returns the text of `word` after its start `front`, or `None` if `word` doesn't begin with `front`.
 #[tactic(auto, using(crate::proofs::WordLemmas::front_some, crate::proofs::WordLemmas::front_none))]
 pub(crate) fn after_front<'w>(front: &str, word: &'w str) -> Option<&'w str>
@@ -199,88 +127,21 @@ pub(crate) fn after_front<'w>(front: &str, word: &'w str) -> Option<&'w str>
     word.strip_prefix(front)
 }
 
-/// Returns the kind of value and the value of an argument `--option=VALUE`, or `None` for another argument.
-#[tactic(auto, using(crate::proofs::WordLemmas::no_joined))]
-pub(crate) fn joined_of(word: &str) -> Option<(Operand, &str)>
-    ensures some { IfSome result (λ p. word.now ≡ joined_word p.0 p.1.now) }
-    ensures none { IfNone result ((operand : Operand) → (text : List ℕ) → word.now ≢ joined_word operand text) }
-{
-    if let Some(list) = after_front("--only=", word) {
-        return Some((Operand::Kinds, list));
-    }
-    if let Some(text) = after_front("--find=", word) {
-        return Some((Operand::Text, text));
-    }
-    if let Some(when) = after_front("--color=", word) {
-        return Some((Operand::Color, when));
-    }
-    if let Some(extension) = after_front("--extension=", word) {
-        return Some((Operand::Extension, extension));
-    }
-    if let Some(pattern) = after_front("--exclude=", word) {
-        return Some((Operand::Pattern, pattern));
-    }
-    if let Some(list) = after_front("--files-from=", word) {
-        return Some((Operand::List, list));
-    }
-    if let Some(edition) = after_front("--edition=", word) {
-        return Some((Operand::Edition, edition));
-    }
-    if let Some(format) = after_front("--format=", word) {
-        return Some((Operand::Format, format));
-    }
-    if let Some(count) = after_front("--context=", word) {
-        return Some((Operand::Around, count));
-    }
-    if let Some(count) = after_front("--before-context=", word) {
-        return Some((Operand::Before, count));
-    }
-    if let Some(count) = after_front("--after-context=", word) {
-        return Some((Operand::After, count));
-    }
-    if let Some(file) = after_front("--style=", word) {
-        return Some((Operand::Style, file));
-    }
-    if let Some(macros) = after_front("--macros=", word) {
-        return Some((Operand::Macros, macros));
-    }
-    None
-}
-
-/// Returns the option whose value is of the kind `operand`.
-pub(crate) fn taken_by(operand: Operand) -> Flag
-    ensures { result ≡ flag_before operand }
-{
-    match operand {
-        Operand::Kinds => Flag::Only,
-        Operand::Text => Flag::Find,
-        Operand::Color => Flag::Color,
-        Operand::Extension => Flag::Extension,
-        Operand::Pattern => Flag::Exclude,
-        Operand::List => Flag::FilesFrom,
-        Operand::Edition => Flag::Edition,
-        Operand::Format => Flag::Format,
-        Operand::Around => Flag::Context,
-        Operand::Before => Flag::Before,
-        Operand::After => Flag::After,
-        Operand::Style => Flag::Style,
-        Operand::Macros => Flag::Macros,
-    }
-}
-
-/// Whether `flag` may be added to the command: `--bad`, `--invisible` and `--only` only if the command has none of them.
-fn chooses_once(command: Command<'_>, flag: Flag) -> bool
+/// Whether an option may be added to the command: `--bad`, `--invisible` and `--only` only if the command has none of them.
+fn chooses_once(command: Command<'_>, effect: Effect) -> bool
     ensures { MatchBool result
-        ((finds extensions excludes lists paths : List (List ℕ)) → IsAllowed flag (wishes_of command.entry finds extensions excludes lists paths))
-        ((finds extensions excludes lists paths : List (List ℕ)) → IsAllowed flag (wishes_of command.entry finds extensions excludes lists paths) → ⊥) }
+        ((finds extensions excludes lists paths : List (List ℕ)) → IsAllowed effect (wishes_of command.entry finds extensions excludes lists paths))
+        ((finds extensions excludes lists paths : List (List ℕ)) → IsAllowed effect (wishes_of command.entry finds extensions excludes lists paths) → ⊥) }
 {
-    match flag {
-        Flag::Bad | Flag::Hidden | Flag::Only => matches!(command.shown, Shown::All),
+    match effect {
+        Effect::Sets(Flag::Bad | Flag::Hidden) | Effect::Takes(Operand::Kinds) => {
+            matches!(command.shown, Shown::All)
+        }
         _ => true,
     }
 }
 
-/// Adds the option `flag` to the command. The value of an option is added by another function.
+/// Adds the option `flag` to the command.
 fn set_flag(command: &mut Command<'_>, flag: Flag)
     ensures { (finds extensions excludes lists paths : List (List ℕ))
         → wishes_of command.new finds extensions excludes lists paths ≡ flagged flag (wishes_of command.old finds extensions excludes lists paths) }
@@ -309,87 +170,94 @@ fn set_flag(command: &mut Command<'_>, flag: Flag)
         Flag::Files => command.action = Action::Files,
         Flag::Help => command.action = Action::Help,
         Flag::Version => command.action = Action::Version,
-        Flag::Only | Flag::Find | Flag::Color | Flag::Extension | Flag::Exclude => {}
-        Flag::FilesFrom | Flag::Edition | Flag::Format | Flag::Paths => {}
-        Flag::Context | Flag::Before | Flag::After | Flag::Style | Flag::Macros => {}
     }
 }
 
-/// Whether `flag` may be added to the command: `--bad` and `--invisible` can't be combined with `--find`.
-fn goes_with_find(command: Command<'_>, flag: Flag) -> bool
-    ensures { MatchBool result
-        ((finds extensions excludes lists paths : List (List ℕ)) → GoesWithFind flag (wishes_of command.entry finds extensions excludes lists paths))
-        ((finds extensions excludes lists paths : List (List ℕ)) → GoesWithFind flag (wishes_of command.entry finds extensions excludes lists paths) → ⊥) }
+/// Adds an option to the command. The value of an option is added by another function.
+fn set_effect(command: &mut Command<'_>, effect: Effect)
+    ensures { (finds extensions excludes lists paths : List (List ℕ))
+        → wishes_of command.new finds extensions excludes lists paths ≡ affected effect (wishes_of command.old finds extensions excludes lists paths) }
 {
-    match (flag, command.shown) {
-        (Flag::Bad | Flag::Hidden, _) => !command.searches,
-        (Flag::Find, Shown::Bad | Shown::Hidden) => false,
+    match effect {
+        Effect::Sets(flag) => set_flag(command, flag),
+        Effect::Takes(_) | Effect::EndsOptions => {}
+    }
+}
+
+/// Whether an option may be added to the command: `--bad` and `--invisible` can't be combined with `--find`.
+fn goes_with_find(command: Command<'_>, effect: Effect) -> bool
+    ensures { MatchBool result
+        ((finds extensions excludes lists paths : List (List ℕ)) → GoesWithFind effect (wishes_of command.entry finds extensions excludes lists paths))
+        ((finds extensions excludes lists paths : List (List ℕ)) → GoesWithFind effect (wishes_of command.entry finds extensions excludes lists paths) → ⊥) }
+{
+    match (effect, command.shown) {
+        (Effect::Sets(Flag::Bad | Flag::Hidden), _) => !command.searches,
+        (Effect::Takes(Operand::Text), Shown::Bad | Shown::Hidden) => false,
         _ => true,
     }
 }
 
-/// Whether `flag` may be added to the command: `--fix`, `--check` and `--diff` only if the command has none of them.
-fn restyles_once(command: Command<'_>, flag: Flag) -> bool
+/// Whether an option may be added to the command: `--fix`, `--check` and `--diff` only if the command has none of them.
+fn restyles_once(command: Command<'_>, effect: Effect) -> bool
     ensures { MatchBool result
-        ((finds extensions excludes lists paths : List (List ℕ)) → RestylesOnce flag (wishes_of command.entry finds extensions excludes lists paths))
-        ((finds extensions excludes lists paths : List (List ℕ)) → RestylesOnce flag (wishes_of command.entry finds extensions excludes lists paths) → ⊥) }
+        ((finds extensions excludes lists paths : List (List ℕ)) → RestylesOnce effect (wishes_of command.entry finds extensions excludes lists paths))
+        ((finds extensions excludes lists paths : List (List ℕ)) → RestylesOnce effect (wishes_of command.entry finds extensions excludes lists paths) → ⊥) }
 {
-    match flag {
-        Flag::Fix | Flag::Check | Flag::Diff => command.restyle.is_none(),
+    match effect {
+        Effect::Sets(Flag::Fix | Flag::Check | Flag::Diff) => command.restyle.is_none(),
         _ => true,
     }
 }
 
-/// Returns the command with the option `flag` added.
+/// Returns the command with an option added.
 ///
 /// # Errors
 ///
 /// Returns `TwoChoices`, `BadAndFind` or `TwoRestylings` if the option contradicts the command.
-pub(crate) fn add_flag<A: Allocator>(
+pub(crate) fn add_option<A: Allocator>(
     command: Command<'_>,
-    flag: Flag,
+    effect: Effect,
 ) -> Result<Command<'_>, ArgumentError<A>>
     ensures allowed { IfOk result (λ next. (finds extensions excludes lists paths : List (List ℕ))
-        → GoesWithOptions flag (wishes_of command.entry finds extensions excludes lists paths)) }
+        → GoesWithOptions effect (wishes_of command.entry finds extensions excludes lists paths)) }
     ensures wishes { IfOk result (λ next. (finds extensions excludes lists paths : List (List ℕ))
-        → wishes_of next finds extensions excludes lists paths ≡ flagged flag (wishes_of command.entry finds extensions excludes lists paths)) }
+        → wishes_of next finds extensions excludes lists paths ≡ affected effect (wishes_of command.entry finds extensions excludes lists paths)) }
     ensures rejected { IfErr result (λ error. (finds extensions excludes lists paths : List (List ℕ))
-        → IsRejectedFlag flag (wishes_of command.entry finds extensions excludes lists paths) error) }
+        → IsRejectedEffect effect (wishes_of command.entry finds extensions excludes lists paths) error) }
 {
-    if !chooses_once(command, flag) {
+    if !chooses_once(command, effect) {
         return Err(ArgumentError::TwoChoices);
     }
-    if !goes_with_find(command, flag) {
+    if !goes_with_find(command, effect) {
         return Err(ArgumentError::BadAndFind);
     }
-    if !restyles_once(command, flag) {
+    if !restyles_once(command, effect) {
         return Err(ArgumentError::TwoRestylings);
     }
     let mut next = command;
-    set_flag(&mut next, flag);
+    set_effect(&mut next, effect);
     Ok(next)
 }
 
-/// Returns what the argument after the option `flag` may be.
-pub(crate) fn next_after(flag: Flag) -> Next
-    ensures { result ≡ follows flag }
+/// Returns what the argument after an option may be.
+pub(crate) fn next_after(effect: Effect) -> Next
+    ensures { result ≡ follows effect }
 {
-    match flag {
-        Flag::Only => Next::Operand(Operand::Kinds),
-        Flag::Find => Next::Operand(Operand::Text),
-        Flag::Color => Next::Operand(Operand::Color),
-        Flag::Extension => Next::Operand(Operand::Extension),
-        Flag::Exclude => Next::Operand(Operand::Pattern),
-        Flag::FilesFrom => Next::Operand(Operand::List),
-        Flag::Edition => Next::Operand(Operand::Edition),
-        Flag::Format => Next::Operand(Operand::Format),
-        Flag::Context => Next::Operand(Operand::Around),
-        Flag::Before => Next::Operand(Operand::Before),
-        Flag::After => Next::Operand(Operand::After),
-        Flag::Style => Next::Operand(Operand::Style),
-        Flag::Macros => Next::Operand(Operand::Macros),
-        Flag::Paths => Next::Path,
-        _ => Next::Any,
+    match effect {
+        Effect::Sets(_) => Next::Any,
+        Effect::Takes(operand) => Next::Operand(operand),
+        Effect::EndsOptions => Next::Path,
+    }
+}
+
+/// Returns the kind of value of an option, or `None` if it has no value.
+pub(crate) fn operand_of(effect: Effect) -> Option<Operand>
+    ensures some { IfSome result (λ operand. effect ≡ effects.Takes operand) }
+    ensures none { IfNone result ((operand : Operand) → effect ≢ effects.Takes operand) }
+{
+    match effect {
+        Effect::Takes(operand) => Some(operand),
+        Effect::Sets(_) | Effect::EndsOptions => None,
     }
 }
 

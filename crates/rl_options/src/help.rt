@@ -36,8 +36,9 @@ Options of these modes:
       --style FILE     for --fix: rewrite by the rules in FILE; without it, drop
                        needless escapes of quotes and needless hashes, and write
                        1e5 for 1E5
-      --macros WHICH   skip or all: whether --fix rewrites literals in macro
-                       calls, macro_rules! and attributes; skip by default
+      --macros WHICH   skip or all: whether --fix rewrites, and --bad checks the
+                       suffixes and ranges of, literals in macro calls,
+                       macro_rules! and attributes; skip by default
 
 Files:
       --all            also read hidden files and directories, and `target`

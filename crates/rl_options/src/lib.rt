@@ -8,9 +8,11 @@ mod command;
 mod conflicts;
 mod flags;
 mod help;
+mod modes;
 mod path_list;
 mod rules;
 mod suggestion;
+mod table;
 mod visible;
 
 pub use crate::argument_error::ArgumentError;
@@ -19,5 +21,5 @@ pub use crate::command::{Action, Command, Console, Macros, Output, PlaceForm, Re
 pub use crate::conflicts::{asks_context, lists_files};
 pub use crate::help::{HELP, VERSION};
 pub use crate::path_list::{Unread, push_all_listed};
-pub use crate::rules::{LineError, RulesError, rules_in};
+pub use crate::rules::{LineError, RulesError, read_rules_file};
 pub use crate::visible::visible_text;

@@ -1,14 +1,12 @@
 //! Reads files that list paths.
 
-ghost use Rattle.std.specs.Prelude.{◌≡◌, ◌==◌, ◌++◌, ◌<◌, OnOk, IfErr, IfSome};
-ghost use Rattle.std.specs.List.{flat_map, list_any, slice_split};
+ghost use Rattle.std.specs.Prelude.{◌≡◌, ◌==◌, ◌++◌, ◌<◌, length, OnOk, IfErr, IfSome};
+ghost use Rattle.std.specs.List.{list_any};
 ghost use Rattle.rl_files.specs.Trees.{string_texts};
 ghost use Rattle.rl_files.specs.Globs.{borrowed_texts};
-ghost use Rattle.rl_options.specs.Listed.{AreWithAllListed, AreWithListed, IsFirstUnread, names_listed, listed_name, separator_of};
-ghost use Rattle.rl_options.specs.Reads.{IsReadError};
+ghost use Rattle.rl_options.specs.Listed.{AreWithAllListed, AreWithListed, IsFirstUnread, IsUnreadList, listed_name, names_between, separator_of, without_mark};
 
-use rl_files::{PathError, Tree};
-use rl_lexer::without_byte_order_mark;
+use rl_files::{PathError, Tree, path_text};
 use std::alloc::{AllocError, Allocator};
 
 /// A list of paths that can't be read, and the reason.
@@ -20,6 +18,16 @@ pub struct Unread<'a> {
     pub why: PathError,
 }
 
+/// Returns a list without a byte order mark at its start.
+fn after_mark(list: &[u8]) -> &[u8]
+    ensures { result.now ≡ without_mark list.now }
+{
+    if list.starts_with(b"\xef\xbb\xbf".as_slice()) {
+        return &list[3..];
+    }
+    list
+}
+
 /// Whether a list of paths contains a NUL.
 fn has_nul(list: &[u8]) -> bool
     ensures { result ≡ list_any (λ b. b == 0) list.now }
@@ -27,50 +35,72 @@ fn has_nul(list: &[u8]) -> bool
     list.contains(&0)
 }
 
-/// Returns the character that ends each path in a list: NUL if the list contains one, else LF.
-fn separator(list: &str) -> char
-    ensures code { result ≡ separator_of list.now }
-    ensures low { result < 128 }
+/// Returns the byte that ends each path in a list: NUL if the list contains one, else LF.
+fn separator(list: &[u8]) -> u8
+    ensures { result ≡ separator_of list.now }
 {
-    if has_nul(list.as_bytes()) {
-        return '\0';
+    if has_nul(list) {
+        return 0;
     }
-    '\n'
+    b'\n'
 }
 
-/// Appends `name` to `paths`, if it isn't empty.
+/// Appends the text of the path `name` to `paths`, if it isn't empty.
 fn push_name<A: Allocator + Copy>(
     alloc: A,
     paths: &mut Vec<String<A>, A>,
-    name: &str,
+    name: &[u8],
 ) -> Result<(), AllocError>
     ensures { OnOk result (string_texts paths.new.items ≡ string_texts paths.old.items ++ listed_name name.now) }
 {
-    if name.len() == 0 {
+    if name.is_empty() {
         return Ok(());
     }
-    paths.push(String::from_str(alloc, name)?)?;
+    paths.push(path_text(alloc, name)?)?;
     Ok(())
 }
 
-/// Appends the paths in a list to `paths`. `between` is the character that ends each path.
+/// Whether a byte ends a path.
+fn ends_path(byte: u8, between: u8) -> bool
+    ensures { result ≡ (byte == between) }
+{
+    byte == between
+}
+
+/// Returns the first path in a list that isn't empty, and the list after it. `between` is the byte that ends each path.
+fn split_name(list: &[u8], between: u8) -> (&[u8], &[u8])
+    requires { 0 < length list.now }
+    ensures names { names_between between list.now ≡ listed_name result.0.now ++ names_between between result.1.now }
+    ensures shorter { length result.1.now < length list.now }
+{
+    for (at, byte) in list.iter().enumerate() {
+        if ends_path(*byte, between) {
+            return (&list[..at], &list[at + 1..]);
+        }
+    }
+    (list, &[])
+}
+
+/// Appends the paths in a list to `paths`. `between` is the byte that ends each path.
 fn push_parts<A: Allocator + Copy>(
     alloc: A,
     paths: &mut Vec<String<A>, A>,
-    list: &str,
-    between: char,
+    list: &[u8],
+    between: u8,
 ) -> Result<(), AllocError>
-    requires { between < 128 }
-    ensures { OnOk result (string_texts paths.new.items ≡ string_texts paths.old.items
-        ++ flat_map listed_name (slice_split (λ b. b == between) list.now)) }
+    ensures { OnOk result (string_texts paths.new.items ≡ string_texts paths.old.items ++ names_between between list.now) }
 {
-    for name in list.split(between) {
+    let mut rest = list;
+    while !rest.is_empty() {
+        let (name, after) = split_name(rest, between);
         push_name(alloc, paths, name)?;
+        rest = after;
     }
     Ok(())
 }
 
-/// Appends the paths that a file lists to `paths`. A byte order mark at the start of the file is skipped.
+/// Appends the paths that a file lists to `paths`. A byte order mark at the start of the file is skipped. A path that isn't UTF-8
+/// is represented as `path_text` represents it.
 ///
 /// # Errors
 ///
@@ -83,16 +113,13 @@ fn push_listed<A: Allocator + Copy, T: Tree>(
 ) -> Result<(), PathError>
     ensures all { OnOk result (IfSome (T.holds tree.now) (λ w.
         AreWithListed w file.now (string_texts paths.old.items) (string_texts paths.new.items))) }
-    ensures error { IfErr result (λ why. IfSome (T.holds tree.now) (λ w. IsReadError w file.now why)) }
+    ensures error { IfErr result (λ why. IfSome (T.holds tree.now) (λ w. IsUnreadList w file.now why)) }
 {
     let bytes = match tree.bytes(alloc, file) {
         Ok(bytes) => bytes,
         Err(why) => return Err(why),
     };
-    let list = match std::str::from_utf8(bytes.as_slice()) {
-        Ok(text) => without_byte_order_mark(text),
-        Err(error) => return Err(PathError::NotUtf8(error.valid_up_to())),
-    };
+    let list = after_mark(bytes.as_slice());
     match push_parts(alloc, paths, list, separator(list)) {
         Ok(()) => Ok(()),
         Err(_) => Err(PathError::OutOfMemory),

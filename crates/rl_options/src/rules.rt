@@ -126,7 +126,7 @@ fn rules_of<A: Allocator>(alloc: A, text: &str) -> Result<Style, RulesError<A>>
 }
 
 /// Reads and parses a file with the rules of a style. A byte order mark at its start is skipped.
-pub fn rules_in<A: Allocator + Copy, T: Tree>(
+pub fn read_rules_file<A: Allocator + Copy, T: Tree>(
     alloc: A,
     tree: &T,
     file: &str,

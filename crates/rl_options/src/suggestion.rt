@@ -1,12 +1,8 @@
-//! Suggests the option, or the rule of a style, that a misspelled word was likely meant to be.
+//! Suggests the rule of a style that a misspelled word was likely meant to be, and compares words for suggestions.
 
 ghost use Rattle.std.specs.Prelude.{◌≡◌, drop};
 ghost use Rattle.std.specs.Str.{bytes_eq};
-ghost use Rattle.rl_options.specs.Meant.{IsMeant, IsNearest, is_near as near, is_slip as slip, option_part as part, rule_list, slips_here as here, swapped};
-
-/// The names of the options of `rl_scan`. Commas separate them.
-const OPTIONS: &str =
-    "--bad,--invisible,--only,--find,--ignore-case,--word,--no-stray,--any-suffix,--edition,--all,--extension,--exclude,--files,--files-from,--no-messages,--bytes,--lines,--text,--json,--format,--context,--before-context,--after-context,--color,--count,--files-with-matches,--null,--quiet,--stats,--fix,--check,--diff,--style,--macros,--help,--version";
+ghost use Rattle.rl_options.specs.Meant.{IsNearest, is_near as near, is_slip as slip, option_part as part, rule_list, slips_here as here, swapped};
 
 /// The names of the rules of a style. Commas separate them.
 const RULES: &str =
@@ -60,7 +56,7 @@ fn is_slip(said: &[u8], meant: &[u8]) -> bool
 }
 
 /// Whether `word` is similar to `meant`: they differ at most by one typing error, or `word` is the start of `meant`.
-fn is_near(word: &str, meant: &str) -> bool
+pub(crate) fn is_near(word: &str, meant: &str) -> bool
     ensures { result ≡ near word.now meant.now }
 {
     is_slip(word.as_bytes(), meant.as_bytes()) || meant.as_bytes().starts_with(word.as_bytes())
@@ -81,13 +77,6 @@ fn nearest(list: &'static str, word: &str) -> Option<&'static str>
     ensures { IsNearest list.now word.now result }
 {
     list.split(',').find(|meant| is_near(word, meant))
-}
-
-/// Returns the first option that an argument is similar to, or `None`. Only the part before `=` is compared.
-pub(crate) fn meant_by(word: &str) -> Option<&'static str>
-    ensures { IsMeant word.now result }
-{
-    nearest(OPTIONS, option_part(word))
 }
 
 /// Returns the first rule of a style that `name` is similar to, or `None`.

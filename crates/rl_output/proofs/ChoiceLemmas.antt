@@ -12,7 +12,7 @@ same k [] = refl
 same zero (w ∷ ws) = refl
 same (suc k) (w ∷ ws) = same k ws
 
--- The search is successful if a word in the list has the property.
+-- The search returns `true` exactly if a word in the list has the property `P`.
 pub found_word : (P : List ℕ → Type 0) (r : Bool) (words : List (List ℕ))
     → MatchBool r ((k : ℕ) × (k < length words) × HoldsAt P words k)
     (AllWithin (λ x. P x → ⊥) words 0 (length words)) → IsTrue r ↔ Any P words
@@ -22,7 +22,7 @@ found_word P false words none = (
   λ (k, x, within, is, here). absurd (none k x (omega arith) within (subst P (sym is) here)),
 )
 
--- The first word that fails a test, with the words before it.
+-- The search returns the first word that doesn't have the property `P`. All words before it have the property.
 pub first_failing : (P : List ℕ → Type 0) (r : Option (Bor (List ℕ))) (words : List (List ℕ))
     → MatchOption r (AllWithin P words 0 (length words)) (λ x. (P x.now → ⊥) × (i : ℕ) × (i < length words)
     × HoldsAt (λ y. y ≡ x.now) words i × AllWithin P words 0 i)

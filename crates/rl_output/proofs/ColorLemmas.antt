@@ -38,7 +38,7 @@ error_word form old new utf8 written =
     let word : List ℕ = painted form paint.Error (codes "error") in
     pushed old new word utf8 written ∙ ap (λ (z : List ℕ). chars old ++ z) (chars-IsAscii word (word_ascii form))
 
--- The start of an output line without colours.
+-- Without colours, an output line begins as a plain one does.
 pub plain_front : (form : Form) (path : Option (Bor (List ℕ))) (place : Place) → has_colors form ≡ false
     → worded_front Plain path place ≡ worded_front form path place
 plain_front Plain path place off = refl

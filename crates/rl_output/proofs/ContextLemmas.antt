@@ -14,7 +14,7 @@ use Rattle.std.specs.Prelude.{encode_utf8}
 use Rattle.rl_output.specs.Spots.{IsPositionAt, first_position, next_position, position_after}
 use Rattle.rl_output.specs.declared.line_column.Position.{Position}
 use Rattle.rl_lexer.proofs.ErrorKinds.{char_len}
-use Rattle.rl_output.specs.Contexts.{IsBeforeInLine, has_end, carets, context_lines, ends_line, first_line, is_long, left_out, line_char, line_text, marked_line, after_first_line, shown_line, shown_lines}
+use Rattle.rl_output.specs.Contexts.{IsBeforeInLine, has_end, context_lines, ends_line, first_line, is_long, left_out, line_char, line_text, marked_line, after_first_line, shown_line, shown_lines}
 use Rattle.rl_output.proofs.Pieces.{back_utf8, four_parts, five_parts}
 
 -- The first line of the text has been read up to `rest`.
@@ -241,8 +241,8 @@ last_line p lines inside (c ∷ cs) long none begins =
     more : Position
     more = record { line = p.line; column = p.column + 1; byte_column = p.byte_column + length (encode_utf8 c) }
 
-    begins_with_kind : (b : Bool) → (c == 10) ≡ b → next_position p c ≡ (if b then after_end else more)
-    begins_with_kind b e = ap (λ (t : Bool). if t then after_end else more) e
+    next_is : (b : Bool) → (c == 10) ≡ b → next_position p c ≡ (if b then after_end else more)
+    next_is b e = ap (λ (t : Bool). if t then after_end else more) e
 
     Again : Type 0
     Again = (q : Position) (ls is : List ℕ) → byte_len is + 1 ≡ q.byte_column → has_end is ≡ false
@@ -257,7 +257,7 @@ last_line p lines inside (c ∷ cs) long none begins =
         ∙ ap (λ (z : List ℕ). lines ++ z) (append_assoc inside (10 ∷ []) cs
         ∙ ap (λ (n : ℕ). inside ++ (n ∷ cs)) (sym (eqb-true c 10 e))) in
         subst (λ (t : List ℕ). LastLine t (position_after (next_position p c) cs)) same
-        (subst (λ (q : Position). LastLine (whole ++ cs) (position_after q cs)) (sym (begins_with_kind true e)) found)
+        (subst (λ (q : Position). LastLine (whole ++ cs) (position_after q cs)) (sym (next_is true e)) found)
     go again false e =
         let longer : List ℕ = inside ++ (c ∷ []) in
         let one : byte_len (c ∷ []) ≡ length (encode_utf8 c) = ap length (append-nil (encode_utf8 c)) in
@@ -268,7 +268,7 @@ last_line p lines inside (c ∷ cs) long none begins =
         let same : lines ++ (longer ++ cs) ≡ lines ++ (inside ++ (c ∷ cs)) = ap (λ (z : List ℕ). lines ++ z)
         (append_assoc inside (c ∷ []) cs) in
         subst (λ (t : List ℕ). LastLine t (position_after (next_position p c) cs)) same
-        (subst (λ (q : Position). LastLine (lines ++ (longer ++ cs)) (position_after q cs)) (sym (begins_with_kind false e)) found)
+        (subst (λ (q : Position). LastLine (lines ++ (longer ++ cs)) (position_after q cs)) (sym (next_is false e)) found)
 
 -- The byte order mark at the start of the text, if there is one.
 abbrev mark_of : List ℕ → List ℕ

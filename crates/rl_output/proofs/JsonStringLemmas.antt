@@ -32,7 +32,7 @@ pub three_written : (old a b new p q r : List ℕ) → a ≡ old ++ encode_utf8_
     → new ≡ b ++ encode_utf8_all r → new ≡ old ++ encode_utf8_all (p ++ (q ++ r))
 three_written old a b new p q r e f g = both_written old a new p (q ++ r) e (both_written a b new q r f g)
 
--- The UTF-16 code units of a character up to U+FFFF: one unit.
+-- A character up to U+FFFF is one UTF-16 code unit.
 pub one_unit : (c : ℕ) → nat_lt c 0x10000 ≡ true → flat_map unit_escape (encode_utf16 c) ≡ unit_escape c
 one_unit c h =
     ap (λ (b : Bool). flat_map unit_escape (cond b (c ∷ []) ((0xD800 + (c - 0x10000) / 0x400)

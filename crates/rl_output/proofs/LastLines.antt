@@ -19,7 +19,7 @@ pub record LinesLeft (lines left : List ℕ) (count wanted : ℕ) : Type 0 where
   pub lines_are : lines ≡ left ++ back
   pub counted : ends_among back + wanted ≡ count
 
--- A text can be split after whole lines.
+-- A UTF-8 text may be split after whole lines: that byte offset is a character boundary.
 pub cut_after_lines : (text front back : List ℕ) → IsUtf8 text → text ≡ front ++ back → AreWholeLines front
     → IsCharBoundary text (length front)
 cut_after_lines text front back utf8 cut (inl none) =
@@ -39,7 +39,7 @@ cut_after_lines text front back utf8 cut (inr (others, is)) =
     subst (IsCharBoundary text) (sym front_len)
     (IsCharBoundary-after_ascii text (length others) utf8 less (subst (λ (n : ℕ). n < 128) (sym byte) (lit< tt)))
 
--- A text can be split where its last lines begin.
+-- The byte offset where the last lines of a text begin is a character boundary.
 pub lines_cut : (lines : List ℕ) (count at : ℕ) → IsUtf8 lines → at ≤ length lines
     → AreLastLines count lines (drop at lines) → IsCharBoundary lines at
 lines_cut lines count at utf8 within last =

@@ -25,7 +25,7 @@ pub position_after-append : (p : Position) (xs ys : List ℕ) → position_after
 position_after-append p [] ys = refl
 position_after-append p (x ∷ xs) ys = position_after-append (next_position p x) xs ys
 
--- Before an end of the text that has the length of the whole text is no other text.
+-- If an end of the text is as long as the whole text, no text precedes it.
 no_front : (text rest front : List ℕ) → IsUtf8 text → IsUtf8 rest → chars text ≡ front ++ chars rest
     → length rest ≡ length text → front ≡ []
 no_front text rest [] u v e same = refl
@@ -45,7 +45,8 @@ whole_rest text rest front u v e none =
     let same : chars text ≡ chars rest = e ∙ ap (λ (z : List ℕ). z ++ chars rest) none in
     omega (arith, char_len text u, char_len rest v, ap byte_len same)
 
--- The part of a longer text that counts for columns is that of its start and that of its end.
+-- A byte order mark is dropped only at the start of the whole text. So a longer text without the mark is its start without the
+-- mark and then its end. If the start is empty, the mark is dropped from the end.
 columns_more : (front more : List ℕ) (is_whole : Bool) → (is_whole ≡ true → front ≡ []) → (front ≡ [] → is_whole ≡ true)
     → without_byte_order_mark (front ++ more) ≡ without_byte_order_mark front ++ cond is_whole (without_byte_order_mark more) more
 columns_more [] more true none whole = refl

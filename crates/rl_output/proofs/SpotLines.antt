@@ -61,8 +61,8 @@ next_by p c b e =
     ap (λ (t : Bool). cond t (spot_by (p.line + 1) 1 1)
     (spot_by p.line (p.column + 1) (p.byte_column + length (encode_utf8 c)))) e
 
-next_line : (p : Position) (c : ℕ) → (next_position p c).line ≡ p.line + end_count (c == 10)
-next_line p c = go (c == 10) refl
+after_line_feed : (p : Position) (c : ℕ) → (next_position p c).line ≡ p.line + end_count (c == 10)
+after_line_feed p c = go (c == 10) refl
   where
     go : (b : Bool) → (c == 10) ≡ b → (next_position p c).line ≡ p.line + end_count (c == 10)
     go true e = omega (arith, ap (λ (q : Position). q.line) (next_by p c true e), ap end_count e)
@@ -70,9 +70,9 @@ next_line p c = go (c == 10) refl
 
 line_after : (p : Position) (cs : List ℕ) → (position_after p cs).line ≡ p.line + ends_among (encode_utf8_all cs)
 line_after p [] = omega arith
-line_after p (c ∷ cs) = omega (arith, line_after (next_position p c) cs, next_line p c, ends_more c cs)
+line_after p (c ∷ cs) = omega (arith, line_after (next_position p c) cs, after_line_feed p c, ends_more c cs)
 
--- ---- in one line
+-- ---- positions in one line
 
 no_end : (c : ℕ) (cs : List ℕ) → ends_among (encode_utf8_all (c ∷ cs)) ≡ 0
     → ((c == 10) ≡ false) × (ends_among (encode_utf8_all cs) ≡ 0)
@@ -110,7 +110,7 @@ spot_within p inside count utf8 none counted =
     (omega (arith, line_after p (chars inside), none_here)) (omega (arith, column, counted))
     (omega (arith, byte_column, ap length bytes))
 
--- ---- after lines
+-- ---- positions after whole lines
 
 pub spot_after_none : (p : Position) (lines : List ℕ) → (length lines == 0) ≡ true → p ≡ position_after p (chars lines)
 spot_after_none p [] none = ap (position_after p) (sym chars-nil)
@@ -138,7 +138,7 @@ spot_after_lines p lines count utf8 (inr (others, is)) some counted =
     (omega (arith, line_after p (chars lines), ap ends_among bytes, counted)) (sym (ap (λ (q : Position). q.column) last))
     (sym (ap (λ (q : Position). q.byte_column) last))
 
--- ---- a text of lines and a part of one
+-- ---- the position after whole lines and a part of a line
 
 pub utf8_lines : (text lines back : List ℕ) → IsUtf8 text → text ≡ lines ++ back → AreWholeLines lines → IsUtf8 lines
 utf8_lines text lines back utf8 cut whole =
@@ -148,10 +148,10 @@ utf8_lines text lines back utf8 cut whole =
 pub spot_of_both : (p next new : Position) (text lines back inside : List ℕ) → IsUtf8 text → text ≡ lines ++ back
     → AreWholeLines lines → inside ≡ drop (length lines) text → next ≡ position_after p (chars lines)
     → new ≡ position_after next (chars inside) → new ≡ position_after p (chars text)
-spot_of_both p next new text lines back inside utf8 cut whole rest begins_with_kind new_is =
+spot_of_both p next new text lines back inside utf8 cut whole rest next_is new_is =
     let rest_is : inside ≡ back = rest ∙ ap (drop (length lines)) cut ∙ drop-append_seam lines back in
     let both : chars text ≡ chars lines ++ chars inside = ap chars cut
     ∙ chars-append lines back (utf8_lines text lines back utf8 cut whole)
     ∙ ap (λ (z : List ℕ). chars lines ++ chars z) (sym rest_is) in
-    new_is ∙ ap (λ (q : Position). position_after q (chars inside)) begins_with_kind
+    new_is ∙ ap (λ (q : Position). position_after q (chars inside)) next_is
     ∙ sym (ap (position_after p) both ∙ position_after-append p (chars lines) (chars inside))

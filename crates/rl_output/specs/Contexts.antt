@@ -75,7 +75,7 @@ marked_line before rest bytes =
     ++ (codes "    " ++ (marks_below (code " ") (code "\t") before
     ++ (carets (first_line (covered bytes rest)) ++ codes "\n"))))))
 
--- ---- lines before and after it
+-- ---- lines of context
 
 -- The number of LFs in a list of bytes.
 abbrev pub ends_among : List ℕ → ℕ

@@ -11,4 +11,6 @@ pub mod ErrorIds
 pub mod Rows
 pub mod WidthRows
 pub mod Widths
+pub mod SelectorRows
+pub mod Selectors
 pub mod Contexts

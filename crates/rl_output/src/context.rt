@@ -12,7 +12,7 @@ use crate::line_column::front_covered;
 use crate::member::push_ascii;
 use crate::width::width_of;
 use rl_files::{needs_escape, push_visible};
-use rl_syntax::text::{before, begins_with, split_char};
+use rl_syntax::text::{before, begins_with_char, split_char};
 use std::alloc::{AllocError, Allocator};
 
 /// The indentation of the source's lines in the output.
@@ -37,7 +37,7 @@ pub struct Context {
 fn ends_line(c: char, after: &str) -> bool
     ensures { result ≡ is_end c (chars after.now) }
 {
-    c == '\n' || c == '\r' && begins_with(after, '\n')
+    c == '\n' || c == '\r' && begins_with_char(after, '\n')
 }
 
 /// Returns the first line of a text, without its line end, which is an LF or CR LF.

@@ -15,6 +15,8 @@ mod member;
 mod path;
 mod place;
 mod rows;
+mod selector;
+mod selector_rows;
 mod width;
 mod width_rows;
 
@@ -29,4 +31,5 @@ pub use crate::last_lines::count_line_feeds;
 pub use crate::line_column::{Extent, Places, Position};
 pub use crate::member::{push_ascii, push_member};
 pub use crate::path::without_dot;
-pub use crate::place::{LineColumn, Place, push_front};
+pub use crate::place::{LineColumn, Place, push_line_start};
+pub use crate::selector::{is_selector, takes_selector};

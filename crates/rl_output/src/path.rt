@@ -4,7 +4,7 @@ ghost use Rattle.std.specs.Prelude.{◌≡◌, Some, None, MatchOption};
 ghost use Rattle.std.specs.Str.{chars};
 ghost use Rattle.rl_output.specs.Paths.{relative_after as rest_of, without_dot};
 
-use rl_syntax::text::{begins_with, split_char};
+use rl_syntax::text::{begins_with_char, split_char};
 
 /// Returns the relative path after a slash at the start of a text, or `None` if the text doesn't begin with exactly one
 /// slash.
@@ -12,7 +12,7 @@ fn relative_after(text: &str) -> Option<&str>
     ensures { MatchOption result (rest_of (chars text.now) ≡ None) (λ rest. rest_of (chars text.now) ≡ Some (chars rest.now)) }
 {
     match split_char(text) {
-        Some(('/', rest)) if !begins_with(rest, '/') => Some(rest),
+        Some(('/', rest)) if !begins_with_char(rest, '/') => Some(rest),
         _ => None,
     }
 }

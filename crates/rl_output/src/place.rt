@@ -167,7 +167,7 @@ fn push_annotation_front<A: Allocator>(
 ///
 /// Returns an error if an allocation fails. A part of this start may have been appended then.
 #[inline(always)]
-pub fn push_front<A: Allocator>(
+pub fn push_line_start<A: Allocator>(
     out: &mut String<A>,
     level: Level,
     form: Form,

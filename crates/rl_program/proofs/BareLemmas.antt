@@ -72,7 +72,8 @@ bare_shown : (value : List ℕ) → list_all is_bare value ≡ true
 bare_shown value bare =
     rw (bare_units value bare) (ap (λ z. codes "Str \"" ++ z) (sym (append_assoc value (34 ∷ []) (codes " -\n"))))
 
--- The output line of a string literal without a suffix, whose value is printable ASCII without quotes and backslashes.
+-- For a string literal without a suffix, whose value is printable ASCII without quotes and backslashes, `bare_line` is the output
+-- line.
 pub bare_is_line : (text suffix : List ℕ) → list_all is_bare text ≡ true → eqb (length suffix) 0 ≡ true
     → bare_line (chars text) ≡ literal_line Str (Characters (chars text)) (chars suffix)
 bare_is_line text suffix bare none =
@@ -85,7 +86,7 @@ quote : chars (codes "\"") ≡ codes "\""
 unfolding chars
 quote = refl
 
--- The text is a quote, the value and a quote.
+-- If a quote precedes the rest of a text, and the rest is the value and a quote, the text is a quote, the value and a quote.
 pub between_quotes : (text rest before value : List ℕ) → chars text ≡ 34 ∷ chars rest → rest ≡ before ++ codes "\""
     → value ≡ before → IsUtf8 value → chars text ≡ codes "\"" ++ (chars value ++ codes "\"")
 between_quotes text rest before value first last is u =

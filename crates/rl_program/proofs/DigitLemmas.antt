@@ -4,7 +4,7 @@ use Rattle.std.proofs.lemmas.List.{append-nil}
 use Rattle.rl_syntax.specs.Quoted.{is_hex_digit, hex_value}
 use Rattle.rl_program.specs.Digits.{with_front, bytes_of}
 
--- The invariant of the loop over pairs of digits before the first pair.
+-- The invariant of the loop over pairs of digits holds before the first pair.
 pub no_front : (x : Option (List ℕ)) → x ≡ with_front [] x
 no_front (Some bytes) = refl
 no_front None = refl

@@ -12,14 +12,14 @@ use Rattle.rl_program.specs.FoundLines.{IsShownOf}
 use Rattle.rl_program.specs.Lines.{line, kind_label, payload, literal_line, IsLineOfKind, Appends}
 use Rattle.rl_program.proofs.PrintLemmas.{prints_kind}
 
--- The output line of a literal, from the value that it shows.
+-- The line with the value that a literal's output line shows, and with its suffix, is that output line.
 pub shows_line : (kind : Kind) (text old new shown suffix : List ℕ) → IsShownOf kind text shown
     → HasSuffix kind text suffix → new ≡ old ++ line (kind_label kind) shown suffix
     → Appends (IsLineOfKind kind text) old new
 shows_line kind text old new shown suffix (contents, has, is) s e = prints_kind kind text old new shown suffix contents
     has s is e
 
--- The output line of a string literal, which shows its value as a newly written literal.
+-- The line with a string literal's value as a newly written literal is the literal's output line.
 pub string_line : (text value suffix old new : List ℕ) → HasContents Str text (Characters (chars value))
     → HasSuffix Str text suffix → new ≡ old ++ literal_line Str (Characters (chars value)) suffix
     → Appends (IsLineOfKind Str text) old new

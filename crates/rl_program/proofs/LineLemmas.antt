@@ -6,11 +6,11 @@ use Rattle.std.proofs.lemmas.Bool.{false≢true}
 use Rattle.rl_syntax.specs.Written.{written_text}
 use Rattle.rl_program.specs.Lines.{line, line_end, suffix_word}
 
--- The characters of a text after a piece is appended.
+-- If a piece is appended to a text, its characters are appended to those of the text.
 pub pushed : (old new piece : List ℕ) → IsUtf8 old → new ≡ old ++ piece → chars new ≡ chars old ++ chars piece
 pushed old new piece u e = ap chars e ∙ chars-append old piece u
 
--- The end of an output line without a suffix.
+-- Without a suffix, an output line ends with a space, a `-` and an LF.
 pub empty_end : (s : List ℕ) → eqb (length s) 0 ≡ true → line_end (chars s) ≡ chars (32 ∷ 45 ∷ 10 ∷ [])
 unfolding chars
 empty_end [] h = refl

@@ -5,7 +5,7 @@ use Rattle.rl_syntax.specs.declared.kind.Kind.TheVariants.{Bool as BoolKind}
 use Rattle.rl_syntax.proofs.OneReading.{one_reading}
 use Rattle.rl_program.specs.Lines.{line, kind_label, payload, literal_line, IsLineOfKind, Appends}
 
--- The characters of the name of a kind of literals.
+-- The characters of the name of a kind of literals are its bytes.
 pub word_chars : (kind : Kind) → chars (kind_label kind) ≡ kind_label kind
 unfolding chars
 word_chars Str = refl
@@ -30,7 +30,7 @@ pub no_chars : chars [] ≡ []
 unfolding chars
 no_chars = refl
 
--- The output line of a text, from the decoded value and the suffix of its only parse result.
+-- The line with the decoded value and the suffix of a text's only parse result is the output line of the text.
 pub prints_kind : (kind : Kind) (text old new shown suffix : List ℕ) (contents : Contents)
     → HasContents kind text contents → HasSuffix kind text suffix → shown ≡ payload kind contents → new ≡ old
     ++ line (kind_label kind) shown suffix → Appends (IsLineOfKind kind text) old new

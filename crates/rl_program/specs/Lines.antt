@@ -95,6 +95,6 @@ IsLineOfKind kind text shown =
     (contents : Contents) × (suffix : List ℕ) × Reads text kind contents suffix
     × (shown ≡ literal_line kind contents suffix)
 
--- `new` is `old` with a piece after it that has the property.
+-- `new` is `old` with a piece after it that satisfies `IsPiece`.
 abbrev pub Appends : (List ℕ → Type 0) → List ℕ → List ℕ → Type 0
 Appends IsPiece old new = (piece : List ℕ) × IsPiece piece × (new ≡ old ++ piece)

@@ -8,7 +8,7 @@ ghost use Rattle.rl_lenient.specs.Founds.{IsFound};
 ghost use Rattle.rl_program.specs.FoundLines.{IsShownOf};
 ghost use Rattle.rl_program.specs.Lines.{Appends, IsLineOf, IsLineOfKind};
 
-use crate::line::{push_kind, push_text, push_verbatim};
+use crate::line::{push_line_of_kind, push_text, push_verbatim_line};
 use rl_fronts::{bytes_of_body, digits_of_found, str_of_body};
 use rl_lenient::Found;
 use rl_tokens::{CString, Error, Kind, Literal};
@@ -28,7 +28,7 @@ fn push_shown<A: Allocator>(
     ensures { OnOk result (Appends (IsLineOfKind kind (chars text.now))
         (chars (string_bytes out.old)) (chars (string_bytes out.new))) }
 {
-    push_kind(out, kind, shown, suffix)
+    push_line_of_kind(out, kind, shown, suffix)
 }
 
 /// Appends the output line of `text`, a literal of the kind `kind`. `written` is its value as a literal, or the failed allocation
@@ -199,6 +199,6 @@ pub fn push_found<A: Allocator + Copy>(
 {
     match found {
         Some(found) => push_read(alloc, out, text, &found, found.suffix_in(text)),
-        None => push_verbatim(out, text),
+        None => push_verbatim_line(out, text),
     }
 }

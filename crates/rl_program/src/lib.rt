@@ -14,7 +14,8 @@ pub use crate::digits::decoded;
 pub use crate::exit::{Ending, RunError, arguments, finish};
 pub use crate::found_line::{push_found, truth_word};
 pub use crate::line::{
-    label_of, need_no_escapes, push_kind, push_unescaped, push_verbatim, unescaped_value,
+    label_of, need_no_escapes, push_line_of_kind, push_unescaped_line, push_verbatim_line,
+    unescaped_value,
 };
 pub use crate::program_error::ProgramError;
 pub use crate::rejection::Rejection;

@@ -130,7 +130,7 @@ pub fn label_of(kind: Option<Kind>) -> &'static str
 /// # Errors
 ///
 /// Returns an error if an allocation fails. The error is the standard library's. A part of the line may have been appended then.
-pub fn push_kind<A: Allocator>(
+pub fn push_line_of_kind<A: Allocator>(
     out: &mut String<A>,
     kind: Kind,
     shown: &str,
@@ -170,7 +170,7 @@ const END: &str = "\" -\n";
 ///
 /// Returns an error if an allocation fails. The error is the standard library's. A part of the line may have been appended then.
 #[inline(never)]
-pub fn push_unescaped<A: Allocator>(out: &mut String<A>, value: &str) -> Result<(), AllocError>
+pub fn push_unescaped_line<A: Allocator>(out: &mut String<A>, value: &str) -> Result<(), AllocError>
     ensures { OnOk result (chars (string_bytes out.new)
         ≡ chars (string_bytes out.old) ++ bare_line (chars value.now)) }
 {
@@ -190,7 +190,7 @@ pub(crate) fn push_text<A: Allocator>(
         ++ literal_line Str (Characters (chars value.now)) (chars suffix.now)) }
 {
     if suffix.is_empty() && need_no_escapes(value.as_bytes()) {
-        return push_unescaped(out, value);
+        return push_unescaped_line(out, value);
     }
     push_quoted(out, word(Kind::Str), value, suffix)
 }
@@ -200,7 +200,7 @@ pub(crate) fn push_text<A: Allocator>(
 /// # Errors
 ///
 /// Returns an error if an allocation fails. The error is the standard library's. A part of the line may have been appended then.
-pub fn push_verbatim<A: Allocator>(out: &mut String<A>, text: &str) -> Result<(), AllocError>
+pub fn push_verbatim_line<A: Allocator>(out: &mut String<A>, text: &str) -> Result<(), AllocError>
     ensures { OnOk result (Appends (λ line. line ≡ verbatim_line (chars text.now))
         (chars (string_bytes out.old)) (chars (string_bytes out.new))) }
 {

@@ -25,7 +25,7 @@ ghost use Rattle.rl_quoted.specs.Inside.{
 };
 
 use crate::lit_str::LitStr;
-use rl_fronts::byte_spans_of;
+use rl_fronts::value_byte_spans;
 use rl_tokens::{
     ByParse, Error, ErrorKind, Parse, ParseBuffer, Parser, Span, TokenStream, lex_for_parsing,
 };
@@ -81,7 +81,7 @@ impl<A: Allocator> LitStr<A> {
             stream.respan(span);
             return Ok(());
         }
-        match byte_spans_of(alloc, self.segments(), span) {
+        match value_byte_spans(alloc, self.segments(), span) {
             Ok(table) => {
                 stream.relocate(table.as_slice());
                 Ok(())

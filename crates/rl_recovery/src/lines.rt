@@ -6,7 +6,7 @@ ghost use Rattle.std.specs.Str.{chars};
 ghost use Rattle.rl_syntax.specs.Texts.{code, IsTail};
 ghost use Rattle.rl_recovery.specs.Recoveries.{begins_character, from_line_end, lines_after};
 
-use rl_syntax::text::{begins, begins_with, split_char};
+use rl_syntax::text::{begins, begins_with_char, split_char};
 
 /// Returns the part of the text where lexing resumes after the error at the text's start, or `None` if there is no such part.
 ///
@@ -63,7 +63,7 @@ fn begins_character(text: &str) -> bool
 {
     match split_char(text) {
         Some(('\'', _)) => true,
-        Some(('b', following)) => begins_with(following, '\''),
+        Some(('b', following)) => begins_with_char(following, '\''),
         _ => false,
     }
 }

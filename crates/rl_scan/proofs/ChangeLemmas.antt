@@ -1,17 +1,41 @@
 -- Lemmas about the output lines for rewritten literals.
-use Rattle.rl_syntax.proofs.Common.{◌≡◌, ℕ, ◌+◌, List, [], ◌∷◌, ◌++◌, length, drop, map, refl, sym, ◌∙◌, ap, subst, arith, append-nil, append_assoc, chars, IsCharBoundary, IsUtf8}
+use Rattle.rl_syntax.proofs.Common.{◌≡◌, ℕ, ◌+◌, List, [], ◌∷◌, ◌++◌, length, drop, map, refl, sym, ◌∙◌, ap, subst, arith, append-nil, append_assoc, chars, encode_utf8, false, true, IsCharBoundary, IsUtf8}
+use Rattle.std.proofs.lemmas.Grind.{flat_map-append}
 use Rattle.std.proofs.lemmas.List.{length-drop}
+use Rattle.std.specs.List.{flat_map}
+use Rattle.rl_files.proofs.VisibleLemmas.{chars_written}
+use Rattle.rl_files.specs.Visible.{needs_escape}
 use Rattle.rl_lexer.specs.Cursors.{IsCursorState}
+use Rattle.rl_program.proofs.LineLemmas.{pushed}
 use Rattle.rl_program.specs.Lines.{Appends}
-use Rattle.rl_output.specs.declared.form.Form.{Form}
 use Rattle.rl_output.specs.declared.place.Place.{Place}
 use Rattle.rl_restyle.proofs.TextSlices.{slice}
 use Rattle.rl_restyle.specs.Places.{AreEditsIn, IsTextBetween}
-use Rattle.rl_sources.specs.Places.{IsPlaceIn}
+use Rattle.rl_sources.proofs.StepLemmas.{in_context}
+use Rattle.rl_sources.specs.Places.{IsContextIn, IsPlaceIn}
 use Rattle.rl_sources.specs.declared.options.Options.{Options}
-use Rattle.rl_scan.specs.Changes.{AreChangeLines, IsChangeLine, change_line}
+use Rattle.rl_scan.specs.Changes.{AreChangeLines, IsChangeLine, IsOwnChangeLine, bracketed_number, change_line, numbered_char}
 
--- The source can be split where a rewritten literal begins.
+-- The loop's invariant stays true after one more character is appended, as the function `f` writes it.
+pub shown_more : (f : ℕ → List ℕ) (first old new done : List ℕ) (c : ℕ) → old ≡ first ++ flat_map f done
+    → new ≡ old ++ f c → new ≡ first ++ flat_map f (done ++ c ∷ [])
+shown_more f first old new done c before now =
+    now ∙ ap (λ (z : List ℕ). z ++ f c) before ∙ append_assoc first (flat_map f done) (f c)
+    ∙ ap (λ (z : List ℕ). first ++ z)
+    (ap (λ (z : List ℕ). flat_map f done ++ z) (sym (append-nil (f c))) ∙ sym (flat_map-append f done (c ∷ [])))
+
+-- A control, invisible or bidirectional character is appended as its number.
+pub number_appended : (old new : List ℕ) (c : ℕ) → IsUtf8 old → needs_escape c ≡ true → new ≡ old ++ bracketed_number c
+    → chars new ≡ chars old ++ numbered_char c
+number_appended old new c utf8 escaped is = rw escaped (pushed old new (bracketed_number c) utf8 is)
+
+-- Another character is appended unchanged.
+pub character_appended : (old new : List ℕ) (c : ℕ) → IsUtf8 old → IsUtf8 new → needs_escape c ≡ false
+    → new ≡ old ++ encode_utf8 c → chars new ≡ chars old ++ numbered_char c
+character_appended old new c utf8 valid plain is = rw plain (chars_written old new (c ∷ []) utf8 valid
+    (is ∙ ap (λ (z : List ℕ). old ++ z) (sym (append-nil (encode_utf8 c)))))
+
+-- The byte offset where a rewritten literal begins is a character boundary of the source.
 pub boundary : (places text : List ℕ) (lo hi : ℕ) (old : List ℕ) → places ≡ text → IsUtf8 text
     → IsTextBetween (chars text) lo hi old → IsCharBoundary places lo
 boundary places text lo hi old same u s = rw same ((slice text lo hi old u s).begins)
@@ -27,14 +51,14 @@ left places text rest lo hi old same u s is =
     let cut = slice text lo hi old u s in
     rw (is, same) (omega (arith, length-drop lo text, cut.ordered, cut.within))
 
--- The output line for one rewritten literal.
-pub change_told : (options : Options) (form : Form) (places text old old_text new : List ℕ) (lo hi : ℕ) (place : Place)
+-- The line that the code appends for one rewritten literal is the output line for it.
+pub change_told : (options : Options) (places text old old_text new : List ℕ) (lo hi : ℕ) (place : Place)
     (before after : List ℕ) → places ≡ text → IsPlaceIn options (chars places) lo hi place
     → IsTextBetween (chars text) lo hi old → old_text ≡ old
-    → after ≡ before ++ change_line form options.path place old_text new
-    → Appends (IsChangeLine options form (chars text) (lo, hi, new)) before after
-change_told options form places text old old_text new lo hi place before after same is stands old_is told = (
-  change_line form options.path place old_text new,
+    → after ≡ before ++ change_line options.form options.path place old_text new
+    → Appends (IsOwnChangeLine options (chars text) (lo, hi, new)) before after
+change_told options places text old old_text new lo hi place before after same is stands old_is told = (
+  change_line options.form options.path place old_text new,
   (
     place,
     old_text,
@@ -45,54 +69,63 @@ change_told options form places text old old_text new lo hi place before after s
   told,
 )
 
+-- The line for one rewritten literal, and then the lines of context below it, are the output for it.
+pub change_in_context : (options : Options) (places text new : List ℕ) (lo hi : ℕ) (before middle after : List ℕ)
+    → places ≡ text → Appends (IsOwnChangeLine options (chars text) (lo, hi, new)) before middle
+    → Appends (IsContextIn options (chars places) lo hi) middle after
+    → Appends (IsChangeLine options (chars text) (lo, hi, new)) before after
+change_in_context options places text new lo hi before middle after same line below =
+    in_context (IsOwnChangeLine options (chars text) (lo, hi, new)) options (chars text) lo hi before middle after line
+    (subst (λ (t : List ℕ). Appends (IsContextIn options (chars t) lo hi) middle after) same below)
+
 -- The invariant of the loop over rewritten literals: the written lines, with those for the literals in `rest`, are all lines.
-pub record Told (options : Options) (form : Form) (text : List ℕ) (all rest : List (ℕ × ℕ × List ℕ)) (before now : List ℕ)
+pub record Told (options : Options) (text : List ℕ) (all rest : List (ℕ × ℕ × List ℕ)) (before now : List ℕ)
     : Type 0 where
   pub made : List ℕ
   pub now_is : now ≡ before ++ made
-  pub goes : (more : List ℕ) → AreChangeLines options form text rest more
-      → AreChangeLines options form text all (made ++ more)
+  pub goes : (more : List ℕ) → AreChangeLines options text rest more
+      → AreChangeLines options text all (made ++ more)
 
-pub told_none : (options : Options) (form : Form) (text : List ℕ) (all : List (ℕ × ℕ × List ℕ)) (before : List ℕ)
-    → Told options form text all all before before
-told_none options form text all before = record {
+pub told_none : (options : Options) (text : List ℕ) (all : List (ℕ × ℕ × List ℕ)) (before : List ℕ)
+    → Told options text all all before before
+told_none options text all before = record {
   made = [];
   now_is = sym (append-nil before);
   goes = λ more are. are;
 }
 
-pub told_more : (options : Options) (form : Form) (text : List ℕ) (all rest : List (ℕ × ℕ × List ℕ))
-    (edit : ℕ × ℕ × List ℕ) (before now after : List ℕ) → Told options form text all (edit ∷ rest) before now
-    → Appends (IsChangeLine options form text edit) now after → Told options form text all rest before after
-told_more options form text all rest edit before now after told (line, is, after_is) = record {
+pub told_more : (options : Options) (text : List ℕ) (all rest : List (ℕ × ℕ × List ℕ))
+    (edit : ℕ × ℕ × List ℕ) (before now after : List ℕ) → Told options text all (edit ∷ rest) before now
+    → Appends (IsChangeLine options text edit) now after → Told options text all rest before after
+told_more options text all rest edit before now after told (line, is, after_is) = record {
   made = told.made ++ line;
   now_is = after_is ∙ ap (λ (z : List ℕ). z ++ line) told.now_is ∙ append_assoc before told.made line;
-  goes = λ more are. subst (λ (z : List ℕ). AreChangeLines options form text all z)
+  goes = λ more are. subst (λ (z : List ℕ). AreChangeLines options text all z)
       (sym (append_assoc told.made line more)) (told.goes (line ++ more) (line, more, is, are, refl));
 }
 
-pub told_all : (options : Options) (form : Form) (text : List ℕ) (all : List (ℕ × ℕ × List ℕ)) (before now : List ℕ)
-    → Told options form text all [] before now → Appends (AreChangeLines options form text all) before now
-told_all options form text all before now told = (
+pub told_all : (options : Options) (text : List ℕ) (all : List (ℕ × ℕ × List ℕ)) (before now : List ℕ)
+    → Told options text all [] before now → Appends (AreChangeLines options text all) before now
+told_all options text all before now told = (
   told.made,
-  subst (λ (z : List ℕ). AreChangeLines options form text all z) (append-nil told.made) (told.goes [] refl),
+  subst (λ (z : List ℕ). AreChangeLines options text all z) (append-nil told.made) (told.goes [] refl),
   told.now_is,
 )
 
 -- The loop's invariant stays true after one more line.
-pub told_step : (options : Options) (form : Form) (text : List ℕ) (all rest after : List (ℕ × ℕ × List ℕ))
+pub told_step : (options : Options) (text : List ℕ) (all rest after : List (ℕ × ℕ × List ℕ))
     (edit : ℕ × ℕ × List ℕ) (before now later : List ℕ) → rest ≡ edit ∷ after → AreEditsIn text rest
-    → Told options form text all rest before now → Appends (IsChangeLine options form text edit) now later
-    → AreEditsIn text after × Told options form text all after before later
-told_step options form text all rest after edit before now later is stands told line = (
+    → Told options text all rest before now → Appends (IsChangeLine options text edit) now later
+    → AreEditsIn text after × Told options text all after before later
+told_step options text all rest after edit before now later is stands told line = (
   (subst (λ (z : List (ℕ × ℕ × List ℕ)). AreEditsIn text z) is stands).1,
-  told_more options form text all after edit before now later
-      (subst (λ (z : List (ℕ × ℕ × List ℕ)). Told options form text all z before now) is told) line,
+  told_more options text all after edit before now later
+      (subst (λ (z : List (ℕ × ℕ × List ℕ)). Told options text all z before now) is told) line,
 )
 
 -- After the last rewritten literal, all lines are written.
-pub told_end : {X : Type 0} (f : X → ℕ × ℕ × List ℕ) (xs : List X) (options : Options) (form : Form) (text : List ℕ)
+pub told_end : {X : Type 0} (f : X → ℕ × ℕ × List ℕ) (xs : List X) (options : Options) (text : List ℕ)
     (all : List (ℕ × ℕ × List ℕ)) (before now : List ℕ) → length xs ≡ 0
-    → Told options form text all (map f xs) before now → Appends (AreChangeLines options form text all) before now
-told_end f [] options form text all before now none told = told_all options form text all before now told
-told_end f (x ∷ xs) options form text all before now none told = absurd (omega (arith, none))
+    → Told options text all (map f xs) before now → Appends (AreChangeLines options text all) before now
+told_end f [] options text all before now none told = told_all options text all before now told
+told_end f (x ∷ xs) options text all before now none told = absurd (omega (arith, none))

@@ -1,12 +1,12 @@
 -- Lemmas about the result of a call of `rl_scan`.
-use Rattle.rl_syntax.proofs.Common.{ap, false, length, not, true, ◌==◌, ◌∙◌, Bool, Bor, List, None, Option, Some, [], inl, inr, refl, subst, sym, ℕ, ◌∷◌, ◌≡◌}
+use Rattle.rl_syntax.proofs.Common.{ap, arith, drop, false, length, not, take, take_all, true, ◌==◌, ◌∙◌, Bool, Bor, List, None, Option, Some, [], inl, inr, refl, subst, sym, ℕ, ◌-◌, ◌∷◌, ◌≡◌, ◌≤◌}
 use Rattle.std.specs.Prelude.{IfSome, String}
 use Rattle.std.proofs.lemmas.Bool.{false≢true}
 use Rattle.std.specs.Io.KnownBytes.{Keeps}
 use Rattle.std.proofs.KnownBytes.{Appends-nil}
 use Rattle.rl_files.specs.Globs.{borrowed_texts}
 use Rattle.rl_files.specs.Replacements.{Replacement}
-use Rattle.rl_files.specs.Trees.{World}
+use Rattle.rl_files.specs.Trees.{World, string_texts}
 use Rattle.rl_files.specs.Walks.{Waypoint}
 use Rattle.rl_files.proofs.WalkLemmas.{some_visits}
 use Rattle.rl_program.specs.declared.exit.Ending.{Ending}
@@ -27,14 +27,14 @@ use Rattle.rl_scan.proofs.Handing.{hands_none, written_on}
 use Rattle.rl_scan.proofs.RunLemmas.{not_empty}
 use Rattle.rl_options.specs.Wishes.{Wishes, style_of, wishes_of, reads_current_directory}
 use Rattle.rl_options.specs.Words.{AskForWishes}
-use Rattle.rl_scan.specs.Endings.{EndsText, EndsWish, EndsAsked, EndsAsScan, EndsFrom, EndsListed, EndsPaths, EndsScan, EndsStyled, paths_read, IsCommandFor, IsSelecting}
+use Rattle.rl_scan.specs.Endings.{EndsText, EndsWish, EndsAsked, EndsAsScan, EndsFrom, EndsListed, EndsPaths, EndsScan, EndsStyled, paths_read, HasOddWord, IsCommandFor, IsSelecting, only_paths, words_after_name}
 
 -- The bytes of a writer are unchanged if nothing is written.
 pub keeps_same : (a : Option (List ℕ)) → Keeps a a
 keeps_same None = tt
 keeps_same (Some xs) = refl
 
--- The call has written the help. `ends_version` is the lemma for the version.
+-- If the help is requested, the result of writing it is the result of the call. `ends_version` is the lemma for the version.
 pub ends_help : {B : Type 0} (wishes : Wishes) (is_terminal : Bool) (holds : Option World) (o0 o1 e : Option (List ℕ))
     (h : Option (List Replacement)) (text : List ℕ) (ending : Ending (CallError B)) → wishes.action ≡ Help
     → EndsText text o0 o1 ending → EndsAsked wishes is_terminal holds (written_on o0 o1 e e h h) ending
@@ -67,7 +67,8 @@ command_for command selecting style finds extensions excludes lists paths is = r
   rules_are = is.rules_are;
 }
 
--- There are no lists of paths. `ends_listed` is the lemma for lists of paths.
+-- Without lists of paths, the result of the run over the passed paths is that of the call. `ends_listed` is the lemma for lists
+-- of paths.
 pub ends_named : {B : Type 0} (files : List (Bor (List ℕ))) (command : Command) (is_terminal : Bool)
     (holds : Option World) (paths : List (List ℕ)) (streams : Streams) (ending : Ending (CallError B))
     → (length files == 0) ≡ true → EndsPaths command holds (paths_read is_terminal paths) streams ending
@@ -99,7 +100,7 @@ scan_ends command selecting style finds extensions excludes lists paths is_termi
           ends),
     )
 
--- The option `--style` names a file with the rules of a style.
+-- If the option `--style` names a file, the result of the call with the rules in this file is that of the call.
 pub ends_styled : {B : Type 0} (said : Option (Bor (List ℕ))) (file : Bor (List ℕ)) (wishes : Wishes)
     (is_terminal : Bool) (holds : Option World) (streams : Streams) (ending : Ending (CallError B)) → said ≡ Some file
     → EndsStyled (Some file.now) wishes is_terminal holds streams ending
@@ -171,18 +172,38 @@ no_word error Version wishes is_terminal holds streams (text, (never, begun), ke
 
 pub call_asked : {A B : Type 0} (args : List (String A)) (console : Console) (holds : Option World) (streams : Streams)
     (ending : Ending (CallError B)) (wishes : Wishes) → AskForWishes console.has_colors args wishes
+    → only_paths (words_after_name args) wishes.paths ≡ true
     → EndsAsked wishes console.input_is_terminal holds streams ending → EndsAsScan args console holds streams ending
-call_asked args console holds streams Done wishes asks ends = (wishes, asks, ends)
-call_asked args console holds streams FoundBad wishes asks ends = (wishes, asks, ends)
-call_asked args console holds streams Reported wishes asks ends = (wishes, asks, ends)
-call_asked args console holds streams Closed wishes asks ends = (wishes, asks, ends)
-call_asked args console holds streams (Usage line) wishes asks ends = (wishes, asks, ends)
-call_asked {A} {B} args console holds streams (Failed NoArguments) wishes asks ends = absurd
+call_asked args console holds streams Done wishes asks paths ends = (wishes, asks, paths, ends)
+call_asked args console holds streams FoundBad wishes asks paths ends = (wishes, asks, paths, ends)
+call_asked args console holds streams Reported wishes asks paths ends = (wishes, asks, paths, ends)
+call_asked args console holds streams Closed wishes asks paths ends = (wishes, asks, paths, ends)
+call_asked args console holds streams (Usage line) wishes asks paths ends = (wishes, asks, paths, ends)
+call_asked {A} {B} args console holds streams (Failed NoArguments) wishes asks paths ends = absurd
     (no_arguments B wishes.action wishes console.input_is_terminal holds streams ends)
-call_asked args console holds streams (Failed (Word error)) wishes asks ends = absurd
+call_asked args console holds streams (Failed (Word error)) wishes asks paths ends = absurd
     (no_word error wishes.action wishes console.input_is_terminal holds streams ends)
-call_asked args console holds streams (Failed (Walk error)) wishes asks ends = (wishes, asks, ends)
-call_asked args console holds streams (Failed (NoList file why)) wishes asks ends = (wishes, asks, ends)
-call_asked args console holds streams (Failed (NoStyle file error)) wishes asks ends = (wishes, asks, ends)
-call_asked args console holds streams (Failed NoFile) wishes asks ends = (wishes, asks, ends)
-call_asked args console holds streams (Failed Write) wishes asks ends = (wishes, asks, ends)
+call_asked args console holds streams (Failed (Walk error)) wishes asks paths ends = (wishes, asks, paths, ends)
+call_asked args console holds streams (Failed (NoList file why)) wishes asks paths ends = (wishes, asks, paths, ends)
+call_asked args console holds streams (Failed (NoStyle file error)) wishes asks paths ends = (wishes, asks, paths, ends)
+call_asked args console holds streams (Failed NoFile) wishes asks paths ends = (wishes, asks, paths, ends)
+call_asked args console holds streams (Failed Write) wishes asks paths ends = (wishes, asks, paths, ends)
+
+-- An argument that isn't UTF-8 is an option or a value.
+pub odd_word : {A : Type 0} (args : List (String A)) (console : Console) (wishes : Wishes)
+    → AskForWishes console.has_colors args wishes → only_paths (words_after_name args) wishes.paths ≡ false
+    → HasOddWord args console.has_colors
+odd_word args console wishes asks odd = inr (wishes, asks, odd)
+
+-- The arguments after the first one.
+words_after : {A : Type 0} (args : List (String A)) → 1 ≤ length args
+    → string_texts (take (length args - 1) (drop 1 args)) ≡ words_after_name args
+words_after [] some = absurd (omega (arith, some))
+words_after (program ∷ words) some = ap string_texts (take_all (length (program ∷ words) - 1) words (omega arith))
+
+-- The result of the test for all arguments after the first one.
+pub paths_known : {A : Type 0} (args : List (String A)) (paths : List (List ℕ)) (found : Bool) {told : Bool}
+    → 1 ≤ length args → found ≡ only_paths (string_texts (take (length args - 1) (drop 1 args))) paths → found ≡ told
+    → only_paths (words_after_name args) paths ≡ told
+paths_known args paths found some is told =
+    ap (λ (words : List (List ℕ)). only_paths words paths) (sym (words_after args some)) ∙ sym is ∙ told

@@ -5,7 +5,7 @@ use Rattle.rl_files.specs.Replacements.{Replacement}
 use Rattle.rl_scan.specs.Reports.{HandsOn}
 use Rattle.rl_scan.specs.Runs.{Streams}
 
--- No file was replaced.
+-- If no file was replaced, the list of replaced files is unchanged.
 pub hands_none : (h : Option (List Replacement)) → HandsOn h h []
 hands_none None = refl
 hands_none (Some before) = ap Some (sym (append-nil before))

@@ -5,7 +5,7 @@ use Rattle.std.proofs.lemmas.Str.{IsAscii-append}
 use Rattle.rl_files.specs.Visible.{visible}
 use Rattle.rl_files.specs.Walks.{path_error_message}
 use Rattle.rl_files.specs.declared.tree.PathError.{PathError}
-use Rattle.rl_files.specs.declared.tree.PathError.TheVariants.{NotFound, PermissionDenied, IsADirectory, NotADirectory, PathTooLong, NameNotUtf8, NotUtf8, TooLong, OutOfMemory, NotAFile, Changed, NoRoom, ReadOnly, DirectoryDenied, OwnerChanges, ReadFailed, WriteFailed}
+use Rattle.rl_files.specs.declared.tree.PathError.TheVariants.{NotFound, PermissionDenied, IsADirectory, NotADirectory, PathTooLong, NameNotUtf8, PathNotUtf8, NotUtf8, TooLong, OutOfMemory, NotAFile, Changed, NoRoom, ReadOnly, DirectoryDenied, OwnerChanges, ReadFailed, WriteFailed}
 use Rattle.rl_lexer.specs.declared.lex_error.LexKind.{LexKind}
 use Rattle.rl_program.proofs.LineLemmas.{pushed}
 use Rattle.rl_output.specs.declared.context.Context.{Context}
@@ -29,6 +29,7 @@ message_ascii IsADirectory = low_text (path_error_message IsADirectory) refl
 message_ascii NotADirectory = low_text (path_error_message NotADirectory) refl
 message_ascii PathTooLong = low_text (path_error_message PathTooLong) refl
 message_ascii NameNotUtf8 = low_text (path_error_message NameNotUtf8) refl
+message_ascii PathNotUtf8 = low_text (path_error_message PathNotUtf8) refl
 message_ascii (NotUtf8 at) = IsAscii-append (codes "not UTF-8 at byte ") _ (low_text (codes "not UTF-8 at byte ") refl)
     (decimal_ascii at)
 message_ascii TooLong = low_text (path_error_message TooLong) refl
@@ -42,7 +43,7 @@ message_ascii OwnerChanges = low_text (path_error_message OwnerChanges) refl
 message_ascii ReadFailed = low_text (path_error_message ReadFailed) refl
 message_ascii WriteFailed = low_text (path_error_message WriteFailed) refl
 
--- The line for a path on standard error, from its parts.
+-- The line for a path on standard error is its parts, one after another: the program's name, the path, and the text after it.
 pub line_reported : (path after a b line : List ℕ) → IsAscii after → IsUtf8 b → a ≡ codes "rl_scan: "
     → chars b ≡ chars a ++ visible (chars path) → line ≡ b ++ after
     → chars line ≡ codes "rl_scan: " ++ (visible (chars path) ++ after)
@@ -53,7 +54,7 @@ line_reported path after a b line ascii utf8 first shown written =
     ∙ ap (λ (z : List ℕ). z ++ after) (shown ∙ ap (λ (z : List ℕ). z ++ visible (chars path)) begun)
     ∙ append_assoc (codes "rl_scan: ") (visible (chars path)) after
 
--- The line for a source that begins as a script and isn't rewritten.
+-- The parts of the line for a source that begins as a script, and isn't rewritten, are that line.
 pub script_reported : (path a b line : List ℕ) → IsUtf8 b → a ≡ codes "rl_scan: "
     → chars b ≡ chars a ++ visible (chars path) → line ≡ b ++ codes ": left alone: its first line begins with #!\n"
     → chars line
@@ -62,7 +63,7 @@ script_reported path a b line utf8 first shown written = line_reported path
     (codes ": left alone: its first line begins with #!\n") a b line
     (low_text (codes ": left alone: its first line begins with #!\n") refl) utf8 first shown written
 
--- The line for a path that can't be read.
+-- The parts of the line for a path that can't be read are that line.
 pub error_reported : (path : List ℕ) (why : PathError) (a b errors : List ℕ) → IsUtf8 b → a ≡ codes "rl_scan: "
     → chars b
     ≡ chars a ++ visible (chars path) → errors ≡ b ++ (codes ": " ++ (path_error_message why ++ codes "\n"))

@@ -35,7 +35,7 @@ prints_handing out r p prints = record {
   handed_is = refl;
 }
 
--- The file can't be replaced, and the output is the reason.
+-- If the file can't be replaced, the line with the reason is the output.
 pub unreplaced : {A E : Type 0} (path text new out : List ℕ) (why : PathError) (r : Result (Report A) E)
     (old now : Option (List Replacement)) → now ≡ old → IfOk r (λ p. IsErrorReport path why (in_report p))
     → IfOk r (λ p. ReportsAs (IsReplaced path text new out) p old now)

@@ -73,7 +73,7 @@ both_assoc : (p q r : Totals) → both_of (both_of p q) r ≡ both_of p (both_of
 both_assoc p q r = same_totals (both_of p (both_of q r)) (append_assoc p.out q.out r.out)
     (append_assoc p.errors q.errors r.errors) (append_assoc p.handed q.handed r.handed) (omega arith) (omega arith) (omega arith) (omega arith) (omega arith)
 
--- The output for some visits and for one more.
+-- The output for some visits, with the output for one more visit after it, is the output for all of them.
 reports_more : (command : Command) (w : World) (visits : List Visited) (visit : Visited) (done : Totals) (one : Findings)
     → AreReports command w visits done → IsReport command w visit one
     → AreReports command w (visits ++ visit ∷ []) (both_of done (totals_of one))
@@ -229,7 +229,7 @@ ran_some command (Some w) old mid new visit o0 o1 o2 e0 e1 e2 h0 h1 h2 before ra
       ),
     )
 
--- Writing to standard output failed.
+-- If a write to standard output failed, some of the output for the visit is written.
 pub out_failed : {A : Type 0} (command : Command) (holds : Option World) (visit : Visited) (one : Report A)
     (o0 o1 e0 : Option (List ℕ)) (h0 h1 : Option (List Replacement))
     → IfSome holds (λ w. ReportsAs (IsReport command w visit) one h0 h1) → AppendsBeginning o0 o1 one.out.items
@@ -238,7 +238,7 @@ out_failed command None visit one o0 o1 e0 h0 h1 is begun = tt
 out_failed command (Some w) visit one o0 o1 e0 h0 h1 (handed, is, on) begun =
     inr (with_handed handed one, is, (begun, (0, Appends-nil e0), on))
 
--- Writing to standard error failed.
+-- If a write to standard error failed, some of the output for the visit is written.
 pub err_failed : {A : Type 0} (command : Command) (holds : Option World) (visit : Visited) (one : Report A)
     (o0 o1 e0 e1 : Option (List ℕ)) (h0 h1 : Option (List Replacement))
     → IfSome holds (λ w. ReportsAs (IsReport command w visit) one h0 h1) → Appends o0 o1 one.out.items
@@ -248,7 +248,7 @@ err_failed command None visit one o0 o1 e0 e1 h0 h1 is all begun = tt
 err_failed command (Some w) visit one o0 o1 e0 e1 h0 h1 (handed, is, on) all begun =
     inr (with_handed handed one, is, (all_of o0 o1 one.out.items all, begun, on))
 
--- The whole output for a visit was written.
+-- If all bytes of a visit's report were written, the output for the visit is written.
 pub all_written : {A : Type 0} (command : Command) (holds : Option World) (visit : Visited) (one : Report A)
     (o0 o1 e0 e1 : Option (List ℕ)) (h0 h1 : Option (List Replacement)) (tally : Tally)
     → IfSome holds (λ w. ReportsAs (IsReport command w visit) one h0 h1) → Appends o0 o1 one.out.items
@@ -258,7 +258,7 @@ all_written command None visit one o0 o1 e0 e1 h0 h1 tally is out err tally_is =
 all_written command (Some w) visit one o0 o1 e0 e1 h0 h1 tally (handed, is, on) out err tally_is =
     (with_handed handed one, is, record { on_out = out; on_err = err; handed = on; tally_is = tally_is })
 
--- The statistics were written.
+-- If the statistics were written after the output for all visits, the whole output of the walk is written.
 pub walk_told : (command : Command) (holds : Option World) (waypoints : List Waypoint) (o0 o1 o2 e0 e1 : Option (List ℕ))
     (h0 h1 : Option (List Replacement)) (tally : Tally)
     → IfSome holds (λ w. WritesReports command w waypoints (written_on o0 o1 e0 e1 h0 h1) tally)
@@ -267,7 +267,7 @@ pub walk_told : (command : Command) (holds : Option World) (waypoints : List Way
 walk_told command None waypoints o0 o1 o2 e0 e1 h0 h1 tally writes told = tt
 walk_told command (Some w) waypoints o0 o1 o2 e0 e1 h0 h1 tally writes told = (o1, writes, told)
 
--- Writing the statistics failed.
+-- If a write of the statistics failed, a beginning of the output of the walk is written.
 pub walk_untold : (command : Command) (holds : Option World) (waypoints : List Waypoint) (o0 o1 o2 e0 e1 : Option (List ℕ))
     (h0 h1 : Option (List Replacement)) (tally : Tally)
     → IfSome holds (λ w. WritesReports command w waypoints (written_on o0 o1 e0 e1 h0 h1) tally)
@@ -276,7 +276,7 @@ pub walk_untold : (command : Command) (holds : Option World) (waypoints : List W
 walk_untold command None waypoints o0 o1 o2 e0 e1 h0 h1 tally writes told = tt
 walk_untold command (Some w) waypoints o0 o1 o2 e0 e1 h0 h1 tally writes told = inr (o1, tally, writes, told)
 
--- The walk ended early, and a beginning of the output is written.
+-- If the walk ended early, the beginning of its output that was written is a beginning of the output of the run.
 pub walk_cut : (command : Command) (holds : Option World) (waypoints : List Waypoint) (streams : Streams)
     → IfSome holds (λ w. WritesFirst command w waypoints streams) → IfSome holds (λ w. WritesFront command w waypoints streams)
 walk_cut command None waypoints streams writes = tt

@@ -15,7 +15,7 @@ use Rattle.rl_scan.specs.Visits.{IsBytesReport, IsReadReport, IsReport, ReportsA
 use Rattle.rl_options.specs.Clashes.{lists_files}
 use Rattle.rl_scan.proofs.Handing.{hands_none}
 
--- The report for a file has the property, and no file was replaced.
+-- If the report for a file satisfies `IsThis`, and no file was replaced, the report satisfies `ReportsAs IsThis`.
 pub unhanded : {A E : Type 0} (IsThis : Findings → Type 0) (r : Result (Report A) E)
     (old new : Option (List Replacement)) → new ≡ old → IfOk r (λ p. IsThis (in_report p))
     → IfOk r (λ p. ReportsAs IsThis p old new)
@@ -29,14 +29,14 @@ pub reports_as : {A E : Type 0} (IsThis IsThat : Findings → Type 0) (r : Resul
 reports_as IsThis IsThat (Ok p) old new so (handed, is, on) = (handed, so _ is, on)
 reports_as IsThis IsThat (Err e) old new so is = tt
 
--- The file's bytes aren't UTF-8, and the output is this error.
+-- If the file's bytes aren't UTF-8, the line with this error is the output.
 pub no_text_reported : {A E : Type 0} (command : Command) (path bytes : List ℕ) (why : PathError)
     (r : Result (Report A) E) (h : Option (List Replacement)) → IsNotUtf8 bytes why
     → IfOk r (λ p. IsErrorReport path why (in_report p)) → IfOk r (λ p. ReportsAs (IsBytesReport command path bytes) p h h)
 no_text_reported command path bytes why (Ok p) h no_text is = ([], inr (why, no_text, is), hands_none h)
 no_text_reported command path bytes why (Err e) h no_text is = tt
 
--- The output for a file that was read.
+-- The report for a file that was read is the output for the visit of the file.
 pub was_read : {A : Type 0} (command : Command) (holds : Option World) (path bytes : List ℕ) (p : Report A)
     (old new : Option (List Replacement)) → IfSome holds (λ w. w.bytes path ≡ Ok bytes)
     → ReportsAs (IsBytesReport command path bytes) p old new
@@ -47,7 +47,7 @@ was_read command (Some w) path bytes p old new found (handed, inl (utf8, is), on
 was_read command (Some w) path bytes p old new found (handed, inr (why, no_text, is), on) =
     (handed, inr (why, inr (inr (bytes, found, no_text)), is), on)
 
--- The output for a file that can't be read.
+-- The report for a file that can't be read is the output for the visit of the file.
 pub was_unread : {A E : Type 0} (command : Command) (holds : Option World) (path : List ℕ) (why : PathError)
     (r : Result (Report A) E) (old new : Option (List Replacement)) → new ≡ old
     → (why ≡ OutOfMemory) ⊎ IfSome holds (λ w. w.bytes path ≡ Err why)
@@ -60,7 +60,8 @@ was_unread command (Some w) path why (Ok p) old new same (inl memory) is =
 was_unread command (Some w) path why (Ok p) old new same (inr unread) is =
     ([], inr (why, inr (inl unread), is), same ∙ hands_none old)
 
--- The output for a file that is only listed. `read_reported` is the lemma for a file that is read.
+-- The report for a file that is only listed is the output for the visit of the file. `read_reported` is the lemma for a file that
+-- is read.
 pub listed_reported : {A E : Type 0} (command : Command) (holds : Option World) (path : List ℕ)
     (r : Result (Report A) E) (h : Option (List Replacement)) → lists_files command.action ≡ true
     → IfOk r (λ p. IsListReport command path (in_report p))

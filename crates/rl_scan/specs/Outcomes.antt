@@ -1,5 +1,5 @@
 -- Rewrites a source in a style, unless it has an error or begins as a script.
-use Rattle.std.specs.Prelude.{◌≡◌, ◌≢◌, ◌⊎◌, ℕ, Bool, true, false, List, [], map, string_bytes, Option, Some, None, IsFalse, IsTrue}
+use Rattle.std.specs.Prelude.{◌≡◌, ◌≢◌, ◌⊎◌, ℕ, Bool, true, List, [], map, string_bytes, Option, Some, None, IsFalse, IsTrue}
 use denote.Ref.{Bor}
 use Rattle.std.specs.Str.{chars}
 use Rattle.rl_output.specs.declared.form.Form.TheVariants.{Plain}
@@ -27,6 +27,7 @@ pub record IsJudging (edition : Edition) (by_line : Bool) (path : Option (Bor (L
   pub rejects_strays : options.rejects_strays ≡ true
   pub explains : options.explains ≡ true
   pub any_suffix : options.any_suffix ≡ true
+  pub judges_macros : options.judges_macros ≡ true
   pub edition_is : options.edition ≡ edition
   pub path_is : options.path ≡ path
 

@@ -8,7 +8,7 @@ use Rattle.rl_files.specs.Replacements.{Replacement}
 use Rattle.rl_files.specs.Visible.{visible}
 use Rattle.rl_files.specs.Walks.{path_error_message}
 use Rattle.rl_files.specs.declared.tree.PathError.{PathError}
-use Rattle.rl_files.specs.declared.tree.PathError.TheVariants.{NameNotUtf8}
+use Rattle.rl_files.specs.declared.tree.PathError.TheVariants.{NameNotUtf8, PathNotUtf8}
 use Rattle.rl_lexer.specs.declared.lex_error.LexKind.{LexKind}
 use Rattle.rl_flaws.specs.declared.before.Edition.{Edition}
 use Rattle.rl_flaws.specs.declared.before.Edition.TheVariants.{E2021}
@@ -21,6 +21,8 @@ use Rattle.rl_output.specs.Contexts.{ends_among}
 use Rattle.rl_output.specs.declared.color.Paint.TheVariants as paint
 use Rattle.rl_output.specs.declared.form.Form.{Form}
 use Rattle.rl_output.specs.declared.form.Form.TheVariants.{Plain}
+use Rattle.rl_restyle.specs.declared.edit.Macros.{Macros}
+use Rattle.rl_restyle.specs.declared.edit.Macros.TheVariants as macros
 use Rattle.rl_sources.specs.declared.options.Options.{Options}
 use Rattle.rl_output.specs.declared.choice.Shown.{Shown}
 use Rattle.rl_output.specs.declared.choice.Shown.TheVariants.{All, Only, Bad, Hidden}
@@ -95,7 +97,13 @@ context_of command = cond (asks_context command && prints_lines command.output)
       after = side_lines command.after command.around;
     })) None
 
--- The options for scanning the file at `path`.
+-- Literals inside macro calls are checked like all others, by the option `--macros`.
+abbrev pub judges_macros : Option Macros → Bool
+judges_macros None = false
+judges_macros (Some macros.Skip) = false
+judges_macros (Some macros.All) = true
+
+-- The options for the output lines of the file at `path`.
 pub record IsOptionsFor (command : Command) (path : List ℕ) (options : Options) : Type 0 where
   pub shown : options.shown ≡ command.shown
   pub finds : options.finds ≡ command.finds
@@ -106,6 +114,7 @@ pub record IsOptionsFor (command : Command) (path : List ℕ) (options : Options
   pub by_line : options.by_line ≡ is_by_line command.places path
   pub rejects_strays : options.rejects_strays ≡ command.rejects_strays
   pub any_suffix : options.any_suffix ≡ command.any_suffix
+  pub judges_macros : options.judges_macros ≡ judges_macros command.macros
   pub edition : options.edition ≡ edition_read command.edition
   pub explains : options.explains ≡ is_bad command.shown
   pub before : IsPathIn (is_json command.form) path options.path
@@ -233,9 +242,10 @@ pub record IsListReport (command : Command) (path : List ℕ) (printed : Finding
   pub found : printed.found ≡ true
   pub count : printed.count ≡ 0
 
--- An error ends a call with status 2, except a name in a directory that isn't UTF-8, which is skipped with a warning.
+-- An error ends a call with status 2. A name in a directory, or a path, that isn't UTF-8 is skipped with a warning.
 abbrev pub is_error : PathError → Bool
 is_error NameNotUtf8 = false
+is_error PathNotUtf8 = false
 is_error _ = true
 
 -- The output for a path that can't be read: one line.

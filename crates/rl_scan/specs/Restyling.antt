@@ -8,7 +8,6 @@ use Rattle.rl_files.specs.declared.tree.PathError.{PathError}
 use Rattle.rl_scan.specs.Changes.{AreChangeLines}
 use Rattle.rl_scan.specs.Diffs.{diff}
 use Rattle.rl_scan.specs.Outcomes.{AreRejections, IsJudging, IsRestyledAs}
-use Rattle.rl_output.specs.declared.form.Form.{Form}
 use Rattle.rl_restyle.specs.declared.edit.Macros.{Macros}
 use Rattle.rl_restyle.specs.declared.edit.Macros.TheVariants.{Skip}
 use Rattle.rl_sources.specs.declared.options.Options.{Options}
@@ -18,7 +17,7 @@ use Rattle.rl_options.specs.declared.command.Output.{Output}
 use Rattle.rl_options.specs.declared.command.Output.TheVariants as output
 use Rattle.rl_options.specs.declared.command.Restyling.{Restyling}
 use Rattle.rl_options.specs.declared.command.Restyling.TheVariants.{Fix, Check, Diff}
-use Rattle.rl_scan.specs.Reports.{Findings, IsErrorReport, IsPathIn, IsShownPath, edition_read, is_by_line, is_input, printed_of}
+use Rattle.rl_scan.specs.Reports.{Findings, IsErrorReport, IsOptionsFor, IsPathIn, IsShownPath, edition_read, is_by_line, is_input, printed_of}
 
 -- The output is only `out` on standard output. `handed` are the replaced files.
 pub record PrintsAlone (out : List ℕ) (found : Bool) (handed : List Replacement) (printed : Findings) : Type 0 where
@@ -35,10 +34,10 @@ abbrev pub macros_read : Option Macros → Macros
 macros_read None = Skip
 macros_read (Some macros) = macros
 
--- An output line for each rewritten literal of a source, in bytes.
-abbrev pub AreChangeBytes : Options → Form → List ℕ → List (ℕ × ℕ × List ℕ) → List ℕ → Type 0
-AreChangeBytes options form text edits bytes =
-    (lines : List ℕ) × AreChangeLines options form text edits lines × (bytes ≡ encode_utf8_all lines)
+-- An output line for each rewritten literal of a source, with its lines of context, in bytes.
+abbrev pub AreChangeBytes : Options → List ℕ → List (ℕ × ℕ × List ℕ) → List ℕ → Type 0
+AreChangeBytes options text edits bytes =
+    (lines : List ℕ) × AreChangeLines options text edits lines × (bytes ≡ encode_utf8_all lines)
 
 -- The selection of output for `--fix`: the number of rewritten literals, and not their lines.
 abbrev pub fixed_output : Output → Output
@@ -51,7 +50,7 @@ fixed_output output.Nothing = output.Nothing
 abbrev pub IsPrintOf : Command → Output → Options → Option (Bor (List ℕ)) → List ℕ → List (ℕ × ℕ × List ℕ) → List ℕ
     → Type 0
 IsPrintOf command output options named text edits out =
-    (lines : List ℕ) × AreChangeBytes options command.form text edits lines
+    (lines : List ℕ) × AreChangeBytes options text edits lines
     × (out ≡ printed_of output command.nul_after_paths command.form named lines)
 
 -- The output of `--check`: the literals that would be rewritten, with their new texts.
@@ -73,14 +72,15 @@ IsReplaced path text new out printed =
     PrintsAlone out false (replacing path text new ∷ []) printed
     ⊎ ((why : PathError) × IsErrorReport path why printed)
 
--- The output of `--fix`. A file is replaced if a literal is rewritten. For standard input, the output is the rewritten source.
+-- The output of `--fix`. A file is replaced if a literal is rewritten. For standard input, the output is the rewritten source. The
+-- number of rewritten literals counts no lines of context.
 abbrev pub IsFixed : Command → Options → List ℕ → Option (Bor (List ℕ)) → List ℕ → List ℕ → List (ℕ × ℕ × List ℕ)
     → Findings → Type 0
 IsFixed command options path named text new edits printed =
     ((is_input path ≡ true) × PrintsAlone new false [] printed)
     ⊎ ((is_input path ≡ false) × ((length edits == 0) ≡ true) × PrintsAlone [] false [] printed)
     ⊎ ((is_input path ≡ false) × ((length edits == 0) ≡ false)
-    × ((out : List ℕ) × IsPrintOf command (fixed_output command.output) options named (chars text) edits out
+    × ((out : List ℕ) × IsPrintOf command (fixed_output command.output) (record options { context = None }) named (chars text) edits out
     × IsReplaced path text new out printed))
 
 -- The output for a source and its rewritten form, for `--check`, `--diff` or `--fix`.
@@ -125,13 +125,13 @@ pub record IsScriptReport (restyling : Restyling) (path text : List ℕ) (printe
 -- the output is a warning.
 abbrev pub IsRestyledReport : Restyling → Command → List ℕ → List ℕ → Findings → Type 0
 IsRestyledReport restyling command path text printed =
-    (options : Options) × (shown named : Option (Bor (List ℕ))) × (lines : List ℕ)
+    (checking : Options) × (shown named : Option (Bor (List ℕ))) × (lines : List ℕ)
     × IsShownPath path shown × IsPathIn command.nul_after_paths path named
-    × IsJudging (edition_read command.edition) (is_by_line command.places path) shown options
-    × AreRejections options text lines
+    × IsJudging (edition_read command.edition) (is_by_line command.places path) shown checking
+    × AreRejections checking text lines
     × ((lines ≢ []) × PrintsRejections lines printed
     ⊎ ((lines ≡ []) × IsFalse (begins_with_code (chars text)) × IsScriptReport restyling path text printed)
     ⊎ ((lines ≡ []) × IsTrue (begins_with_code (chars text))
-    × ((new : List ℕ) × (edits : List (ℕ × ℕ × List ℕ)) × IsUtf8 new
+    × ((options : Options) × (new : List ℕ) × (edits : List (ℕ × ℕ × List ℕ)) × IsUtf8 new
     × IsRestyledAs command.rules (macros_read command.macros) (chars text) (chars new) edits
-    × IsChanged restyling command options path named text new edits printed)))
+    × IsOptionsFor command path options × IsChanged restyling command options path named text new edits printed)))

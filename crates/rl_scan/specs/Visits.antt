@@ -1,5 +1,5 @@
 -- The output for one visit of a walk. Texts are lists of bytes.
-use Rattle.std.specs.Prelude.{◌≡◌, ◌⊎◌, ℕ, ◌+◌, Bool, true, false, cond, List, [], ◌∷◌, ◌++◌, Option, Some, None}
+use Rattle.std.specs.Prelude.{◌≡◌, ◌⊎◌, ℕ, ◌+◌, ◌||◌, Bool, true, false, cond, List, [], ◌∷◌, ◌++◌, Option, Some, None}
 use Rattle.std.specs.declared.result.Result.TheVariants.{Ok}
 use Rattle.std.specs.Str.{IsUtf8}
 use Rattle.rl_files.specs.Replacements.{Replacement}
@@ -39,14 +39,14 @@ IsReport command w (FileAt path) printed =
     ⊎ ((lists_files command.action ≡ false) × IsReadReport command w path printed)
 IsReport command w (ErrorAt path why) printed = IsErrorReport path why printed
 
--- The report has the property for some replaced files, and these files are added to the list of replaced files.
+-- With some list of replaced files, the report satisfies `IsThis`, and these files are added to the list `old`.
 abbrev pub ReportsAs : {A : Type 0} → (Findings → Type 0) → Report A → Option (List Replacement)
     → Option (List Replacement) → Type 0
 ReportsAs IsThis report old new =
     (handed : List Replacement) × IsThis (with_handed handed report) × HandsOn old new handed
 
 -- The output for all visits of a walk: the bytes for standard output and standard error, the replaced files, and the counts. The
--- counts are those of visits, of files that were read, of files with findings, of findings, and of visits with an error.
+-- counts are those of visits except skipped ones, of files that were read, of files with findings, of findings, and of visits with an error.
 pub record Totals : Type 0 where
   pub out : List ℕ
   pub errors : List ℕ
@@ -74,12 +74,16 @@ nothing = record {
 abbrev pub one_where_true : Bool → ℕ
 one_where_true is = cond is 1 0
 
+-- A report counts as a visit: a file was read or listed, or a path has an error. A skipped name or path doesn't count.
+abbrev pub is_counted : Findings → Bool
+is_counted one = one.has_error || one.read || one.found
+
 abbrev pub totals_of : Findings → Totals
 totals_of one = record {
   out = one.out;
   errors = one.errors;
   handed = one.handed;
-  visited = 1;
+  visited = one_where_true (is_counted one);
   read = one_where_true one.read;
   with_findings = one_where_true one.found;
   findings = one.count;

@@ -9,7 +9,7 @@ ghost use Rattle.rl_scan.specs.Diffs.{IsFirstLine, diff, diff_head, first_of, fu
 
 use rl_files::push_visible;
 use rl_output::{push_ascii, without_dot};
-use rl_syntax::lines::next_line;
+use rl_syntax::lines::after_line_feed;
 use rl_syntax::text::{before, split_char};
 use std::alloc::{AllocError, Allocator};
 
@@ -28,7 +28,7 @@ fn split_line(text: &str) -> Option<(&str, &str)>
     if text.is_empty() {
         return None;
     }
-    match next_line(text) {
+    match after_line_feed(text) {
         Some(rest) => Some((before(text, rest), rest)),
         None => Some((text, "")),
     }
@@ -81,7 +81,7 @@ fn count_lines(text: &str) -> usize
 fn has_end(text: &str) -> bool
     ensures { result ≡ with_end (chars text.now) }
 {
-    next_line(text).is_some()
+    after_line_feed(text).is_some()
 }
 
 /// Whether two texts are equal.

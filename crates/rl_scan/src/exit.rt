@@ -3,15 +3,16 @@
 ghost use Rattle.std.specs.Prelude.{◌≡◌, OnOk};
 ghost use Rattle.rl_files.specs.Globs.{borrowed_texts};
 ghost use Rattle.rl_files.specs.Trees.{string_texts};
-ghost use Rattle.rl_scan.specs.Endings.{extensions_read, finds_no_file, paths_read, EndsAsScan, EndsAsked, EndsListed, EndsPaths, EndsRun, EndsScan, EndsStyled, EndsText, EndsWithoutMemory, IsCutShort, IsListError, IsRulesError, IsSelecting, IsStyleError, IsUnwritten};
+ghost use Rattle.rl_scan.specs.Endings.{extensions_read, finds_no_file, only_paths as are_paths, paths_read, EndsAsScan, EndsAsked, EndsListed, EndsPaths, EndsRun, EndsScan, EndsStyled, EndsText, EndsWithoutMemory, IsCutShort, IsListError, IsRulesError, IsSelecting, IsStyleError, IsUnwritten, marked_count};
 ghost use Rattle.rl_scan.specs.Runs.{asked_status};
 ghost use Rattle.rl_options.specs.Wishes.{reads_current_directory as is_read_here, style_of, wishes_in};
 
 use crate::runs::{RunStop, Tally, run};
-use rl_files::{PathError, Replace, Selection, Tree, Walk, WalkError};
+use rl_files::{PathError, Replace, Selection, Tree, Walk, WalkError, escaped_path};
 use rl_options::{
     Action, ArgumentError, Command, Console, HELP, LineError, ParsedArguments, Restyling,
-    RulesError, VERSION, lists_files, parse_arguments, push_all_listed, rules_in, visible_text,
+    RulesError, VERSION, lists_files, parse_arguments, push_all_listed, read_rules_file,
+    visible_text,
 };
 use rl_program::{Ending, RunError, WriteError, write_bytes};
 use rl_restyle::default_style;
@@ -24,7 +25,7 @@ use std::io::Write;
 /// The reason why a call of `rl_scan` fails.
 #[derive(Drop)]
 pub enum CallError<A: Allocator = Global> {
-    /// The arguments can't be read, since one isn't UTF-8.
+    /// An argument isn't UTF-8, and isn't a path.
     NoArguments,
     /// An argument is invalid.
     Word(ArgumentError<A>),
@@ -440,7 +441,7 @@ fn scan_styled<A: Allocator + Copy, T: Tree, W: Write, E: Write, F: Replace>(
             files,
         );
     };
-    match rules_in(alloc, tree, file) {
+    match read_rules_file(alloc, tree, file) {
         Ok(rules) => scan_requested(alloc, asked, rules, is_terminal, tree, out, err, files),
         Err(error) => rules_error(alloc, file, error),
     }
@@ -488,7 +489,31 @@ pub fn out_of_memory<A: Allocator>() -> Ending<CallError<A>>
     Ending::Failed(error)
 }
 
-/// Runs `rl_scan` with the arguments `args`, and returns the result of the call. The first argument is the program's name.
+/// Returns the number of texts that represent a path that isn't UTF-8.
+fn count_marked<A: Allocator>(texts: &[String<A>]) -> usize
+    ensures { result ≡ marked_count (string_texts texts.now) }
+{
+    let mut count = 0;
+    let mut rest = texts;
+    while let [text, after @ ..] = rest {
+        if escaped_path(text.as_str()).is_some() {
+            count += 1;
+        }
+        rest = after;
+    }
+    count
+}
+
+/// Whether all arguments that aren't UTF-8 are paths. Such an argument can't be an option or a value. `words` are the arguments,
+/// and `paths` the paths among them.
+fn only_paths<A: Allocator>(words: &[String<A>], paths: &[String<A>]) -> bool
+    ensures { result ≡ are_paths (string_texts words.now) (string_texts paths.now) }
+{
+    count_marked(words) == count_marked(paths)
+}
+
+/// Runs `rl_scan` with the arguments `args`, and returns the result of the call. The first argument is the program's name. An
+/// argument that isn't UTF-8 is represented as `path_text` of `rl_files` represents it.
 ///
 /// Files are read from `tree` and replaced by `files`. `out` is standard output, and `err` standard error.
 pub fn call<A: Allocator + Copy, T: Tree, W: Write, E: Write, F: Replace>(
@@ -513,15 +538,20 @@ pub fn call<A: Allocator + Copy, T: Tree, W: Write, E: Write, F: Replace>(
         return Ending::Failed(CallError::NoArguments);
     };
     match parse_arguments(alloc, console.has_colors, words) {
-        Ok(asked) => answer(
-            alloc,
-            asked,
-            console.input_is_terminal,
-            tree,
-            out,
-            err,
-            files,
-        ),
+        Ok(asked) => {
+            if !only_paths(words, asked.paths.as_slice()) {
+                return Ending::Failed(CallError::NoArguments);
+            }
+            answer(
+                alloc,
+                asked,
+                console.input_is_terminal,
+                tree,
+                out,
+                err,
+                files,
+            )
+        }
         Err(error) => Ending::Failed(CallError::Word(error)),
     }
 }

@@ -6,6 +6,7 @@ mod change;
 mod changes;
 mod diff;
 mod exit;
+mod host;
 pub mod laws;
 mod outcome;
 mod report;
@@ -18,7 +19,8 @@ pub use crate::change::push_change;
 pub use crate::changes::push_changes;
 pub use crate::diff::push_diff;
 pub use crate::exit::{CallError, call, out_of_memory};
-pub use crate::outcome::{Outcome, check_options, rewrite_outcome};
+use crate::host::host_arguments;
+pub use crate::outcome::{Outcome, rewrite_outcome, source_check_options};
 pub use crate::report::Report;
 pub use crate::runs::{RunStop, Tally, run};
 pub use crate::visit_report::report_of;
@@ -27,7 +29,7 @@ pub use rl_options::{
     Action, ArgumentError, Command, Console, HELP, LineError, Macros, Output, PlaceForm, Restyling,
     VERSION,
 };
-use rl_program::{arguments, finish};
+use rl_program::finish;
 use std::alloc::Global;
 use std::env;
 use std::env::VarError;
@@ -59,7 +61,7 @@ fn console(rt: &HostRuntime) -> Console {
 }
 
 fn main(rt: HostRuntime) -> ExitCode {
-    let Ok(args) = arguments(&rt) else {
+    let Ok(args) = host_arguments(&rt) else {
         return finish(&rt, out_of_memory::<Global>());
     };
     let ending = call(

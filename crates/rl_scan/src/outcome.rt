@@ -26,7 +26,7 @@ pub enum Outcome<A: Allocator = Global> {
 ///
 /// Lines explain each literal that isn't a token of Rust, each stray character, and a quote or a comment that isn't closed.
 /// Literals may have any suffix and any value.
-pub fn check_options(edition: Edition, by_line: bool, path: Option<&str>) -> Options<'_>
+pub fn source_check_options(edition: Edition, by_line: bool, path: Option<&str>) -> Options<'_>
     ensures { IsJudging edition by_line path.entry result }
 {
     Options {
@@ -43,6 +43,7 @@ pub fn check_options(edition: Edition, by_line: bool, path: Option<&str>) -> Opt
         rejects_strays: true,
         explains: true,
         any_suffix: true,
+        judges_macros: true,
         edition,
         path,
     }

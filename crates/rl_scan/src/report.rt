@@ -6,12 +6,13 @@ ghost use Rattle.rl_files.specs.Visible.{visible};
 ghost use Rattle.rl_files.specs.declared.tree.PathError.{PathError};
 ghost use Rattle.rl_output.specs.Fronts.{line_front};
 ghost use Rattle.rl_sources.specs.Scans.{error_end};
-ghost use Rattle.rl_scan.specs.Reports.{is_input as input, is_by_line as by_line, is_bad as bad, is_alarm as alarm, is_error as fails, context_of as context, edition_read, side_lines as on_side, IsShownPath, IsPathIn, IsListReport, IsOptionsFor, IsScannedAs, worded_place as as_words, error_text, after_path as path_end, count_line, listed_of, path_line, printed_of, in_report, IsTextReport, IsErrorReport};
+ghost use Rattle.rl_scan.specs.Reports.{is_input as input, is_by_line as by_line, is_bad as bad, judges_macros as judges, is_alarm as alarm, is_error as fails, context_of as context, edition_read, side_lines as on_side, IsShownPath, IsPathIn, IsListReport, IsOptionsFor, IsScannedAs, worded_place as as_words, error_text, after_path as path_end, count_line, listed_of, path_line, printed_of, in_report, IsTextReport, IsErrorReport};
 
 use crate::stats::requested_count;
 use rl_files::{PathError, push_visible};
 use rl_options::{Command, Output, PlaceForm, asks_context, visible_text};
 use rl_output::{LineColumn, count_line_feeds};
+use rl_restyle::Macros;
 use rl_sources::{
     Context, Edition, Form, Options, Paint, Place, ScanError, Shown, is_json, push_painted,
     push_source_error, scan,
@@ -134,9 +135,20 @@ fn context_of(command: Command<'_>) -> Option<Context>
     })
 }
 
-/// Returns the options for scanning the file at `path`. `shown` is the path with escapes for invisible characters, or `None` for
-/// standard input.
-fn options_for<'a>(command: Command<'a>, path: &'a str, shown: Option<&'a str>) -> Options<'a>
+/// Whether literals inside macro calls are checked like all others, by the option `--macros`.
+fn judges_macros(macros: Option<Macros>) -> bool
+    ensures { result ≡ judges macros }
+{
+    matches!(macros, Some(Macros::All))
+}
+
+/// Returns the options for the output lines of the file at `path`. `shown` is the path with escapes for invisible characters, or
+/// `None` for standard input.
+pub(crate) fn options_for<'a>(
+    command: Command<'a>,
+    path: &'a str,
+    shown: Option<&'a str>,
+) -> Options<'a>
     requires { IsShownPath path.now shown }
     ensures { IsOptionsFor command.entry path.now result }
 {
@@ -150,6 +162,7 @@ fn options_for<'a>(command: Command<'a>, path: &'a str, shown: Option<&'a str>) 
         by_line: is_by_line(command.places, path),
         rejects_strays: command.rejects_strays,
         any_suffix: command.any_suffix,
+        judges_macros: judges_macros(command.macros),
         edition: edition_for(command),
         explains: is_bad(command.shown),
         path: path_in(is_json(command.form), path, shown),
@@ -316,14 +329,14 @@ pub(crate) fn report_text<A: Allocator + Copy>(
     })
 }
 
-/// Whether an error ends a call with status 2. A name in a directory that isn't UTF-8 is skipped, with a warning.
+/// Whether an error ends a call with status 2. A name in a directory, or a path, that isn't UTF-8 is skipped, with a warning.
 fn is_error(error: PathError) -> bool
     ensures { result ≡ fails error }
 {
-    !matches!(error, PathError::NameNotUtf8)
+    !matches!(error, PathError::NameNotUtf8 | PathError::PathNotUtf8)
 }
 
-/// Returns the output for a path that can't be read: a line on standard error. For a skipped name the line is a warning.
+/// Returns the output for a path that can't be read: a line on standard error. For a skipped name or path the line is a warning.
 pub(crate) fn report_error<A: Allocator + Copy>(
     alloc: A,
     path: &str,

@@ -9,9 +9,10 @@ ghost use Rattle.rl_scan.specs.Visits.{ReportsAs};
 ghost use Rattle.rl_scan.specs.Restyling.{AreChangeBytes, IsChanged, IsChecked, IsCompared, IsFixed, IsReplaced, IsRestyledReport, IsScriptReport, PrintsAlone, PrintsRejections, fixed_output as output_of_fixed, macros_read, text_left as text_left_of};
 
 use crate::report::{
-    Report, edition_for, is_by_line, is_input, path_before, path_in, report_error, written,
+    Report, edition_for, is_by_line, is_input, options_for, path_before, path_in, report_error,
+    written,
 };
-use crate::{Outcome, check_options, push_changes, push_diff, rewrite_outcome};
+use crate::{Outcome, push_changes, push_diff, rewrite_outcome, source_check_options};
 use rl_files::{Replace, push_visible};
 use rl_options::{Command, Output, Restyling, visible_text};
 use rl_restyle::{Macros, Restyled};
@@ -32,26 +33,19 @@ fn report_out<A: Allocator + Copy>(alloc: A, out: Vec<u8, A>, found: bool) -> Re
     }
 }
 
-/// Returns an output line for each rewritten literal of a source.
+/// Returns an output line for each rewritten literal of a source, and the lines of context below each.
 fn change_lines<A: Allocator + Copy>(
     alloc: A,
-    command: Command<'_>,
     options: Options<'_>,
     text: &str,
     restyled: &Restyled<A>,
 ) -> Result<Vec<u8, A>, AllocError>
     requires { AreEditsIn (chars text.now) (map edit_in restyled.now.edits.items) }
-    ensures { IfOk result (λ lines. AreChangeBytes options.entry command.entry.form (chars text.now)
+    ensures { IfOk result (λ lines. AreChangeBytes options.entry (chars text.now)
         (map edit_in restyled.now.edits.items) lines.items) }
 {
     let mut lines = String::new(alloc);
-    push_changes(
-        &mut lines,
-        options,
-        command.form,
-        text,
-        restyled.edits.as_slice(),
-    )?;
+    push_changes(alloc, &mut lines, options, text, restyled.edits.as_slice())?;
     Ok(lines.into_bytes())
 }
 
@@ -68,7 +62,7 @@ fn report_checked<A: Allocator + Copy>(
     ensures { IfOk result (λ r. IsChecked command.entry options.entry path.entry (chars text.now)
         (map edit_in restyled.now.edits.items) (in_report r)) }
 {
-    let lines = change_lines(alloc, command, options, text, restyled)?;
+    let lines = change_lines(alloc, options, text, restyled)?;
     let out = written(
         alloc,
         command.output,
@@ -161,7 +155,9 @@ fn report_fixed<A: Allocator + Copy, F: Replace>(
     if restyled.edits.as_slice().is_empty() {
         return Ok(report_out(alloc, Vec::new(alloc), false));
     }
-    let lines = change_lines(alloc, command, options, text, &restyled)?;
+    let mut bare = options;
+    bare.context = None;
+    let lines = change_lines(alloc, bare, text, &restyled)?;
     let output = fixed_output(command.output);
     let out = written(
         alloc,
@@ -281,16 +277,19 @@ pub(crate) fn report_restyled<A: Allocator + Copy, F: Replace>(
     let shown = visible_text(alloc, path)?;
     let before = path_before(path, shown.as_str());
     let named = path_in(command.nul_after_paths, path, before);
-    let options = check_options(
+    let checking = source_check_options(
         edition_for(command),
         is_by_line(command.places, path),
         before,
     );
-    match rewrite_outcome(alloc, options, command.rules, macros_for(command), text)? {
+    match rewrite_outcome(alloc, checking, command.rules, macros_for(command), text)? {
         Outcome::Rejected(lines) => Ok(report_rejected(alloc, lines)),
         Outcome::Script => report_script(alloc, restyling, path, text),
-        Outcome::Restyled(restyled) => report_change(
-            alloc, command, restyling, options, files, path, named, text, restyled,
-        ),
+        Outcome::Restyled(restyled) => {
+            let options = options_for(command, path, before);
+            report_change(
+                alloc, command, restyling, options, files, path, named, text, restyled,
+            )
+        }
     }
 }

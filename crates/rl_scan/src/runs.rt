@@ -3,7 +3,7 @@
 ghost use Rattle.std.specs.Prelude.{◌≡◌, IfOk, OnErr, IfSome};
 ghost use Rattle.rl_files.specs.Walks.{visited};
 ghost use Rattle.rl_scan.specs.Reports.{in_report};
-ghost use Rattle.rl_scan.specs.Visits.{nothing, one_where_true as one_where, totals_of};
+ghost use Rattle.rl_scan.specs.Visits.{is_counted as counted, nothing, one_where_true as one_where, totals_of};
 ghost use Rattle.rl_scan.specs.Runs.{both_tallies as both, has_errors, has_findings, shown_errors, WritesReport, WritesSome, WritesReports, WritesFirst, WritesWalk, WritesFront, find_status, restyle_status, run_status};
 ghost use Rattle.rl_scan.specs.Stats.{tally_of};
 
@@ -29,7 +29,7 @@ pub enum RunStop {
 /// The counts of a run over files. Counts stop at the largest `u64`.
 #[derive(Clone, Copy)]
 pub struct Tally {
-    /// The number of visited files, and of paths that can't be read.
+    /// The number of visited files, and of paths that can't be read. Skipped names and paths don't count.
     pub visited: u64,
     /// The number of files that were read.
     pub read: u64,
@@ -60,7 +60,7 @@ impl Tally {
         ensures { result ≡ tally_of (totals_of (in_report report.now)) }
     {
         Tally {
-            visited: 1,
+            visited: one_where_true(is_counted(report)),
             read: one_where_true(report.read),
             with_findings: one_where_true(report.found),
             findings: report.count as u64,
@@ -138,6 +138,13 @@ impl Tally {
             _ => 0,
         }
     }
+}
+
+/// Whether a report counts as a visit: a file was read or listed, or a path has an error. A skipped name or path doesn't count.
+fn is_counted<A: Allocator>(report: &Report<A>) -> bool
+    ensures { result ≡ counted (in_report report.now) }
+{
+    report.has_error || report.read || report.found
 }
 
 /// Returns 1 if `is` is true, else 0.

@@ -1,13 +1,12 @@
 -- The text of a name with dots: its identifiers and dots are in the input text, each directly after the one before it.
-use Rattle.rl_syntax.proofs.Common.{◌≡◌, ◌≢◌, ℕ, ◌+◌, ◌-◌, ◌<◌, ◌≤◌, ◌⊎◌, inl, inr, Bool, true, false, List, [], ◌∷◌, ◌++◌, length, length-append, append_assoc, take, slice_range, refl, sym, ◌∙◌, ap, subst, arith, chars, encode_utf8_all, encode_ascii, encodes-append, encodes-chars, and_parts, Option, Some, None, IfSome, IfNone, take-append_seam, IsUtf8, IsCharBoundary}
+use Rattle.rl_syntax.proofs.Common.{◌≡◌, ℕ, ◌+◌, ◌-◌, ◌≤◌, true, List, [], ◌∷◌, ◌++◌, length, length-append, append_assoc, take, slice_range, refl, sym, ◌∙◌, ap, subst, arith, encode_utf8_all, encode_ascii, encodes-append, encodes-chars, and_parts, Option, Some, None, IfSome, IfNone, take-append_seam, IsUtf8, IsCharBoundary}
 use Rattle.std.proofs.lemmas.Str.{scalars-chars, IsCharBoundary-at_seam}
 use lib.Utf8.{scalars}
 use Prim.Native.Char.{code}
 use Rattle.rl_syntax.specs.Texts.{IsTail}
 use Rattle.rl_syntax.proofs.TailLemmas.{tail_step}
 use Rattle.rl_lexer.specs.declared.cursor.Lexeme.{Lexeme}
-use Rattle.rl_lexer.specs.Cursors.{CursorState, TakesNext, form_view}
-use Rattle.rl_lexer.specs.Cuts.{LexedToken, end_of}
+use Rattle.rl_lexer.specs.Cursors.{CursorState, TakesNext}
 use Rattle.rl_lexer.specs.Lexemes.{Lexeme as Tree, lexeme_text, form_of, MarkForm}
 use Rattle.rl_lexer.specs.Lexemes as lexemes
 use Rattle.rl_settings.specs.SettingSteps.{TakesName, TakesMark}
@@ -62,7 +61,7 @@ same_tail [] (y ∷ ys) us vs e l = absurd (omega (arith, ap length e, l, length
 same_tail (x ∷ xs) [] us vs e l = absurd (omega (arith, ap length e, l, length-append xs us))
 same_tail (x ∷ xs) (y ∷ ys) us vs e l = same_tail xs ys us vs (cc) l
 
--- The text of a dot token.
+-- The text of a dot token is a dot.
 dot_tree : (t : Tree) → form_of t ≡ MarkForm (code ".") → lexeme_text t ≡ code "." ∷ []
 dot_tree (lexemes.MarkLexeme c) e = cc
 dot_tree (lexemes.DelimiterLexeme c) e = absurd (cc)
@@ -80,7 +79,7 @@ dot_text old new dot t =
     ∙ ap encode_utf8_all (dot_tree t.takes.cut.lexeme (cut.form_is ∙ t.is_dot))
     ∙ ap (λ x. x ++ []) (encode_ascii (code ".") (omega arith))
 
--- ---- a name with one more identifier
+-- ---- a dotted name with one more identifier at its end
 
 parts_more : (end hi : ℕ) (t mid new : CursorState) (parts : List Lexeme) (part : Lexeme) → AreNameParts end t parts mid hi
     → JoinsName hi mid part new → AreNameParts end t (parts ++ part ∷ []) new part.hi
@@ -216,8 +215,8 @@ name_same old new name takes =
     parts_same takes.first.hi name.hi begins.following new takes.parts begins.are_parts ∙ begins.named.0.same
 
 -- A property of an optional result: it holds for the result if there is one.
-pub groups_if_any : {A : Type 0} (P : A → Type 0) (o : Option A) (x : A) → o ≡ Some x → IfSome o P → P x
-groups_if_any {A = A} P o x e p = subst (λ (z : Option A). IfSome z P) e p
+pub holds_of_some : {A : Type 0} (P : A → Type 0) (o : Option A) (x : A) → o ≡ Some x → IfSome o P → P x
+holds_of_some {A = A} P o x e p = subst (λ (z : Option A). IfSome z P) e p
 
 pub none_of : {A : Type 0} (P : Type 0) (o : Option A) → ((x : A) → o ≡ Some x → ⊥) → IfNone o P → P
 none_of P None none p = p

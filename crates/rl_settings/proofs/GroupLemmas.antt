@@ -1,5 +1,5 @@
 -- The open groups in the array that stores them, and the invariant of the loop over a text's tokens.
-use Rattle.rl_syntax.proofs.Common.{◌≡◌, ◌≢◌, ℕ, ◌+◌, ◌<◌, ◌≤◌, ◌⊎◌, inl, inr, Bool, true, false, not, ◌&&◌, ◌||◌, List, [], ◌∷◌, ◌++◌, length, map, drop, get_or, Option, Some, None, IfSome, IfNone, refl, sym, ◌∙◌, ap, subst, arith, chars-nil, chars, IsUtf8}
+use Rattle.rl_syntax.proofs.Common.{◌≡◌, ℕ, ◌+◌, ◌<◌, ◌≤◌, ◌⊎◌, inl, inr, Bool, true, false, not, ◌&&◌, ◌||◌, List, [], ◌∷◌, ◌++◌, length, map, drop, get_or, Option, Some, None, IfSome, IfNone, refl, sym, ◌∙◌, ap, subst, arith, chars-nil, chars, IsUtf8}
 use Rattle.std.specs.Prelude.{MatchOption}
 use Rattle.std.proofs.lemmas.List.{drop_more}
 use Rattle.std.proofs.Math.ListN.{drop_of_length-le}
@@ -26,7 +26,7 @@ use Rattle.rl_settings.specs.WholeCuts.{IsCutWhole}
 pub none_from : (xs : List Opened) (start : ℕ) → length xs ≤ start → map open_view (drop start xs) ≡ []
 none_from xs start h = ap (map open_view) (drop_of_length-le xs {i = start} h)
 
--- The open group at an index of the array, and the open groups around it.
+-- The open groups from an index of the array on are the group at the index, and then the groups around it.
 pub one_from : (xs : List Opened) (start : ℕ) (d : Opened) → start < length xs → map open_view (drop start xs)
     ≡ open_view (get_or xs start d) ∷ map open_view (drop (start + 1) xs)
 one_from xs start d h = ap (map open_view) (drop_more xs start d h)
@@ -96,7 +96,7 @@ all_passed text rest groups has ends none = record {
   none_open = has.are_open ∙ ap Some none;
 }
 
--- At the end of the text a group is open.
+-- If a group is open at the end of the text, the error `UnclosedGroup` is the text's first error.
 pub ends_open : (text rest : List ℕ) (groups : List OpenGroup) (e : LexError) → IsUtf8 text → HasPassed text rest groups
     → rest ≡ [] → EndsOpen groups e → HasFirstError (chars text) e.kind e.at
 ends_open text rest groups e is has nothing ends =
@@ -105,7 +105,7 @@ ends_open text rest groups e is has nothing ends =
     (error_found text rest groups UnclosedGroup e.at (length text) is has (omega (arith, ap length nothing))
     (ap chars nothing ∙ chars-nil, ends.some_open) (ends.place (length text)))
 
--- The next token is an error: a delimiter that isn't allowed there.
+-- A delimiter that isn't an opening delimiter is a closing one.
 closer_is : (c : ℕ) → is_among delimiters c ≡ true → is_opener c ≡ false → is_closer c ≡ true
 closer_is c h other =
     let either : (is_opener c || is_closer c) ≡ true = among delimiters (λ k. is_opener k || is_closer k) c refl h in
@@ -160,7 +160,7 @@ told_end old new stays none (inl nothing) = ap (λ (t : CursorState). t.rest) (s
 told_end old new stays none (inr (after, before)) = absurd (none after
     (subst (λ (t : CursorState). LexemeBefore (chars t.rest) after) stays before))
 
--- The error at the text's end, if a group is open there.
+-- If a group is open at the text's end, the error for it is the text's first error.
 pub error_at_end : (text rest : List ℕ) (groups : List OpenGroup) (r : Option LexError) → IsUtf8 text
     → HasPassed text rest groups → rest ≡ [] → MatchOption r (groups ≡ []) (EndsOpen groups)
     → IfSome r (λ e. HasFirstError (chars text) e.kind e.at)

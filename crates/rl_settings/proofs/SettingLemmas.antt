@@ -10,7 +10,7 @@ use Rattle.rl_lexer.specs.Lexemes.{LexemeForm, LiteralForm, IdentifierForm, Deli
 use Rattle.rl_lexer.specs.Cuts.{BeginsNoLexeme, OpenGroup, ErrorAt, is_opener}
 use Rattle.rl_settings.specs.SettingSteps.{depth_after, EndsInside}
 
--- The form of a token isn't that of an identifier.
+-- If a form in the code isn't that of an identifier, neither is the form in the definitions.
 pub other_name : (f : FoundForm) → (f ≡ found.Identifier → ⊥) → form_view f ≡ IdentifierForm → ⊥
 other_name found.Literal h e = absurd (cc)
 other_name found.Identifier h e = h refl
@@ -21,7 +21,7 @@ other_name (found.Mark c) h e = absurd (cc)
 pub no_memory : (kind : LexKind) (r : List ℕ) → ((groups : List OpenGroup) → ErrorAt kind groups r) → kind ≡ Memory → ⊥
 no_memory kind r h e = subst (λ (k : LexKind). ErrorAt k [] r) e (h [])
 
--- The rest of the text isn't empty.
+-- If the test of a rest for the length 0 is `false`, the rest isn't empty.
 pub some_rest : (rest now : List ℕ) (empty : Bool) → now ≡ rest → empty ≡ (length now == 0) → empty ≡ false → rest ≡ []
     → ⊥
 some_rest rest now empty same is none e =
@@ -41,7 +41,7 @@ one_deeper (MarkForm c) depth = omega arith
 
 -- ---- the loop over the tokens of a token tree
 
--- The loop's invariant: the token tree ends where the rest of the tree ends.
+-- The loop's invariant: if the rest of the token tree after `t` ends at an offset, the whole token tree after `first` ends there.
 abbrev pub Leads : ℕ → ℕ → CursorState → ℕ → ℕ → CursorState → Type 0
 Leads depth end t first_depth first_end first =
     (hi : ℕ) → EndsInside depth end t hi → EndsInside first_depth first_end first hi
@@ -53,12 +53,12 @@ pub leads_more : (depth end first_depth first_end : ℕ) (t new first : CursorSt
 leads_more depth end first_depth first_end t new first l some takes leads hi (inside, are) =
     leads hi (l ∷ inside, (some, (new, takes, are)))
 
--- The loop ends, since no group is open.
+-- If no group is open, the token tree ends at the end of the last token.
 pub ends_closed : (depth end first_depth first_end : ℕ) (t first : CursorState) → depth ≡ 0
     → Leads depth end t first_depth first_end first → EndsInside first_depth first_end first end
 ends_closed depth end first_depth first_end t first none leads = leads end ([], (inl none, refl))
 
--- The loop ends, since the lexer fails.
+-- If no token begins the rest, the token tree ends at the end of the last token.
 pub ends_stuck : (depth end first_depth first_end : ℕ) (t first : CursorState) → BeginsNoLexeme (chars t.rest)
     → Leads depth end t first_depth first_end first → EndsInside first_depth first_end first end
 ends_stuck depth end first_depth first_end t first none leads = leads end ([], (inr none, refl))

@@ -49,8 +49,8 @@ pub seeks_more : (matching : Matching) (text : List ℕ) (soughts : List (List �
     → IfNone held (Holds matching sought text → ⊥) → IfSome held (λ range. IsCutAt text range.0)
     → IfSome held (λ range. range.1 ≤ byte_len text) → Seeks matching text soughts first left
     → Seeks matching text soughts next others
-seeks_more matching text soughts first left sought others held next is begins_with_kind some none cut within s =
-    subst (λ (o : Option (ℕ × ℕ)). Seeks matching text soughts o others) (sym begins_with_kind) (record {
+seeks_more matching text soughts first left sought others held next is next_is some none cut within s =
+    subst (λ (o : Option (ℕ × ℕ)). Seeks matching text soughts o others) (sym next_is) (record {
       goes = λ ranges are. s.goes (held ∷ ranges)
           (subst (λ (z : List (List ℕ)). AreHeldIn matching text z (held ∷ ranges)) (sym is)
           (held_in matching text sought held some none, are));

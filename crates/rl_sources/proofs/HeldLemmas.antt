@@ -35,7 +35,7 @@ same_contents text kind other bytes others a b =
     b.contents.0 a.contents.1 b.contents.1 in
     a.bytes_are ∙ same_value kind other a.value b.value one.0 one.1 ∙ sym b.bytes_are
 
--- ---- without a match
+-- ---- literals without a match
 
 pub holds_none : (matching : Matching) (sought text : List ℕ) (kind : Kind) (bytes : List ℕ)
     → AreContentsOf text kind bytes → ((at : ℕ) → MatchesAt matching sought bytes at → ⊥)

@@ -292,7 +292,7 @@ begins_first : (matching : Matching) (sought bytes : List ℕ) (at : ℕ) → Is
 begins_first matching sought bytes at utf8 first =
     begins_compared matching.ignores_case matching.whole_words sought bytes at (begins_lead sought utf8) first
 
--- The literal's text can be split where the text that encodes the match begins.
+-- The byte offset where the text that encodes the match begins is a character boundary of the literal's text.
 pub held_cut : (matching : Matching) (sought text : List ℕ) (kind : Kind) (bytes : List ℕ) (at place : ℕ)
     → IsUtf8 sought → AreContentsOf text kind bytes → FirstMatchAt matching sought bytes at
     → IsBytePlace kind text at place → IsCutAt text place

@@ -34,7 +34,7 @@ numbers_ascii (n ∷ ns) =
     IsAscii-append (44 ∷ decimal n) (more_numbers ns) (IsAscii-cons 44 (decimal n) (lit< tt) (decimal_ascii n))
     (numbers_ascii ns)
 
--- The numbers with one more number, after a comma.
+-- If a comma and a number are appended to an array's numbers, they are the numbers with one more.
 pub number_more : (first old new done : List ℕ) (n : ℕ) → old ≡ first ++ more_numbers done
     → new ≡ old ++ (44 ∷ decimal n) → new ≡ first ++ more_numbers (done ++ n ∷ [])
 number_more first old new done n before now =
@@ -47,7 +47,7 @@ pub numbers_pushed : (old new ns : List ℕ) → IsUtf8 old → new ≡ old ++ m
     → chars new ≡ chars old ++ more_numbers ns
 numbers_pushed old new ns u e = ascii_pushed old new (more_numbers ns) u (numbers_ascii ns) e
 
--- An array, from its first number, the numbers after it, and its end.
+-- The first number of an array, the numbers after it, and the end of the array are the array.
 pub array_pushed : (old a b new ns others : List ℕ) (n : ℕ) → IsUtf8 old → ns ≡ n ∷ others
     → a ≡ old ++ (codes "[" ++ decimal n) → chars b ≡ chars a ++ more_numbers others
     → chars new ≡ chars b ++ codes "]" → chars new ≡ chars old ++ number_array ns

@@ -1,3 +1,4 @@
+pub mod CallLemmas
 pub mod ScanLemmas
 pub mod StepLemmas
 pub mod HeldLemmas

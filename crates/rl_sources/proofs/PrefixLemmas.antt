@@ -90,7 +90,7 @@ prefix_at before literal =
 
 -- ---- the literal with its prefix
 
--- The source can be split before the reserved prefix and after the literal.
+-- The byte offsets where the reserved prefix begins and where the literal ends are character boundaries of the source.
 pub record IsCutAround (token : SourceToken) (places rest : List ℕ) (start : ℕ) : Type 0 where
   pub lo_is : start + length (reserved_prefix (bytes_before (chars places) token.lo) token.text.now) ≡ token.lo
   pub boundary : IsCharBoundary places start

@@ -74,7 +74,7 @@ has_place true text flaw e = place_in_file text flaw e
 has_place false text flaw (inl e) = place_in_file text flaw e
 has_place false text flaw (inr (_, (signed, e, no_float))) = limit_place text flaw e
 
--- The end of the source that begins with a token can be split where the token's text can.
+-- Each character boundary of the token's text is a character boundary of the end of the source that begins with the token.
 pub record IsCutWithin (rest : List ℕ) (lo size : ℕ) : Type 0 where
   pub following : IsTail rest (drop lo rest)
   pub boundary : IsCharBoundary rest lo
@@ -126,11 +126,11 @@ cut_rest token text rest inside lo begins at is =
           at).following;
     })
 
--- The text can be split where a flaw begins.
+-- The byte offset where a flaw begins is a character boundary of the text.
 pub flaw_cut : (text : List ℕ) (flaw : Flaw) → HasPlace text flaw → IsCutAt text flaw.lo
 flaw_cut text flaw place = record { front = place.front; back = place.rest; text_is = place.text_is; at_is = place.lo_is }
 
--- ---- the line
+-- ---- the line for an error of a literal
 
 pub message_low : (kind : FlawKind) → list_all is_ascii (flaw_message kind) ≡ true
 message_low Empty = refl
@@ -315,7 +315,7 @@ source_shown text old b new u shown ended =
     ∙ ap (λ z. z ++ codes "\n") shown
     ∙ append_assoc (chars old) (visible text) (codes "\n")
 
--- ---- the piece
+-- ---- the displayed part of a literal
 
 pub piece_is : (text piece : List ℕ) (finding : Finding) → IsUtf8 text → IsUtf8 piece
     → IsSlice text finding.from finding.to

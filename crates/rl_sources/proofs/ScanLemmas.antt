@@ -14,7 +14,7 @@ use Rattle.rl_lexer.specs.Sources.{source_text, source_end, source_view, source_
 use Rattle.rl_lexer.specs.declared.sources.SourceToken.{SourceToken}
 use Rattle.rl_lexer.specs.declared.lex_error.LexError.{LexError}
 use Rattle.rl_lexer.specs.declared.lex_error.LexKind.{LexKind}
-use Rattle.rl_syntax.proofs.TailLemmas.{tail_step, cut_boundary, cut_drop}
+use Rattle.rl_syntax.proofs.TailLemmas.{tail_self, tail_step, cut_boundary, cut_drop}
 use Rattle.rl_lexer.proofs.ErrorKinds.{char_len, chars_some}
 use Rattle.rl_program.specs.Streams.{AppendsBeginning}
 use Rattle.rl_program.specs.Lines.{Appends, Joins}
@@ -23,17 +23,21 @@ use Rattle.rl_sources.specs.declared.options.Options.{Options}
 use Rattle.rl_sources.specs.declared.step.Step.{Step}
 use Rattle.rl_sources.specs.declared.step.Step.TheVariants.{More, End, Error}
 use Rattle.rl_lexer.specs.declared.lex_error.LexKind.TheVariants.{StrayCharacter}
-use Rattle.rl_sources.specs.Options.{ends_at_strays, finds_strays}
+use Rattle.rl_style.specs.Calls.{CallState, Outside, calls_after}
+use Rattle.rl_sources.proofs.CallLemmas.{calls_append, past_token, with_append}
+use Rattle.rl_sources.specs.Called.{calls_past, calls_past_all, with_calls}
+use Rattle.rl_sources.specs.Options.{ends_at_strays, finds_strays, options_at}
 use Rattle.rl_sources.specs.Places.{IsPlaceIn}
 use Rattle.rl_sources.specs.Scans.{IsShownLiteral, IsShownStray, IsShownToken, IsShown, IsNoStray, ShowsUpTo, ShowsPart, ShowsSource, IsErrorAt, IsErrorLine}
-use Rattle.rl_sources.specs.Steps.{BeginsRest, IsCursorOver, Adds, Completes, IsUnshown, MayShow, TakesShown, IsStepOf, IsStopAt}
+use Rattle.rl_sources.specs.Steps.{BeginsRest, FollowsCalls, IsCursorOver, IsShownAt, Adds, Completes, IsUnshown, MayShow, HasShown, Spot, TakesShown, IsStepOf, IsStopAt, spot}
 
 -- Without further tokens, nothing is added to the output.
-pub adds_none : (options : Options) (whole rest piece : List ℕ) → piece ≡ [] → Adds options whole rest rest piece
-adds_none options whole rest piece nothing = record {
+pub adds_none : (options : Options) (whole : List ℕ) (at : Spot) (piece : List ℕ) → piece ≡ []
+    → Adds options whole at at piece
+adds_none options whole at piece nothing = record {
   more = [];
   goes_on = λ cuts shown shows.
-      let P : List CutSource → List ℕ → Type 0 = λ c s. ShowsUpTo options whole c rest s in
+      let P : List CutSource → List ℕ → Type 0 = λ c s. HasShown options whole c at s in
       subst (λ c. P c (shown ++ piece)) (sym (append-nil cuts))
       (subst (P cuts) (sym (ap (λ z. shown ++ z) nothing ∙ append-nil shown)) shows);
 }
@@ -41,7 +45,7 @@ adds_none options whole rest piece nothing = record {
 -- The output for a token in the program is that for the token that the definitions lex.
 shown_cut : (options : Options) (whole : List ℕ) (l : SourceToken) (w : CutSource) (shown : List ℕ)
     → IsBorrowedSource l w → IsShownToken options whole (source_view l.form) (chars l.text.now) l.lo l.hi shown
-    → IsShown options whole w shown
+    → IsShownToken options whole (source_kind w.token) (source_text w.token) w.at (source_end w) shown
 shown_cut options whole l w shown is h =
     subst (λ (k : SourceKind). IsShownToken options whole k (source_text w.token) w.at (source_end w) shown)
     (sym is.kind_is)
@@ -50,51 +54,76 @@ shown_cut options whole l w shown is h =
     (sym is.lo_is)
     (subst (λ n. IsShownToken options whole (source_view l.form) (chars l.text.now) l.lo n shown) (sym is.hi_is) h)))
 
+-- The output for one more token follows the output for the tokens before it.
+joins_token : (options : Options) (whole : List ℕ) (calls : CallState) (cuts : List CutSource) (l : SourceToken)
+    (w : CutSource) (shown last : List ℕ) → Joins (IsShown options whole) (with_calls Outside cuts) shown
+    → IsBorrowedSource l w → (FollowsCalls options → calls_past_all Outside cuts ≡ calls)
+    → IsShownAt options calls whole (source_view l.form) (chars l.text.now) l.lo l.hi last
+    → Joins (IsShown options whole) (with_calls Outside (cuts ++ w ∷ [])) (shown ++ last)
+joins_token options whole calls cuts l w shown last lines is known is_last =
+    let real : CallState = calls_past_all Outside cuts in
+    subst (λ (z : List (CallState × CutSource)). Joins (IsShown options whole) z (shown ++ last))
+    (sym (with_append Outside cuts (w ∷ [])))
+    (joins_append (IsShown options whole) (with_calls Outside cuts) ((real, w) ∷ []) shown last lines
+    (joins_one (IsShown options whole) (real, w) last
+    (shown_cut (options_at options real) whole l w last is (is_last real known))))
+
+-- The position relative to macro calls after one more token.
+calls_token : (options : Options) (seen now : CallState) (cuts : List CutSource) (l : SourceToken) (w : CutSource)
+    → IsBorrowedSource l w → (FollowsCalls options → calls_past_all Outside cuts ≡ seen)
+    → (FollowsCalls options → now ≡ calls_after seen (source_view l.form) l.text.now) → FollowsCalls options
+    → calls_past_all Outside (cuts ++ w ∷ []) ≡ now
+calls_token options seen now cuts l w is known passed follows = calls_append Outside cuts (w ∷ [])
+    ∙ ap (λ z. calls_past z w) (known follows) ∙ past_token seen l w is ∙ sym (passed follows)
+
 -- After one more token, the output has the lines for that token too.
-adds_one : (options : Options) (start : List ℕ) (old new : CursorState) (l : SourceToken) (piece longer : List ℕ)
-    → Adds options (chars old.text) start (chars old.rest) piece → TakesSource old l new
-    → (IsTrue (ends_at_strays options) → source_view l.form ≢ StrayKind)
-    → Appends (IsShownToken options (chars old.text) (source_view l.form) (chars l.text.now) l.lo l.hi) piece longer
-    → Adds options (chars old.text) start (chars new.rest) longer
-adds_one options start old new l piece longer adds takes accepted (last, is_last, longer_is) =
+adds_one : (options : Options) (start : Spot) (old : CursorState) (seen : CallState) (new : CursorState)
+    (now : CallState) (l : SourceToken) (piece longer : List ℕ) → Adds options (chars old.text) start (spot old seen) piece
+    → TakesSource old l new → (IsTrue (ends_at_strays options) → source_view l.form ≢ StrayKind)
+    → (FollowsCalls options → now ≡ calls_after seen (source_view l.form) l.text.now)
+    → Appends (IsShownAt options seen (chars old.text) (source_view l.form) (chars l.text.now) l.lo l.hi) piece longer
+    → Adds options (chars old.text) start (spot new now) longer
+adds_one options start old seen new now l piece longer adds takes accepted passed (last, is_last, longer_is) =
     let w = takes.cut in
     record {
       more = adds.more ++ w ∷ [];
-      goes_on = λ cuts shown shows.
-          let before = adds.goes_on cuts shown shows in
+      goes_on = λ cuts shown reached.
+          let before = adds.goes_on cuts shown reached in
           let all : (cuts ++ adds.more) ++ w ∷ [] ≡ cuts ++ (adds.more ++ w ∷ []) = append_assoc cuts adds.more (w ∷ [])
           in
           let text : (shown ++ piece) ++ last ≡ shown ++ longer = append_assoc shown piece last
           ∙ ap (λ z. shown ++ z) (sym longer_is) in
-          let here : ShowsUpTo options (chars old.text) ((cuts ++ adds.more) ++ w ∷ []) (chars new.rest)
+          let here : HasShown options (chars old.text) ((cuts ++ adds.more) ++ w ∷ []) (spot new now)
           ((shown ++ piece) ++ last) =
           record {
-            are_cuts = takes.goes_on (cuts ++ adds.more) before.are_cuts;
-            accepted = λ rejects. All-push IsNoStray (cuts ++ adds.more) w (before.accepted rejects)
-                (λ same. accepted rejects (sym takes.is_cut.kind_is ∙ same));
-            lines = joins_append (IsShown options (chars old.text)) (cuts ++ adds.more) (w ∷ []) (shown ++ piece) last
-                before.lines (joins_one (IsShown options (chars old.text)) w last
-                (shown_cut options (chars old.text) l w last takes.is_cut is_last));
+            shows = record {
+              are_cuts = takes.goes_on (cuts ++ adds.more) before.shows.are_cuts;
+              accepted = λ rejects. All-push IsNoStray (cuts ++ adds.more) w (before.shows.accepted rejects)
+                  (λ same. accepted rejects (sym takes.is_cut.kind_is ∙ same));
+              lines = joins_token options (chars old.text) seen (cuts ++ adds.more) l w (shown ++ piece) last
+                  before.shows.lines takes.is_cut before.calls_are is_last;
+            };
+            calls_are = calls_token options seen now (cuts ++ adds.more) l w takes.is_cut before.calls_are passed;
           } in
-          subst (λ (c : List CutSource). ShowsUpTo options (chars old.text) c (chars new.rest) (shown ++ longer)) all
-          (subst (λ s. ShowsUpTo options (chars old.text) ((cuts ++ adds.more) ++ w ∷ []) (chars new.rest) s) text
-          here);
+          subst (λ (c : List CutSource). HasShown options (chars old.text) c (spot new now) (shown ++ longer)) all
+          (subst (λ s. HasShown options (chars old.text) ((cuts ++ adds.more) ++ w ∷ []) (spot new now) s) text here);
     }
 
 -- After one more token, the output has the lines for that token too. This lemma has the names of the loop in `gather`.
-pub adds_token : (options : Options) (text start : List ℕ) (old new : CursorState) (places : List ℕ) (l : SourceToken)
-    (piece longer : List ℕ) → old.text ≡ text → places ≡ old.text
-    → Adds options (chars text) start (chars old.rest) piece → TakesSource old l new
+adds_token : (options : Options) (text : List ℕ) (start : Spot) (old : CursorState) (seen : CallState)
+    (new : CursorState) (now : CallState) (places : List ℕ) (l : SourceToken) (piece longer : List ℕ) → old.text ≡ text
+    → places ≡ old.text → Adds options (chars text) start (spot old seen) piece → TakesSource old l new
     → (IsTrue (ends_at_strays options) → source_view l.form ≢ StrayKind)
-    → Appends (IsShownToken options (chars places) (source_view l.form) (chars l.text.now) l.lo l.hi) piece longer
-    → Adds options (chars text) start (chars new.rest) longer
-adds_token options text start old new places l piece longer same seen adds takes accepted shown =
-    let Here : List ℕ → Type 0 = λ t. Adds options (chars t) start (chars new.rest) longer in
-    let Shown : List ℕ → Type 0 = λ t. Appends (IsShownToken options (chars t) (source_view l.form) (chars l.text.now)
-    l.lo l.hi) piece longer in
-    let Before : List ℕ → Type 0 = λ t. Adds options (chars t) start (chars old.rest) piece in
-    subst Here same (adds_one options start old new l piece longer (subst Before (sym same) adds) takes accepted
-    (subst Shown seen shown))
+    → (FollowsCalls options → now ≡ calls_after seen (source_view l.form) l.text.now)
+    → Appends (IsShownAt options seen (chars places) (source_view l.form) (chars l.text.now) l.lo l.hi) piece longer
+    → Adds options (chars text) start (spot new now) longer
+adds_token options text start old seen new now places l piece longer same seen_text adds takes accepted passed shown =
+    let Here : List ℕ → Type 0 = λ t. Adds options (chars t) start (spot new now) longer in
+    let Shown : List ℕ → Type 0 = λ t. Appends (IsShownAt options seen (chars t) (source_view l.form)
+    (chars l.text.now) l.lo l.hi) piece longer in
+    let Before : List ℕ → Type 0 = λ t. Adds options (chars t) start (spot old seen) piece in
+    subst Here same (adds_one options start old seen new now l piece longer (subst Before (sym same) adds) takes
+    accepted passed (subst Shown seen_text shown))
 
 -- After a token, the cursor and the table of positions still belong to one text.
 pub stands_on : (tokens next : CursorState) (places later : List ℕ) (l : SourceToken) → IsCursorOver tokens places
@@ -136,13 +165,15 @@ error_place text stop places e same stands at = omega (
 )
 
 -- The scan stops at an error of the source, after the output for the tokens before it.
-pub stopped : (options : Options) (old stop : CursorState) (places piece longer : List ℕ) (new : CursorState)
-    (later : List ℕ) (e : LexError) (step : Step) → stop.text ≡ old.text → IsCursorOver stop places
-    → Adds options (chars old.text) (chars old.rest) (chars stop.rest) piece
+pub stopped : (options : Options) (old : CursorState) (seen : CallState) (stop : CursorState) (there : CallState)
+    (places piece longer : List ℕ) (new : CursorState) (now : CallState) (later : List ℕ) (e : LexError) (step : Step)
+    → stop.text ≡ old.text → IsCursorOver stop places
+    → Adds options (chars old.text) (spot old seen) (spot stop there) piece
     → IsErrorAt (ends_at_strays options) e.kind (chars stop.rest) → e.at + length stop.rest ≡ length stop.text
-    → IsStopAt options (chars places) e.at e.kind piece longer step → IsStepOf options old longer new later step
-stopped options old stop places piece longer new later e More same stands adds error at is = absurd is
-stopped options old stop places piece longer new later e End same stands adds error at
+    → IsStopAt options (chars places) e.at e.kind piece longer step
+    → IsStepOf options old seen longer new now later step
+stopped options old seen stop there places piece longer new now later e More same stands adds error at is = absurd is
+stopped options old seen stop there places piece longer new now later e End same stands adds error at
     (said, (line, is_line, longer_is)) = record {
       ends = λ cuts shown shows. inr (record {
         said = said;
@@ -152,7 +183,7 @@ stopped options old stop places piece longer new later e End same stands adds er
         up_to = record {
           cuts = cuts ++ adds.more;
           rest = chars stop.rest;
-          shows = adds.goes_on cuts shown shows;
+          shows = (adds.goes_on cuts shown shows).shows;
           error = error;
           rest_place = error_place old.text stop places e same stands at;
         };
@@ -162,11 +193,11 @@ stopped options old stop places piece longer new later e End same stands adds er
         shown_is = ap (λ (z : List ℕ). shown ++ z) longer_is ∙ sym (append_assoc shown piece line);
       });
     }
-stopped options old stop places piece longer new later e (Error place kind) same stands adds error at
+stopped options old seen stop there places piece longer new now later e (Error place kind) same stands adds error at
     (unsaid, kind_is, is_place, nothing) = (
       e.at,
-      chars stop.rest,
-      subst (λ (z : List ℕ). Adds options (chars old.text) (chars old.rest) (chars stop.rest) z) (sym nothing) adds,
+      spot stop there,
+      subst (λ (z : List ℕ). Adds options (chars old.text) (spot old seen) (spot stop there) z) (sym nothing) adds,
       subst (λ (k : LexKind). IsErrorAt (ends_at_strays options) k (chars stop.rest)) (sym kind_is) error,
       error_place old.text stop places e same stands at,
       subst (λ (t : List ℕ). IsPlaceIn options (chars t) e.at e.at place) (stands.text_is ∙ same) is_place,
@@ -174,19 +205,23 @@ stopped options old stop places piece longer new later e (Error place kind) same
     )
 
 -- At the end of the source, the output is complete.
-pub completes : (options : Options) (whole old piece : List ℕ) → Adds options whole old [] piece
-    → Completes options whole old piece
-completes options whole old piece adds = record {
-  ends = λ cuts shown shows. inl (cuts ++ adds.more, adds.goes_on cuts shown shows);
+pub completes : (options : Options) (whole : List ℕ) (old end : Spot) (piece : List ℕ) → end.rest ≡ []
+    → Adds options whole old end piece → Completes options whole old piece
+completes options whole old end piece nothing adds = record {
+  ends = λ cuts shown shows. inl (
+    cuts ++ adds.more,
+    subst (λ (r : List ℕ). ShowsUpTo options whole (cuts ++ adds.more) r (shown ++ piece)) nothing
+        (adds.goes_on cuts shown shows).shows,
+  );
 }
 
 -- Two parts of the output, one after the other, are one part.
-pub adds_join : (options : Options) (whole a b d first last : List ℕ) → Adds options whole a b first
+pub adds_join : (options : Options) (whole : List ℕ) (a b d : Spot) (first last : List ℕ) → Adds options whole a b first
     → Adds options whole b d last → Adds options whole a d (first ++ last)
 adds_join options whole a b d first last p q = record {
   more = p.more ++ q.more;
   goes_on = λ cuts shown shows.
-      let P : List CutSource → List ℕ → Type 0 = λ c s. ShowsUpTo options whole c d s in
+      let P : List CutSource → List ℕ → Type 0 = λ c s. HasShown options whole c d s in
       subst (λ c. P c (shown ++ (first ++ last))) (append_assoc cuts p.more q.more)
       (subst (P ((cuts ++ p.more) ++ q.more)) (append_assoc shown first last)
       (q.goes_on (cuts ++ p.more) (shown ++ first) (p.goes_on cuts shown shows)));
@@ -216,45 +251,69 @@ no_literal_shown options kind text lax other (inl is) = other is
 no_literal_shown options kind text lax other (inr (finds, is)) =
     false≢true (sym (ap (λ (b : Bool). b && options.explains) lax) ∙ finds)
 
-joins_nothing : (options : Options) (whole : List ℕ) (ws : List CutSource) → options.rejects_strays ≡ false
-    → AllByRecursion IsOtherToken ws → Joins (IsShown options whole) ws []
-joins_nothing options whole [] lax each = refl
-joins_nothing options whole (w ∷ ws) lax each =
-    joins_append (IsShown options whole) (w ∷ []) ws [] [] (joins_one (IsShown options whole) w []
-    (nothing_of options whole (source_text w.token) (source_kind w.token) w.at (source_end w)
+joins_nothing : (options : Options) (whole : List ℕ) (calls : CallState) (ws : List CutSource)
+    → options.rejects_strays ≡ false → AllByRecursion IsOtherToken ws
+    → Joins (IsShown options whole) (with_calls calls ws) []
+joins_nothing options whole calls [] lax each = refl
+joins_nothing options whole calls (w ∷ ws) lax each =
+    joins_append (IsShown options whole) ((calls, w) ∷ []) (with_calls (calls_past calls w) ws) [] []
+    (joins_one (IsShown options whole) (calls, w) []
+    (nothing_of (options_at options calls) whole (source_text w.token) (source_kind w.token) w.at (source_end w)
     (no_literal_shown options (source_kind w.token) (source_text w.token) lax each.0)))
-    (joins_nothing options whole ws lax each.1)
+    (joins_nothing options whole (calls_past calls w) ws lax each.1)
 
-pub unshown_passed : (options : Options) (old new : CursorState) → options.rejects_strays ≡ false → PassesTo old new
-    → IsUnshown options old new
-unshown_passed options old new lax p = record {
+pub unshown_passed : (options : Options) (old new : CursorState) (calls : CallState) → options.rejects_strays ≡ false
+    → (FollowsCalls options → ⊥) → PassesTo old new → IsUnshown options old calls new calls
+unshown_passed options old new calls lax unfollowed p = record {
   adds = record {
     more = p.cuts;
-    goes_on = λ cuts shown shows. record {
-      are_cuts = p.goes_on cuts shows.are_cuts;
-      accepted = λ ends. absurd (false≢true (sym (ap (λ (b : Bool). b && not options.explains) lax) ∙ ends));
-      lines = joins_append (IsShown options (chars old.text)) cuts p.cuts shown [] shows.lines
-          (joins_nothing options (chars old.text) p.cuts lax p.others);
+    goes_on = λ cuts shown reached. record {
+      shows = record {
+        are_cuts = p.goes_on cuts reached.shows.are_cuts;
+        accepted = λ ends. absurd (false≢true (sym (ap (λ (b : Bool). b && not options.explains) lax) ∙ ends));
+        lines = subst (λ (z : List (CallState × CutSource)). Joins (IsShown options (chars old.text)) z (shown ++ []))
+            (sym (with_append Outside cuts p.cuts))
+            (joins_append (IsShown options (chars old.text)) (with_calls Outside cuts)
+            (with_calls (calls_past_all Outside cuts) p.cuts) shown [] reached.shows.lines
+            (joins_nothing options (chars old.text) (calls_past_all Outside cuts) p.cuts lax p.others));
+      };
+      calls_are = λ follows. absurd (unfollowed follows);
     };
   };
   same = p.same;
   following = p.following;
 }
 
-pub unshown_more : (options : Options) (a b d : CursorState) (l : SourceToken) → IsUnshown options a b
-    → TakesSource b l d → (IsTrue (ends_at_strays options) → source_view l.form ≢ StrayKind)
-    → (MayShow options (source_view l.form) (chars l.text.now) → ⊥) → IsUnshown options a d
-unshown_more options a b d l u takes accepted other = record {
-  adds = adds_token options a.text (chars a.rest) b d b.text l [] [] u.same refl u.adds takes accepted
-      ([], nothing_of options (chars b.text) (chars l.text.now) (source_view l.form) l.lo l.hi other, refl);
+-- Nothing is shown before the first token.
+pub unshown_none : (options : Options) (tokens : CursorState) (calls : CallState)
+    → IsCursorState tokens.text tokens.rest → IsUnshown options tokens calls tokens calls
+unshown_none options tokens calls cursor = record {
+  adds = adds_none options (chars tokens.text) (spot tokens calls) [] refl;
+  same = refl;
+  following = tail_self tokens.rest cursor.following.is_text;
+}
+
+pub unshown_more : (options : Options) (a : CursorState) (seen : CallState) (b : CursorState) (there : CallState)
+    (d : CursorState) (now : CallState) (l : SourceToken) → IsUnshown options a seen b there → TakesSource b l d
+    → (IsTrue (ends_at_strays options) → source_view l.form ≢ StrayKind)
+    → (FollowsCalls options → now ≡ calls_after there (source_view l.form) l.text.now)
+    → (MayShow options (source_view l.form) (chars l.text.now) → ⊥) → IsUnshown options a seen d now
+unshown_more options a seen b there d now l u takes accepted passed other = record {
+  adds = adds_token options a.text (spot a seen) b there d now b.text l [] [] u.same refl u.adds takes accepted passed (
+    [],
+    λ real known. nothing_of (options_at options real) (chars b.text) (chars l.text.now) (source_view l.form) l.lo l.hi
+        other,
+    refl,
+  );
   same = takes.same ∙ u.same;
   following = tail_step a.rest b.rest d.rest u.following takes.following;
 }
 
 -- Before a literal or an error, the cursor and the table of positions still belong to one text.
-pub stands_before : (options : Options) (tokens between : CursorState) (places : List ℕ) → IsCursorOver tokens places
-    → IsUnshown options tokens between → IsCursorOver between places
-stands_before options tokens between places stands unshown =
+pub stands_before : (options : Options) (tokens : CursorState) (seen : CallState) (between : CursorState)
+    (now : CallState) (places : List ℕ) → IsCursorOver tokens places → IsUnshown options tokens seen between now
+    → IsCursorOver between places
+stands_before options tokens seen between now places stands unshown =
     let tail : IsTail tokens.text between.rest = tail_step tokens.text tokens.rest between.rest stands.cursor.following
     unshown.following in
     record {
@@ -308,29 +367,33 @@ no_stray options text kind (inr found) ends same = go options.rejects_strays opt
     go true false ends finds = false≢true finds
     go false e ends finds = false≢true ends
 
-pub adds_shown : (options : Options) (text start : List ℕ) (old new : CursorState) (places : List ℕ) (l : SourceToken)
-    (piece longer : List ℕ) → old.text ≡ text → places ≡ old.text
-    → Adds options (chars text) start (chars old.rest) piece → (t : TakesShown options old l new)
-    → Appends (IsShownToken options (chars places) (source_view l.form) (chars l.text.now) l.lo l.hi) piece longer
-    → Adds options (chars text) start (chars new.rest) longer
-adds_shown options text start old new places l piece longer same seen adds t shown =
+pub adds_shown : (options : Options) (text : List ℕ) (start : Spot) (old : CursorState) (seen : CallState)
+    (new : CursorState) (there now : CallState) (places : List ℕ) (l : SourceToken) (piece longer : List ℕ)
+    → old.text ≡ text → places ≡ old.text → Adds options (chars text) start (spot old seen) piece
+    → (t : TakesShown options old seen l there new)
+    → (FollowsCalls options → now ≡ calls_after there (source_view l.form) l.text.now)
+    → Appends (IsShownAt options there (chars places) (source_view l.form) (chars l.text.now) l.lo l.hi) piece longer
+    → Adds options (chars text) start (spot new now) longer
+adds_shown options text start old seen new there now places l piece longer same seen_text adds t passed shown =
     let between = t.between in
-    let nothing : Adds options (chars text) (chars old.rest) (chars between.rest) [] = subst
-    (λ (z : List ℕ). Adds options (chars z) (chars old.rest) (chars between.rest) []) same t.unshown.adds in
-    let before : Adds options (chars text) start (chars between.rest) piece = subst
-    (λ (z : List ℕ). Adds options (chars text) start (chars between.rest) z) (append-nil piece)
-    (adds_join options (chars text) start (chars old.rest) (chars between.rest) piece [] adds nothing) in
-    adds_token options text start between new places l piece longer (t.unshown.same ∙ same) (seen ∙ sym t.unshown.same)
-    before t.takes (no_stray options (chars l.text.now) (source_view l.form) t.may_show) shown
+    let nothing : Adds options (chars text) (spot old seen) (spot between there) [] = subst
+    (λ (z : List ℕ). Adds options (chars z) (spot old seen) (spot between there) []) same t.unshown.adds in
+    let before : Adds options (chars text) start (spot between there) piece = subst
+    (λ (z : List ℕ). Adds options (chars text) start (spot between there) z) (append-nil piece)
+    (adds_join options (chars text) start (spot old seen) (spot between there) piece [] adds nothing) in
+    adds_token options text start between there new now places l piece longer (t.unshown.same ∙ same)
+    (seen_text ∙ sym t.unshown.same) before t.takes
+    (no_stray options (chars l.text.now) (source_view l.form) t.may_show) passed shown
 
-pub adds_unshown : (options : Options) (text start piece : List ℕ) (old new : CursorState) → old.text ≡ text
-    → Adds options (chars text) start (chars old.rest) piece → IsUnshown options old new
-    → Adds options (chars text) start (chars new.rest) piece
-adds_unshown options text start piece old new same adds unshown =
-    let nothing : Adds options (chars text) (chars old.rest) (chars new.rest) [] = subst
-    (λ (z : List ℕ). Adds options (chars z) (chars old.rest) (chars new.rest) []) same unshown.adds in
-    subst (λ (z : List ℕ). Adds options (chars text) start (chars new.rest) z) (append-nil piece)
-    (adds_join options (chars text) start (chars old.rest) (chars new.rest) piece [] adds nothing)
+pub adds_unshown : (options : Options) (text : List ℕ) (start : Spot) (piece : List ℕ) (old : CursorState)
+    (seen : CallState) (new : CursorState) (now : CallState) → old.text ≡ text
+    → Adds options (chars text) start (spot old seen) piece → IsUnshown options old seen new now
+    → Adds options (chars text) start (spot new now) piece
+adds_unshown options text start piece old seen new now same adds unshown =
+    let nothing : Adds options (chars text) (spot old seen) (spot new now) [] = subst
+    (λ (z : List ℕ). Adds options (chars z) (spot old seen) (spot new now) []) same unshown.adds in
+    subst (λ (z : List ℕ). Adds options (chars text) start (spot new now) z) (append-nil piece)
+    (adds_join options (chars text) start (spot old seen) (spot new now) piece [] adds nothing)
 
 -- The byte offset where an end of the source begins is between characters.
 pub rest_boundary : (text places rest : List ℕ) (at : ℕ) → IsCursorState text rest → places ≡ text → at + length rest
@@ -348,11 +411,12 @@ rest_is text places rest taken at is seen place drops =
 
 -- ---- the written bytes
 
--- The written bytes are the output for the source up to `rest`, and `any` tells whether they are any.
-pub record HasWritten (options : Options) (whole rest : List ℕ) (any : Bool) (old new : Option (List ℕ)) : Type 0 where
+-- The written bytes are the output for the source up to the position `at`, and `any` is true exactly if any byte was written.
+pub record HasWritten (options : Options) (whole : List ℕ) (at : Spot) (any : Bool) (old new : Option (List ℕ))
+    : Type 0 where
   pub cuts : List CutSource
   pub shown : List ℕ
-  pub shows : ShowsUpTo options whole cuts rest shown
+  pub shows : HasShown options whole cuts at shown
   pub any_is : IsTrue any ↔ (shown ≢ [])
   pub written : AppendsBytes old new (encode_utf8_all shown)
 
@@ -395,38 +459,38 @@ any_more any more shown lines utf8 is more_is =
     subst (λ (b : Bool). IsTrue b ↔ ((shown ++ chars lines) ≢ [])) (sym more_is)
     (any_cases any (length lines == 0) shown lines utf8 is refl)
 
--- The written bytes are the output before and the lines.
-pub lines_written : (options : Options) (whole rest lines : List ℕ) (any : Bool) (old mid new : Option (List ℕ))
-    (has : HasWritten options whole rest any old mid) → IsUtf8 lines → AppendsBytes mid new lines
-    → AppendsBytes old new (encode_utf8_all (has.shown ++ chars lines))
-lines_written options whole rest lines any old mid new has utf8 appends =
+-- The written bytes are those of the output that was written before, and then those of `lines`.
+pub lines_written : (options : Options) (whole : List ℕ) (at : Spot) (lines : List ℕ) (any : Bool)
+    (old mid new : Option (List ℕ)) (has : HasWritten options whole at any old mid) → IsUtf8 lines
+    → AppendsBytes mid new lines → AppendsBytes old new (encode_utf8_all (has.shown ++ chars lines))
+lines_written options whole at lines any old mid new has utf8 appends =
     subst (λ z. AppendsBytes old new z) (sym (lines_bytes has.shown lines utf8))
     (Appends-trans old mid new (encode_utf8_all has.shown) lines has.written appends)
 
 -- After more lines are written, the written bytes are the output for the source up to the next token.
-pub written_more : (options : Options) (whole rest next lines : List ℕ) (any more : Bool)
-    (old mid new : Option (List ℕ)) → HasWritten options whole rest any old mid
-    → Adds options whole rest next (chars lines) → IsUtf8 lines → AppendsBytes mid new lines → more
+pub written_more : (options : Options) (whole : List ℕ) (at next : Spot) (lines : List ℕ) (any more : Bool)
+    (old mid new : Option (List ℕ)) → HasWritten options whole at any old mid
+    → Adds options whole at next (chars lines) → IsUtf8 lines → AppendsBytes mid new lines → more
     ≡ (any || not (length lines == 0)) → HasWritten options whole next more old new
-written_more options whole rest next lines any more old mid new has adds utf8 appends more_is = record {
+written_more options whole at next lines any more old mid new has adds utf8 appends more_is = record {
   cuts = has.cuts ++ adds.more;
   shown = has.shown ++ chars lines;
   shows = adds.goes_on has.cuts has.shown has.shows;
   any_is = any_more any more has.shown lines utf8 has.any_is more_is;
-  written = lines_written options whole rest lines any old mid new has utf8 appends;
+  written = lines_written options whole at lines any old mid new has utf8 appends;
 }
 
--- Output up to `rest` with this part after it is the output for a part of the source.
-abbrev pub ShowsOn : Options → List ℕ → List ℕ → List ℕ → Type 0
-ShowsOn options whole rest piece = (cuts : List CutSource) (shown : List ℕ) → ShowsUpTo options whole cuts rest shown
+-- Any output for the source up to the position `at`, with `piece` after it, is the output for a part of the source.
+abbrev pub ShowsOn : Options → List ℕ → Spot → List ℕ → Type 0
+ShowsOn options whole at piece = (cuts : List CutSource) (shown : List ℕ) → HasShown options whole cuts at shown
     → ShowsPart options whole (shown ++ piece)
 
--- After a beginning of the lines is written, the written bytes are a beginning of the output for a part of the source.
-pub written_beginning : (options : Options) (whole rest lines : List ℕ) (any : Bool)
-    (old mid new : Option (List ℕ)) → HasWritten options whole rest any old mid
-    → ShowsOn options whole rest (chars lines) → IsUtf8 lines → AppendsBeginning mid new lines → (shown : List ℕ)
+-- If only a beginning of `lines` was written, all written bytes are a beginning of the output for a part of the source.
+pub written_beginning : (options : Options) (whole : List ℕ) (at : Spot) (lines : List ℕ) (any : Bool)
+    (old mid new : Option (List ℕ)) → HasWritten options whole at any old mid
+    → ShowsOn options whole at (chars lines) → IsUtf8 lines → AppendsBeginning mid new lines → (shown : List ℕ)
     × ShowsPart options whole shown × AppendsBeginning old new (encode_utf8_all shown)
-written_beginning options whole rest lines any old mid new has shows utf8 (count, appends) = (
+written_beginning options whole at lines any old mid new has shows utf8 (count, appends) = (
   has.shown ++ chars lines,
   shows has.cuts has.shown has.shows,
   (
@@ -444,14 +508,13 @@ part_of_all options whole shown (inl (cuts, shows)) = inl (cuts, [], shows)
 part_of_all options whole shown (inr stops) = inr stops
 
 -- Each step of a scan adds the output for a part of the source.
-pub step_shows : (options : Options) (old : CursorState) (piece : List ℕ) (new : CursorState) (places : List ℕ)
-    (step : Step) → IsStepOf options old piece new places step
-    → ShowsOn options (chars old.text) (chars old.rest) piece
-step_shows options old piece new places More goes cuts shown shows =
-    inl (cuts ++ goes.adds.more, chars new.rest, goes.adds.goes_on cuts shown shows)
-step_shows options old piece new places End all cuts shown shows =
+pub step_shows : (options : Options) (old : CursorState) (seen : CallState) (piece : List ℕ) (new : CursorState)
+    (now : CallState) (places : List ℕ) (step : Step) → IsStepOf options old seen piece new now places step
+    → ShowsOn options (chars old.text) (spot old seen) piece
+step_shows options old seen piece new now places More goes cuts shown shows =
+    inl (cuts ++ goes.adds.more, chars new.rest, (goes.adds.goes_on cuts shown shows).shows)
+step_shows options old seen piece new now places End all cuts shown shows =
     part_of_all options (chars old.text) (shown ++ piece) (all.ends cuts shown shows)
-step_shows options old piece new places (Error place kind) (at, rest, adds, error, rest_place, is_place, unsaid) cuts
-    shown
-    shows =
-    inl (cuts ++ adds.more, rest, adds.goes_on cuts shown shows)
+step_shows options old seen piece new now places (Error place kind)
+    (at, stop, adds, error, rest_place, is_place, unsaid) cuts shown shows =
+    inl (cuts ++ adds.more, stop.rest, (adds.goes_on cuts shown shows).shows)

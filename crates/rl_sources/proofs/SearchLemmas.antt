@@ -202,7 +202,7 @@ border_before bytes borders known count are some within =
     let e : count - 1 + 1 ≡ count = omega arith in
     subst (λ (n : ℕ). IsLongestBorder bytes n (get_or borders (count - 1) 0)) e (are.1 (count - 1) (omega arith))
 
--- The list of known borders with one more border.
+-- If the longest border of the next prefix is appended to the known borders, they are the borders of one more prefix.
 pub borders_more : (bytes borders : List ℕ) (count border : ℕ) → AreBorders bytes count borders
     → IsLongestBorder bytes (count + 1) border → AreBorders bytes (count + 1) (borders ++ border ∷ [])
 borders_more bytes borders count border (long, are) is = (omega (arith, length-append borders (border ∷ []), long), at)
@@ -218,7 +218,7 @@ borders_more bytes borders count border (long, are) is = (omega (arith, length-a
             rw (get_or_at borders border [] 0 k long_is) (subst (λ (n : ℕ). IsLongestBorder bytes (n + 1) border)
             (sym same) is)
 
--- ---- the distance
+-- ---- the distance to the next possible match
 
 pub shift_of_none : (sought : List ℕ) → IsShift sought 0 1 0
 shift_of_none sought = record {

@@ -114,13 +114,13 @@ line_at options text place old mid new begun (shown, is, e) =
     let front = leveled_front Notice options.form options.path place in
     (front ++ shown, (shown, is, refl), e ∙ ap (λ z. z ++ shown) begun ∙ append_assoc old front shown)
 
--- The output for a literal at its position in the source.
+-- The output for a literal at its displayed position is the output for the literal at its range in the source.
 pub placed : (options : Options) (whole text : List ℕ) (lo hi : ℕ) (place : Place) (old new : List ℕ)
     → IsPlaceIn options whole lo hi place → Appends (IsLineAt options text place) old new
     → Appends (IsOwnLine options whole text lo hi) old new
 placed options whole text lo hi place old new is_place (shown, is, e) = (shown, (place, is_place, is), e)
 
--- A line and the lines of context below it.
+-- If a line and then the lines of context below it are appended, the line with its context is appended.
 pub in_context : (IsLine : List ℕ → Type 0) (options : Options) (whole : List ℕ) (lo hi : ℕ) (old mid new : List ℕ)
     → Appends IsLine old mid → Appends (IsContextIn options whole lo hi) mid new
     → Appends (WithContext IsLine options whole lo hi) old new
@@ -149,7 +149,7 @@ pub passes_unasked : (options : Options) (before text : List ℕ) (found : Optio
 passes_unasked options before text found (Some f) none asked is = absurd (none-some f (sym (asked is)))
 passes_unasked options before text found None none asked is = none (inl is)
 
--- The result of the check for a type, for the text before the literal.
+-- The error that the check for a type returns is that of the literal after the text `before`.
 pub error_after : (before text : List ℕ) (f : Found) (o : Option Found) (negated : Bool) (r : Option TypeError) → o
     ≡ Some f
     → negated ≡ may_negate before
@@ -228,7 +228,7 @@ picks_found options before text found label wrongs r b is some none picks = go o
         (λ t. both.0 (p.0 t), λ t. p.1 (both.1 t))
     go Hidden e p = p
 
--- The line of a literal whose value contains one of the sought texts.
+-- The line at the first match is the output for a literal whose value contains one of the sought texts.
 pub at_held : (soughts : List (List ℕ)) (options : Options) (whole text : List ℕ) (lo : ℕ) (range : ℕ × ℕ)
     (old new : List ℕ) → IsFirstHeld options.matching soughts text (Some range)
     → Appends (IsPlacedLine options whole text (lo + range.0) (lo + range.1)) old new
@@ -259,7 +259,7 @@ found_label text label kind (Some f) none is k e = (
 )
 found_label text label kind None none is k e = (None, none, e ∙ ap label_of k)
 
--- The output for a literal that the options select.
+-- The lines for a literal that the options select are the output for the literal.
 pub picked_line : (options : Options) (whole text : List ℕ) (found : Option Found) (label : List ℕ) (lo hi : ℕ)
     (old new : List ℕ) → IsLabelOf (chars text) label → IsFoundIn text found
     → IsPicked options (bytes_before whole lo) text found label

@@ -1,8 +1,9 @@
 -- Invisible and bidirectional characters of a source, wherever they are. Texts are lists of characters.
-use Rattle.std.specs.Prelude.{◌≡◌, ◌⊎◌, ℕ, ◌+◌, ◌-◌, ◌^◌, ◌==◌, Bool, true, false, cond, not, ◌||◌, ◌&&◌, List, [], ◌∷◌, ◌++◌, length, codes, encode_utf8}
+use Rattle.std.specs.Prelude.{◌≡◌, ◌⊎◌, ℕ, ◌+◌, ◌-◌, ◌^◌, ◌==◌, Bool, true, false, cond, not, ◌||◌, ◌&&◌, nat_le, List, [], ◌∷◌, ◌++◌, length, codes, encode_utf8}
 use Rattle.std.specs.Str.{chars}
 use Rattle.std.specs.Fmt.{digits, format_spec, padded_integral}
 use Rattle.rl_syntax.specs.Texts.{byte_len, begins_char}
+use Rattle.std.specs.Char.{is_control}
 use Rattle.rl_files.specs.Visible.{needs_escape}
 use Rattle.rl_lexer.specs.Sources.{without_byte_order_mark}
 use Rattle.rl_output.specs.declared.form.Form.{Form}
@@ -12,15 +13,18 @@ use Rattle.rl_output.specs.declared.place.Place.{Place}
 use Rattle.rl_output.specs.Fronts.{line_front}
 use Rattle.rl_output.specs.Github.{annotation_end}
 use Rattle.rl_output.specs.Members.{string_member}
+use Rattle.rl_output.specs.Selectors.{is_selector, takes}
 use Rattle.rl_sources.specs.Places.{IsContextIn, IsPlaceIn}
 
 -- `c` is a control character of the layout: a tab, an LF, a form feed, or a CR before an LF. `after` is the text after `c`.
 abbrev pub is_layout : ℕ → List ℕ → Bool
 is_layout c after = (c == 9) || (c == 10) || (c == 12) || ((c == 13) && begins_char 10 after)
 
--- `c` is invisible or bidirectional: displayed as an escape, and not part of the layout. `after` is the text after `c`.
-abbrev pub hides : ℕ → List ℕ → Bool
-hides c after = needs_escape c && not (is_layout c after)
+-- `c` is reported: an invisible or bidirectional character that isn't part of the layout, or a variation selector after a character
+-- that doesn't take it. `previous` is the character before `c`, or NUL at the start. `after` is the text after `c`.
+abbrev pub hides : ℕ → ℕ → List ℕ → Bool
+hides previous c after =
+    cond (is_selector c) (not (takes previous c)) (needs_escape c && not (is_layout c after))
 
 -- A space and Unicode's name of a character that changes the direction of text. It is empty for other characters.
 abbrev pub direction_name : ℕ → List ℕ
@@ -46,17 +50,27 @@ four_digits n = padded_integral (format_spec 32 0 4 4 (2 ^ 64 - 1)) false [] (di
 abbrev pub character_words : ℕ → List ℕ
 character_words c = codes "U+" ++ (four_digits c ++ direction_name c)
 
--- The identifier of a finding of an invisible or bidirectional character. It never changes.
-abbrev pub hidden_id : List ℕ
-hidden_id = codes "hidden"
+-- The character changes the direction of text.
+abbrev pub is_direction : ℕ → Bool
+is_direction c =
+    (c == 0x61C) || (nat_le 0x200E c && nat_le c 0x200F) || (nat_le 0x202A c && nat_le c 0x202E)
+    || (nat_le 0x2066 c && nat_le c 0x2069)
+
+-- The identifier of the finding of a character. It never changes.
+abbrev pub hidden_id : ℕ → List ℕ
+hidden_id c =
+    cond (is_direction c) (codes "bidirectional-character")
+    (cond (nat_le 0x200C c && nat_le c 0x200D) (codes "joiner")
+    (cond (is_selector c) (codes "variation-selector")
+    (cond (is_control c) (codes "control-character") (codes "invisible-character"))))
 
 -- The output for an invisible or bidirectional character after its position: a message, JSON members, or an annotation's text.
 abbrev pub hidden_end : Form → ℕ → List ℕ
 hidden_end Plain c = chars (character_words c) ++ codes "\n"
 hidden_end Colored c = chars (character_words c) ++ codes "\n"
 hidden_end Json c =
-    string_member (codes "id") hidden_id ++ (string_member (codes "hidden") (chars (character_words c)) ++ codes "}\n")
-hidden_end Github c = annotation_end hidden_id (chars (character_words c))
+    string_member (codes "id") (hidden_id c) ++ (string_member (codes "hidden") (chars (character_words c)) ++ codes "}\n")
+hidden_end Github c = annotation_end (hidden_id c) (chars (character_words c))
 
 -- The line for an invisible or bidirectional character `c` of the source `whole`, and the lines of context below it. `after` is the
 -- source after `c`.
@@ -69,21 +83,21 @@ pub record IsHiddenLine (options : Options) (whole : List ℕ) (c : ℕ) (after 
   pub context_is : IsContextIn options whole lo (lo + length (encode_utf8 c)) context
   pub line_is : line ≡ line_front options.form options.path place ++ (hidden_end options.form c ++ context)
 
--- The output for a character `c` of the source `whole`: its line if it is invisible or bidirectional, else nothing. `after` is the
--- source after `c`.
-abbrev pub IsShownCharacter : Options → List ℕ → ℕ → List ℕ → List ℕ → Type 0
-IsShownCharacter options whole c after line =
-    ((hides c after ≡ true) × IsHiddenLine options whole c after line)
-    ⊎ ((hides c after ≡ false) × (line ≡ []))
+-- The output for a character `c` of the source `whole`: its line if it is reported, else nothing. `previous` is the character before
+-- `c`, or NUL at the start. `after` is the source after `c`.
+abbrev pub IsShownCharacter : Options → List ℕ → ℕ → ℕ → List ℕ → List ℕ → Type 0
+IsShownCharacter options whole previous c after line =
+    ((hides previous c after ≡ true) × IsHiddenLine options whole c after line)
+    ⊎ ((hides previous c after ≡ false) × (line ≡ []))
 
--- The output for the end of the source `whole`, character after character.
-abbrev pub AreHiddenLines : Options → List ℕ → List ℕ → List ℕ → Type 0
-AreHiddenLines options whole [] lines = lines ≡ []
-AreHiddenLines options whole (c ∷ after) lines =
-    (line more : List ℕ) × IsShownCharacter options whole c after line
-    × AreHiddenLines options whole after more × (lines ≡ line ++ more)
+-- The output for the end of the source `whole`, character after character. `previous` is the character before the end.
+abbrev pub AreHiddenLines : Options → List ℕ → ℕ → List ℕ → List ℕ → Type 0
+AreHiddenLines options whole previous [] lines = lines ≡ []
+AreHiddenLines options whole previous (c ∷ after) lines =
+    (line more : List ℕ) × IsShownCharacter options whole previous c after line
+    × AreHiddenLines options whole c after more × (lines ≡ line ++ more)
 
 -- The output for the invisible and bidirectional characters of the source `whole`. A byte order mark at its start isn't one of
 -- them.
 abbrev pub ShowsHidden : Options → List ℕ → List ℕ → Type 0
-ShowsHidden options whole lines = AreHiddenLines options whole (without_byte_order_mark whole) lines
+ShowsHidden options whole lines = AreHiddenLines options whole 0 (without_byte_order_mark whole) lines

@@ -10,12 +10,12 @@ use Rattle.rl_flaws.specs.declared.before.Edition.TheVariants.{E2021}
 abbrev pub is_of_prefix : ℕ → Bool
 is_of_prefix b = is_ascii_alphanumeric b || (b == 95)
 
--- Drops the first bytes that pass the test. The list is the bytes in reverse.
+-- Drops all bytes that pass the test from the start of the list. The list contains the bytes of a text in reverse order.
 abbrev pub back_from : (ℕ → Bool) → List ℕ → List ℕ
 back_from test [] = []
 back_from test (b ∷ back) = cond (test b) (back_from test back) (b ∷ back)
 
--- The bytes without those at their end that pass the test.
+-- The bytes without the sequence at their end that passes the test.
 abbrev pub front_up_to : (ℕ → Bool) → List ℕ → List ℕ
 front_up_to test bytes = reverse (back_from test (reverse bytes))
 

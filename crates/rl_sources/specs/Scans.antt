@@ -54,7 +54,9 @@ use Rattle.rl_sources.specs.Held.{IsFirstHeld}
 use Rattle.rl_sources.specs.Hidden.{ShowsHidden}
 use Rattle.rl_sources.specs.Json.{IsJsonLiteral, finding_members, error_members}
 use Rattle.rl_output.specs.Choices.{Picks}
-use Rattle.rl_sources.specs.Options.{ends_at_strays, finds_strays}
+use Rattle.rl_style.specs.Calls.{CallState, Outside}
+use Rattle.rl_sources.specs.Called.{with_calls}
+use Rattle.rl_sources.specs.Options.{ends_at_strays, finds_strays, options_at}
 use Rattle.rl_sources.specs.Places.{IsPlaceIn, WithContext}
 
 -- The output for a literal `text` without its position: the line with its value, or the text as written. Invisible and
@@ -246,9 +248,10 @@ IsShownToken options whole StrayKind text lo hi shown = IsShownStray (finds_stra
     shown
 IsShownToken options whole _ text lo hi shown = shown ≡ []
 
-abbrev pub IsShown : Options → List ℕ → CutSource → List ℕ → Type 0
-IsShown options whole w shown =
-    IsShownToken options whole (source_kind w.token) (source_text w.token) w.at (source_end w) shown
+-- The output for a token at a position relative to macro calls, which determines by which options the token is judged.
+abbrev pub IsShown : Options → List ℕ → CallState × CutSource → List ℕ → Type 0
+IsShown options whole (calls, w) shown =
+    IsShownToken (options_at options calls) whole (source_kind w.token) (source_text w.token) w.at (source_end w) shown
 
 -- The token isn't a stray character.
 abbrev pub IsNoStray : CutSource → Type 0
@@ -260,7 +263,7 @@ pub record ShowsUpTo (options : Options) (whole : List ℕ) (cuts : List CutSour
     : Type 0 where
   pub are_cuts : IsCutUpTo whole cuts rest
   pub accepted : IsTrue (ends_at_strays options) → All IsNoStray cuts
-  pub lines : Joins (IsShown options whole) cuts shown
+  pub lines : Joins (IsShown options whole) (with_calls Outside cuts) shown
 
 -- `shown` is the output for a start of the source `whole`.
 abbrev pub ShowsFront : Options → List ℕ → List ℕ → Type 0

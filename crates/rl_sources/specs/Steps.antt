@@ -1,5 +1,5 @@
 -- Steps of a scan.
-use Rattle.std.specs.Prelude.{◌≡◌, ◌≢◌, ◌⊎◌, ℕ, ◌+◌, ◌<◌, ◌≤◌, Bool, false, true, List, [], ◌++◌, length, IsTrue, Option, IfNone, IfSome}
+use Rattle.std.specs.Prelude.{◌≡◌, ◌≢◌, ◌⊎◌, ℕ, ◌+◌, ◌<◌, ◌≤◌, Bool, false, true, List, [], ◌++◌, length, IsFalse, IsTrue, Option, IfNone, IfSome}
 use Rattle.std.specs.Str.{chars}
 use Rattle.rl_syntax.specs.Texts.{byte_len, IsTail}
 use Rattle.rl_lexer.specs.Cursors.{CursorState, IsCursorState}
@@ -14,15 +14,28 @@ use Rattle.rl_sources.specs.declared.options.Options.{Options}
 use Rattle.rl_output.specs.declared.choice.Shown.TheVariants.{Bad}
 use Rattle.rl_sources.specs.declared.step.Step.{Step}
 use Rattle.rl_sources.specs.declared.step.Step.TheVariants.{More, End, Error}
-use Rattle.rl_sources.specs.Options.{ends_at_strays, finds_strays}
+use Rattle.rl_style.specs.Calls.{CallState, Outside}
+use Rattle.rl_sources.specs.Called.{calls_past_all}
+use Rattle.rl_sources.specs.Options.{ends_at_strays, finds_strays, options_at}
 use Rattle.rl_sources.specs.Places.{IsPlaceIn}
 use Rattle.rl_sources.specs.Findings.{IsFoundIn, IsRight, IsWrong}
 use Rattle.rl_output.specs.Spots.{bytes_before}
-use Rattle.rl_sources.specs.Scans.{ShowsSource, ShowsUpTo, IsErrorAt, IsErrorLine}
+use Rattle.rl_sources.specs.Scans.{ShowsSource, ShowsUpTo, IsErrorAt, IsErrorLine, IsShownToken}
 
 -- The options need the errors of literals: errors are explained, or only invalid literals are shown.
 abbrev pub LooksForFlaws : Options → Type 0
 LooksForFlaws options = IsTrue options.explains ⊎ (options.shown ≡ Bad)
+
+-- The scan needs the positions of tokens relative to macro calls: it looks for errors, and judges literals inside macro calls
+-- differently.
+abbrev pub FollowsCalls : Options → Type 0
+FollowsCalls options = LooksForFlaws options × IsFalse options.any_suffix × IsFalse options.judges_macros
+
+-- The output for a token by the options for its position relative to macro calls. If the scan needs that position, it is `calls`.
+abbrev pub IsShownAt : Options → CallState → List ℕ → SourceKind → List ℕ → ℕ → ℕ → List ℕ → Type 0
+IsShownAt options calls whole kind text lo hi shown =
+    (real : CallState) → (FollowsCalls options → real ≡ calls)
+    → IsShownToken (options_at options real) whole kind text lo hi shown
 
 -- The range of the flaw is within the text, and begins between characters.
 pub record HasPlace (text : List ℕ) (flaw : Flaw) : Type 0 where
@@ -64,47 +77,65 @@ pub record IsCursorOver (tokens : CursorState) (places : List ℕ) : Type 0 wher
   pub cursor : IsCursorState tokens.text tokens.rest
   pub text_is : places ≡ tokens.text
 
--- `piece` is the output for the source `whole` between two offsets. If `old` is the end of the source from the first offset, and
--- `new` that from the second, then output up to `old` and `piece` are the output up to `new`.
-pub record Adds (options : Options) (whole old new piece : List ℕ) : Type 0 where
-  pub more : List CutSource
-  pub goes_on : (cuts : List CutSource) (shown : List ℕ) → ShowsUpTo options whole cuts old shown
-      → ShowsUpTo options whole (cuts ++ more) new (shown ++ piece)
+-- A position between the tokens of a source: the end of the source from there, and the position relative to macro calls.
+pub record Spot : Type 0 where
+  pub rest : List ℕ
+  pub calls : CallState
 
--- `piece` completes the output for the source `whole`: output up to `old`, an end of the source, and `piece` are all its output.
-pub record Completes (options : Options) (whole old piece : List ℕ) : Type 0 where
-  pub ends : (cuts : List CutSource) (shown : List ℕ) → ShowsUpTo options whole cuts old shown
+abbrev pub spot : CursorState → CallState → Spot
+spot tokens calls = record { rest = chars tokens.rest; calls = calls }
+
+-- `shown` is the output for the source `whole` up to the position `at`. The position relative to macro calls is known if the scan
+-- needs it.
+pub record HasShown (options : Options) (whole : List ℕ) (cuts : List CutSource) (at : Spot) (shown : List ℕ)
+    : Type 0 where
+  pub shows : ShowsUpTo options whole cuts at.rest shown
+  pub calls_are : FollowsCalls options → calls_past_all Outside cuts ≡ at.calls
+
+-- `piece` is the output for the source `whole` between the positions `old` and `new`: output up to `old` and `piece` are the output
+-- up to `new`.
+pub record Adds (options : Options) (whole : List ℕ) (old new : Spot) (piece : List ℕ) : Type 0 where
+  pub more : List CutSource
+  pub goes_on : (cuts : List CutSource) (shown : List ℕ) → HasShown options whole cuts old shown
+      → HasShown options whole (cuts ++ more) new (shown ++ piece)
+
+-- `piece` completes the output for the source `whole`: output up to the position `old`, and `piece`, are all its output.
+pub record Completes (options : Options) (whole : List ℕ) (old : Spot) (piece : List ℕ) : Type 0 where
+  pub ends : (cuts : List CutSource) (shown : List ℕ) → HasShown options whole cuts old shown
       → ShowsSource options whole (shown ++ piece)
 
--- The tokens between the old and the new cursor have no output.
-pub record IsUnshown (options : Options) (old new : CursorState) : Type 0 where
-  pub adds : Adds options (chars old.text) (chars old.rest) (chars new.rest) []
+-- The tokens between the old and the new cursor have no output. `seen` and `now` are the positions relative to macro calls.
+pub record IsUnshown (options : Options) (old : CursorState) (seen : CallState) (new : CursorState) (now : CallState)
+    : Type 0 where
+  pub adds : Adds options (chars old.text) (spot old seen) (spot new now) []
   pub same : new.text ≡ old.text
   pub following : IsTail old.rest new.rest
 
--- The next tokens of the source have no output, up to the token `l`, which may have output.
-pub record TakesShown (options : Options) (old : CursorState) (l : SourceToken) (new : CursorState)
-    : Type 0 where
+-- The next tokens of the source have no output, up to the token `l`, which may have output. `seen` is the position of the old
+-- cursor relative to macro calls, and `now` that of the token.
+pub record TakesShown (options : Options) (old : CursorState) (seen : CallState) (l : SourceToken) (now : CallState)
+    (new : CursorState) : Type 0 where
   pub between : CursorState
-  pub unshown : IsUnshown options old between
+  pub unshown : IsUnshown options old seen between now
   pub takes : TakesSource between l new
   pub may_show : MayShow options (source_view l.form) (chars l.text.now)
 
 -- The tokens up to the end of the source have no output.
-abbrev pub EndsUnshown : Options → CursorState → Type 0
-EndsUnshown options old = (end : CursorState) × IsUnshown options old end × (end.rest ≡ [])
+abbrev pub EndsUnshown : Options → CursorState → CallState → CallState → Type 0
+EndsUnshown options old seen now = (end : CursorState) × IsUnshown options old seen end now × (end.rest ≡ [])
 
 -- The tokens up to the error of the source have no output.
-pub record StopsUnshown (options : Options) (old : CursorState) (e : LexError) : Type 0 where
+pub record StopsUnshown (options : Options) (old : CursorState) (seen now : CallState) (e : LexError) : Type 0 where
   pub stop : CursorState
-  pub unshown : IsUnshown options old stop
+  pub unshown : IsUnshown options old seen stop now
   pub error : IsErrorAt (ends_at_strays options) e.kind (chars stop.rest)
   pub place : e.at + length stop.rest ≡ length stop.text
 
--- `piece` is the output for the tokens between the old and the new cursor, and the source has more tokens.
-pub record GoesOn (options : Options) (old : CursorState) (piece : List ℕ) (new : CursorState)
-    (places : List ℕ) : Type 0 where
-  pub adds : Adds options (chars old.text) (chars old.rest) (chars new.rest) piece
+-- `piece` is the output for the tokens between the old and the new cursor, and the source has more tokens. `seen` and `now` are the
+-- positions relative to macro calls.
+pub record GoesOn (options : Options) (old : CursorState) (seen : CallState) (piece : List ℕ) (new : CursorState)
+    (now : CallState) (places : List ℕ) : Type 0 where
+  pub adds : Adds options (chars old.text) (spot old seen) (spot new now) piece
   pub stands : IsCursorOver new places
   pub text_is : new.text ≡ old.text
   pub shorter : length new.rest < length old.rest
@@ -119,13 +150,13 @@ IsStopAt options whole at kind old new (Error place other) =
     (options.explains ≡ false) × (other ≡ kind) × IsPlaceIn options whole at at place × (new ≡ old)
 
 -- `piece` is the output of one step of a scan from the old cursor. It ends at the new cursor, at the end of the source, or at an
--- error.
-abbrev pub IsStepOf : Options → CursorState → List ℕ → CursorState → List ℕ → Step → Type 0
-IsStepOf options old piece new places More = GoesOn options old piece new places
-IsStepOf options old piece new places End =
-    Completes options (chars old.text) (chars old.rest) piece
-IsStepOf options old piece new places (Error place kind) =
-    (at : ℕ) × (rest : List ℕ) × Adds options (chars old.text) (chars old.rest) rest piece
-    × IsErrorAt (ends_at_strays options) kind rest
-    × (at + byte_len rest ≡ byte_len (chars old.text))
+-- error. `seen` and `now` are the positions of the cursors relative to macro calls.
+abbrev pub IsStepOf : Options → CursorState → CallState → List ℕ → CursorState → CallState → List ℕ → Step → Type 0
+IsStepOf options old seen piece new now places More = GoesOn options old seen piece new now places
+IsStepOf options old seen piece new now places End =
+    Completes options (chars old.text) (spot old seen) piece
+IsStepOf options old seen piece new now places (Error place kind) =
+    (at : ℕ) × (stop : Spot) × Adds options (chars old.text) (spot old seen) stop piece
+    × IsErrorAt (ends_at_strays options) kind stop.rest
+    × (at + byte_len stop.rest ≡ byte_len (chars old.text))
     × IsPlaceIn options (chars old.text) at at place × (options.explains ≡ false)

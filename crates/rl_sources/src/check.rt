@@ -16,7 +16,7 @@ use rl_strict::{Flaw, LineEnds, explain_value, read};
 use rl_syntax::Kind;
 
 /// Whether literals are checked for errors: if `options` request the reasons of errors, or only invalid literals.
-fn looks_for_flaws(options: &Options<'_>) -> bool
+pub(crate) fn looks_for_flaws(options: &Options<'_>) -> bool
     ensures { IsTrue result ↔ LooksForFlaws options.now }
 {
     options.explains || matches!(options.shown, Shown::Bad)

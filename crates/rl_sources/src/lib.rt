@@ -19,7 +19,7 @@ mod search;
 mod step;
 
 pub use crate::options::Options;
-pub use crate::place::displayed_place;
+pub use crate::place::{displayed_place, push_context_of};
 pub use crate::reason::push_source_error;
 pub use crate::scan_error::ScanError;
 pub use crate::scanner::scan;

@@ -1,10 +1,12 @@
 //! The options of a scan, which lists the literals of a source.
 
 ghost use Rattle.std.specs.Prelude.{◌≡◌};
-ghost use Rattle.rl_sources.specs.Options.{ends_at_strays as strays_end, finds_strays as strays_found};
+ghost use Rattle.rl_style.specs.Calls.{calls_seen};
+ghost use Rattle.rl_sources.specs.Options.{ends_at_strays as strays_end, finds_strays as strays_found, options_at as options_in};
 
 use rl_flaws::Edition;
 use rl_output::{Context, Form, Matching, Shown, Spelling};
+use rl_style::{Calls, is_in_call};
 
 /// The options of a scan, which lists the literals of a source.
 #[derive(Clone, Copy)]
@@ -32,8 +34,11 @@ pub struct Options<'a> {
     /// Whether lines explain errors. The line of an invalid literal is replaced by its errors, and the error that ends the source
     /// has the last line.
     pub explains: bool,
-    /// Whether a literal may have any suffix and any value, as in a macro's argument.
+    /// Whether every literal may have any suffix and any value.
     pub any_suffix: bool,
+    /// Whether literals inside macro calls, `macro_rules!` definitions and attributes are checked like all others. Else they may
+    /// have any suffix and any value, because only the code that a macro expands to has to be valid.
+    pub judges_macros: bool,
     /// The edition that determines which words or hashes right before a quote are a reserved prefix.
     pub edition: Edition,
     /// The path that is printed before each position: as displayed, or for the format `Json` unchanged.
@@ -41,7 +46,7 @@ pub struct Options<'a> {
 }
 
 impl Default for Options<'_> {
-    ghost use Rattle.std.specs.Prelude.{◌≡◌, [], None, false};
+    ghost use Rattle.std.specs.Prelude.{◌≡◌, [], None, false, true};
     ghost use Rattle.rl_output.specs.declared.form.Form.TheVariants.{Plain};
     ghost use Rattle.rl_flaws.specs.declared.before.Edition.TheVariants.{E2021};
     ghost use Rattle.rl_output.specs.declared.choice.Shown.TheVariants.{All};
@@ -58,6 +63,7 @@ impl Default for Options<'_> {
       rejects_strays = false;
       explains = false;
       any_suffix = false;
+      judges_macros = true;
       edition = E2021;
       path = None;
     }) };
@@ -79,6 +85,7 @@ impl Default for Options<'_> {
             rejects_strays: false,
             explains: false,
             any_suffix: false,
+            judges_macros: true,
             edition: Edition::E2021,
             path: None,
         }
@@ -97,4 +104,16 @@ pub(crate) fn finds_strays(options: &Options<'_>) -> bool
     ensures { result ≡ strays_found options.now }
 {
     options.rejects_strays && options.explains
+}
+
+/// Returns the options for the token at the position `calls`. Unless `judges_macros` is true, a literal inside a macro call may have
+/// any suffix and any value.
+pub(crate) fn options_at<'a>(options: &Options<'a>, calls: Calls<'_>) -> Options<'a>
+    ensures { result ≡ options_in options.now (calls_seen calls.entry) }
+{
+    let any_suffix = options.any_suffix || !options.judges_macros && is_in_call(calls);
+    Options {
+        any_suffix,
+        ..*options
+    }
 }

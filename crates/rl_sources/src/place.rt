@@ -97,8 +97,12 @@ fn push_context_at<'t, A: Allocator>(
 
 /// Appends the lines of context for the bytes from `lo` to `hi` of a source, if `options` request context. `rest` is the end of the
 /// source from `lo`.
+///
+/// # Errors
+///
+/// Returns an error if an allocation fails. Some lines may have been appended then.
 #[inline(always)]
-pub(crate) fn push_context_of<'t, A: Allocator>(
+pub fn push_context_of<'t, A: Allocator>(
     out: &mut String<A>,
     options: &Options<'_>,
     places: &mut Places<'t>,

@@ -23,7 +23,7 @@ use crate::options::Options;
 use crate::place::{displayed_place, place_inside, push_context_inside, push_context_of};
 use rl_files::push_visible;
 use rl_output::{
-    Form, Level, Place, Places, id_of, push_annotation_end, push_error_word, push_front,
+    Form, Level, Place, Places, id_of, push_annotation_end, push_error_word, push_line_start,
 };
 use rl_tokens::LexKind;
 use std::alloc::{AllocError, Allocator};
@@ -130,7 +130,7 @@ pub(crate) fn push_finding<'t, A: Allocator>(
     let token = *literal.token;
     let place = place_inside(options, places, token, literal.rest, finding.lo, finding.hi);
     let piece = piece_of(token.text, finding);
-    push_front(out, Level::Error, options.form, options.path, &place)?;
+    push_line_start(out, Level::Error, options.form, options.path, &place)?;
     push_finding_end(out, options.form, token.text, finding.reason, piece)?;
     push_context_inside(
         out,
@@ -187,7 +187,7 @@ pub fn push_source_error<A: Allocator>(
     ensures { OnOk result (chars (string_bytes out.new) ≡ chars (string_bytes out.old)
         ++ (line_front form path.entry place ++ error_end form kind [])) }
 {
-    push_front(out, Level::Error, form, path, &place)?;
+    push_line_start(out, Level::Error, form, path, &place)?;
     push_error_end(out, form, kind, "")
 }
 
@@ -214,7 +214,7 @@ pub(crate) fn push_error_line<'t, A: Allocator>(
 {
     let (lo, hi) = range;
     let place = displayed_place(options, places, rest, lo, hi);
-    push_front(out, Level::Error, options.form, options.path, &place)?;
+    push_line_start(out, Level::Error, options.form, options.path, &place)?;
     push_error_end(out, options.form, kind, piece)?;
     push_context_of(out, options, places, rest, lo, hi)
 }

@@ -10,6 +10,7 @@ use crate::scan_error::ScanError;
 use crate::step::{Step, gather};
 use rl_output::{Places, Shown};
 use rl_program::{ProgramError, write_whole};
+use rl_style::Calls;
 use rl_tokens::Sources;
 use std::alloc::Allocator;
 use std::io::Write;
@@ -35,11 +36,19 @@ fn scan_tokens<A: Allocator + Copy, W: Write>(
         (FailsTokens options.entry (chars text.now) (W.contents out.old) (W.contents out.new)) }
 {
     let mut tokens = Sources::new(text);
+    let mut calls = Calls::Outside;
     let mut places = Places::new(text);
     let mut lines = String::new(alloc);
     let mut any = false;
     loop {
-        let Ok(step) = gather(alloc, options, &mut tokens, &mut places, &mut lines) else {
+        let Ok(step) = gather(
+            alloc,
+            options,
+            &mut tokens,
+            &mut calls,
+            &mut places,
+            &mut lines,
+        ) else {
             return Err(ScanError::Program(ProgramError::Memory));
         };
         match write_whole(out, lines.as_bytes()) {
@@ -88,6 +97,8 @@ fn scan_hidden<A: Allocator + Copy, W: Write>(
 ///
 /// - With `explains` the line of a literal that Rust rejects has the position of its error and the reason.
 /// - With `finds` only literals whose value contains one of the `finds` have a line. Its position is that of the first match.
+/// - Unless `judges_macros` is true, a literal inside a macro call, a `macro_rules!` definition or an attribute may have any suffix
+///   and any value.
 /// - With `Hidden` literals have no line. Each invisible or bidirectional character of the source has one instead, with its number.
 /// - With `explains` the first error of the source has the last line. With `rejects_strays` each stray character before that error
 ///   has a line too.

@@ -12,23 +12,26 @@ ghost use Rattle.rl_sources.specs.Held.{IsCutAt};
 ghost use Rattle.rl_sources.specs.Scans.{IsErrorAt, IsHeldLine, IsLineAt, IsLineEnd, IsLineIn, IsPickedLine, IsPlacedLine, IsPrintedAs, IsShownLiteral, IsShownToken};
 ghost use Rattle.rl_output.specs.declared.form.Form.TheVariants.{Github};
 ghost use Rattle.rl_output.specs.declared.choice.Spelling.TheVariants.{Value};
-ghost use Rattle.rl_sources.specs.Steps.{BeginsRest, EndsUnshown, IsAcceptedToken, IsCursorOver, IsLiteralOf, IsStepOf, IsStopAt, MayShow, StopsUnshown, TakesShown};
+ghost use Rattle.rl_sources.specs.Steps.{BeginsRest, EndsUnshown, IsAcceptedToken, IsCursorOver, FollowsCalls, IsLiteralOf, IsShownAt, IsStepOf, IsStopAt, MayShow, StopsUnshown, TakesShown};
 ghost use Rattle.rl_sources.specs.Findings.{IsFoundIn};
+ghost use Rattle.rl_style.specs.Calls.{calls_after, calls_seen, is_in_call};
+ghost use Rattle.rl_sources.specs.Options.{options_at as options_in};
 
-use crate::check::{find_wrong, reason_of};
+use crate::check::{find_wrong, looks_for_flaws, reason_of};
 use crate::find_match::first_match_range;
 use crate::flaw_lines::push_error_lines;
 use crate::json::push_json_literal;
 use crate::literal::{Literal, kind_of};
-use crate::options::{Options, ends_at_strays, finds_strays};
+use crate::options::{Options, ends_at_strays, finds_strays, options_at};
 use crate::place::{displayed_place, place_inside, push_context_inside, push_context_of};
 use crate::reason::push_error_line;
 use rl_files::{make_visible, push_visible};
 use rl_lenient::{Found, find};
 use rl_output::{
-    Form, Level, Place, Places, Spelling, first_line, push_annotation_end, push_front,
+    Form, Level, Place, Places, Spelling, first_line, push_annotation_end, push_line_start,
 };
-use rl_program::{label_of, push_found, push_unescaped, unescaped_value};
+use rl_program::{label_of, push_found, push_unescaped_line, unescaped_value};
+use rl_style::{Calls, calls_after, is_in_call};
 use rl_tokens::{LexError, LexKind, SourceForm, SourceToken, Sources};
 use std::alloc::{AllocError, Allocator};
 
@@ -70,7 +73,7 @@ fn push_text_line<A: Allocator + Copy>(
         (chars (string_bytes out.old)) (chars (string_bytes out.new))) }
 {
     match unescaped_value(text) {
-        Some(value) => push_unescaped(out, value),
+        Some(value) => push_unescaped_line(out, value),
         None => push_made_line(alloc, out, text, *found),
     }
 }
@@ -154,7 +157,7 @@ fn push_line_at<A: Allocator + Copy>(
     ensures { OnOk result (Appends (IsLineAt options.now (chars literal.now.token.now.text.now) place)
         (chars (string_bytes out.old)) (chars (string_bytes out.new))) }
 {
-    push_front(out, Level::Notice, options.form, options.path, &place)?;
+    push_line_start(out, Level::Notice, options.form, options.path, &place)?;
     push_line_end(alloc, out, options, literal)
 }
 
@@ -346,6 +349,82 @@ fn push_token<'t, A: Allocator + Copy>(
     push_literal_token(alloc, out, options, token, rest, places)
 }
 
+/// Whether the scan needs the positions of tokens relative to macro calls: it looks for errors, and checks literals inside macro
+/// calls differently.
+fn follows_calls(options: &Options<'_>) -> bool
+    ensures { IsTrue result ↔ FollowsCalls options.now }
+{
+    looks_for_flaws(options) && !options.any_suffix && !options.judges_macros
+}
+
+/// Changes `calls` to the position relative to macro calls after one more token, if `follows` is true.
+#[inline(always)]
+fn pass_token<'t>(follows: bool, calls: &mut Calls<'t>, token: SourceToken<'t>)
+    ensures { IsTrue follows → calls_seen calls.new
+        ≡ calls_after (calls_seen calls.old) (source_view token.entry.form) token.entry.text.now }
+{
+    if follows {
+        *calls = calls_after(*calls, token)
+    }
+}
+
+/// Whether a literal may have any suffix and any value because it is inside a macro call.
+fn is_unjudged(options: &Options<'_>, calls: Calls<'_>) -> bool
+    ensures { IsTrue result ↔ IsTrue (is_in_call (calls_seen calls.entry)) × FollowsCalls options.now }
+{
+    is_in_call(calls) && follows_calls(options)
+}
+
+/// Appends the lines for a literal inside a macro call, or the line of a stray character there. `rest` is the end of the source from
+/// the token.
+#[inline(never)]
+fn push_token_in_call<'t, A: Allocator + Copy>(
+    alloc: A,
+    out: &mut String<A>,
+    options: &Options<'_>,
+    calls: Calls<'t>,
+    token: SourceToken<'t>,
+    rest: &'t str,
+    places: &mut Places<'t>,
+) -> Result<(), AllocError>
+    requires begins { BeginsRest token places.old rest.now }
+    requires shown { MayShow options.now (source_view token.form) (chars token.text.now) }
+    ensures shown { OnOk result (Appends
+        (IsShownToken (options_in options.now (calls_seen calls.entry)) (chars places.old) (source_view token.entry.form)
+        (chars token.entry.text.now) token.entry.lo token.entry.hi)
+        (chars (string_bytes out.old)) (chars (string_bytes out.new))) }
+    ensures same { places.new ≡ places.old }
+{
+    let here = options_at(options, calls);
+    push_token(alloc, out, &here, token, rest, places)
+}
+
+/// Appends the lines for a literal, or the line of a stray character. `calls` is the token's position relative to macro calls, which
+/// is only read if the scan needs it. `rest` is the end of the source from the token.
+#[inline(always)]
+fn push_token_at<'t, A: Allocator + Copy>(
+    alloc: A,
+    out: &mut String<A>,
+    options: &Options<'_>,
+    calls: Calls<'t>,
+    token: SourceToken<'t>,
+    rest: &'t str,
+    places: &mut Places<'t>,
+) -> Result<(), AllocError>
+    requires begins { BeginsRest token places.old rest.now }
+    requires shown { MayShow options.now (source_view token.form) (chars token.text.now) }
+    ensures shown { OnOk result (Appends
+        (IsShownAt options.now (calls_seen calls.entry) (chars places.old) (source_view token.entry.form)
+        (chars token.entry.text.now) token.entry.lo token.entry.hi)
+        (chars (string_bytes out.old)) (chars (string_bytes out.new))) }
+    ensures same { places.new ≡ places.old }
+{
+    if is_unjudged(options, calls) {
+        return push_token_in_call(alloc, out, options, calls, token, rest, places);
+    }
+    push_token(alloc, out, options, token, rest, places)
+}
+
 /// Lexes the next token, or returns `None` at the end of the source.
 ///
 /// With `ends_at_strays` a stray character is an error.
@@ -384,17 +463,23 @@ fn may_show(options: &Options<'_>, token: &SourceToken<'_>) -> bool
 
 /// Lexes tokens up to the next literal and returns that literal, or `None` at the end of the source.
 ///
-/// A stray character is an error, or is returned like a literal if stray characters are findings.
+/// A stray character is an error, or is returned like a literal if stray characters are findings. If `follows` is true, `calls`
+/// becomes the position of the returned token relative to macro calls.
 fn next_strictly<'t>(
     options: Options<'_>,
+    follows: bool,
     tokens: &mut Sources<'t>,
+    calls: &mut Calls<'t>,
 ) -> Result<Option<SourceToken<'t>>, LexError>
-    requires { IsCursorState tokens.old.text tokens.old.rest }
+    requires cursor { IsCursorState tokens.old.text tokens.old.rest }
+    requires follows { FollowsCalls options → IsTrue follows }
     ensures literal { IfOk result (λ token. MatchOption token
-        (EndsUnshown options.entry tokens.old) (λ l. TakesShown options.entry tokens.old l tokens.new)) }
+        (EndsUnshown options.entry tokens.old (calls_seen calls.old) (calls_seen calls.new))
+        (λ l. TakesShown options.entry tokens.old (calls_seen calls.old) l (calls_seen calls.new) tokens.new)) }
     ensures shorter { IfOk result (λ token. IfSome token
         (λ l. length tokens.new.rest < length tokens.old.rest)) }
-    ensures error { IfErr result (StopsUnshown options.entry tokens.old) }
+    ensures error { IfErr result
+        (StopsUnshown options.entry tokens.old (calls_seen calls.old) (calls_seen calls.new)) }
 {
     let ends = ends_at_strays(&options);
     loop {
@@ -403,6 +488,7 @@ fn next_strictly<'t>(
                 if may_show(&options, &token) {
                     return Ok(Some(token));
                 }
+                pass_token(follows, calls, token)
             }
             Ok(None) => return Ok(None),
             Err(error) => return Err(error),
@@ -412,20 +498,27 @@ fn next_strictly<'t>(
 
 /// Lexes tokens up to the next one that may have a line in the output, and returns that token. The result is `None` at the end of
 /// the source.
+///
+/// If `follows` is true, `calls` becomes the position of the returned token relative to macro calls.
 #[inline(always)]
 fn next_literal<'t>(
     options: Options<'_>,
+    follows: bool,
     tokens: &mut Sources<'t>,
+    calls: &mut Calls<'t>,
 ) -> Result<Option<SourceToken<'t>>, LexError>
-    requires { IsCursorState tokens.old.text tokens.old.rest }
+    requires cursor { IsCursorState tokens.old.text tokens.old.rest }
+    requires follows { FollowsCalls options → IsTrue follows }
     ensures literal { IfOk result (λ token. MatchOption token
-        (EndsUnshown options.entry tokens.old) (λ l. TakesShown options.entry tokens.old l tokens.new)) }
+        (EndsUnshown options.entry tokens.old (calls_seen calls.old) (calls_seen calls.new))
+        (λ l. TakesShown options.entry tokens.old (calls_seen calls.old) l (calls_seen calls.new) tokens.new)) }
     ensures shorter { IfOk result (λ token. IfSome token
         (λ l. length tokens.new.rest < length tokens.old.rest)) }
-    ensures error { IfErr result (StopsUnshown options.entry tokens.old) }
+    ensures error { IfErr result
+        (StopsUnshown options.entry tokens.old (calls_seen calls.old) (calls_seen calls.new)) }
 {
-    if options.rejects_strays {
-        return next_strictly(options, tokens);
+    if options.rejects_strays || follows {
+        return next_strictly(options, follows, tokens, calls);
     }
     match tokens.next_literal() {
         Some(token) => Ok(Some(token)),
@@ -471,24 +564,28 @@ fn stop_at<'t, A: Allocator>(
     Ok(Step::Error(place, error.kind))
 }
 
-/// Collects the lines for the next tokens, up to about 64 KB, and returns the state of the scan.
+/// Collects the lines for the next tokens, up to about 64 KB, and returns the state of the scan. `calls` is the position of the next
+/// token relative to macro calls, if the scan needs it.
 pub(crate) fn gather<'t, A: Allocator + Copy>(
     alloc: A,
     options: Options<'_>,
     tokens: &mut Sources<'t>,
+    calls: &mut Calls<'t>,
     places: &mut Places<'t>,
     out: &mut String<A>,
 ) -> Result<Step, AllocError>
     requires stands { IsCursorOver tokens.old places.old }
     requires empty { string_bytes out.old ≡ [] }
-    ensures { IfOk result (IsStepOf options.entry tokens.old (chars (string_bytes out.new))
-        tokens.new places.new) }
+    ensures { IfOk result (IsStepOf options.entry tokens.old (calls_seen calls.old) (chars (string_bytes out.new))
+        tokens.new (calls_seen calls.new) places.new) }
 {
+    let follows = follows_calls(&options);
     while out.len() < FULL {
-        match next_literal(options, tokens) {
+        match next_literal(options, follows, tokens, calls) {
             Ok(Some(token)) => {
                 let rest = places.rest_at(token.lo);
-                push_token(alloc, out, &options, token, rest, places)?
+                push_token_at(alloc, out, &options, *calls, token, rest, places)?;
+                pass_token(follows, calls, token)
             }
             Ok(None) => return Ok(Step::End),
             Err(error) => {

@@ -1,5 +1,5 @@
 -- The results of the parsers of one character or escape, for each first character, and the ways to complete a text.
-use Rattle.rl_strict.proofs.Names.{◌≡◌, ℕ, suc, ◌+◌, ◌*◌, ◌^◌, ◌<◌, ◌≤◌, ◌||◌, ◌&&◌, Bool, true, false, not, cond, eqb, ltb, List, [], ◌∷◌, ◌++◌, Option, Some, None, refl, sym, ap, subst, ◌∙◌, ◌⊎◌, inl, inr, arith, option_and_then, digit_value, scalar, and_from, and_parts, both_ways, cases_Bool, eqb-true, ltb-true, ltb-false, lt-ltb, eq-eqb, ne_eqb, or_right, IsScalar, pow-suc, and_right, le-ltb, Kind, CStr, content_of, is_hex_digit, holds_characters, is_string, is_single, is_line_end, allows_code, may_be_hex, has_unicode, leb, pow-le-pow_right, le-leb, leb-false, IsCompletable, found, number_if, digit_at, hex_at, unicode_at, after_blanks, named_in, named_at, escape_at, unit_at, is_code, holds_more, unicode_sound, below_six, digit_apart, unicode_digits_at, unicode_is}
+use Rattle.rl_strict.proofs.Names.{◌≡◌, ℕ, suc, ◌+◌, ◌*◌, ◌^◌, ◌<◌, ◌≤◌, ◌||◌, ◌&&◌, Bool, true, false, not, cond, eqb, ltb, List, [], ◌∷◌, ◌++◌, Option, Some, None, refl, sym, ap, subst, ◌∙◌, ◌⊎◌, inl, inr, arith, option_and_then, digit_value, scalar, and_from, and_parts, both_ways, cases_Bool, eqb-true, ltb-true, ltb-false, lt-ltb, eq-eqb, ne_eqb, or_right, IsScalar, pow-suc, and_right, le-ltb, Kind, CStr, content_of, is_hex_digit, holds_characters, is_string, is_single, is_line_end, allows_code, may_be_hex, allows_unicode_escapes, leb, pow-le-pow_right, le-leb, leb-false, IsCompletable, found, number_if, digit_at, hex_at, unicode_at, after_blanks, named_in, named_at, escape_at, unit_at, is_code, holds_more, unicode_sound, below_six, digit_apart, unicode_digits_at, unicode_is}
 
 -- ---- parsers of the beginning of a text
 
@@ -120,12 +120,12 @@ past_hex kind c (d ∷ ds) h high =
 
 -- After `n` digits that represent `v`: the number that all digits represent, if the kind allows it.
 abbrev pub allowed : Kind → ℕ × List ℕ → Option (ℕ × List ℕ)
-allowed kind p = number_if (has_unicode kind && allows_code kind p.0) p.0 p.1
+allowed kind p = number_if (allows_unicode_escapes kind && allows_code kind p.0) p.0 p.1
 
 abbrev pub coded : Kind → ℕ → ℕ → Reader ℕ
 coded kind v n t = option_and_then (allowed kind) (unicode_digits_at v n t)
 
-pub closed_code : (kind : Kind) (v n : ℕ) (r : List ℕ) → has_unicode kind ≡ true → is_code kind v ≡ true
+pub closed_code : (kind : Kind) (v n : ℕ) (r : List ℕ) → allows_unicode_escapes kind ≡ true → is_code kind v ≡ true
     → coded kind v n (125 ∷ r) ≡ given v r
 unfolding unicode_digits_at
 closed_code kind v n r u h =
@@ -139,7 +139,7 @@ closed_bad kind v n r h = go (scalar v) refl
     go : (a : Bool) → scalar v ≡ a → option_and_then (allowed kind) (number_if a v r) ≡ None
     go true e =
         let no_code : allows_code kind v ≡ false = sym (ap (λ x. x && allows_code kind v) e) ∙ h in
-        ap (λ x. number_if x v r) (and_right (has_unicode kind) (allows_code kind v) no_code)
+        ap (λ x. number_if x v r) (and_right (allows_unicode_escapes kind) (allows_code kind v) no_code)
     go false e = refl
 
 pub digit_on : (kind : Kind) (v n c : ℕ) (t : List ℕ) → is_hex_digit c ≡ true → n < 6 → coded kind v n (c ∷ t)
@@ -208,7 +208,7 @@ grown v n few small bad =
 
 -- There are `n` digits, and they represent the number `v`.
 pub record Spelled (kind : Kind) (v n : ℕ) : Type 0 where
-  pub unicode : has_unicode kind ≡ true
+  pub unicode : allows_unicode_escapes kind ≡ true
   pub few : n ≤ 6
   pub small : v < 16 ^ n
   pub full : n ≡ 6 → is_code kind v ≡ true
@@ -277,11 +277,11 @@ braced_first kind c t h = rw h refl
 pub braced_none : (kind : Kind) (c : ℕ) (t : List ℕ) → is_hex_digit c ≡ false → braced kind (c ∷ t) ≡ None
 braced_none kind c t h = rw h refl
 
-pub first_spelled : (kind : Kind) (c : ℕ) → has_unicode kind ≡ true → is_hex_digit c ≡ true
+pub first_spelled : (kind : Kind) (c : ℕ) → allows_unicode_escapes kind ≡ true → is_hex_digit c ≡ true
     → Spelled kind (digit_value c) 1
 first_spelled kind c u h = record { unicode = u; few = omega arith; small = (let small : digit_value c < 16 = ltb-true (digit_value c) 16 h in small); full = λ e. absurd (cc) }
 
-pub braced_one : (kind : Kind) → has_unicode kind ≡ true → Completes (braced kind)
+pub braced_one : (kind : Kind) → allows_unicode_escapes kind ≡ true → Completes (braced kind)
 braced_one kind u = ends_by_two (braced kind) 1 49 125 refl refl
     (λ r. closed_code kind 1 1 r u (holds_more kind 1 refl))
 
@@ -292,7 +292,7 @@ pub no_unicode_brace : (kind : Kind) (c : ℕ) (t : List ℕ) → eqb c 123 ≡ 
 unfolding unicode_at
 no_unicode_brace kind c t h = rw h refl
 
-pub unicode_one : (kind : Kind) → has_unicode kind ≡ true → Completes (unicode_at kind)
+pub unicode_one : (kind : Kind) → allows_unicode_escapes kind ≡ true → Completes (unicode_at kind)
 unicode_one kind u = record {
   ending = 123 ∷ 49 ∷ 125 ∷ [];
   are_characters = (refl, (refl, (refl, tt)));
@@ -300,13 +300,13 @@ unicode_one kind u = record {
 }
 
 -- In a kind without `\u`, no text after `\u` completes an escape.
-pub unicode_never : (kind : Kind) (t : List ℕ) → has_unicode kind ≡ false → unicode_at kind t ≡ None
+pub unicode_never : (kind : Kind) (t : List ℕ) → allows_unicode_escapes kind ≡ false → unicode_at kind t ≡ None
 unfolding unicode_at
 unicode_never kind t h = go (unicode_at kind t) refl
   where
     go : (o : Option (ℕ × List ℕ)) → unicode_at kind t ≡ o → unicode_at kind t ≡ None
     go None e = e
-    go (Some p) e = let at = unicode_sound kind t p e in absurd (both_ways (has_unicode kind) h at.allowed.0)
+    go (Some p) e = let at = unicode_sound kind t p e in absurd (both_ways (allows_unicode_escapes kind) h at.allowed.0)
 
 -- ---- an escape
 

@@ -1,5 +1,5 @@
 -- Escapes of a literal in a file: the code finds equal results in the file and in the text as rustc reads it.
-use Rattle.rl_strict.proofs.Names.{◌≡◌, ℕ, ◌+◌, ◌*◌, Bool, true, false, not, ◌==◌, ◌&&◌, cond, List, [], ◌∷◌, Option, Some, None, refl, sym, ap, subst, ◌∙◌, digit_value, nat_lt, option_and_then, option_map, scalar, ByteStr, CStr, Kind, Str, after_run, allows_code, content_of, has_unicode, holds_characters, is_dropped_blank, is_line_end, is_strict_unit, is_string, Itself, may_be_hex, CodeDigits, brace_at, close_at, closed_at, code_digits, code_digits_at, digit_at, after_blanks, escape_at, first_code_digits_at, found, hex_at, named_at, named_in, number_if, unicode_at, escape_rest, unit_rest, CarriageReturn, EmptyBraces, NoBrace, NoHexDigit, NoUnicode, Nul, HexEscapeOutOfRange, TooManyDigits, UnknownEscape, is_dropped, lf_text, strict_escape_flaw_at, strict_unit_flaw_at, FoundFlaw, character_flaw_of, code_flaw_at, code_flaw_of, escape_flaw_at, first_digit_flaw_at, found_flaw, hex_flaw_at, is_code, low_digit_flaw_at, unclosed_flaw_at, unicode_flaw_at}
+use Rattle.rl_strict.proofs.Names.{◌≡◌, ℕ, ◌+◌, ◌*◌, Bool, true, false, not, ◌==◌, ◌&&◌, cond, List, [], ◌∷◌, Option, Some, None, refl, sym, ap, subst, ◌∙◌, digit_value, nat_lt, option_and_then, option_map, scalar, ByteStr, CStr, Kind, Str, after_run, allows_code, content_of, allows_unicode_escapes, holds_characters, is_dropped_blank, is_line_end, is_strict_unit, is_string, Itself, may_be_hex, CodeDigits, brace_at, close_at, closed_at, code_digits, code_digits_at, digit_at, after_blanks, escape_at, first_code_digits_at, found, hex_at, named_at, named_in, number_if, unicode_at, escape_rest, unit_rest, CarriageReturn, EmptyBraces, NoBrace, NoHexDigit, NoUnicode, Nul, HexEscapeOutOfRange, TooManyDigits, UnknownEscape, is_dropped, lf_text, strict_escape_flaw_at, strict_unit_flaw_at, FoundFlaw, character_flaw_of, code_flaw_at, code_flaw_of, escape_flaw_at, first_digit_flaw_at, found_flaw, hex_flaw_at, is_code, low_digit_flaw_at, unclosed_flaw_at, unicode_flaw_at}
 use Rattle.rl_strict.proofs.FileTextLemmas.{by_first, line_of, when_kept}
 use Rattle.rl_strict.proofs.FileSuffixes.{both, lf_flaw}
 
@@ -84,7 +84,7 @@ brace_read t = by_first (λ z r. brace_at r ≡ option_map lf_text (brace_at z))
 unicode_read : (k : Kind) (t : List ℕ) → unicode_at k (lf_text t) ≡ option_map lf_pair (unicode_at k t)
 unfolding unicode_at
 unicode_read k t =
-    let coded : ℕ × List ℕ → Option (ℕ × List ℕ) = λ w. number_if (has_unicode k && allows_code k w.0) w.0 w.1 in
+    let coded : ℕ × List ℕ → Option (ℕ × List ℕ) = λ w. number_if (allows_unicode_escapes k && allows_code k w.0) w.0 w.1 in
     let closed : CodeDigits → Option (ℕ × List ℕ) = λ d. option_and_then coded (closed_at d) in
     let opened : List ℕ → Option (ℕ × List ℕ) = λ z. option_and_then closed (first_code_digits_at z) in
     ap (option_and_then opened) (brace_read t)
@@ -92,7 +92,7 @@ unicode_read k t =
     ap (option_and_then closed) (first_digits_read z)
     ∙ then_read lf_digits lf_pair (first_code_digits_at z) closed closed (λ d.
     ap (option_and_then coded) (closed_read d)
-    ∙ then_read lf_pair lf_pair (closed_at d) coded coded (λ w. if_read (has_unicode k && allows_code k w.0) w.0 w.1)))
+    ∙ then_read lf_pair lf_pair (closed_at d) coded coded (λ w. if_read (allows_unicode_escapes k && allows_code k w.0) w.0 w.1)))
 
 -- An escape that isn't an escaped line end.
 pub escape_read : (k : Kind) (c : ℕ) (cs : List ℕ) → is_line_end c ≡ false → escape_at k (c ∷ lf_text cs)
@@ -165,7 +165,7 @@ unicode_flaw_read k t = by_first (λ z r. unicode_flaw_at k r ≡ lf_flaw (unico
 escape_flaw_read : (k : Kind) (t : List ℕ) → escape_flaw_at k (lf_text t) ≡ lf_flaw (escape_flaw_at k t)
 unfolding escape_flaw_at
 escape_flaw_read k t = by_first (λ z r. escape_flaw_at k r ≡ lf_flaw (escape_flaw_at k z)) refl (λ cs. refl) (λ c cs e.
-    both lf_flaw (c == 120) _ _ _ _ (hex_flaw_read k cs) (both lf_flaw (c == 117) _ _ _ _ (both lf_flaw (has_unicode k)
+    both lf_flaw (c == 120) _ _ _ _ (hex_flaw_read k cs) (both lf_flaw (c == 117) _ _ _ _ (both lf_flaw (allows_unicode_escapes k)
     _ _ _ _ (unicode_flaw_read k cs) (ap (found_flaw NoUnicode) (sym e))) (both lf_flaw (c == 48) _ _ _ _ (ap
     (found_flaw Nul) (sym e)) (ap (found_flaw UnknownEscape) (sym e))))) t
 

@@ -1,5 +1,5 @@
 -- An unescaped ASCII character between single quotes, recognized by the bytes of its text.
-use Rattle.rl_strict.proofs.Names.{◌≡◌, ◌<◌, ℕ, suc, zero, true, false, List, [], ◌∷◌, length, get_or, refl, sym, ap, subst, ◌∙◌, arith, inl, and_from, both_ways, IsAscii, IsUtf8, Char, chars-IsAscii, Itself, is_bare_character, is_strict_unit, Body, SingleForm, OfUnit, IsStrictReading, Unit, ClosesUnits, IsToken}
+use Rattle.rl_strict.proofs.Names.{◌≡◌, ◌<◌, ℕ, suc, zero, true, false, List, [], ◌∷◌, length, get_or, refl, sym, ap, subst, ◌∙◌, arith, inl, and_from, both_ways, IsAscii, IsUtf8, Char, chars-IsAscii, Itself, is_allowed_in_single_quotes, is_strict_unit, Body, SingleForm, OfUnit, IsStrictReading, Unit, ClosesUnits, IsToken}
 use Rattle.rl_syntax.proofs.Common.{chars}
 use Rattle.rl_lenient.proofs.BareCharacters.{bare_text}
 use Rattle.rl_strict.specs.Fronts.{IsBare}
@@ -10,8 +10,8 @@ use Rattle.rl_strict.proofs.StrictLemmas.{close_token}
 abbrev BareBody : Body
 BareBody = record { lo = 1; hi = 2; suffix_at = 3; plain = false }
 
-no_backslash : (c : ℕ) → is_bare_character c ≡ true → c ≡ 92 → ⊥
-no_backslash c h e = both_ways (is_bare_character 92) refl (ap is_bare_character (sym e) ∙ h)
+no_backslash : (c : ℕ) → is_allowed_in_single_quotes c ≡ true → c ≡ 92 → ⊥
+no_backslash c h e = both_ways (is_allowed_in_single_quotes 92) refl (ap is_allowed_in_single_quotes (sym e) ∙ h)
 
 pub bare_reads : (t : List ℕ) (c : ℕ) → IsUtf8 t → IsBare t c → IsStrictReading t (Unit Char BareBody c)
 bare_reads t c u (text, small, bare) =
@@ -26,7 +26,7 @@ three_ascii c small (suc zero) = small
 three_ascii c small (suc (suc zero)) = omega arith
 three_ascii c small (suc (suc (suc i))) = omega arith
 
-closes : (c : ℕ) → is_bare_character c ≡ true → ClosesUnits Char (c ∷ 39 ∷ [])
+closes : (c : ℕ) → is_allowed_in_single_quotes c ≡ true → ClosesUnits Char (c ∷ 39 ∷ [])
 closes c bare = record {
   units = Itself c ∷ [];
   suffix = [];

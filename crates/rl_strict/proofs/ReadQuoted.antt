@@ -1,5 +1,5 @@
 -- The code's parser of quoted literals returns what the grammars define.
-use Rattle.rl_strict.proofs.Names.{◌≡◌, ◌≢◌, ◌+◌, ℕ, ◌&&◌, Bool, true, false, not, ◌==◌, cond, List, [], ◌∷◌, ◌++◌, length, Option, Some, None, refl, sym, ap, subst, ◌∙◌, arith, and_parts, both_ways, eqb-true, inl, inr, flat_map, list_all, AllByRecursion, IsUtf8, after_run, first_passes, is_string, Kind, StrictUnit, Itself, LineBreak, strict_text, is_dropped_blank, is_strict_unit, is_plain, is_single, chars, QuotedUnit, IsUnit, texts, values, MayFollow, is_return, no_blank, no_return, stands, Body, QuotedForm, CookedForm, RawForm, SingleForm, is_plain_body, IsQuotedAt, IsBodyWithin, body_in, suffix_in, found_opener, opener_at, is_some_text, BeginsStrictUnits, BreakEnds, BreaksEnd, cooked_found, single_found, form_at, ClosesUnits, ends_quoted, is_strict_suffix, unit_rest, FlawKind, ExtraHash, TwoCharacters, Unclosed, end_flaw_at, is_raw_form, suffix_piece, StopsIn, StopsBefore, raw_stop, ClosesForm, ClosesRaw, is_raw_character, is_hash, all_weaker, word_without, zero, suc, replicate, append_cancel_right, is_raw, IsStrictSuffix, Str, ByteStr, CStr, strict_unit_flaw_at, suffix_rest, suffix_read_at, FoundFlaw, found_flaw, option_map, ◌⊎◌, nat_lt, Byte, Char, and_right, content_of, is_line_end, is_bare_character, escape_at, line_feed_at, unit_at, escape_rest}
+use Rattle.rl_strict.proofs.Names.{◌≡◌, ◌≢◌, ◌+◌, ℕ, ◌&&◌, Bool, true, false, not, ◌==◌, cond, List, [], ◌∷◌, ◌++◌, length, Option, Some, None, refl, sym, ap, subst, ◌∙◌, arith, and_parts, both_ways, eqb-true, inl, inr, flat_map, list_all, AllByRecursion, IsUtf8, after_run, first_passes, is_string, Kind, StrictUnit, Itself, LineBreak, strict_text, is_dropped_blank, is_strict_unit, is_plain, is_single, chars, QuotedUnit, IsUnit, texts, values, MayFollow, is_return, no_blank, no_return, stands, Body, QuotedForm, CookedForm, RawForm, SingleForm, is_plain_body, IsQuotedAt, IsBodyWithin, body_in, suffix_in, found_opener, opener_at, is_some_text, BeginsStrictUnits, BreakEnds, BreaksEnd, cooked_found, single_found, form_at, ClosesUnits, ends_quoted, is_strict_suffix, unit_rest, FlawKind, ExtraHash, TwoCharacters, Unclosed, end_flaw_at, is_raw_form, suffix_piece, StopsIn, StopsBefore, raw_stop, ClosesForm, ClosesRaw, is_raw_character, is_hash, all_weaker, word_without, zero, suc, replicate, append_cancel_right, is_raw, IsStrictSuffix, Str, ByteStr, CStr, strict_unit_flaw_at, suffix_rest, suffix_read_at, FoundFlaw, found_flaw, option_map, ◌⊎◌, nat_lt, Byte, Char, and_right, content_of, is_line_end, is_allowed_in_single_quotes, escape_at, line_feed_at, unit_at, escape_rest}
 use Rattle.rl_lenient.specs.UnitRuns.{BeginsRun, RunEnds}
 use Rattle.rl_lenient.proofs.FrontLenLemmas.{opener_lo, raw_lo}
 use Rattle.rl_strict.proofs.StrictRowLemmas.{bare_run, one_end, one_none, units_end, passes_seam}
@@ -114,14 +114,14 @@ cooked_at kind t inside closing suffix body front s r quote cut suffix_is stands
 -- ---- a character or byte literal
 
 -- A text that begins with a character that must be escaped has no valid character at its beginning.
-pub bad_front : (k : Kind) (c : ℕ) (cs : List ℕ) → is_single k ≡ true → (c == 92) ≡ false → is_bare_character c ≡ false
+pub bad_front : (k : Kind) (c : ℕ) (cs : List ℕ) → is_single k ≡ true → (c == 92) ≡ false → is_allowed_in_single_quotes c ≡ false
     → unit_rest k (c ∷ cs) ≡ None
 unfolding unit_rest
 bad_front k c cs s e h = ap (λ b. cond b (escape_rest k cs) (cond (is_strict_unit k (Itself c)) (Some cs) None)) e
     ∙ ap (λ b. cond b (Some cs) None) (never k s)
   where
     never : (k : Kind) → is_single k ≡ true → is_strict_unit k (Itself c) ≡ false
-    never Byte s = and_right (nat_lt c 128) (is_bare_character c) h
+    never Byte s = and_right (nat_lt c 128) (is_allowed_in_single_quotes c) h
     never Char s = h
     never kind s = absurd (cc)
 
@@ -156,7 +156,7 @@ escape_same k (d ∷ ds) s = go (d == 10) refl (d == 13) refl
     go false e false f = refl
 
 -- After a backslash, or a character that is allowed unescaped, both grammars have equal results.
-pub good_front : (k : Kind) (c : ℕ) (cs : List ℕ) → is_single k ≡ true → (c == 92) ≡ true ⊎ is_bare_character c ≡ true
+pub good_front : (k : Kind) (c : ℕ) (cs : List ℕ) → is_single k ≡ true → (c == 92) ≡ true ⊎ is_allowed_in_single_quotes c ≡ true
     → option_map (λ p. p.1) (unit_at k (c ∷ cs)) ≡ unit_rest k (c ∷ cs)
 unfolding unit_rest unit_at
 good_front k c cs s (inl e) =
@@ -174,9 +174,9 @@ good_front k c cs s (inr g) = go k s (c == 92) refl
         (cond (c == 13) (line_feed_at Char cs) None))) e ∙ sym (ap (λ z. cond z (Some cs) None) g)
     go Byte s false e = byte (nat_lt c 128) (c == 13) cs
       where
-        byte : (a r : Bool) (t : List ℕ) → option_map (λ p. p.1) (cond (a && is_bare_character c)
+        byte : (a r : Bool) (t : List ℕ) → option_map (λ p. p.1) (cond (a && is_allowed_in_single_quotes c)
             (Some (content_of Byte (c ∷ []), cs)) (cond r (line_feed_at Byte t) None))
-            ≡ cond (a && is_bare_character c) (Some cs) None
+            ≡ cond (a && is_allowed_in_single_quotes c) (Some cs) None
         byte true r t = ap (λ z. option_map (λ p. p.1) (cond z (Some (content_of Byte (c ∷ []), cs))
             (cond r (line_feed_at Byte t) None))) g ∙ sym (ap (λ z. cond z (Some cs) None) g)
         byte false true [] = refl
@@ -200,12 +200,12 @@ unfolding unit_rest
 empty_rest k t e = sym (ap (unit_rest k) e)
 
 pub good_at : (k : Kind) (t : List ℕ) (c : ℕ) (cs : List ℕ) → is_single k ≡ true → t ≡ c ∷ cs
-    → (c == 92) ≡ true ⊎ is_bare_character c ≡ true → option_map (λ p. p.1) (unit_at k t) ≡ unit_rest k t
+    → (c == 92) ≡ true ⊎ is_allowed_in_single_quotes c ≡ true → option_map (λ p. p.1) (unit_at k t) ≡ unit_rest k t
 good_at k t c cs s e h = subst (λ z. option_map (λ p. p.1) (unit_at k z) ≡ unit_rest k z) (sym e)
     (good_front k c cs s h)
 
 pub bad_at : (k : Kind) (t : List ℕ) (c : ℕ) (cs : List ℕ) → is_single k ≡ true → t ≡ c ∷ cs → (c == 92) ≡ false
-    → is_bare_character c ≡ false → None ≡ unit_rest k t
+    → is_allowed_in_single_quotes c ≡ false → None ≡ unit_rest k t
 bad_at k t c cs s e a b = sym (ap (unit_rest k) e ∙ bad_front k c cs s a b)
 
 -- ---- the parse result of a character or byte literal

@@ -1,6 +1,6 @@
 -- If a text begins with no valid character or escape of a quoted literal, it can't continue at the position that the code
 -- finds, and has the flaw of the code's kind.
-use Rattle.rl_strict.proofs.Names.{◌≡◌, ◌≢◌, ℕ, suc, ◌+◌, ◌*◌, ◌<◌, ◌≤◌, ◌||◌, ◌&&◌, Bool, true, false, not, cond, eqb, ltb, List, [], ◌∷◌, ◌++◌, length, Option, Some, None, refl, sym, ap, subst, ◌∙◌, inl, inr, arith, append_assoc, option_and_then, list_all, digit_value, scalar, and_from, and_parts, both_ways, cases_Bool, eqb-true, ltb-true, ltb-false, lt-ltb, not-true, not_from_false, list_all-append, pow-suc, cond_both, Kind, Str, ByteStr, CStr, Byte, first_passes, is_underscore, Letter, Named, LowerN, LowerR, LowerT, Backslash, Apostrophe, Quote, letter_text, letter_value, hex_value, content_of, place_value, without_underscores, is_hex_digit, holds_characters, is_string, is_plain, is_line_end, allows_code, may_be_hex, has_unicode, apart, FlawKind, Unclosed, UnknownEscape, NoUnicode, NoHexDigit, NoBrace, EmptyBraces, TooManyDigits, HexEscapeOutOfRange, UnicodeEscapeOutOfRange, Surrogate, Nul, NotAscii, MustEscape, NoCharacter, IsBraced, digit_count, number_of, FirstDigit, SecondDigit, AfterBrace, AfterDigits, IsNoCode, HasNoCode, AtBrace, AtSixth, AsItIs, ByLetter, ByDigits, ByNumber, UnitFlaw, found, number_if, hex_at, unicode_at, after_blanks, named_at, escape_at, FoundFlaw, found_flaw, low_digit_flaw_at, hex_flaw_at, is_code, code_flaw_of, first_digit_flaw_at, unicode_flaw_at, escape_flaw_at, character_flaw_of, holds_more, two_digits, unit_complete, digit_apart, passes_more}
+use Rattle.rl_strict.proofs.Names.{◌≡◌, ◌≢◌, ℕ, suc, ◌+◌, ◌*◌, ◌<◌, ◌≤◌, ◌||◌, ◌&&◌, Bool, true, false, not, cond, eqb, ltb, List, [], ◌∷◌, ◌++◌, length, Option, Some, None, refl, sym, ap, subst, ◌∙◌, inl, inr, arith, append_assoc, option_and_then, list_all, digit_value, scalar, and_from, and_parts, both_ways, cases_Bool, eqb-true, ltb-true, ltb-false, lt-ltb, not-true, not_from_false, list_all-append, pow-suc, cond_both, Kind, Str, ByteStr, CStr, Byte, first_passes, is_underscore, Letter, Named, LowerN, LowerR, LowerT, Backslash, Apostrophe, Quote, letter_text, letter_value, hex_value, content_of, place_value, without_underscores, is_hex_digit, holds_characters, is_string, is_plain, is_line_end, allows_code, may_be_hex, allows_unicode_escapes, apart, FlawKind, Unclosed, UnknownEscape, NoUnicode, NoHexDigit, NoBrace, EmptyBraces, TooManyDigits, HexEscapeOutOfRange, UnicodeEscapeOutOfRange, Surrogate, Nul, NotAscii, MustEscape, NoCharacter, IsBraced, digit_count, number_of, FirstDigit, SecondDigit, AfterBrace, AfterDigits, IsNoCode, HasNoCode, AtBrace, AtSixth, AsItIs, ByLetter, ByDigits, ByNumber, UnitFlaw, found, number_if, hex_at, unicode_at, after_blanks, named_at, escape_at, FoundFlaw, found_flaw, low_digit_flaw_at, hex_flaw_at, is_code, code_flaw_of, first_digit_flaw_at, unicode_flaw_at, escape_flaw_at, character_flaw_of, holds_more, two_digits, unit_complete, digit_apart, passes_more}
 use Rattle.rl_lenient.proofs.Names.{Zero}
 use Rattle.std.proofs.Common.{length-append}
 use Rattle.rl_strict.proofs.EscapeLemmas.{Closes, Completes, Fails, Reader, given, inner_none, only_zero, hex_read, hex_one, second, hex_second, never, no_low, no_high, past_hex, allowed, coded, closed_code, closed_bad, digit_on, digit_past, underscore_on, other_none, full_none, not_low, not_high, Spelled, room, closing, spelled_on, braced, braced_first, braced_none, first_spelled, braced_one, unicode_on, no_unicode_brace, unicode_one, unicode_never, escape_n, by_hex, by_unicode, same_escape, by_escape}
@@ -306,7 +306,7 @@ unfolding digits_flaw_at
 digits_spoil kind [] ds v n s none = at_end (closing kind v n s.spelled)
 digits_spoil kind (c ∷ cs) ds v n s none = spoils_here kind ds v n c cs s none (digits_spoil kind cs)
 
-first_stands : (kind : Kind) (c : ℕ) → has_unicode kind ≡ true → is_hex_digit c ≡ true
+first_stands : (kind : Kind) (c : ℕ) → allows_unicode_escapes kind ≡ true → is_hex_digit c ≡ true
     → Stands kind (c ∷ []) (digit_value c) 1
 first_stands kind c u h =
     let no_underscore = digit_apart c 95 h refl in
@@ -319,7 +319,7 @@ first_stands kind c u h =
       spelled = first_spelled kind c u h;
     }
 
-first_digit_spoils : (kind : Kind) (t : List ℕ) → has_unicode kind ≡ true → braced kind t ≡ None
+first_digit_spoils : (kind : Kind) (t : List ℕ) → allows_unicode_escapes kind ≡ true → braced kind t ≡ None
     → HasUnitFlaw kind (braced kind) (braced_front []) t (first_digit_flaw_at kind t)
 unfolding first_digit_flaw_at
 first_digit_spoils kind [] u none = at_end (braced_one kind u)
@@ -333,7 +333,7 @@ first_digit_spoils kind (c ∷ cs) u none =
     (λ b. here c cs EmptyBraces (braced_one kind u) (λ r. braced_none kind c r e) (refl, b))
     (λ b. here c cs NoHexDigit (braced_one kind u) (λ r. braced_none kind c r e) (AfterBrace refl (rw (e, b) refl))))
 
-unicode_spoils : (kind : Kind) (t : List ℕ) → has_unicode kind ≡ true → unicode_at kind t ≡ None
+unicode_spoils : (kind : Kind) (t : List ℕ) → allows_unicode_escapes kind ≡ true → unicode_at kind t ≡ None
     → HasUnitFlaw kind (unicode_at kind) (92 ∷ 117 ∷ []) t (unicode_flaw_at kind t)
 unfolding unicode_flaw_at
 unicode_spoils kind [] u none = at_end (unicode_one kind u)
@@ -395,7 +395,7 @@ pub escape_spoils : (kind : Kind) (t : List ℕ) → escape_at kind t ≡ None
 unfolding escape_flaw_at
 escape_spoils kind [] none = at_end (escape_n kind)
 escape_spoils kind (c ∷ cs) none = cond_both (eqb c 120) _ _ P by_x (λ a. cond_both (eqb c 117) _ _ P (λ e. cond_both
-    (has_unicode kind) _ _ P (by_u e) (no_u e)) (λ b. cond_both (eqb c 48) _ _ P (zero a b) (unknown a b)))
+    (allows_unicode_escapes kind) _ _ P (by_u e) (no_u e)) (λ b. cond_both (eqb c 48) _ _ P (zero a b) (unknown a b)))
   where
     P : FoundFlaw → Type 0
     P = HasUnitFlaw kind (escape_at kind) (92 ∷ []) (c ∷ cs)
@@ -404,7 +404,7 @@ escape_spoils kind (c ∷ cs) none = cond_both (eqb c 120) _ _ P by_x (λ a. con
     by_x e = next (hex_at kind) (escape_at kind) (λ n. n ∷ []) c 120 (eqb-true c 120 e) (by_hex kind) none
         (hex_spoils kind cs)
 
-    by_u : eqb c 117 ≡ true → has_unicode kind ≡ true → P (unicode_flaw_at kind cs)
+    by_u : eqb c 117 ≡ true → allows_unicode_escapes kind ≡ true → P (unicode_flaw_at kind cs)
     by_u e u = next (unicode_at kind) (escape_at kind) (λ n. content_of kind (n ∷ [])) c 117 (eqb-true c 117 e)
         (by_unicode kind) none (unicode_spoils kind cs u)
 
@@ -412,7 +412,7 @@ escape_spoils kind (c ∷ cs) none = cond_both (eqb c 120) _ _ P by_x (λ a. con
         cs) → P (found_flaw flaw (c ∷ cs))
     once flaw h has = here c cs flaw (escape_n kind) h has
 
-    no_u : eqb c 117 ≡ true → has_unicode kind ≡ false → P (found_flaw NoUnicode (c ∷ cs))
+    no_u : eqb c 117 ≡ true → allows_unicode_escapes kind ≡ false → P (found_flaw NoUnicode (c ∷ cs))
     no_u e u = once NoUnicode (λ r. ap (λ x. escape_at kind (x ∷ r)) (eqb-true c 117 e) ∙ by_unicode kind r
         ∙ ap (option_and_then (λ p. found (content_of kind (p.0 ∷ [])) p.1)) (unicode_never kind r u)) (u, refl, e)
 
@@ -441,7 +441,7 @@ abbrev Alone : Kind → ℕ → List ℕ → FlawKind → Type 0
 Alone kind c cs flaw = UnitFlaw kind flaw (c ∷ cs) (c ∷ cs)
 
 -- The flaw of a non-ASCII character.
-high_has : (kind : Kind) (c : ℕ) (cs : List ℕ) → has_unicode kind ≡ false → ltb c 128 ≡ false
+high_has : (kind : Kind) (c : ℕ) (cs : List ℕ) → allows_unicode_escapes kind ≡ false → ltb c 128 ≡ false
     → Alone kind c cs (character_flaw_of c)
 high_has kind c cs u h =
     let high = not_from_false (ltb c 128) h in

@@ -7,7 +7,7 @@ use Prim.Native.Char.{code}
 use Rattle.rl_syntax.specs.declared.kind.Kind.{Kind}
 use Rattle.rl_syntax.specs.declared.kind.Kind.TheVariants.{CStr}
 use Rattle.rl_syntax.specs.Texts.{first_passes, is_among, is_underscore}
-use Rattle.rl_syntax.specs.Quoted.{Letter, letter_text, hex_value, is_hex_digit, is_line_end, is_single, is_string, has_unicode, holds_characters}
+use Rattle.rl_syntax.specs.Quoted.{Letter, letter_text, hex_value, is_hex_digit, is_line_end, is_single, is_string, allows_unicode_escapes, holds_characters}
 use Rattle.rl_syntax.specs.Spelling.{place_value, without_underscores}
 use Rattle.rl_syntax.specs.Classes.{is_hash}
 use Rattle.rl_lexer.specs.Sources.{is_apostrophe}
@@ -90,7 +90,7 @@ abbrev pub UnitFlaw : Kind → FlawKind → List ℕ → List ℕ → Type 0
 UnitFlaw kind Unclosed text rest = rest ≡ []
 UnitFlaw kind UnknownEscape text rest = (text ≡ codes "\\" ++ rest) × BeginsNoEscape kind rest
 UnitFlaw kind NoUnicode text rest =
-    IsFalse (has_unicode kind) × (text ≡ codes "\\" ++ rest) × Begins (λ c. c == code "u") rest
+    IsFalse (allows_unicode_escapes kind) × (text ≡ codes "\\" ++ rest) × Begins (λ c. c == code "u") rest
 UnitFlaw kind NoHexDigit text rest = MissesDigit text rest
 UnitFlaw kind NoBrace text rest = (text ≡ codes "\\u" ++ rest) × Begins (λ c. not (c == code "{")) rest
 UnitFlaw kind EmptyBraces text rest = (text ≡ codes "\\u{" ++ rest) × Begins is_brace rest
@@ -103,7 +103,7 @@ UnitFlaw kind HexEscapeOutOfRange text rest =
 UnitFlaw kind UnicodeEscapeOutOfRange text rest = HasNoCode kind UnicodeEscapeOutOfRange text rest
 UnitFlaw kind Surrogate text rest = HasNoCode kind Surrogate text rest
 UnitFlaw kind Nul text rest = (kind ≡ CStr) × IsNul kind text rest
-UnitFlaw kind NotAscii text rest = IsFalse (has_unicode kind) × (text ≡ rest) × Begins (λ c. not (nat_lt c 128)) rest
+UnitFlaw kind NotAscii text rest = IsFalse (allows_unicode_escapes kind) × (text ≡ rest) × Begins (λ c. not (nat_lt c 128)) rest
 UnitFlaw kind MustEscape text rest = IsTrue (is_single kind) × (text ≡ rest) × Begins (is_among (codes "\n\r\t")) rest
 UnitFlaw kind NoCharacter text rest = IsTrue (is_single kind) × (text ≡ rest) × Begins is_apostrophe rest
 UnitFlaw kind _ text rest = ⊥

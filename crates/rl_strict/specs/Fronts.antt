@@ -3,14 +3,14 @@ use Rattle.std.specs.Prelude.{◌≡◌, ◌<◌, ◌==◌, ◌||◌, ◌∷◌,
 use Rattle.std.specs.Char.{is_ascii_digit}
 use Rattle.std.specs.Str.{chars}
 use Prim.Native.Char.{code}
-use Rattle.rl_syntax.specs.Strict.{is_bare_character}
+use Rattle.rl_syntax.specs.Strict.{is_allowed_in_single_quotes}
 use Rattle.rl_strict.specs.declared.strict_reading.Front.{Front}
 use Rattle.rl_strict.specs.declared.strict_reading.Front.TheVariants.{Quote, Bare, Apostrophe, Digit, Other}
 use Rattle.rl_syntax.specs.Texts.{first_passes}
 
 -- The text is the ASCII character `c` between single quotes, where Rust's grammar allows `c` unescaped.
 abbrev pub IsBare : List ℕ → ℕ → Type 0
-IsBare text c = (text ≡ code "'" ∷ c ∷ code "'" ∷ []) × (c < 128) × IsTrue (is_bare_character c)
+IsBare text c = (text ≡ code "'" ∷ c ∷ code "'" ∷ []) × (c < 128) × IsTrue (is_allowed_in_single_quotes c)
 
 abbrev pub BeginsAs : List ℕ → Front → Type 0
 BeginsAs text (Quote inside) = chars text ≡ code "\"" ∷ chars inside.now

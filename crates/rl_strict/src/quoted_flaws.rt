@@ -6,7 +6,7 @@ ghost use Rattle.rl_strict.specs.Mirrors.UnitFlawAt.{character_flaw_of, code_fla
 ghost use Rattle.rl_lenient.specs.Mirrors.UnitAt.{code_digits};
 
 use crate::flaws::{FlawAt, FlawKind, make_flaw};
-use rl_lenient::units::{CodeDigits, allows_code, code_digits, has_unicode};
+use rl_lenient::units::{CodeDigits, allows_code, allows_unicode_escapes, code_digits};
 use rl_syntax::Kind;
 use rl_syntax::text::split_char;
 
@@ -105,7 +105,7 @@ pub(crate) fn escape_flaw(kind: Kind, text: &str) -> FlawAt<'_>
         None => make_flaw(FlawKind::Unclosed, text),
         Some(('x', digits)) => hex_flaw(kind, digits),
         Some(('u', braces)) => {
-            if !has_unicode(kind) {
+            if !allows_unicode_escapes(kind) {
                 return make_flaw(FlawKind::NoUnicode, text);
             }
             match split_char(braces) {

@@ -23,7 +23,7 @@ use crate::strict_reading::Reading;
 use crate::walk::{open_raw, parse_cooked_content, parse_raw_content, parse_single_unit};
 use rl_lenient::Body;
 use rl_lenient::quoted_forms::{QuotedForm, places};
-use rl_lenient::units::{Piece, is_bare_character, piece_unit, unit};
+use rl_lenient::units::{Piece, is_allowed_in_single_quotes, piece_code, unit};
 use rl_syntax::Kind;
 use rl_syntax::text::split_char;
 
@@ -138,7 +138,7 @@ pub fn split_unit(kind: Kind, text: &str) -> Option<(Piece, &str)>
         None => None,
         Some(('\\', _)) => unit(kind, text),
         Some((first, _)) => {
-            if is_bare_character(first) {
+            if is_allowed_in_single_quotes(first) {
                 unit(kind, text)
             } else {
                 None
@@ -165,7 +165,7 @@ pub(crate) fn unit_at<'t>(
     match stretch.end {
         Ok((piece, suffix)) => Ok(Single {
             body: places(text, inside, stretch.closing, suffix, false),
-            unit: piece_unit(kind, piece),
+            unit: piece_code(kind, piece),
         }),
         Err(flaw) => Err(flaw),
     }

@@ -25,10 +25,10 @@ use crate::read_quoted::{Single, quoted_at, text_at, unit_at};
 use crate::walk_units::split;
 use rl_lenient::digit_runs::begins_digit;
 use rl_lenient::quoted_forms::split_opener;
-use rl_lenient::units::is_bare_character;
+use rl_lenient::units::is_allowed_in_single_quotes;
 use rl_lenient::{Body, bool_of};
 use rl_syntax::Kind;
-use rl_syntax::text::{ascii_at, begins_with, strip_byte};
+use rl_syntax::text::{ascii_at, begins_with_char, strip_byte};
 
 /// The parse result of a literal token. Offsets are in bytes of the token's text as written.
 ///
@@ -73,7 +73,7 @@ fn bare_of(text: &str) -> Option<u8>
     if bytes.len() != 3 || bytes[0] != b'\'' || bytes[2] != b'\'' || bytes[1] >= 128 {
         return None;
     }
-    if is_bare_character(bytes[1] as char) {
+    if is_allowed_in_single_quotes(bytes[1] as char) {
         Some(bytes[1])
     } else {
         None
@@ -166,7 +166,7 @@ fn word_flaw(text: &str) -> FlawAt<'_>
     ensures { (ends : LineEnds)
         → IsFlawOf ends false (chars text.now) result.kind (chars result.piece.now) (chars result.rest.now) }
 {
-    if begins_with(text, '-') {
+    if begins_with_char(text, '-') {
         make_flaw(FlawKind::Minus, text)
     } else {
         first_flaw(text).with_piece(text)

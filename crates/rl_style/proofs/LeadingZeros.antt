@@ -1,5 +1,5 @@
 -- The digits without leading zeros represent the old number.
-use Rattle.rl_syntax.proofs.Common.{◌≡◌, ℕ, ◌≤◌, ◌+◌, ◌*◌, ◌^◌, ◌⊎◌, Bool, true, false, ◌==◌, cond, List, [], ◌∷◌, ◌++◌, length, refl, sym, ap, subst, ◌∙◌, inl, inr, arith, and_from, and_parts, both_ways, cases_Bool, eqb-true, or_cases, or_left, or_parts, is_ascii_digit, list_all, list_any, flat_map}
+use Rattle.rl_syntax.proofs.Common.{◌≡◌, ℕ, ◌≤◌, ◌+◌, ◌*◌, ◌^◌, ◌⊎◌, ◌||◌, Bool, true, false, ◌==◌, cond, List, [], ◌∷◌, ◌++◌, length, refl, sym, ap, subst, ◌∙◌, inl, inr, arith, and_from, and_parts, both_ways, cases_Bool, eqb-true, or_cases, or_left, or_parts, is_ascii_digit, list_all, list_any, flat_map}
 use Rattle.std.specs.Str.{chars}
 use Rattle.rl_writing.proofs.AsciiLemmas.{low_chars}
 use Rattle.rl_syntax.specs.Classes.{after_run}
@@ -64,6 +64,29 @@ first_digit test c h n =
       | inl a ↦ a
       | inr a ↦ absurd (both_ways (c == 95) (or_parts (c == 48) (c == 95) n).1 a)
     ]
+
+-- A test that a zero and an underscore fail has the same result without the leading zeros.
+after_any : (test : ℕ → Bool) (run : List ℕ) → test 48 ≡ false → test 95 ≡ false
+    → list_any test (after_run is_padding run) ≡ list_any test run
+after_any test [] z u = refl
+after_any test (c ∷ cs) z u =
+    elim (cases_Bool (is_padding c)) [
+      | inl a ↦ ap (λ b. list_any test (cond b (after_run is_padding cs) (c ∷ cs))) a ∙ after_any test cs z u
+          ∙ ap (λ b. b || list_any test cs) (sym (padded (or_cases (c == 48) (c == 95) a)))
+      | inr a ↦ ap (λ b. list_any test (cond b (after_run is_padding cs) (c ∷ cs))) a
+    ]
+  where
+    padded : ((c == 48) ≡ true) ⊎ ((c == 95) ≡ true) → test c ≡ false
+    padded (inl h) = ap test (eqb-true c 48 h) ∙ z
+    padded (inr h) = ap test (eqb-true c 95 h) ∙ u
+
+or_zero_any : (test : ℕ → Bool) (run : List ℕ) → test 48 ≡ false → list_any test (or_zero run) ≡ list_any test run
+or_zero_any test [] z = ap (λ b. b || false) z
+or_zero_any test (c ∷ cs) z = refl
+
+pub significant_any : (test : ℕ → Bool) (run : List ℕ) → test 48 ≡ false → test 95 ≡ false
+    → list_any test (significant run) ≡ list_any test run
+significant_any test run z u = or_zero_any test (after_run is_padding run) z ∙ after_any test run z u
 
 pub significant_first : (test : ℕ → Bool) (run : List ℕ) → test 48 ≡ true → list_all (is_run_part test) run ≡ true
     → first_passes test (significant run) ≡ true

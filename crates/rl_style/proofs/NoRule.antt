@@ -7,7 +7,7 @@ use Rattle.rl_syntax.specs.Strict.{spaced_value, strict_closer, strict_opener}
 use Rattle.rl_syntax.proofs.StrictQuoted.{between}
 use Rattle.rl_writing.specs.RawStrings.{raw_text}
 use Rattle.rl_style.specs.declared.style.Style.{Style}
-use Rattle.rl_style.specs.Cases.{cased, drops_underscores, exponent_letter, kept_digits, kept_run, number_character, separator, separator_by, significant, trimmed, trims_by}
+use Rattle.rl_style.specs.Cases.{cased, drops_underscores, exceeds_octal, exponent_letter, kept_digits, kept_run, number_character, separator, separator_by, significant, trimmed, trims_by}
 use Rattle.rl_style.specs.Rewriting.{HasHashes, HasNoRule, Rewrites, RewritesCooked, RewritesFloat, RewritesInt, RewritesRaw, cased_digit, styled_digits, fewest_digits, needs_number, is_visible, letter_of, loses_raw, may_lose_r, needs_backslash, number_escape, reescaped, respelled, restyled, visible_unit, styled_numeral, styled_run, gets_letter, restyled_units, digit_follows}
 use Rattle.rl_syntax.specs.Texts.{first_passes, is_run_part}
 use Rattle.rl_style.specs.Groups.{after_dot, digit_run, fraction_in_groups, grouped_run, least_by, regrouped, size_by}
@@ -47,7 +47,8 @@ none_dropped : (style : Style) (x : List ℕ) → HasNoRule style → drops_unde
 none_dropped style x n = ap (λ b. b && not (first_passes is_base_letter x)) n.underscores
 
 zeros_kept : (style : Style) (base : ℕ) (x run : List ℕ) → HasNoRule style → kept_digits style base x run ≡ run
-zeros_kept style base x run n = ap (λ b. cond ((b && base == 10) && not (first_passes is_base_letter x))
+zeros_kept style base x run n = ap (λ b. cond (((b && base == 10) && not (first_passes is_base_letter x))
+    && list_any exceeds_octal run)
     (significant run) run)
     n.leading_zeros
 
@@ -102,14 +103,16 @@ numeral_same style x numeral n =
     ∙ run_joined kept ∙ untrimmed style x numeral n
 
 integer_kept : (style : Style) (t u : List ℕ) → HasNoRule style → RewritesInt style t u → u ≡ t
-integer_kept style t u n c =
+integer_kept style t u n (inr c) = c.new_is
+integer_kept style t u n (inl c) =
     let x : List ℕ = c.suffix in
     c.new_is ∙ ap (λ z. c.int.prefix ++ (z ++ (separator style x ++ x))) (row_same style c.int.base x c.int.run n)
     ∙ ap (λ z. c.int.prefix ++ (c.int.run ++ (z ++ x))) (unseparated style x n)
     ∙ sym (append_assoc c.int.prefix c.int.run x) ∙ sym c.int.text
 
 float_kept : (style : Style) (t u : List ℕ) → HasNoRule style → RewritesFloat style t u → u ≡ t
-float_kept style t u n c =
+float_kept style t u n (inr c) = c.new_is
+float_kept style t u n (inl c) =
     let x : List ℕ = c.suffix in
     c.new_is ∙ ap (λ z. z ++ (separator style x ++ x)) (numeral_same style x c.float.numeral n)
     ∙ ap (λ z. c.float.numeral ++ (z ++ x)) (unseparated style x n) ∙ sym c.float.text

@@ -209,16 +209,20 @@ digits_each f (c ∷ cs) k h =
           ∙ and_from (is_run_part is_ascii_digit c) (list_all (is_run_part is_ascii_digit) (flat_map f cs)) p.0 more
     ]
 
+pub some_stays : (test : ℕ → Bool) (f : ℕ → List ℕ) (run : List ℕ) → test 95 ≡ false → RowStays f run
+    → list_any test (flat_map f run) ≡ list_any test run
+some_stays test f [] n k = refl
+some_stays test f (c ∷ cs) n k =
+    let more = some_stays test f cs n k.1 in
+    elim k.0 [
+      | inl a ↦ ap (λ z. list_any test (z ++ flat_map f cs)) a.0 ∙ more
+          ∙ ap (λ b. b || list_any test cs) (sym (ap test (eqb-true c 95 a.1) ∙ n))
+      | inr a ↦ ap (λ z. list_any test (z ++ flat_map f cs)) a ∙ ap (λ b. test c || b) more
+    ]
+
 pub digits_some : (f : ℕ → List ℕ) (run : List ℕ) → RowStays f run
     → list_any is_ascii_digit (flat_map f run) ≡ list_any is_ascii_digit run
-digits_some f [] k = refl
-digits_some f (c ∷ cs) k =
-    let more = digits_some f cs k.1 in
-    elim k.0 [
-      | inl a ↦ ap (λ z. list_any is_ascii_digit (z ++ flat_map f cs)) a.0 ∙ more
-          ∙ ap (λ b. b || list_any is_ascii_digit cs) (sym (ap is_ascii_digit (eqb-true c 95 a.1)))
-      | inr a ↦ ap (λ z. list_any is_ascii_digit (z ++ flat_map f cs)) a ∙ ap (λ b. is_ascii_digit c || b) more
-    ]
+digits_some f run k = some_stays is_ascii_digit f run refl k
 
 pub digits_stay : (f : ℕ → List ℕ) (d : List ℕ) → RowStays f d → IsDigits d → IsDigits (flat_map f d)
 digits_stay f [] k h = absurd (let e : false ≡ true = h.0 in cc)

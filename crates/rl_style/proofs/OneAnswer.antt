@@ -2,7 +2,7 @@
 use Rattle.rl_syntax.proofs.Common.{◌≡◌, ℕ, Bool, true, false, ◌==◌, cond, List, [], ◌∷◌, ◌++◌, length, replicate, refl, sym, ap, subst, ◌∙◌, inl, inr, arith, append_cancel_right, both_ways, cases_lt, flat_map}
 use Rattle.rl_syntax.proofs.Basics.{hashes_all}
 use Rattle.rl_lenient.proofs.Names.{Kind, Str, ByteStr, CStr, Byte, Char, Int, Float, BoolKind, Contents, StrictUnit, is_string, strict_text}
-use Rattle.rl_syntax.specs.Strict.{Strict, StrictCooked, StrictInt, StrictRaw, strict_closer, strict_opener, strict_raw_opener, HasUnits}
+use Rattle.rl_syntax.specs.Strict.{Strict, StrictCooked, StrictFloat, StrictInt, StrictRaw, strict_closer, strict_opener, strict_raw_opener, HasUnits}
 use Rattle.rl_syntax.proofs.OneQuoted.{same_tail}
 use Rattle.rl_syntax.proofs.OneReading.{one_strict}
 use Rattle.rl_syntax.proofs.StrictNumbers.{same_run}
@@ -10,7 +10,8 @@ use Rattle.rl_syntax.proofs.StrictQuoted.{between}
 use Rattle.rl_writing.specs.RawStrings.{HasFewestHashes, raw_contents, raw_text}
 use Rattle.rl_style.specs.declared.style.Style.{Style}
 use Rattle.rl_style.specs.Cases.{separator}
-use Rattle.rl_style.specs.Rewriting.{HasHashes, KeepsTruth, LosesRaw, Rewrites, RewritesCooked, RewritesFloat, RewritesInt, RewritesRaw, StaysRaw, loses_raw, unraw_text, styled_numeral, styled_run, restyled_inside}
+use Rattle.rl_style.specs.Mistyped.{is_mistyped, is_mistyped_float}
+use Rattle.rl_style.specs.Rewriting.{HasHashes, KeepsFloat, KeepsInt, KeepsTruth, LosesRaw, Rewrites, RewritesCooked, RewritesFloat, RewritesInt, RewritesRaw, StaysRaw, StylesFloat, StylesInt, loses_raw, unraw_text, styled_numeral, styled_run, restyled_inside}
 use Rattle.rl_style.proofs.SameRaw.{first_quote, length_hashes, raw_joined, raw_strict, raw_string, second_quote}
 use Rattle.rl_style.proofs.SameUnits.{cooked_strict}
 use Rattle.rl_style.proofs.UnitRows.{texts_once}
@@ -39,8 +40,8 @@ prefix_is t v x i =
 abbrev integer_of : Style → ℕ → List ℕ → List ℕ → List ℕ → List ℕ
 integer_of style base prefix row x = prefix ++ (styled_run style base x row ++ (separator style x ++ x))
 
-integer_once : (style : Style) (t u w : List ℕ) → RewritesInt style t u → RewritesInt style t w → u ≡ w
-integer_once style t u w a b =
+styled_integer_once : (style : Style) (t u w : List ℕ) → StylesInt style t u → StylesInt style t w → u ≡ w
+styled_integer_once style t u w a b =
     let suffix : a.suffix ≡ b.suffix = (one_strict t Int Int a.contents b.contents a.suffix b.suffix a.int b.int).2 in
     let base : a.int.base ≡ b.int.base = sym (base_found t a.contents a.suffix a.int)
     ∙ base_found t b.contents b.suffix b.int in
@@ -56,11 +57,23 @@ integer_once style t u w a b =
     ∙ ap (λ z. integer_of style b.int.base b.int.prefix z a.suffix) row
     ∙ ap (integer_of style b.int.base b.int.prefix b.int.run) suffix ∙ sym b.new_is
 
+-- A rewritten integer has no mistyped suffix.
+integers_apart : (style : Style) (t u w : List ℕ) → StylesInt style t u → KeepsInt t w → ⊥
+integers_apart style t u w a b =
+    let one = one_strict t Int Int a.contents b.contents a.suffix b.suffix a.int b.int in
+    both_ways (is_mistyped a.suffix t) a.exact (ap (λ z. is_mistyped z t) one.2 ∙ b.mistyped)
+
+integer_once : (style : Style) (t u w : List ℕ) → RewritesInt style t u → RewritesInt style t w → u ≡ w
+integer_once style t u w (inl a) (inl b) = styled_integer_once style t u w a b
+integer_once style t u w (inl a) (inr b) = absurd (integers_apart style t u w a b)
+integer_once style t u w (inr a) (inl b) = absurd (integers_apart style t w u b a)
+integer_once style t u w (inr a) (inr b) = a.new_is ∙ sym b.new_is
+
 abbrev float_of : Style → List ℕ → List ℕ → List ℕ
 float_of style numeral x = styled_numeral style x numeral ++ (separator style x ++ x)
 
-float_once : (style : Style) (t u w : List ℕ) → RewritesFloat style t u → RewritesFloat style t w → u ≡ w
-float_once style t u w a b =
+styled_float_once : (style : Style) (t u w : List ℕ) → StylesFloat style t u → StylesFloat style t w → u ≡ w
+styled_float_once style t u w a b =
     let suffix : a.suffix ≡ b.suffix = (one_strict t Float Float a.contents b.contents a.suffix b.suffix a.float
     b.float).2 in
     let numeral : a.float.numeral ≡ b.float.numeral =
@@ -69,6 +82,18 @@ float_once style t u w a b =
     a.new_is
     ∙ ap (λ z. float_of style z a.suffix) numeral ∙ ap (float_of style b.float.numeral) suffix
     ∙ sym b.new_is
+
+-- A rewritten float has no mistyped suffix.
+floats_apart : (style : Style) (t u w : List ℕ) → StylesFloat style t u → KeepsFloat t w → ⊥
+floats_apart style t u w a b =
+    let one = one_strict t Float Float a.contents b.contents a.suffix b.suffix a.float b.float in
+    both_ways (is_mistyped_float a.suffix t) a.exact (ap (λ z. is_mistyped_float z t) one.2 ∙ b.mistyped)
+
+float_once : (style : Style) (t u w : List ℕ) → RewritesFloat style t u → RewritesFloat style t w → u ≡ w
+float_once style t u w (inl a) (inl b) = styled_float_once style t u w a b
+float_once style t u w (inl a) (inr b) = absurd (floats_apart style t u w a b)
+float_once style t u w (inr a) (inl b) = absurd (floats_apart style t w u b a)
+float_once style t u w (inr a) (inr b) = a.new_is ∙ sym b.new_is
 
 -- ---- raw strings
 
@@ -259,23 +284,39 @@ raw_apart style t w a b =
 clash : (t : List ℕ) (k l : Kind) (v w : Contents) (x y : List ℕ) → Strict t k v x → Strict t l w y → (k ≡ l → ⊥) → ⊥
 clash t k l v w x y a b n = n (one_strict t k l v w x y a b).0
 
-int_raw : (style : Style) (t u : List ℕ) → RewritesInt style t u → WasRaw t → ⊥
-int_raw style t u a b = clash t b.kind Int b.contents a.contents b.suffix a.suffix
-    (raw_strict t b.kind b.contents b.suffix b.raw) a.int
+-- The text is an integer with this value and this suffix.
+abbrev WasInt : List ℕ → Type 0
+WasInt t = (v : Contents) × (x : List ℕ) × StrictInt t v x
+
+was_int : (style : Style) (t u : List ℕ) → RewritesInt style t u → WasInt t
+was_int style t u (inl a) = (a.contents, a.suffix, a.int)
+was_int style t u (inr a) = (a.contents, a.suffix, a.int)
+
+-- The text is a float with this value and this suffix.
+abbrev WasFloat : List ℕ → Type 0
+WasFloat t = (v : Contents) × (x : List ℕ) × StrictFloat t v x
+
+was_float : (style : Style) (t u : List ℕ) → RewritesFloat style t u → WasFloat t
+was_float style t u (inl a) = (a.contents, a.suffix, a.float)
+was_float style t u (inr a) = (a.contents, a.suffix, a.float)
+
+int_raw : (t : List ℕ) → WasInt t → WasRaw t → ⊥
+int_raw t (v, x, a) b = clash t b.kind Int b.contents v b.suffix x
+    (raw_strict t b.kind b.contents b.suffix b.raw) a
     (raw_quoted b.kind (raw_string t b.kind b.contents b.suffix b.raw)).0
 
-int_cooked : (style : Style) (t u w : List ℕ) → RewritesInt style t u → RewritesCooked style t w → ⊥
-int_cooked style t u w a b = clash t b.kind Int b.contents a.contents b.suffix a.suffix
-    (cooked_strict t b.kind b.contents b.suffix b.cooked) a.int (cooked_quoted b.kind b.cooked.units b.cooked.count).0
+int_cooked : (style : Style) (t w : List ℕ) → WasInt t → RewritesCooked style t w → ⊥
+int_cooked style t w (v, x, a) b = clash t b.kind Int b.contents v b.suffix x
+    (cooked_strict t b.kind b.contents b.suffix b.cooked) a (cooked_quoted b.kind b.cooked.units b.cooked.count).0
 
-float_raw : (style : Style) (t u : List ℕ) → RewritesFloat style t u → WasRaw t → ⊥
-float_raw style t u a b = clash t b.kind Float b.contents a.contents b.suffix a.suffix
-    (raw_strict t b.kind b.contents b.suffix b.raw) a.float
+float_raw : (t : List ℕ) → WasFloat t → WasRaw t → ⊥
+float_raw t (v, x, a) b = clash t b.kind Float b.contents v b.suffix x
+    (raw_strict t b.kind b.contents b.suffix b.raw) a
     (raw_quoted b.kind (raw_string t b.kind b.contents b.suffix b.raw)).1
 
-float_cooked : (style : Style) (t u w : List ℕ) → RewritesFloat style t u → RewritesCooked style t w → ⊥
-float_cooked style t u w a b = clash t b.kind Float b.contents a.contents b.suffix a.suffix
-    (cooked_strict t b.kind b.contents b.suffix b.cooked) a.float (cooked_quoted b.kind b.cooked.units b.cooked.count).1
+float_cooked : (style : Style) (t w : List ℕ) → WasFloat t → RewritesCooked style t w → ⊥
+float_cooked style t w (v, x, a) b = clash t b.kind Float b.contents v b.suffix x
+    (cooked_strict t b.kind b.contents b.suffix b.cooked) a (cooked_quoted b.kind b.cooked.units b.cooked.count).1
 
 truth_raw : (t u : List ℕ) → KeepsTruth t u → WasRaw t → ⊥
 truth_raw t u a b = clash t b.kind BoolKind b.contents a.contents b.suffix a.suffix
@@ -286,38 +327,38 @@ truth_cooked : (style : Style) (t u w : List ℕ) → KeepsTruth t u → Rewrite
 truth_cooked style t u w a b = clash t b.kind BoolKind b.contents a.contents b.suffix a.suffix
     (cooked_strict t b.kind b.contents b.suffix b.cooked) a.truth (cooked_quoted b.kind b.cooked.units b.cooked.count).2
 
-numbers_apart : (style : Style) (t u w : List ℕ) → RewritesInt style t u → RewritesFloat style t w → ⊥
-numbers_apart style t u w a b = clash t Int Float a.contents b.contents a.suffix b.suffix a.int b.float int_float
+numbers_apart : (t : List ℕ) → WasInt t → WasFloat t → ⊥
+numbers_apart t (v, x, a) (w, y, b) = clash t Int Float v w x y a b int_float
 
-int_word : (style : Style) (t u w : List ℕ) → RewritesInt style t u → KeepsTruth t w → ⊥
-int_word style t u w a b = clash t Int BoolKind a.contents b.contents a.suffix b.suffix a.int b.truth int_truth
+int_word : (t w : List ℕ) → WasInt t → KeepsTruth t w → ⊥
+int_word t w (v, x, a) b = clash t Int BoolKind v b.contents x b.suffix a b.truth int_truth
 
-float_word : (style : Style) (t u w : List ℕ) → RewritesFloat style t u → KeepsTruth t w → ⊥
-float_word style t u w a b = clash t Float BoolKind a.contents b.contents a.suffix b.suffix a.float b.truth float_truth
+float_word : (t w : List ℕ) → WasFloat t → KeepsTruth t w → ⊥
+float_word t w (v, x, a) b = clash t Float BoolKind v b.contents x b.suffix a b.truth float_truth
 
 pub one_answer : (style : Style) (front t u w : List ℕ) → Rewrites style front t u → Rewrites style front t w → u ≡ w
 one_answer s f t u w (inl a) (inl b) = integer_once s t u w a b
-one_answer s f t u w (inl a) (inr (inl b)) = absurd (numbers_apart s t u w a b)
-one_answer s f t u w (inl a) (inr (inr (inl b))) = absurd (int_raw s t u a (was_raw s f t w b))
-one_answer s f t u w (inl a) (inr (inr (inr (inl b)))) = absurd (int_cooked s t u w a b)
-one_answer s f t u w (inl a) (inr (inr (inr (inr b)))) = absurd (int_word s t u w a b)
-one_answer s f t u w (inr (inl a)) (inl b) = absurd (numbers_apart s t w u b a)
+one_answer s f t u w (inl a) (inr (inl b)) = absurd (numbers_apart t (was_int s t u a) (was_float s t w b))
+one_answer s f t u w (inl a) (inr (inr (inl b))) = absurd (int_raw t (was_int s t u a) (was_raw s f t w b))
+one_answer s f t u w (inl a) (inr (inr (inr (inl b)))) = absurd (int_cooked s t w (was_int s t u a) b)
+one_answer s f t u w (inl a) (inr (inr (inr (inr b)))) = absurd (int_word t w (was_int s t u a) b)
+one_answer s f t u w (inr (inl a)) (inl b) = absurd (numbers_apart t (was_int s t w b) (was_float s t u a))
 one_answer s f t u w (inr (inl a)) (inr (inl b)) = float_once s t u w a b
-one_answer s f t u w (inr (inl a)) (inr (inr (inl b))) = absurd (float_raw s t u a (was_raw s f t w b))
-one_answer s f t u w (inr (inl a)) (inr (inr (inr (inl b)))) = absurd (float_cooked s t u w a b)
-one_answer s f t u w (inr (inl a)) (inr (inr (inr (inr b)))) = absurd (float_word s t u w a b)
-one_answer s f t u w (inr (inr (inl a))) (inl b) = absurd (int_raw s t w b (was_raw s f t u a))
-one_answer s f t u w (inr (inr (inl a))) (inr (inl b)) = absurd (float_raw s t w b (was_raw s f t u a))
+one_answer s f t u w (inr (inl a)) (inr (inr (inl b))) = absurd (float_raw t (was_float s t u a) (was_raw s f t w b))
+one_answer s f t u w (inr (inl a)) (inr (inr (inr (inl b)))) = absurd (float_cooked s t w (was_float s t u a) b)
+one_answer s f t u w (inr (inl a)) (inr (inr (inr (inr b)))) = absurd (float_word t w (was_float s t u a) b)
+one_answer s f t u w (inr (inr (inl a))) (inl b) = absurd (int_raw t (was_int s t w b) (was_raw s f t u a))
+one_answer s f t u w (inr (inr (inl a))) (inr (inl b)) = absurd (float_raw t (was_float s t w b) (was_raw s f t u a))
 one_answer s f t u w (inr (inr (inl a))) (inr (inr (inl b))) = raw_once s f t u w a b
 one_answer s f t u w (inr (inr (inl a))) (inr (inr (inr (inl b)))) = absurd (raw_apart s t w (was_raw s f t u a) b)
 one_answer s f t u w (inr (inr (inl a))) (inr (inr (inr (inr b)))) = absurd (truth_raw t w b (was_raw s f t u a))
-one_answer s f t u w (inr (inr (inr (inl a)))) (inl b) = absurd (int_cooked s t w u b a)
-one_answer s f t u w (inr (inr (inr (inl a)))) (inr (inl b)) = absurd (float_cooked s t w u b a)
+one_answer s f t u w (inr (inr (inr (inl a)))) (inl b) = absurd (int_cooked s t u (was_int s t w b) a)
+one_answer s f t u w (inr (inr (inr (inl a)))) (inr (inl b)) = absurd (float_cooked s t u (was_float s t w b) a)
 one_answer s f t u w (inr (inr (inr (inl a)))) (inr (inr (inl b))) = absurd (raw_apart s t u (was_raw s f t w b) a)
 one_answer s f t u w (inr (inr (inr (inl a)))) (inr (inr (inr (inl b)))) = cooked_once s t u w a b
 one_answer s f t u w (inr (inr (inr (inl a)))) (inr (inr (inr (inr b)))) = absurd (truth_cooked s t w u b a)
-one_answer s f t u w (inr (inr (inr (inr a)))) (inl b) = absurd (int_word s t w u b a)
-one_answer s f t u w (inr (inr (inr (inr a)))) (inr (inl b)) = absurd (float_word s t w u b a)
+one_answer s f t u w (inr (inr (inr (inr a)))) (inl b) = absurd (int_word t u (was_int s t w b) a)
+one_answer s f t u w (inr (inr (inr (inr a)))) (inr (inl b)) = absurd (float_word t u (was_float s t w b) a)
 one_answer s f t u w (inr (inr (inr (inr a)))) (inr (inr (inl b))) = absurd (truth_raw t u a (was_raw s f t w b))
 one_answer s f t u w (inr (inr (inr (inr a)))) (inr (inr (inr (inl b)))) = absurd (truth_cooked s t u w a b)
 one_answer s f t u w (inr (inr (inr (inr a)))) (inr (inr (inr (inr b)))) = a.new_is ∙ sym b.new_is

@@ -4,6 +4,7 @@ use Rattle.std.specs.Prelude.{Option}
 use Rattle.std.proofs.lemmas.List.Elements.{filter-append}
 use Rattle.rl_syntax.specs.Spelling.{without_underscores}
 use Rattle.rl_syntax.specs.Strict.{IsDigits}
+use Rattle.rl_syntax.specs.Texts.{first_passes}
 use Rattle.rl_writing.specs.Integers.{group_size}
 use Rattle.rl_style.specs.declared.style.Case.{Case}
 use Rattle.rl_style.specs.declared.style.Case.TheVariants.{Lower, Upper}
@@ -48,6 +49,21 @@ pub grouped_some : (p : ℕ → Bool) (from_first : Bool) (size least : ℕ) (ru
     → list_any p run ≡ true → list_any p (regrouped from_first size least run) ≡ true
 grouped_some p from_first size least run n h = either (λ z. list_any p z ≡ true) from_first size least run h
     (row_some p (tests from_first size least (length (without_underscores run))) run n h)
+
+-- Whether a sequence contains a character that passes a test, by the characters that pass.
+any_passing : (p : ℕ → Bool) (cs : List ℕ) → list_any p cs ≡ first_passes (λ c. true) (passing_chars p cs)
+any_passing p [] = refl
+any_passing p (c ∷ cs) = go (p c) (any_passing p cs)
+  where
+    go : (b : Bool) → list_any p cs ≡ first_passes (λ c. true) (passing_chars p cs)
+        → (b || list_any p cs) ≡ first_passes (λ c. true) (cond b (c ∷ passing_chars p cs) (passing_chars p cs))
+    go true more = refl
+    go false more = more
+
+pub grouped_any : (p : ℕ → Bool) (from_first : Bool) (size least : ℕ) (run : List ℕ) → p 95 ≡ false
+    → list_any p (regrouped from_first size least run) ≡ list_any p run
+grouped_any p from_first size least run n = any_passing p (regrouped from_first size least run)
+    ∙ ap (first_passes (λ c. true)) (grouped_kept p from_first size least run n) ∙ sym (any_passing p run)
 
 pub grouped_digits : (from_first : Bool) (size least : ℕ) (run : List ℕ) → IsDigits run
     → IsDigits (regrouped from_first size least run)

@@ -10,7 +10,7 @@ use Rattle.rl_lexer.specs.Lexemes.{LexemeForm, LiteralPrefix, NoPrefix, BytePref
 use Rattle.rl_lexer.specs.Mirrors.LexemeAt.{after_decimal, after_lexed_exponent, after_suffix, lexeme_at}
 use Rattle.rl_style.specs.declared.style.Style.{Style}
 use Rattle.rl_style.specs.Around.{SameFront}
-use Rattle.rl_style.specs.Rewriting.{Rewrites, RewritesCooked, RewritesFloat, RewritesInt, RewritesRaw, may_lose_r}
+use Rattle.rl_style.specs.Rewriting.{Rewrites, RewritesCooked, RewritesRaw, StylesFloat, StylesInt, may_lose_r}
 use Rattle.rl_style.proofs.Ends.{character_front, quoted_front, raw_front, unraw_front}
 use Rattle.rl_style.proofs.LostRaw.{lost}
 use Rattle.rl_style.proofs.Recut.{Begun}
@@ -347,11 +347,11 @@ lost_replace lead Int t u x y v w a b may = absurd a.allowed
 lost_replace lead Float t u x y v w a b may = absurd a.allowed
 lost_replace lead BoolKind t u x y v w a b may = absurd a.allowed
 
--- ---- any literal except `true` and `false`
+-- ---- any literal except `true`, `false` and numbers that are kept
 
 abbrev pub RewritesForm : Style → List ℕ → List ℕ → List ℕ → Type 0
 RewritesForm style front t u =
-    RewritesInt style t u ⊎ (RewritesFloat style t u ⊎ (RewritesRaw style front t u ⊎ RewritesCooked style t u))
+    StylesInt style t u ⊎ (StylesFloat style t u ⊎ (RewritesRaw style front t u ⊎ RewritesCooked style t u))
 
 pub replaces : (style : Style) (front t u y : List ℕ) → RewritesForm style front t u → ReplacesAfter front t u y
 replaces style front t u y (inl c) = replaces_after front t u y (integers_replace t u c.suffix y c.contents c.contents
@@ -369,8 +369,10 @@ replaces style front t u y (inr (inr (inr c))) = replaces_after front t u y (coo
 
 pub word_or_form : (style : Style) (front t u : List ℕ) → Rewrites style front t u
     → (u ≡ t) ⊎ RewritesForm style front t u
-word_or_form style front t u (inl c) = inr (inl c)
-word_or_form style front t u (inr (inl c)) = inr (inr (inl c))
+word_or_form style front t u (inl (inl c)) = inr (inl c)
+word_or_form style front t u (inl (inr c)) = inl c.new_is
+word_or_form style front t u (inr (inl (inl c))) = inr (inr (inl c))
+word_or_form style front t u (inr (inl (inr c))) = inl c.new_is
 word_or_form style front t u (inr (inr (inl c))) = inr (inr (inr (inl c)))
 word_or_form style front t u (inr (inr (inr (inl c)))) = inr (inr (inr (inr c)))
 word_or_form style front t u (inr (inr (inr (inr c)))) = inl c.new_is

@@ -16,7 +16,8 @@ use Rattle.rl_style.specs.declared.style.Separator.TheVariants.{Nothing, Undersc
 use Rattle.rl_style.specs.Cases.{drops_underscores, kept_run, number_character, separator, separator_by, trimmed, trims_by}
 use Rattle.rl_syntax.specs.Classes.{after_run}
 use Rattle.rl_style.specs.Groups.{digit_run, float_in_groups, least_by, size_by}
-use Rattle.rl_style.specs.Rewriting.{GetsZero, SameLiteral, SameNumber, RewritesFloat, styled_numeral}
+use Rattle.rl_style.specs.Mistyped.{is_mistyped_float}
+use Rattle.rl_style.specs.Rewriting.{GetsZero, KeepsFloat, SameLiteral, SameNumber, RewritesFloat, StylesFloat, styled_numeral}
 use Rattle.rl_syntax.proofs.OneQuoted.{same_tail}
 use Rattle.rl_lexer.proofs.LexemeRows.{not_among}
 use Rattle.rl_style.proofs.GroupRows.{plus_free}
@@ -400,8 +401,18 @@ digits_kept : (style : Style) (numeral x : List ℕ) (form : FloatForm numeral x
 digits_kept style numeral x form off = ap (λ b. spelled numeral ++ added (shape_of numeral x form) b) off
     ∙ ap (λ z. spelled numeral ++ z) (added_none (shape_of numeral x form)) ∙ append-nil (spelled numeral)
 
+kept_float : (t u : List ℕ) (c : KeepsFloat t u) → StrictFloat u c.contents c.suffix
+kept_float t u c = subst (λ z. StrictFloat z c.contents c.suffix) (sym c.new_is) c.float
+
 pub float_same : (style : Style) (t u : List ℕ) → style.float_zero ≡ false → RewritesFloat style t u → SameLiteral t u
-float_same style t u off c =
+float_same style t u off (inr c) = record {
+  kind = Float;
+  contents = c.contents;
+  suffix = c.suffix;
+  was = c.float;
+  is = kept_float t u c;
+}
+float_same style t u off (inl c) =
     let same : Digits (new_digits style c.float.numeral c.suffix c.float.form) ≡ c.contents =
     ap Digits (digits_kept style c.float.numeral c.suffix c.float.form off) ∙ sym c.float.contents in
     record {
@@ -436,7 +447,16 @@ contents_kept style v numeral x (inr (inl a)) is = inl (ap Digits (append-nil (s
 contents_kept style v numeral x (inr (inr a)) is = inl (ap Digits (append-nil (spelled numeral)) ∙ sym is)
 
 pub float_number : (style : Style) (t u : List ℕ) → RewritesFloat style t u → SameNumber style t u
-float_number style t u c = record {
+float_number style t u (inr c) = record {
+  kind = Float;
+  contents = c.contents;
+  new_contents = c.contents;
+  suffix = c.suffix;
+  was = c.float;
+  is = kept_float t u c;
+  keeps = inl refl;
+}
+float_number style t u (inl c) = record {
   kind = Float;
   contents = c.contents;
   new_contents = Digits (new_digits style c.float.numeral c.suffix c.float.form);
@@ -602,8 +622,9 @@ numeral_stays drops plus digits letter closes size least numeral x (inr (inr (d,
     (row_stays_so drops plus digits letter true size least z k)
     ∙ ap (λ y. whole ++ (46 ∷ (fraction ++ y))) (twice drops false plus digits letter e) ∙ sym is
 
-pub float_stays : (style : Style) (t u : List ℕ) → RewritesFloat style t u → RewritesFloat style u u
-float_stays style t u c =
+styled_stays : (style : Style) (t u : List ℕ) (c : StylesFloat style t u) → is_mistyped_float c.suffix u ≡ false
+    → StylesFloat style u u
+styled_stays style t u c exact =
     let x : List ℕ = c.suffix in
     let f : ℕ → List ℕ = number_character style (drops_underscores style x) false in
     let end : List ℕ = separator style x ++ x in
@@ -619,8 +640,29 @@ float_stays style t u c =
       contents = Digits (new_digits style c.float.numeral x c.float.form);
       suffix = x;
       float = written style t u c.contents x c.float c.new_is;
+      exact = exact;
       new_is = c.new_is ∙ ap (λ z. z ++ end) (sym again);
     }
+
+pub float_stays : (style : Style) (t u : List ℕ) → RewritesFloat style t u → RewritesFloat style u u
+float_stays style t u (inl c) =
+    elim (cases_Bool (is_mistyped_float c.suffix u)) [
+      | inl mistyped ↦ inr (record {
+        contents = Digits (new_digits style c.float.numeral c.suffix c.float.form);
+        suffix = c.suffix;
+        float = written style t u c.contents c.suffix c.float c.new_is;
+        mistyped = mistyped;
+        new_is = refl;
+      })
+      | inr exact ↦ inl (styled_stays style t u c exact)
+    ]
+float_stays style t u (inr c) = inr (record {
+  contents = c.contents;
+  suffix = c.suffix;
+  float = kept_float t u c;
+  mistyped = ap (is_mistyped_float c.suffix) c.new_is ∙ c.mistyped;
+  new_is = refl;
+})
 
 -- The new text of a float has the form of the old one, except for an added zero.
 pub same_shape : (style : Style) (t u : List ℕ) (v : Contents) (x : List ℕ) (s : StrictFloat t v x)

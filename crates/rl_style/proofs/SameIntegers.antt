@@ -7,18 +7,19 @@ use Rattle.rl_syntax.specs.Reading.{Contents, Digits}
 use Rattle.rl_syntax.specs.Strict.{BasedPrefix, IsDecimalText, IsDigits, StrictInt, dec}
 use Rattle.rl_lexer.specs.Lexemes.{is_base_letter}
 use Rattle.rl_style.specs.declared.style.Style.{Style}
-use Rattle.rl_style.specs.Cases.{drops_underscores, drops_zeros, is_padding, kept_digits, kept_run, number_character, or_zero, separator, significant, trimmed, trims_by}
+use Rattle.rl_style.specs.Cases.{drops_underscores, drops_zeros, exceeds_octal, is_padding, kept_digits, kept_run, number_character, or_zero, separator, significant, trimmed, trims_by}
 use Rattle.rl_syntax.specs.Classes.{after_run}
 use Rattle.rl_style.specs.declared.style.DigitGroups.{DigitGroups}
 use Rattle.rl_style.specs.Groups.{base_group, grouped_run, least_by, regrouped, size_by}
-use Rattle.rl_style.specs.Rewriting.{SameLiteral, RewritesInt, styled_run}
+use Rattle.rl_style.specs.Mistyped.{is_mistyped}
+use Rattle.rl_style.specs.Rewriting.{SameLiteral, KeepsInt, RewritesInt, StylesInt, styled_run}
 use Rattle.rl_syntax.specs.Spelling.{place_value, without_underscores}
-use Rattle.rl_style.proofs.LeadingZeros.{left, significant_again, significant_all, significant_digits, significant_left, significant_none, significant_number, significant_some}
+use Rattle.rl_style.proofs.LeadingZeros.{left, significant_again, significant_all, significant_any, significant_digits, significant_left, significant_none, significant_number, significant_some}
 use Rattle.rl_style.proofs.CaseLemmas.{none_right}
 use Rattle.rl_style.proofs.GroupRows.{plus_free}
-use Rattle.rl_style.proofs.Regrouped.{again_grouped, grouped_all, grouped_digits, grouped_first, grouped_kept, grouped_one, grouped_some, grouped_trim, plain_of, ungrouped}
+use Rattle.rl_style.proofs.Regrouped.{again_grouped, grouped_all, grouped_any, grouped_digits, grouped_first, grouped_kept, grouped_one, grouped_some, grouped_trim, plain_of, ungrouped}
 use Rattle.rl_style.proofs.Trimmed.{IsTrim, any_left, base_kept, digits_join, mapped_trim, row_again, separator_all, separator_gone, significant_trim, trimmed_again, trimmed_all, trimmed_digits, trimmed_filter, trimmed_some}
-use Rattle.rl_style.proofs.NumberCharacters.{RowKeeps, RowStays, decimal_by, digits_stay, each_kept, hex_keeps, keeps_of, number_kept, of_base, row_kept, row_stays, some_kept, stays, twice}
+use Rattle.rl_style.proofs.NumberCharacters.{RowKeeps, RowStays, decimal_by, digits_stay, each_kept, hex_keeps, keeps_of, number_kept, of_base, row_kept, row_stays, some_kept, some_stays, stays, twice}
 
 -- ---- digits without leading zeros
 
@@ -60,7 +61,7 @@ kept_facts style base x run h some n = go (trims_by style.suffix_separator x)
 
 zero_facts : (style : Style) (base : ℕ) (x run : List ℕ) → row_of base run → list_any (of_base base) run ≡ true
     → RowFacts base run (kept_digits style base x run)
-zero_facts style base x run h some = go (drops_zeros style base x) refl
+zero_facts style base x run h some = go (drops_zeros style base x && list_any exceeds_octal run) refl
   where
     of_ten : row_of 10 run → RowFacts 10 run (significant run)
     of_ten h = record {
@@ -70,9 +71,10 @@ zero_facts style base x run h some = go (drops_zeros style base x) refl
       digits = significant_digits run;
     }
 
-    go : (b : Bool) → drops_zeros style base x ≡ b → RowFacts base run (cond b (significant run) run)
+    go : (b : Bool) → (drops_zeros style base x && list_any exceeds_octal run) ≡ b
+        → RowFacts base run (cond b (significant run) run)
     go true e =
-        let ten = zeros_ten style base x e in
+        let ten = zeros_ten style base x (and_parts (drops_zeros style base x) (list_any exceeds_octal run) e).0 in
         subst (λ z. RowFacts z run (significant run)) (sym ten) (of_ten (subst (λ z. row_of z run) ten h))
     go false e = record { each = h; some = some; number = refl; digits = λ d. d }
 
@@ -208,7 +210,8 @@ decimal_front style t v x i e d h =
             let base = base_kept style.suffix_separator x a in
             let none : drops ≡ false = kept_before style x base.2 in
             let untrimmed : kept_run style x i.run ≡ i.run = ap (λ b. cond b (trimmed i.run) i.run) base.0 in
-            let whole : run ≡ i.run = ap (λ b. cond b (significant (kept_run style x i.run)) (kept_run style x i.run))
+            let whole : run ≡ i.run = ap (λ b. cond (b && list_any exceeds_octal (kept_run style x i.run))
+            (significant (kept_run style x i.run)) (kept_run style x i.run))
             (kept_zeros style i.base x base.2) ∙ untrimmed in
             let same : new ≡ i.run =
             ungrouped false size least bare (no_groups style.digit_groups i.base x base.2)
@@ -268,13 +271,23 @@ written style t u v x i e =
           ∙ groups.number ∙ number_kept f i.base run facts.keeps ∙ kept.number));
     }
 
+kept_int : (t u : List ℕ) (c : KeepsInt t u) → StrictInt u c.contents c.suffix
+kept_int t u c = subst (λ z. StrictInt z c.contents c.suffix) (sym c.new_is) c.int
+
 pub integer_same : (style : Style) (t u : List ℕ) → RewritesInt style t u → SameLiteral t u
-integer_same style t u c = record {
+integer_same style t u (inl c) = record {
   kind = Int;
   contents = c.contents;
   suffix = c.suffix;
   was = c.int;
   is = written style t u c.contents c.suffix c.int c.new_is;
+}
+integer_same style t u (inr c) = record {
+  kind = Int;
+  contents = c.contents;
+  suffix = c.suffix;
+  was = c.int;
+  is = kept_int t u c;
 }
 
 -- ---- rewriting an integer again changes nothing
@@ -285,20 +298,45 @@ zeros_again : (style : Style) (drops : Bool) (base : ℕ) (x run : List ℕ) →
     ≡ flat_map (number_character style drops (base == 16)) (kept_digits style base x run)
 zeros_again style drops base x run each = go (drops_zeros style base x) refl
   where
-    ten : row_of 10 run → significant (flat_map (number_character style drops false) (significant run))
-        ≡ flat_map (number_character style drops false) (significant run)
-    ten h = significant_again (number_character style drops false) run
-        (stays drops style.exponent_plus style.hex_digits style.exponent_letter 48 refl refl refl refl)
-        (small_row style drops 10 run refl refl refl h)
+    -- The digits of a decimal integer, without leading zeros unless they are all octal.
+    short : List ℕ → List ℕ
+    short z = cond (list_any exceeds_octal z) (significant z) z
+
+    ten : row_of 10 run → short (flat_map (number_character style drops false) (short run))
+        ≡ flat_map (number_character style drops false) (short run)
+    ten h = some (list_any exceeds_octal run) refl
+      where
+        f : ℕ → List ℕ
+        f = number_character style drops false
+
+        some : (b : Bool) → list_any exceeds_octal run ≡ b
+            → short (flat_map f (cond b (significant run) run)) ≡ flat_map f (cond b (significant run) run)
+        some true e =
+            let each : row_of 10 (significant run) = significant_all (is_run_part (of_base 10)) run refl h in
+            let any : list_any exceeds_octal (flat_map f (significant run)) ≡ true =
+            some_stays exceeds_octal f (significant run) refl (small_row style drops 10 (significant run) refl refl refl
+            each)
+            ∙ significant_any exceeds_octal run refl refl ∙ e in
+            ap (λ b. cond b (significant (flat_map f (significant run))) (flat_map f (significant run))) any
+            ∙ significant_again f run
+            (stays drops style.exponent_plus style.hex_digits style.exponent_letter 48 refl refl refl refl)
+            (small_row style drops 10 run refl refl refl h)
+        some false e = ap (λ b. cond b (significant (flat_map f run)) (flat_map f run))
+            (some_stays exceeds_octal f run refl (small_row style drops 10 run refl refl refl h) ∙ e)
 
     go : (b : Bool) → drops_zeros style base x ≡ b
-        → cond b (significant (flat_map (number_character style drops (base == 16)) (cond b (significant run) run)))
-        (flat_map (number_character style drops (base == 16)) (cond b (significant run) run))
-        ≡ flat_map (number_character style drops (base == 16)) (cond b (significant run) run)
+        → cond (b && list_any exceeds_octal (flat_map (number_character style drops (base == 16))
+        (cond (b && list_any exceeds_octal run) (significant run) run)))
+        (significant (flat_map (number_character style drops (base == 16))
+        (cond (b && list_any exceeds_octal run) (significant run) run)))
+        (flat_map (number_character style drops (base == 16))
+        (cond (b && list_any exceeds_octal run) (significant run) run))
+        ≡ flat_map (number_character style drops (base == 16))
+        (cond (b && list_any exceeds_octal run) (significant run) run)
     go true e =
         let is = zeros_ten style base x e in
-        subst (λ z. significant (flat_map (number_character style drops (z == 16)) (significant run))
-        ≡ flat_map (number_character style drops (z == 16)) (significant run)) (sym is)
+        subst (λ z. short (flat_map (number_character style drops (z == 16)) (short run))
+        ≡ flat_map (number_character style drops (z == 16)) (short run)) (sym is)
         (ten (subst (λ z. row_of z run) is each))
     go false e = refl
 
@@ -311,7 +349,7 @@ row_trims style t v x i h =
     let run : List ℕ = kept_of_row style i.base x i.run in
     let facts = integer_facts style (drops_underscores style x) t v x run i (row_facts style t v x i).each in
     mapped_trim (number_character style (drops_underscores style x) (i.base == 16)) run facts.keeps
-    (go (drops_zeros style i.base x))
+    (go (drops_zeros style i.base x && list_any exceeds_octal short))
   where
     short : List ℕ
     short = kept_run style x i.run
@@ -343,16 +381,26 @@ significant_groups size least run same =
 
 zeros_groups : (style : Style) (base : ℕ) (x run : List ℕ) → kept_digits style base x run ≡ run
     → kept_digits style base x (grouped_run false style base x run) ≡ grouped_run false style base x run
-zeros_groups style base x run same = go (drops_zeros style base x) same
+zeros_groups style base x run same =
+    ap (λ b. cond (drops_zeros style base x && b) (significant new) new) any
+    ∙ go (drops_zeros style base x && list_any exceeds_octal run) same
   where
-    go : (b : Bool) → cond b (significant run) run ≡ run
-        → cond b (significant (grouped_run false style base x run)) (grouped_run false style base x run)
-        ≡ grouped_run false style base x run
-    go true h = significant_groups (size_by style.digit_groups base x) (least_by style.digit_groups) run h
+    size : ℕ
+    size = size_by style.digit_groups base x
+
+    new : List ℕ
+    new = grouped_run false style base x run
+
+    any : list_any exceeds_octal new ≡ list_any exceeds_octal run
+    any = grouped_any exceeds_octal false size (least_by style.digit_groups) run refl
+
+    go : (b : Bool) → cond b (significant run) run ≡ run → cond b (significant new) new ≡ new
+    go true h = significant_groups size (least_by style.digit_groups) run h
     go false h = refl
 
-pub integer_stays : (style : Style) (t u : List ℕ) → RewritesInt style t u → RewritesInt style u u
-integer_stays style t u c =
+styled_stays : (style : Style) (t u : List ℕ) (c : StylesInt style t u) → is_mistyped c.suffix u ≡ false
+    → StylesInt style u u
+styled_stays style t u c exact =
     let i = c.int in
     let x : List ℕ = c.suffix in
     let sep : List ℕ = separator style x in
@@ -386,5 +434,26 @@ integer_stays style t u c =
       contents = c.contents;
       suffix = x;
       int = written style t u c.contents x i c.new_is;
+      exact = exact;
       new_is = c.new_is ∙ ap (λ z. i.prefix ++ (z ++ (sep ++ x))) (sym whole);
     }
+
+pub integer_stays : (style : Style) (t u : List ℕ) → RewritesInt style t u → RewritesInt style u u
+integer_stays style t u (inl c) =
+    elim (cases_Bool (is_mistyped c.suffix u)) [
+      | inl mistyped ↦ inr (record {
+        contents = c.contents;
+        suffix = c.suffix;
+        int = written style t u c.contents c.suffix c.int c.new_is;
+        mistyped = mistyped;
+        new_is = refl;
+      })
+      | inr exact ↦ inl (styled_stays style t u c exact)
+    ]
+integer_stays style t u (inr c) = inr (record {
+  contents = c.contents;
+  suffix = c.suffix;
+  int = kept_int t u c;
+  mistyped = ap (is_mistyped c.suffix) c.new_is ∙ c.mistyped;
+  new_is = refl;
+})

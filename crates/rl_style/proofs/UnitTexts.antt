@@ -7,7 +7,7 @@ use Rattle.rl_syntax.proofs.Basics.{apart, false_unless}
 use Rattle.rl_syntax.proofs.LowBytes.{encode_is_high, low_front}
 use Rattle.rl_lenient.proofs.Names.{Kind, Str, ByteStr, CStr, Byte, Char, Int, Float, BoolKind, content_of, holds_characters, place_value, strict_content_of, strict_contents, first_passes, IsTail, StrictUnit, Itself, QuoteEscape, PlainEscape, AsciiEscape, ByteEscape, UnicodeEscape, LineBreak, strict_text, is_strict_unit, unit_text}
 use Rattle.rl_syntax.specs.Written.{closer}
-use Rattle.rl_syntax.specs.Strict.{is_bare_character, is_bare_in_string, is_plain_letter, is_unicode_escape, plain_escapes, plain_value_in, spaced_digit, spaced_value}
+use Rattle.rl_syntax.specs.Strict.{is_allowed_in_single_quotes, is_bare_in_string, is_plain_letter, is_unicode_escape, plain_escapes, plain_value_in, spaced_digit, spaced_value}
 use Rattle.rl_lenient.specs.Mirrors.UnitAt.{unit_at}
 use Rattle.rl_lenient.proofs.UnitLemmas.{unit_sound}
 use Rattle.rl_style.specs.declared.style.Case.{Case}
@@ -51,7 +51,7 @@ bare_front Str c h = apart is_bare_in_string c 92 h refl
 bare_front ByteStr c h = apart (λ c. is_strict_unit ByteStr (Itself c)) c 92 h refl
 bare_front CStr c h = apart (λ c. is_strict_unit CStr (Itself c)) c 92 h refl
 bare_front Byte c h = apart (λ c. is_strict_unit Byte (Itself c)) c 92 h refl
-bare_front Char c h = apart is_bare_character c 92 h refl
+bare_front Char c h = apart is_allowed_in_single_quotes c 92 h refl
 bare_front kind c h = absurd (cc)
 
 letter_of_plain : (k : Kind) (c : ℕ) → is_strict_unit k (PlainEscape c) ≡ true → is_plain_letter c ≡ true

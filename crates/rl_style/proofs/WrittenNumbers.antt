@@ -18,7 +18,8 @@ use Rattle.rl_style.specs.Cases.{cased, drops_underscores, drops_zeros, exponent
 use Rattle.rl_syntax.specs.Texts.{first_passes, is_run_part}
 use Rattle.rl_syntax.proofs.Common.{is_ascii_digit}
 use Rattle.rl_style.specs.Groups.{after_dot, digit_run, fraction_in_groups, float_in_groups, grouped_run, least_by, regrouped, size_by}
-use Rattle.rl_style.specs.Rewriting.{RewritesFloat, RewritesInt, styled_run}
+use Rattle.rl_style.specs.Mistyped.{is_mistyped, is_mistyped_float}
+use Rattle.rl_style.specs.Rewriting.{KeepsFloat, KeepsInt, StylesFloat, StylesInt, styled_run}
 use Rattle.rl_syntax.specs.Classes.{after_run}
 use denote.Bor.{Bor}
 use Rattle.rl_strict.specs.declared.read_numbers.Number.{Number}
@@ -224,8 +225,9 @@ pub integer_written : (style : Style) (text digits suffix full whole run front n
     → chars run ≡ kept_digits style base (chars suffix) (chars whole) → chars text ≡ chars front ++ chars digits
     → Written style front (grouped_run false style base (chars suffix)
     (flat_map (number_character style (drops_underscores style (chars suffix)) (base == 16)) (chars run))) suffix new
-    → StrictInt (chars text) v (chars suffix) → IsUtf8 new × RewritesInt style (chars text) (chars new)
-integer_written style text digits suffix full whole run front new base v u us ur at cut kept zeros before e i =
+    → StrictInt (chars text) v (chars suffix) → is_mistyped (chars suffix) (chars text) ≡ false
+    → IsUtf8 new × StylesInt style (chars text) (chars new)
+integer_written style text digits suffix full whole run front new base v u us ur at cut kept zeros before e i exact =
     let x : List ℕ = chars suffix in
     let p = digits_cut text digits suffix full base v at cut i in
     let end : List ℕ = separator style x ++ x in
@@ -244,6 +246,7 @@ integer_written style text digits suffix full whole run front new base v u us ur
         contents = v;
         suffix = x;
         int = i;
+        exact = exact;
         new_is = t.1 ∙ ap (λ z. z ++ (Of base (chars run) ++ end)) front_is
             ∙ ap (λ z. i.prefix ++ (Of base z ++ end)) row_is
             ∙ ap (λ b. i.prefix ++ (styled_run style b x i.run ++ end)) p.0;
@@ -296,9 +299,9 @@ pub float_written : (style : Style) (text full numeral suffix new : List ℕ) (v
     → Written style [] (float_in_groups style.float_zero (number_character style
     (drops_underscores style (chars suffix)) false)
     (λ from_first. grouped_run from_first style 10 (chars suffix)) (chars numeral)) suffix new
-    → StrictFloat (chars text) v (chars suffix)
-    → IsUtf8 new × RewritesFloat style (chars text) (chars new)
-float_written style text full numeral suffix new v un us cut kept e f =
+    → StrictFloat (chars text) v (chars suffix) → is_mistyped_float (chars suffix) (chars text) ≡ false
+    → IsUtf8 new × StylesFloat style (chars text) (chars new)
+float_written style text full numeral suffix new v un us cut kept e f exact =
     let x : List ℕ = chars suffix in
     let end : List ℕ = separator style x ++ x in
     let front : chars full ≡ f.numeral = append_cancel_right (chars full) f.numeral x (sym cut ∙ f.text) in
@@ -313,6 +316,7 @@ float_written style text full numeral suffix new v un us cut kept e f =
         contents = v;
         suffix = x;
         float = f;
+        exact = exact;
         new_is = t.1 ∙ ap (λ z. z ++ (Of (chars numeral) ++ end)) (low_chars [] refl)
             ∙ ap (λ z. Of z ++ end) (kept ∙ ap (kept_run style x) front);
       },
@@ -320,6 +324,18 @@ float_written style text full numeral suffix new v un us cut kept e f =
   where
     empty_utf8 : IsUtf8 []
     empty_utf8 = ([], (refl, refl))
+
+-- ---- numbers that are written unchanged
+
+pub integer_unchanged : (t new x : List ℕ) (v : Contents) → StrictInt t v x → is_mistyped x t ≡ true → new ≡ t
+    → KeepsInt t new
+integer_unchanged t new x v i mistyped e =
+    record { contents = v; suffix = x; int = i; mistyped = mistyped; new_is = e }
+
+pub float_unchanged : (t new x : List ℕ) (v : Contents) → StrictFloat t v x → is_mistyped_float x t ≡ true → new ≡ t
+    → KeepsFloat t new
+float_unchanged t new x v f mistyped e =
+    record { contents = v; suffix = x; float = f; mistyped = mistyped; new_is = e }
 
 -- ---- parts that are written into a slice one after the other
 

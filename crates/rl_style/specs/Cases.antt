@@ -2,7 +2,7 @@
 use Rattle.std.specs.Prelude.{ℕ, ◌+◌, ◌-◌, Bool, not, ◌&&◌, ◌||◌, ◌==◌, nat_le, List, [], ◌∷◌, Option, Some, None, codes, true, false, if◌then◌else◌}
 use Prim.Native.Char.{code}
 use Rattle.rl_syntax.specs.Classes.{after_run}
-use Rattle.std.specs.List.{list_all}
+use Rattle.std.specs.List.{list_all, list_any}
 use Rattle.rl_syntax.specs.Texts.{first_passes, is_underscore}
 use Rattle.rl_lexer.specs.Lexemes.{is_base_letter}
 use Rattle.rl_style.specs.declared.style.Case.{Case}
@@ -83,5 +83,12 @@ significant run = or_zero (after_run is_padding run)
 abbrev pub drops_zeros : Style → ℕ → List ℕ → Bool
 drops_zeros style base suffix = (style.leading_zeros && base == 10) && not (first_passes is_base_letter suffix)
 
+-- The digit isn't octal: it is 8 or 9.
+abbrev pub exceeds_octal : ℕ → Bool
+exceeds_octal c = c == code "8" || c == code "9"
+
+-- The digits of an integer without the leading zeros, if the style drops them. A number whose digits are all octal keeps its
+-- leading zeros, since `0123` may be meant as an octal number.
 abbrev pub kept_digits : Style → ℕ → List ℕ → List ℕ → List ℕ
-kept_digits style base suffix run = if drops_zeros style base suffix then significant run else run
+kept_digits style base suffix run =
+    if drops_zeros style base suffix && list_any exceeds_octal run then significant run else run

@@ -1,4 +1,5 @@
 pub mod Cases
+pub mod Mistyped
 pub mod Groups
 pub mod Rewriting
 pub mod Around

@@ -19,6 +19,7 @@ use Rattle.rl_style.specs.declared.style.Case.{Case}
 use Rattle.rl_style.specs.declared.style.Style.{Style}
 use Rattle.rl_style.specs.Cases.{cased, drops_underscores, kept_digits, kept_run, number_character, separator}
 use Rattle.rl_style.specs.Groups.{float_in_groups, grouped_run}
+use Rattle.rl_style.specs.Mistyped.{is_mistyped, is_mistyped_float}
 
 -- Both texts are literal tokens of one kind, with one value and one suffix. It is proved that two such texts have equal parse
 -- results.
@@ -58,11 +59,23 @@ styled_run style base suffix run =
 -- The old text is an integer, and the new text has its prefix, its rewritten digits, and its suffix. First the digits lose
 -- leading zeros and the underscores at their end, if the style drops these. Then each character is rewritten, the digits are
 -- divided into groups, and the style's separator is written before the suffix.
-pub record RewritesInt (style : Style) (old new : List ℕ) : Type 0 where
+pub record StylesInt (style : Style) (old new : List ℕ) : Type 0 where
   pub contents : Contents
   pub suffix : List ℕ
   pub int : StrictInt old contents suffix
+  pub exact : IsFalse (is_mistyped suffix old)
   pub new_is : new ≡ int.prefix ++ (styled_run style int.base suffix int.run ++ (separator style suffix ++ suffix))
+
+-- The old text is an integer whose suffix may be mistyped, and the new text equals it.
+pub record KeepsInt (old new : List ℕ) : Type 0 where
+  pub contents : Contents
+  pub suffix : List ℕ
+  pub int : StrictInt old contents suffix
+  pub mistyped : IsTrue (is_mistyped suffix old)
+  pub new_is : new ≡ old
+
+abbrev pub RewritesInt : Style → List ℕ → List ℕ → Type 0
+RewritesInt style old new = StylesInt style old new ⊎ KeepsInt old new
 
 -- The new form of a float's text before this suffix.
 abbrev pub styled_numeral : Style → List ℕ → List ℕ → List ℕ
@@ -72,11 +85,23 @@ styled_numeral style suffix numeral =
 
 -- The old text is a float, and the new text has its rewritten digits and its suffix. They are rewritten as those of an integer,
 -- except that leading zeros are kept.
-pub record RewritesFloat (style : Style) (old new : List ℕ) : Type 0 where
+pub record StylesFloat (style : Style) (old new : List ℕ) : Type 0 where
   pub contents : Contents
   pub suffix : List ℕ
   pub float : StrictFloat old contents suffix
+  pub exact : IsFalse (is_mistyped_float suffix old)
   pub new_is : new ≡ styled_numeral style suffix float.numeral ++ (separator style suffix ++ suffix)
+
+-- The old text is a float whose suffix may be mistyped, and the new text equals it.
+pub record KeepsFloat (old new : List ℕ) : Type 0 where
+  pub contents : Contents
+  pub suffix : List ℕ
+  pub float : StrictFloat old contents suffix
+  pub mistyped : IsTrue (is_mistyped_float suffix old)
+  pub new_is : new ≡ old
+
+abbrev pub RewritesFloat : Style → List ℕ → List ℕ → Type 0
+RewritesFloat style old new = StylesFloat style old new ⊎ KeepsFloat old new
 
 -- ---- rewritten literals with escapes
 

@@ -9,7 +9,7 @@ use rl_lexer::{Form, SourceForm, SourceToken};
 
 /// The position of the next token relative to macro calls. A macro's definition and an attribute count as calls.
 #[derive(Clone, Copy)]
-pub(crate) enum Calls<'t> {
+pub enum Calls<'t> {
     /// The next token is outside of macro calls.
     Outside,
     /// The next token follows this identifier, which may be a macro's name.
@@ -158,7 +158,7 @@ fn after_lexeme<'t>(calls: Calls<'t>, form: Form, text: &'t str) -> Calls<'t>
 
 /// Returns the position after one more token of a source.
 #[inline(always)]
-pub(crate) fn calls_after<'t>(calls: Calls<'t>, token: SourceToken<'t>) -> Calls<'t>
+pub fn calls_after<'t>(calls: Calls<'t>, token: SourceToken<'t>) -> Calls<'t>
     ensures { calls_seen result ≡ calls_after (calls_seen calls.entry) (source_view token.entry.form) token.entry.text.now }
 {
     match token.form {
@@ -168,9 +168,9 @@ pub(crate) fn calls_after<'t>(calls: Calls<'t>, token: SourceToken<'t>) -> Calls
     }
 }
 
-/// Whether the next token is inside a macro call.
+/// Returns `true` if the next token is inside a macro call.
 #[inline(always)]
-pub(crate) fn is_in_call(calls: Calls<'_>) -> bool
+pub fn is_in_call(calls: Calls<'_>) -> bool
     ensures { result ≡ is_in_call (calls_seen calls.entry) }
 {
     matches!(calls, Calls::Inside(_))

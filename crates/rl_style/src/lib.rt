@@ -36,6 +36,7 @@ mod cooked;
 mod groups;
 mod hidden;
 pub mod laws;
+mod mistyped;
 mod numbers;
 mod raw;
 mod restylable;
@@ -44,6 +45,7 @@ mod rules;
 mod style;
 mod whole;
 
+pub use crate::calls::{Calls, calls_after, is_in_call};
 pub use crate::restylable::{Restylable, Restylables};
 pub use crate::rewrite::rewrite_into;
 pub use crate::rules::{Rule, all_rules, changes};

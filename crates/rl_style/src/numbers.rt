@@ -14,6 +14,7 @@ ghost use Rattle.rl_style.specs.Rewriting.{Rewrites, RewritesFloat, RewritesInt}
 
 use crate::characters::{Manner, begins_base_letter, put_numeral};
 use crate::groups::{group_size, put_digit_run};
+use crate::mistyped::{contains_either, is_mistyped, is_mistyped_float};
 use crate::style::{Separator, Style};
 use rl_lenient::number_forms::split_radix;
 use rl_strict::Number;
@@ -60,14 +61,15 @@ fn drops_zeros(style: Style, base: u32, suffix: &str) -> bool
     style.leading_zeros && base == 10 && !begins_base_letter(suffix)
 }
 
-/// Returns the digits `run` of an integer, without leading zeros if the style drops them.
+/// Returns the digits `run` of an integer, without leading zeros if the style drops them. Digits that are all octal keep the
+/// zeros: `0123` may be meant as an octal number.
 fn kept_digits<'t>(style: Style, base: u32, suffix: &str, run: &'t str) -> &'t str
     requires { IsTrue (drops_zeros style base (chars suffix.now))
         → IsTrue (first_passes is_ascii_digit (chars run.now)) }
     ensures kept { chars result.now ≡ kept_digits style base (chars suffix.now) (chars run.now) }
     ensures shorter { length result.now ≤ length run.now }
 {
-    if drops_zeros(style, base, suffix) {
+    if drops_zeros(style, base, suffix) && contains_either(run, '8', '9') {
         significant(run)
     } else {
         run
@@ -153,7 +155,8 @@ fn number_style(style: Style, base: u32, suffix: &str) -> Manner
     }
 }
 
-/// Writes the new form of an integer. `text` is its whole text, and `suffix` its end.
+/// Writes the new form of an integer. `text` is its whole text, and `suffix` its end. If the suffix may be mistyped, the new form
+/// is `text`.
 fn write_integer(text: &str, suffix: &str, style: Style, out: &mut [u8]) -> usize
     requires following { IsTail text.now suffix.now }
     requires integer { (v : Contents) × StrictInt (chars text.now) v (chars suffix.now) }
@@ -162,6 +165,9 @@ fn write_integer(text: &str, suffix: &str, style: Style, out: &mut [u8]) -> usiz
     ensures utf8 { IsUtf8 (take result out.new) }
     ensures within { result ≤ 4 * length text.now + 1 }
 {
+    if is_mistyped(suffix, text) {
+        return put_text(out, 0, text);
+    }
     let (base, digits) = split_radix(text);
     let whole = kept_run(style, suffix, before(digits, suffix));
     let run = kept_digits(style, base, suffix, whole);
@@ -223,7 +229,8 @@ fn put_fraction(out: &mut [u8], at: usize, manner: Manner, rest: &str) -> usize
     }
 }
 
-/// Writes the new form of a float. `text` is its whole text, and `suffix` its end.
+/// Writes the new form of a float. `text` is its whole text, and `suffix` its end. If the suffix may be mistyped, the new form is
+/// `text`.
 fn write_float(text: &str, suffix: &str, style: Style, out: &mut [u8]) -> usize
     requires following { IsTail text.now suffix.now }
     requires float { (v : Contents) × StrictFloat (chars text.now) v (chars suffix.now) }
@@ -232,6 +239,9 @@ fn write_float(text: &str, suffix: &str, style: Style, out: &mut [u8]) -> usize
     ensures utf8 { IsUtf8 (take result out.new) }
     ensures within { result ≤ 4 * length text.now + 1 }
 {
+    if is_mistyped_float(suffix, text) {
+        return put_text(out, 0, text);
+    }
     let manner = number_style(style, 10, suffix);
     let numeral = kept_run(style, suffix, before(text, suffix));
     let rest = skip_class(CharClass::Numeral, numeral);

@@ -10,7 +10,7 @@ ghost use Rattle.rl_style.specs.declared.restylable.Last.TheVariants as last;
 
 use crate::calls::{Calls, calls_after, is_in_call};
 use rl_lexer::{Form, LexError, SourceForm, SourceToken, Sources};
-use rl_syntax::text::{begins_with, strip_byte};
+use rl_syntax::text::{begins_with_char, strip_byte};
 use std::marker::Model;
 
 /// The last token before a number, as far as it shows whether the number is a field of a tuple.
@@ -94,7 +94,7 @@ fn begins_one_colon(text: &str) -> bool
     ensures { result ≡ begins_one_colon (chars text.now) }
 {
     match strip_byte(text, b':') {
-        Some(following) => !begins_with(following, ':'),
+        Some(following) => !begins_with_char(following, ':'),
         None => false,
     }
 }

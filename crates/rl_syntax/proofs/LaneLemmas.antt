@@ -33,12 +33,12 @@ both_lanes : {X : Type 0} (p q : X → Bool) (v : List X) → zip2 bit_or (map (
 both_lanes p q [] = refl
 both_lanes p q (x ∷ xs) = ap₂ (λ a b. a ∷ b) (lane_or (p x) (q x)) (both_lanes p q xs)
 
--- The vector for the test that one of two tests passes, from the vectors for the two.
+-- The bitwise or of the vectors for two tests is the vector for the test that one of the two passes.
 pub either : {X : Type 0} (p q : X → Bool) (v : List X) {a b : List ℕ} → a ≡ map (λ x. lane (p x)) v → b ≡ map (λ x. lane (q x)) v
     → zip2 bit_or a b ≡ map (λ x. lane (p x || q x)) v
 either p q v e f = ap₂ (zip2 bit_or) e f ∙ both_lanes p q v
 
--- The vector for the test that two tests pass, from the vectors for the two.
+-- The bitwise and of the vectors for two tests is the vector for the test that both pass.
 pub both : {X : Type 0} (p q : X → Bool) (v : List X) {a b : List ℕ} → a ≡ map (λ x. lane (p x)) v
     → b ≡ map (λ x. lane (q x)) v → zip2 bit_and a b ≡ map (λ x. lane (p x && q x)) v
 both {X = X} p q v e f = ap₂ (zip2 bit_and) e f ∙ go v
@@ -51,7 +51,7 @@ tops : {X : Type 0} (p : X → Bool) (v : List X) → map (top 7) (map (λ x. la
 tops p [] = refl
 tops p (x ∷ xs) = ap₂ (λ a b. a ∷ b) (lane_top (p x)) (tops p xs)
 
--- The mask of a vector that was computed by a test.
+-- The mask of a vector that was computed by a test has the bits of the elements that pass the test.
 pub masked : {X : Type 0} (p : X → Bool) (v : List X) {a : List ℕ} → length v ≤ 64 → a ≡ map (λ x. lane (p x)) v
     → mask_l (map (top 7) a) % 2 ^ 64 ≡ mask_l (map p v)
 masked p v few e = ap (λ l. mask_l l % 2 ^ 64) (ap (map (top 7)) e ∙ tops p v)

@@ -142,7 +142,7 @@ unit_complete k (Continuation c run) r h e = continuation_at k c run r h.1 h.2 e
 some_pair : {A B : Type 0} (p q : A × B) → Some p ≡ Some q → (p.0 ≡ q.0) × (p.1 ≡ q.1)
 some_pair p q h = let e : p ≡ q = cc in (ap (λ x. x.0) e, ap (λ x. x.1) e)
 
--- ---- sequences
+-- ---- sequences of characters and escapes
 
 blank_on : (t x : List ℕ) → first_passes is_blank t ≡ false → first_passes is_blank (t ++ (34 ∷ x)) ≡ false
 blank_on [] x h = refl
@@ -209,7 +209,7 @@ single_once k t v x w y a b =
     let g : 39 ∷ x ≡ 39 ∷ y = f.1 in
     (a.value_is ∙ f.0 ∙ sym b.value_is, cc)
 
--- ---- raw
+-- ---- raw strings
 
 abbrev no_quote : ℕ → Bool
 no_quote c = not (eqb c 34)

@@ -4,7 +4,7 @@ use Rattle.std.proofs.Common.{Fits, w8}
 use Rattle.std.proofs.lemmas.Simd.{zip2-map, get_or-chunk}
 use Rattle.rl_syntax.specs.Mirrors.RunsAt.{is_run_byte, ends_run}
 
--- An operation on two vectors, each computed from the vector `v` element by element.
+-- If two vectors are computed from the vector `v` element by element, so is the result of an operation on the two.
 pub joined : (h : ℕ → ℕ → ℕ) (f g : ℕ → ℕ) (v : List ℕ) {a b : List ℕ} → a ≡ map f v → b ≡ map g v → zip2 h a b
     ≡ map (λ x. h (f x) (g x)) v
 joined h f g v p q = ap₂ (zip2 h) p q ∙ zip2-map h f g v
@@ -20,7 +20,7 @@ same_tests p q all [] fits = refl
 same_tests p q all (x ∷ xs) fits = ap₂ (λ a b. a ∷ b) (agree_below_at p q 256 x all (fits 0 (omega arith)))
     (same_tests p q all xs (λ k short. fits (suc k) (omega arith)))
 
--- The mask of a vector that was computed by a test.
+-- The mask of a vector that was computed by a test has the bits of the elements that pass the test.
 pub masked_as : (q : ℕ → Bool) (d : List ℕ) (i n : ℕ) (f : ℕ → ℕ) {z : List ℕ} → i + n ≤ length d → n ≤ 64
     → ((k : ℕ) → Fits w8 (get_or d k 0)) → z ≡ map f (chunk i n d) → agree_below (λ x. top 7 (f x)) q 256 ≡ true
     → mask_l (map (top 7) z) % 2 ^ 64 ≡ mask_l (map q (chunk i n d))

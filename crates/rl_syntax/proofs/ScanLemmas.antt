@@ -58,7 +58,7 @@ later_pass : (q : ℕ → Bool) (xs ys : List ℕ) → list_all q (xs ++ ys) ≡
 later_pass q [] ys h = h
 later_pass q (x ∷ xs) ys h = later_pass q xs ys (and_parts (q x) (list_all q (xs ++ ys)) h).1
 
--- ---- from bytes to characters
+-- ---- the sequence of passing bytes, as characters
 
 module _ (q : ℕ → Bool) (high : PassesHigh q) where
   all_encoded : (cs : List ℕ) → list_all q (encode_utf8_all cs) ≡ true → list_all q cs ≡ true
@@ -96,7 +96,7 @@ module _ (q : ℕ → Bool) (high : PassesHigh q) where
       low : (b : ℕ) → q b ≡ false → b < 128
       low b fails = elim (cases128 b) [ inl is ↦ is | inr past ↦ absurd (both_ways (q b) fails (high b past)) ]
 
-  -- The characters of the sequence pass the test.
+  -- All characters of the sequence of passing bytes pass the test.
   pub run_plain : (bs : List ℕ) → IsUtf8 bs → list_all q (chars (take (prefix_len q bs) bs)) ≡ true
   run_plain bs u =
       let front = take (prefix_len q bs) bs in

@@ -10,7 +10,7 @@ use Rattle.rl_syntax.specs.Texts.{first_passes, is_underscore, is_blank, is_drop
 use Rattle.rl_syntax.specs.Quoted.{QuotedUnit, Plain, Named, Hex, Unicode, Continuation, LowerN, LowerR, LowerT, Backslash, Apostrophe, Quote, Zero, unit_text, unit_value, unicode_value, content_of, hex_value, is_hex_digit, is_string, is_single, is_raw, allows_code, IsUnit, texts, values, EndsBefore, ContinuationsEnd, opener, raw_opener, Cooked, Raw, Single}
 use Rattle.rl_syntax.specs.Spelling.{place_value, without_underscores}
 use Rattle.rl_syntax.specs.Reading.{Contents, Reads, quoted_contents}
-use Rattle.rl_syntax.specs.Strict.{StrictUnit, Itself, QuoteEscape, PlainEscape, AsciiEscape, ByteEscape, UnicodeEscape, LineBreak, spaced_digit, strict_text, strict_contents, is_plain_letter, is_octal, is_unicode_escape, is_bare_character, is_bare_in_string, is_strict_unit, BlanksEnd, strict_opener, strict_closer, strict_content_of, StrictCooked, StrictRaw, strict_raw_opener, IsStrictSuffix}
+use Rattle.rl_syntax.specs.Strict.{StrictUnit, Itself, QuoteEscape, PlainEscape, AsciiEscape, ByteEscape, UnicodeEscape, LineBreak, spaced_digit, strict_text, strict_contents, is_plain_letter, is_octal, is_unicode_escape, is_allowed_in_single_quotes, is_bare_in_string, is_strict_unit, BlanksEnd, strict_opener, strict_closer, strict_content_of, StrictCooked, StrictRaw, strict_raw_opener, IsStrictSuffix}
 use Rattle.rl_syntax.proofs.Basics.{apart, all_weaker, hex_is_sixteen, word_without}
 
 -- The text may follow the character or escape: no white space follows an escaped line end.
@@ -29,8 +29,8 @@ pub record Stands (k : Kind) (s : StrictUnit) : Type 0 where
 ascii_alone : (c : ℕ) → nat_lt c 128 ≡ true → encode_utf8_all (c ∷ []) ≡ c ∷ []
 ascii_alone c h = ap (λ z. z ++ []) (encode_ascii c (ltb-true c 128 h))
 
-pub bare_not_backslash : (c : ℕ) → is_bare_character c ≡ true → not (eqb c 92) ≡ true
-bare_not_backslash c h = not_from_false (eqb c 92) (apart is_bare_character c 92 h refl)
+pub bare_not_backslash : (c : ℕ) → is_allowed_in_single_quotes c ≡ true → not (eqb c 92) ≡ true
+bare_not_backslash c h = not_from_false (eqb c 92) (apart is_allowed_in_single_quotes c 92 h refl)
 
 itself : (k : Kind) (c : ℕ) → is_strict_unit k (Itself c) ≡ true → Stands k (Itself c)
 itself Str c h = record { unit = Plain c; is_unit = h; text_is = refl; value_is = refl; ends_before = λ t f. tt }
@@ -39,7 +39,7 @@ itself ByteStr c h =
     let p = and_parts (nat_lt c 128) (is_bare_in_string c) h in
     record { unit = Plain c; is_unit = h; text_is = refl; value_is = ascii_alone c p.0; ends_before = λ t f. tt }
 itself Byte c h =
-    let p = and_parts (nat_lt c 128) (is_bare_character c) h in
+    let p = and_parts (nat_lt c 128) (is_allowed_in_single_quotes c) h in
     record { unit = Plain c; is_unit = h; text_is = refl; value_is = ascii_alone c p.0; ends_before = λ t f. tt }
 itself CStr c h =
     let p = and_parts (is_bare_in_string c) (not (eqb c 0)) h in
@@ -258,8 +258,8 @@ pub not_return : (k : Kind) (c : ℕ) → is_strict_unit k (Itself c) ≡ true �
 not_return Str c h = apart is_bare_in_string c 13 h refl
 not_return ByteStr c h = apart is_bare_in_string c 13 (and_parts (nat_lt c 128) (is_bare_in_string c) h).1 refl
 not_return CStr c h = apart is_bare_in_string c 13 (and_parts (is_bare_in_string c) (not (eqb c 0)) h).0 refl
-not_return Char c h = apart is_bare_character c 13 h refl
-not_return Byte c h = apart is_bare_character c 13 (and_parts (nat_lt c 128) (is_bare_character c) h).1 refl
+not_return Char c h = apart is_allowed_in_single_quotes c 13 h refl
+not_return Byte c h = apart is_allowed_in_single_quotes c 13 (and_parts (nat_lt c 128) (is_allowed_in_single_quotes c) h).1 refl
 not_return kind c h = absurd (cc)
 
 pub no_return : (k : Kind) (us : List StrictUnit) → list_all (is_strict_unit k) us ≡ true
@@ -314,7 +314,7 @@ stand_row k (s ∷ us) h b =
           r.value_is;
     }
 
--- ---- the forms
+-- ---- the forms of quoted literals
 
 pub between : (o b e x : List ℕ) → ((o ++ b) ++ e) ++ x ≡ o ++ (b ++ (e ++ x))
 between o b e x = append_assoc (o ++ b) e x ∙ append_assoc o b (e ++ x)

@@ -65,12 +65,12 @@ same_lanes f g all (x ∷ xs) low = ap₂ (λ a b. a ∷ b)
     (eqb-true (f x) (g x) (agree_below_at (λ c. eqb (f c) (g c)) (λ _. true) 256 x all (low 0 (omega arith))))
     (same_lanes f g all xs (λ k short. low (suc k) (omega arith)))
 
--- The vector for a test of one of three bytes.
+-- The vector for a test of one part of each element is the vector of that part, tested element by element.
 pub lanes_of : {X : Type 0} (g : ℕ → Bool) (part : X → ℕ) (xs : List X) {v z : List ℕ} → map part xs ≡ v
     → z ≡ map (λ c. lane (g c)) v → z ≡ map (λ x. lane (g (part x))) xs
 lanes_of g part xs is lanes = lanes ∙ ap (map (λ c. lane (g c))) (sym is) ∙ map-map (λ c. lane (g c)) part xs
 
--- ---- the tests together
+-- ---- the condition on three bytes, from the vectors for the tests of each
 
 abbrev AreBytes : List (ℕ × ℕ × ℕ) → Type 0
 AreBytes [] = ⊤
@@ -182,9 +182,9 @@ here_is at bs some =
     let same : at - 1 + 1 ≡ at = omega arith in
     heres at 16 0 bs ∙ ap (λ i. chunk i 16 bs) (sym same) ∙ sym (near_is 1 at bs some (lit< tt))
 
-pub begins_with_kind : (at : ℕ) (bs : List ℕ) → 0 < at → at + 16 < length bs → map (λ x. x.2) (three at bs)
+pub next_bytes_are : (at : ℕ) (bs : List ℕ) → 0 < at → at + 16 < length bs → map (λ x. x.2) (three at bs)
     ≡ chunk 2 16 (near at bs)
-begins_with_kind at bs some room =
+next_bytes_are at bs some room =
     let same : at - 1 + 2 ≡ suc at = omega arith in
     nexts at 16 0 bs room ∙ ap (λ i. chunk i 16 bs) (sym same) ∙ sym (near_is 2 at bs some (lit< tt))
 
@@ -197,9 +197,9 @@ likely_mask at bs room fits lanes =
     ∙ ap mask_l (same_places (three at bs) (take_bytes 16 (drop at (around 0 bs))
     (drop_bytes at (around 0 bs) (around_bytes 0 bs fits))))
 
--- ---- the first byte
+-- ---- masks for the test of one byte
 
--- The condition that a literal or a comment may begin at a byte, as a mask of bits.
+-- A mask has a bit for each byte below 64 at which a literal or a comment may begin.
 pub likely_low : (c : ℕ) → c < 64 → has_bit 288090205599039488 c ≡ (is_likely_mark c || is_likely_head c)
 likely_low c low = agree_below_at (has_bit 288090205599039488) (λ k. is_likely_mark k || is_likely_head k) 64 c refl low
 

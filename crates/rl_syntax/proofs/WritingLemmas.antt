@@ -25,7 +25,7 @@ one_character c bytes u e = chars_past_char bytes [] c u (e ∙ sym (append-nil 
 abbrev pub begun : Kind → List ℕ → List ℕ
 begun k xs = encode_utf8_all (opener k ++ texts (map (written_unit k) xs))
 
--- The bytes of only the opening delimiter.
+-- Only the opening delimiter is written, and no character yet.
 pub begun_start : (k : Kind) (s : List ℕ) → s ≡ opener k → s ≡ begun k []
 unfolding lib.Utf8.encode
 begun_start Str s h = h
@@ -43,7 +43,7 @@ texts_more k [] c = append-nil (unit_text (written_unit k c))
 texts_more k (x ∷ xs) c = ap (λ z. unit_text (written_unit k x) ++ z) (texts_more k xs c)
     ∙ sym (append_assoc (unit_text (written_unit k x)) (texts (map (written_unit k) xs)) (unit_text (written_unit k c)))
 
--- The written bytes with the written form of one more character.
+-- If the written form of one more character is appended, the written bytes are those for one more character.
 pub begun_more : (k : Kind) (a b xs : List ℕ) (c : ℕ) → a ≡ begun k xs → b ≡ a
     ++ encode_utf8_all (unit_text (written_unit k c)) → b ≡ begun k (xs ++ (c ∷ []))
 begun_more k a b xs c e h =
@@ -54,7 +54,7 @@ begun_more k a b xs c e h =
     h ∙ ap (λ z. z ++ encode_utf8_all (unit_text (written_unit k c))) e
     ∙ sym (encodes-append (opener k ++ inner) (unit_text (written_unit k c))) ∙ ap encode_utf8_all all
 
--- The written bytes with the written form of one more character, after another text.
+-- If the written form of one more character is appended, the bytes written after the text `p` are those for one more character.
 pub begun_more_after : (k : Kind) (p a b xs : List ℕ) (c : ℕ) → a ≡ p ++ begun k xs → b ≡ a
     ++ encode_utf8_all (unit_text (written_unit k c)) → b ≡ p ++ begun k (xs ++ (c ∷ []))
 begun_more_after k p a b xs c e h =
@@ -66,7 +66,7 @@ begun_more_after k p a b xs c e h =
 pub begun_front : (k : Kind) (p a b xs : List ℕ) → a ≡ p ++ begun k xs → b ≡ a → take (length p) b ≡ p
 begun_front k p a b xs e same = ap (take (length p)) (same ∙ e) ∙ take-append_seam p (begun k xs)
 
--- The characters of a text to which encoded characters were appended.
+-- If encoded characters are appended to a text, they are appended to its characters.
 appended : (p b w : List ℕ) → IsUtf8 p → IsUtf8 b → b ≡ p ++ encode_utf8_all w → chars b ≡ chars p ++ w
 appended p b w u v e = sym (chars_from_encodes (chars p ++ w) b v
     (encodes-append (chars p) w ∙ ap (λ z. z ++ encode_utf8_all w) (encodes-chars p u) ∙ sym e))
@@ -91,7 +91,7 @@ pub begun_whole : (k : Kind) (a b xs ys : List ℕ) → a ≡ begun k xs → b �
 begun_whole k a b xs ys e h same u = begun_whole_after k [] a b xs ys e h same IsUtf8-nil u
     ∙ ap (λ z. z ++ written_text k ys) chars-nil
 
--- A text to which bytes were appended can be split where it ended before.
+-- If bytes were appended to a UTF-8 text, and the result is UTF-8, the old end of the text is a character boundary.
 pub cut_back : (old new : List ℕ) → IsUtf8 old → IsUtf8 new → take (length old) new ≡ old
     → IsSplitPoint new (length old)
 cut_back old new u v e =

@@ -7,7 +7,7 @@ use Rattle.rl_syntax.specs.declared.kind.Kind.TheVariants.{Str, ByteStr, CStr, B
 use Rattle.rl_syntax.specs.Quoted.{QuotedUnit, Plain, Named, Hex, LowerN, LowerR, LowerT, Backslash, Zero, unit_text, texts, opener, hex_value}
 use Rattle.rl_syntax.specs.Reading.{Reads, quoted_contents}
 use Rattle.rl_syntax.specs.Written.{upper_digit, closer, own_quote, is_written_as_number, written_unit, written_text}
-use Rattle.rl_syntax.specs.Strict.{StrictUnit, Itself, QuoteEscape, PlainEscape, AsciiEscape, ByteEscape, strict_text, strict_contents, is_octal, is_bare_character, is_bare_in_string, is_strict_unit, BlanksEnd, strict_opener, strict_closer, strict_content_of, HasUnits, StrictCooked, Strict}
+use Rattle.rl_syntax.specs.Strict.{StrictUnit, Itself, QuoteEscape, PlainEscape, AsciiEscape, ByteEscape, strict_text, strict_contents, is_octal, is_allowed_in_single_quotes, is_bare_in_string, is_strict_unit, BlanksEnd, strict_opener, strict_closer, strict_content_of, HasUnits, StrictCooked, Strict}
 use Rattle.rl_syntax.specs.Agreeing.{IsQuotedValue}
 use Rattle.rl_syntax.proofs.Agreeing.{strict_reads}
 
@@ -112,7 +112,7 @@ bare_string : (c : ℕ) → eqb c 34 ≡ false → eqb c 92 ≡ false → eqb c 
 bare_string c a b d = not_from_false _ (or_from _ _ (or_from _ _ a b) d)
 
 bare_character : (c : ℕ) → eqb c 39 ≡ false → eqb c 92 ≡ false → eqb c 10 ≡ false → eqb c 13 ≡ false → eqb c 9 ≡ false
-    → is_bare_character c ≡ true
+    → is_allowed_in_single_quotes c ≡ true
 bare_character c a b d e f = not_from_false _ (or_from _ _ (or_from _ _ (or_from _ _ (or_from _ _ a b) d) e) f)
 
 ascii_hex : (k : Kind) (c : ℕ) → c < 128 → ((high low : ℕ) → is_octal high ≡ true → is_ascii_hexdigit low ≡ true

@@ -126,14 +126,14 @@ is_raw ByteStr c = nat_lt c 128
 is_raw kind c = allows_code kind c
 
 -- The escape `\xHH` in a literal of the kind may have this number: below 128 in a literal of characters, and not 0 in a
--- C string. `has_unicode` says whether literals of the kind may contain escapes `\u{..}`.
+-- C string. `allows_unicode_escapes` says whether literals of the kind may contain escapes `\u{..}`.
 abbrev pub may_be_hex : Kind → ℕ → Bool
 may_be_hex kind n = allows_code kind n && (not (holds_characters kind) || nat_lt n 128)
 
-abbrev pub has_unicode : Kind → Bool
-has_unicode ByteStr = false
-has_unicode Byte = false
-has_unicode _ = true
+abbrev pub allows_unicode_escapes : Kind → Bool
+allows_unicode_escapes ByteStr = false
+allows_unicode_escapes Byte = false
+allows_unicode_escapes _ = true
 
 -- The character or escape is allowed in a literal of the kind.
 abbrev pub IsUnit : Kind → QuotedUnit → Type 0
@@ -144,7 +144,7 @@ IsUnit kind (Hex high low) =
     IsTrue (is_hex_digit high) × IsTrue (is_hex_digit low)
     × IsTrue (may_be_hex kind (hex_value high low))
 IsUnit kind (Unicode first more) =
-    IsTrue (has_unicode kind) × IsTrue (is_hex_digit first)
+    IsTrue (allows_unicode_escapes kind) × IsTrue (is_hex_digit first)
     × IsTrue (list_all (λ c. is_underscore c || is_hex_digit c) more)
     × (length (without_underscores (first ∷ more)) ≤ 6)
     × IsScalar (unicode_value first more) × IsTrue (allows_code kind (unicode_value first more))

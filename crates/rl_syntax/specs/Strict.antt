@@ -85,17 +85,17 @@ is_unicode_escape digits =
     && list_all (λ d. is_ascii_hexdigit d.0) digits && all_scalars (spaced_value digits ∷ [])
 
 -- A character or byte literal may contain the character unescaped.
-abbrev pub is_bare_character : ℕ → Bool
-is_bare_character c =
+abbrev pub is_allowed_in_single_quotes : ℕ → Bool
+is_allowed_in_single_quotes c =
     not (c == code "'" || c == code "\\" || c == code "\n" || c == code "\r" || c == code "\t")
 
 abbrev pub is_bare_in_string : ℕ → Bool
 is_bare_in_string c = not (c == code "\"" || c == code "\\" || c == code "\r")
 
 abbrev pub is_strict_unit : Kind → StrictUnit → Bool
-is_strict_unit Char (Itself c) = is_bare_character c
+is_strict_unit Char (Itself c) = is_allowed_in_single_quotes c
 is_strict_unit Str (Itself c) = is_bare_in_string c
-is_strict_unit Byte (Itself c) = nat_lt c 128 && is_bare_character c
+is_strict_unit Byte (Itself c) = nat_lt c 128 && is_allowed_in_single_quotes c
 is_strict_unit ByteStr (Itself c) = nat_lt c 128 && is_bare_in_string c
 is_strict_unit CStr (Itself c) = is_bare_in_string c && not (c == 0)
 is_strict_unit _ (Itself c) = false
@@ -195,11 +195,11 @@ pub record StrictRaw (t : List ℕ) (k : Kind) (v : Contents) (x : List ℕ) : T
       ++ code "\"" ∷ replicate hashes (code "#") ++ x
   pub contents : v ≡ quoted_contents k (strict_content_of k inside)
 
--- The text is a decimal digit, followed by digits and underscores. Other comments call this text D.
+-- The text is a decimal digit, followed by digits and underscores.
 abbrev pub IsDigits : List ℕ → Type 0
 IsDigits d = IsTrue (first_passes is_ascii_digit d) × IsTrue (list_all (is_run_part is_ascii_digit) d)
 
--- The text doesn't begin with the prefix of a base other than ten. A decimal number doesn't.
+-- The text doesn't begin with the prefix of a base other than ten. So a number at its start is decimal.
 abbrev pub IsDecimalText : List ℕ → Type 0
 IsDecimalText t = IsFalse (begins (codes "0b") t || begins (codes "0o") t || begins (codes "0x") t)
 

@@ -5,7 +5,8 @@ use Rattle.std.specs.List.{AllByRecursion, list_all}
 use Prim.Native.Char.{code}
 use Rattle.rl_syntax.specs.Texts.{is_white, begins_char}
 
--- The text of a block comment after its `/*`, including its `*/`. Each block comment inside it is one of these too.
+-- The text of a block comment after its `/*`, in parts: single characters (`Other`), block comments inside it (`Nested`, without
+-- their `/*`), and the closing `*/` (`End`).
 pub data Inside : Type 0 where
   End : Inside
   Other : (c : ℕ) (rest : Inside) → Inside
@@ -21,8 +22,8 @@ pub record BeginsNoMark (t : List ℕ) : Type 0 where
   pub no_opener : (rest : List ℕ) → t ≡ code "/" ∷ code "*" ∷ rest → ⊥
   pub no_closer : (rest : List ℕ) → t ≡ code "*" ∷ code "/" ∷ rest → ⊥
 
--- The text of a block comment is well formed: neither `/*` nor `*/` begins at a character that isn't part of these
--- delimiters.
+-- The text of a block comment is well formed: neither `/*` nor `*/` begins at one of its single characters (`Other`). The same
+-- holds for the block comments inside it.
 abbrev pub IsInside : Inside → Type 0
 IsInside End = ⊤
 IsInside (Other c rest) = BeginsNoMark (c ∷ inside_text rest) × IsInside rest

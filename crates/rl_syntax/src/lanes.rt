@@ -7,7 +7,7 @@ ghost use Rattle.std.specs.Simd.Lanes.{chunk, mask_l};
 ghost use Rattle.rl_syntax.specs.Scanning.{is_one_of, is_other, line_ends};
 ghost use Rattle.rl_syntax.specs.Mirrors.RunsAt.{is_run_byte, is_word_byte, ends_run};
 ghost use Rattle.rl_syntax.specs.Mirrors.RunsAt.{has_bit};
-ghost use Rattle.rl_syntax.specs.Mirrors.UnlikelyAt.{is_likely_mark, is_likely_head, may_begin_at, around, unlikely_len, byte_before};
+ghost use Rattle.rl_syntax.specs.Mirrors.UnlikelyAt.{is_likely_mark, is_likely_head, may_begin_at, around, skippable_len, byte_before};
 
 use crate::scan::{Marks, stop_by_eight};
 use std::simd::prelude::*;
@@ -166,8 +166,8 @@ fn likely_among(bytes: &[u8], at: usize) -> u64
 /// Returns a number of leading bytes that can be skipped in a search for literals: neither a literal nor a comment
 /// begins at one of them. Sixteen bytes are tested at once. The search stops where sixteen bytes or fewer are left.
 #[inline(never)]
-pub fn unlikely_len(bytes: &[u8]) -> usize
-    ensures { result ≤ unlikely_len bytes.now }
+pub fn skippable_len(bytes: &[u8]) -> usize
+    ensures { result ≤ skippable_len bytes.now }
 {
     if bytes.is_empty() || is_likely(bytes[0]) {
         return 0;

@@ -172,7 +172,7 @@ pub fn len_before(marks: Marks, bytes: &[u8]) -> usize
 /// for a delimiter that is probably near the start, as in the tokens of a source: sixteen bytes are tested at once,
 /// where [`len_before`] tests sixty-four.
 #[inline(always)]
-pub fn near_len_before(marks: Marks, bytes: &[u8]) -> usize
+pub fn len_before_near_mark(marks: Marks, bytes: &[u8]) -> usize
     ensures { result ≡ prefix_len (is_other marks) bytes.now }
 {
     stop_by_sixteen::<false>(marks, bytes, 0)
@@ -197,12 +197,12 @@ pub fn split_before(marks: Marks, text: &str) -> (&str, &str)
     ensures following { IsTail text.now result.1.now }
     ensures shorter { length result.1.now ≤ length text.now }
 {
-    text.split_at(near_len_before(marks, text.as_bytes()))
+    text.split_at(len_before_near_mark(marks, text.as_bytes()))
 }
 
 /// Returns the first delimiter in the text and the text after it, or `None` if the text has no delimiter.
 #[inline(always)]
-pub fn next_mark(marks: Marks, text: &str) -> Option<(u8, &str)>
+pub fn split_after_mark(marks: Marks, text: &str) -> Option<(u8, &str)>
     requires { AreAscii marks }
     ensures some { IfSome result (λ p. IsNextMark marks (chars text.now) p.0 (chars p.1.now)) }
     ensures none { IfNone result (IsTrue (list_all (is_other marks) (chars text.now))) }

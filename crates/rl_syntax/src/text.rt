@@ -59,7 +59,7 @@ pub fn ascii_at(text: &str, at: usize) -> Option<(u8, usize)>
 }
 
 /// Returns `true` if the text begins with the character `c`.
-pub fn begins_with(text: &str, c: char) -> bool
+pub fn begins_with_char(text: &str, c: char) -> bool
     ensures { result ≡ begins_char c (chars text.now) }
 {
     match split_char(text) {
@@ -77,7 +77,7 @@ pub fn begins(text: &str, word: &str) -> bool
 }
 
 /// Returns the text after its first character. For an empty text the result is empty.
-pub fn without_first(text: &str) -> &str
+pub fn without_first_char(text: &str) -> &str
     ensures rest { chars result.now ≡ drop 1 (chars text.now) }
     ensures following { IsTail text.now result.now }
 {

@@ -37,8 +37,7 @@ same_span s r a b =
     ∙ ap (λ x. let k : Span = record { file = r.file; lo = x; hi = s.hi } in k) los
     ∙ ap (λ x. let k : Span = record { file = r.file; lo = r.lo; hi = x } in k) his
 
--- The flat tokens after a group's opening delimiter: those inside the group, the closing delimiter, and those after the
--- group.
+-- The flat tokens after a group's opening delimiter are those inside the group, the closing delimiter, and those after the group.
 group_rest : (inside : Trees) (d : Delimiter) (s : Span) (ts : Trees) (xs : List FlatToken)
     → ((flat_inside inside ++ (Closing d (closer_span s) ∷ [])) ++ flat_inside ts) ++ xs ≡ flat_inside inside
     ++ (Closing d (closer_span s) ∷ (flat_inside ts ++ xs))

@@ -2,7 +2,9 @@
 
 ghost use Rattle.rl_tokens.specs.PrintedTrees.{PrintedLexes, ReprintedLexes};
 
-pub use rl_lexer::laws::{literals_dont_begin_with_a_minus, one_lexing, sources_hold_lexemes};
+pub use rl_lexer::laws::{
+    literals_dont_begin_with_a_minus, one_lexing, text_tokens_are_source_tokens,
+};
 pub use rl_syntax::laws::{
     a_minus_tells_the_sign, both_grammars_agree, one_reading, one_strict, readings_are_one,
     strict_holds_no_return, strict_minus, strict_reads, words_strict, written_reads,

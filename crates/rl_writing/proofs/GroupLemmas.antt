@@ -8,10 +8,10 @@ use Rattle.rl_syntax.specs.Texts.{is_underscore}
 use Rattle.rl_syntax.specs.Spelling.{without_underscores}
 use Rattle.rl_writing.specs.Integers.{ends_group, group_size, grouped}
 
--- A digit that no underscore follows.
-pub without_byte_order_mark : (size d : ℕ) (ds : List ℕ) → ends_group size (length ds) ≡ false
+-- If no group ends after a digit, no underscore follows the digit.
+pub no_separator_after : (size d : ℕ) (ds : List ℕ) → ends_group size (length ds) ≡ false
     → grouped size (d ∷ ds) ≡ d ∷ grouped size ds
-without_byte_order_mark size d ds e = ap (λ b. d ∷ ((if b then 95 ∷ [] else []) ++ grouped size ds)) e
+no_separator_after size d ds e = ap (λ b. d ∷ ((if b then 95 ∷ [] else []) ++ grouped size ds)) e
 
 pub with_mark : (size d : ℕ) (ds : List ℕ) → ends_group size (length ds) ≡ true
     → grouped size (d ∷ ds) ≡ d ∷ 95 ∷ grouped size ds
@@ -25,7 +25,7 @@ grouped_all test size (d ∷ ds) mark h =
     let more = grouped_all test size ds mark p.1 in
     elim (cases_Bool (ends_group size (length ds))) [
       | inl e ↦ ap (list_all test) (with_mark size d ds e) ∙ and_from _ _ p.0 (and_from _ _ mark more)
-      | inr e ↦ ap (list_all test) (without_byte_order_mark size d ds e) ∙ and_from _ _ p.0 more
+      | inr e ↦ ap (list_all test) (no_separator_after size d ds e) ∙ and_from _ _ p.0 more
     ]
 
 -- Grouped digits without their underscores are the digits.
@@ -39,7 +39,7 @@ grouped_digits size (d ∷ ds) h =
     λ xs. ap (λ b. cond b (d ∷ without_underscores xs) (without_underscores xs)) p.0 in
     elim (cases_Bool (ends_group size (length ds))) [
       | inl e ↦ ap without_underscores (with_mark size d ds e) ∙ stays (95 ∷ grouped size ds) ∙ ap (λ z. d ∷ z) more
-      | inr e ↦ ap without_underscores (without_byte_order_mark size d ds e) ∙ stays (grouped size ds) ∙ ap (λ z. d ∷ z) more
+      | inr e ↦ ap without_underscores (no_separator_after size d ds e) ∙ stays (grouped size ds) ∙ ap (λ z. d ∷ z) more
     ]
 
 -- ---- the length of grouped digits
@@ -48,21 +48,21 @@ pub grouped_length : (size : ℕ) (ds : List ℕ) → length (grouped size ds) �
 grouped_length size [] = omega arith
 grouped_length size (d ∷ []) = omega (
   arith,
-  ap length (without_byte_order_mark size d []
+  ap length (no_separator_after size d []
       (and_left _ _ (and_right (nat_lt 0 size) false refl))),
 )
 grouped_length size (d ∷ e ∷ ds) =
     let more = grouped_length size (e ∷ ds) in
     elim (cases_Bool (ends_group size (length (e ∷ ds)))) [
       | inl h ↦ omega (arith, more, ap length (with_mark size d (e ∷ ds) h))
-      | inr h ↦ omega (arith, more, ap length (without_byte_order_mark size d (e ∷ ds) h))
+      | inr h ↦ omega (arith, more, ap length (no_separator_after size d (e ∷ ds) h))
     ]
 
 pub grouped_short : (size n k : ℕ) (room : List ℕ) → n ≤ k → length (grouped size (reverse (take n room))) ≤ 2 * k - 1
 grouped_short size n k room h =
     omega (arith, h, grouped_length size (reverse (take n room)), length-reverse (take n room), length-take n room)
 
--- The number of digits that were written, last digit first.
+-- If `n` digits were written, the last digit first, the reversed digits are also `n`.
 pub count_is : (n : ℕ) (room : List ℕ) → n ≤ length room → length (reverse (take n room)) ≡ n
 count_is n room h = length-reverse (take n room) ∙ length-take-le n room h
 

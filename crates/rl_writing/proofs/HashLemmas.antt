@@ -68,7 +68,7 @@ needed_closes n (c ∷ t) h =
           closes_after n c t (needed_closes n t (omega (arith, h, same)))
     ]
 
--- ---- one character after another
+-- ---- counting hashes, one character after another
 
 -- The number of hashes that a quote and hashes at the end of the passed text require, together with the hashes that
 -- follow.

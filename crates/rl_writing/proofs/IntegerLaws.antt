@@ -12,7 +12,7 @@ use Rattle.rl_syntax.proofs.Dec.{dec_is_decimal}
 use Rattle.rl_syntax.proofs.StrictNumbers.{strict_int}
 use Rattle.rl_syntax.specs.declared.integer_type.IntegerType.{IntegerType}
 use Rattle.rl_writing.specs.declared.integers.IntegerStyle.{IntegerStyle}
-use Rattle.rl_writing.specs.Integers.{argument_len, ends_group, group_size, grouped, numeral, suffix_text}
+use Rattle.rl_writing.specs.Integers.{base_view, ends_group, group_size, grouped, numeral, suffix_text}
 use Rattle.rl_writing.specs.WrittenIntegers.{IsWrittenInteger, grouped_numeral, written_integer}
 use Rattle.rl_writing.proofs.AsciiLemmas.{is_low, low_chars, low_join, low_utf8}
 use Rattle.rl_writing.proofs.GroupLemmas.{grouped_all, grouped_digits}
@@ -84,9 +84,9 @@ row_is b upper size value =
     }
 
 -- The digits that are written in a style are a sequence of digits and underscores.
-styled_run : (value : ℕ) (style : IntegerStyle) → IsRun (radix (argument_len style.base)) value (grouped_numeral value style)
+styled_run : (value : ℕ) (style : IntegerStyle) → IsRun (radix (base_view style.base)) value (grouped_numeral value style)
 styled_run value style =
-    let b = argument_len style.base in
+    let b = base_view style.base in
     row_is b style.upper (group_size style.group style.least (length (numeral (radix b) style.upper value))) value
 
 -- ---- decimal digits
@@ -137,7 +137,7 @@ decimal_text value run x r n =
     let more = (and_parts (is_run_part (has_value 10) r.first) (list_all (is_run_part (has_value 10)) r.more) each).1 in
     ap (λ z. begins_base (z ++ x)) r.is ∙ no_base r.first (r.more ++ x) (rest_no_letter r.more x more n)
 
--- ---- the whole
+-- ---- the whole literal
 
 -- The start of a written integer, by its base.
 abbrev IsFront : Base → List ℕ → List ℕ → Type 0
@@ -193,13 +193,13 @@ integer_reads t x value h s =
 pub integer_written : (value : ℕ) (style : IntegerStyle) (suffix : Option IntegerType) → value ≤ limit
     → IsWrittenInteger value style suffix (written_integer value style suffix)
 integer_written value style suffix h =
-    let b = argument_len style.base in
+    let b = base_view style.base in
     let run = grouped_numeral value style in
     let x = suffix_text suffix in
     let strict = integer_strict b value run x h (styled_run value style) (suffix_is suffix) in
     record { text_is = refl; strict = strict; reads = integer_reads (prefix b ++ (run ++ x)) x value h strict }
 
--- ---- in ASCII
+-- ---- a written integer is ASCII
 
 prefix_low : (b : Base) → list_all is_low (prefix b) ≡ true
 prefix_low Binary = refl
@@ -216,7 +216,7 @@ prefix_short Hexadecimal text e = omega (arith, ap length e)
 written_low : (value : ℕ) (style : IntegerStyle) (suffix : Option IntegerType)
     → list_all is_low (written_integer value style suffix) ≡ true
 written_low value style suffix =
-    let b = argument_len style.base in
+    let b = base_view style.base in
     let run = grouped_numeral value style in
     let x = suffix_text suffix in
     low_join (prefix b) (run ++ x) (prefix_low b)
@@ -227,7 +227,7 @@ written_low value style suffix =
 pub written_bytes : (value : ℕ) (style : IntegerStyle) (suffix : Option IntegerType)
     (whole inner front digits x : List ℕ)
     (base size count : ℕ) → whole ≡ inner ++ x → inner ≡ front ++ grouped size digits
-    → front ≡ prefix (argument_len style.base) → digits ≡ numeral base style.upper value → base ≡ radix (argument_len style.base)
+    → front ≡ prefix (base_view style.base) → digits ≡ numeral base style.upper value → base ≡ radix (base_view style.base)
     → size ≡ group_size style.group style.least count → length digits ≡ count → x ≡ suffix_text suffix
     → whole ≡ written_integer value style suffix
 written_bytes value style suffix whole inner front digits x base size count is_whole is_inner is_front are_digits
@@ -239,8 +239,8 @@ written_bytes value style suffix whole inner front digits x base size count is_w
     ∙ ap styled (are_digits ∙ ap (λ z. numeral z style.upper value) is_base) in
     is_whole ∙ ap (λ z. z ++ x) is_inner ∙ append_assoc front (grouped size digits) x
     ∙ ap (λ z. z ++ (grouped size digits ++ x)) is_front
-    ∙ ap (λ z. prefix (argument_len style.base) ++ (z ++ x)) are_grouped
-    ∙ ap (λ z. prefix (argument_len style.base) ++ (grouped_numeral value style ++ z)) is_x
+    ∙ ap (λ z. prefix (base_view style.base) ++ (z ++ x)) are_grouped
+    ∙ ap (λ z. prefix (base_view style.base) ++ (grouped_numeral value style ++ z)) is_x
 
 whole_low : (value : ℕ) (style : IntegerStyle) (suffix : Option IntegerType) (whole : List ℕ)
     → whole ≡ written_integer value style suffix → list_all is_low whole ≡ true

@@ -43,7 +43,7 @@ both f g (c ∷ cs) h k =
     let q = and_parts (g c) (list_all g cs) k in
     and_from _ _ (and_from _ _ p.0 q.0) (both f g cs p.1 q.1)
 
--- All allowed characters may be between the quotes of a raw string.
+-- If a body is allowed in a raw string of the kind, and contains no CR, the code accepts each of its characters.
 all_stand : (k : Kind) (inside : List ℕ) → is_string k ≡ true → IsRawInside k inside
     → list_all (λ c. not (eqb c 13)) inside ≡ true → list_all (raw_may_contain k) inside ≡ true
 all_stand Str inside s a h = h
@@ -141,7 +141,8 @@ all_raw : (cs : List ℕ) → list_all (is_raw Str) cs ≡ true
 all_raw [] = refl
 all_raw (c ∷ cs) = all_raw cs
 
--- After equal opening delimiters, the hashes and the text between the quotes are equal.
+-- A text with `n` hashes around quotes is a raw string of `syn`'s grammar with the text between the quotes. So equal raw strings
+-- have equal hashes and equal texts between the quotes (`same_parts`).
 raw_at : (n : ℕ) (inside x : List ℕ) → list_all (λ c. not (eqb c 34)) x ≡ true
     → Raw Str (114 ∷ after_opener n inside x) inside x
 raw_at n inside x h = record { hashes = n; inside = inside; string = refl; each = all_raw inside; no_quote = h; text_is = refl; value_is = refl }

@@ -48,7 +48,8 @@ escape_short c h = elim (scalar_cases c h) [
   | inr a ↦ omega (arith, escape_length c, numeral_short 5 c (omega (arith, a.1)))
 ]
 
--- The number of bytes of a non-ASCII character.
+-- The number of bytes of a character from U+0800 on: 3 if `less` is true, since the character is below U+10000 then, and
+-- otherwise 4.
 abbrev by_four : Bool → ℕ
 by_four less = cond less 3 4
 
@@ -78,7 +79,7 @@ escape_fits c h wide =
 
 -- ---- the value of an escape
 
--- Digits without underscores.
+-- Each digit with the number of underscores after it, which is 0.
 abbrev pub plain_digits : List ℕ → List (ℕ × ℕ)
 plain_digits ds = map (λ d. (d, 0)) ds
 
@@ -140,7 +141,7 @@ escape_low c = low_join (numeral 16 false c) (125 ∷ [])
 
 -- ---- the written bytes
 
--- The digits that were written without underscores.
+-- With group size 0, the digits are written without underscores.
 digits_put : (c n : ℕ) (ds : List ℕ) → ds ≡ numeral 16 false n → n ≡ c → grouped 0 ds ≡ numeral 16 false c
 digits_put c n ds e same = ungrouped ds ∙ e ∙ ap (numeral 16 false) same
 

@@ -9,11 +9,11 @@ use Rattle.rl_writing.specs.declared.base.Base.{Base}
 use Rattle.rl_writing.specs.declared.base.Base.TheVariants.{Binary, Octal, Decimal, Hexadecimal}
 
 -- The base in the definitions of the grammars, for the base in the code.
-abbrev pub argument_len : Base → numbers.Base
-argument_len Binary = numbers.Binary
-argument_len Octal = numbers.Octal
-argument_len Decimal = numbers.Decimal
-argument_len Hexadecimal = numbers.Hexadecimal
+abbrev pub base_view : Base → numbers.Base
+base_view Binary = numbers.Binary
+base_view Octal = numbers.Octal
+base_view Decimal = numbers.Decimal
+base_view Hexadecimal = numbers.Hexadecimal
 
 -- The suffix that names the integer type, or an empty suffix for `None`.
 abbrev pub suffix_text : Option IntegerType → List ℕ
@@ -25,7 +25,7 @@ suffix_text None = []
 unfoldable pub numeral : ℕ → Bool → ℕ → List ℕ
 numeral base upper n = digits_onto (suc n) base upper n []
 
--- An underscore follows a digit that has `left` digits after it.
+-- Whether an underscore follows a digit that has `left` digits after it, in groups of `size` digits.
 abbrev pub ends_group : ℕ → ℕ → Bool
 ends_group size left = nat_lt 0 size && nat_lt 0 left && left % size == 0
 

@@ -7,18 +7,18 @@ use Rattle.rl_syntax.specs.Reading.{Digits, Reads}
 use Rattle.rl_syntax.specs.Strict.{Strict}
 use Rattle.rl_syntax.specs.declared.integer_type.IntegerType.{IntegerType}
 use Rattle.rl_writing.specs.declared.integers.IntegerStyle.{IntegerStyle}
-use Rattle.rl_writing.specs.Integers.{argument_len, group_size, grouped, numeral, suffix_text}
+use Rattle.rl_writing.specs.Integers.{base_view, group_size, grouped, numeral, suffix_text}
 
 -- The digits of a value, in the base and in the groups of the style.
 abbrev pub grouped_numeral : ℕ → IntegerStyle → List ℕ
 grouped_numeral value style =
-    let digits = numeral (radix (argument_len style.base)) style.upper value in
+    let digits = numeral (radix (base_view style.base)) style.upper value in
     grouped (group_size style.group style.least (length digits)) digits
 
 -- The integer literal of a value: prefix, digits in groups, and suffix.
 abbrev pub written_integer : ℕ → IntegerStyle → Option IntegerType → List ℕ
 written_integer value style suffix =
-    prefix (argument_len style.base) ++ (grouped_numeral value style ++ suffix_text suffix)
+    prefix (base_view style.base) ++ (grouped_numeral value style ++ suffix_text suffix)
 
 -- The text is the integer literal that is written for the value. By `syn`'s and by Rust's grammar it has that value and
 -- that suffix.

@@ -2,7 +2,7 @@
 
 ghost use Rattle.std.specs.Prelude.{◌≡◌};
 ghost use Rattle.rl_syntax.specs.Numbers.{prefix, radix};
-ghost use Rattle.rl_writing.specs.Integers.{argument_len};
+ghost use Rattle.rl_writing.specs.Integers.{base_view};
 
 /// The base of an integer literal's digits.
 #[derive(Clone, Copy)]
@@ -20,7 +20,7 @@ pub enum Base {
 impl Base {
     /// Returns the base as a number: 2, 8, 10 or 16.
     pub fn radix(self) -> u8
-        ensures { result ≡ radix (argument_len self) }
+        ensures { result ≡ radix (base_view self) }
     {
         match self {
             Base::Binary => 2,
@@ -32,7 +32,7 @@ impl Base {
 
     /// Returns the prefix of an integer literal in the base: `0b`, `0o`, `0x`, or an empty string for base ten.
     pub fn prefix(self) -> &'static str
-        ensures { result.now ≡ prefix (argument_len self) }
+        ensures { result.now ≡ prefix (base_view self) }
     {
         match self {
             Base::Binary => "0b",

@@ -70,8 +70,9 @@ pub fn group_size_for(group: usize, least: usize, count: usize) -> usize
     if count < least { 0 } else { group }
 }
 
-/// Returns `true` if an underscore is written at a distance of `digits` digits from the end at which groups of `group`
-/// digits begin. If `digits` or `group` is 0, the result is `false`.
+/// Returns `true` if a group of `group` digits ends after `digits` digits, so that an underscore separates it from the next
+/// digit. The digits are counted from the end of the number at which the first group begins. If `digits` or `group` is 0, the
+/// result is `false`.
 pub fn ends_group(group: usize, digits: usize) -> bool
     ensures { result ≡ ends_group group digits }
 {

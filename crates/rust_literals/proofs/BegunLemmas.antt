@@ -46,7 +46,7 @@ goes_on text file list trees begun lexes =
     let (following, is) = front_trees read.trees trees (map (flat_token file) more) read.cuts.no_groups flat in
     (following, subst (λ (ts : List Tree). ReadsLiterals ts list following) (sym is) (read.leads following))
 
--- If one more of the literals at the start of a text is consumed, the remaining literals begin one later.
+-- If a parser consumes one more of the literals at the start of a text, the next literal is the one after it in the list.
 pub pass_one : {A : Type 0} {F : Type 0} (token_in : F → SpannedText) (old new : List Tree) (literals : List (Lit A))
     (i : ℕ) (rest : List Tree) (front : Option F) → i < length literals
     → IfSome front (λ f. IsFront old (token_in f) new) → IfNone front (HasNoFront old)

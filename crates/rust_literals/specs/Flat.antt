@@ -1,4 +1,4 @@
--- Reading the literals of a text token by token. The text has no groups.
+-- Reading the literals of a text token by token. A text of literals contains no groups.
 use Rattle.std.specs.Prelude.{◌≡◌, ℕ, List, [], ◌∷◌, ◌++◌, length, map, Some, ⊤}
 use Rattle.std.specs.List.{AllByRecursion}
 use Rattle.std.specs.Str.{chars}

@@ -1,4 +1,5 @@
-//! Functions that read the literals of a text token by token, without building token trees. The text has no groups.
+//! Functions that read the literals of a text token by token, without building token trees. A text of literals contains no
+//! groups.
 
 ghost use Rattle.std.specs.Prelude.{
   ◌≡◌,
@@ -122,20 +123,20 @@ pub(crate) fn take_next<A: Allocator + Copy>(
 ///
 /// ```
 /// use rl_tokens::Tokens;
-/// use rust_literals::{Lit, read_next};
+/// use rust_literals::{Lit, push_next_literal};
 /// use std::alloc::Global;
 ///
 /// pub fn after_literal(alloc: Global, text: &str) -> Option<&str> {
 ///     let mut tokens = Tokens::new(text);
 ///     let mut list: Vec<Lit> = Vec::new(alloc);
-///     let is_read = read_next(alloc, &mut tokens, 0, &mut list).ok()?;
+///     let is_read = push_next_literal(alloc, &mut tokens, 0, &mut list).ok()?;
 ///     is_read.then_some(tokens.rest())
 /// }
 /// // after_literal(alloc, "1.5, 2") == Some(", 2")
 /// ```
 ///
 /// [`Literals`]: crate::Literals
-pub fn read_next<A: Allocator + Copy>(
+pub fn push_next_literal<A: Allocator + Copy>(
     alloc: A,
     tokens: &mut Tokens<'_>,
     file: u32,
@@ -177,7 +178,7 @@ pub(crate) fn read_flat<A: Allocator + Copy>(
     let mut list = Vec::new(alloc);
     let mut tokens = Tokens::new(text);
     while !tokens.rest().is_empty() {
-        let Ok(true) = read_next(alloc, &mut tokens, file, &mut list) else {
+        let Ok(true) = push_next_literal(alloc, &mut tokens, file, &mut list) else {
             return Err(list);
         };
     }

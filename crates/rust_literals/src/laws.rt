@@ -21,6 +21,6 @@ pub fn kind_and_token_make_the_literal<A: Allocator>()
 
 /// Proves that a literal at the start of a list of token trees consists of one token tree or more: the list of the
 /// token trees after the literal is shorter.
-pub fn literal_is_taken<A: Allocator>()
+pub fn a_literal_consumes_a_token<A: Allocator>()
     ensures { ALiteralLeavesFewerTrees A }
 {}

@@ -56,8 +56,8 @@ fn read_on<A: Allocator + Copy>(
     Ok(list)
 }
 
-/// Returns `list`, and appends the literals of `text` after its first `count` ones. The literals of `list` are the last
-/// of these `count`. Those before may have been dropped.
+/// Returns `list` with the literals of `text` after its first `count` ones appended. The literals of `list` are the last of these
+/// `count`. Those before may have been dropped.
 fn read_from<A: Allocator + Copy>(
     alloc: A,
     text: &str,
@@ -101,7 +101,7 @@ pub(crate) fn read_after<A: Allocator + Copy>(
 /// minus is from the minus to the number's last byte.
 ///
 /// On an error the literals before the error aren't returned. A caller that needs them, or each error of a list, can
-/// call [`read_next`](crate::read_next) with [`Tokens`](rl_tokens::Tokens).
+/// call [`push_next_literal`](crate::push_next_literal) with [`Tokens`](rl_tokens::Tokens).
 ///
 /// # Errors
 ///

@@ -4,7 +4,8 @@
 //! hexadecimal, with FRONT as the text before it: `=` if it is unchanged, `!` if it isn't a literal, `?` if `is_token` disagrees,
 //! `~` if rewriting the result changes it again.
 //!
-//! `restyle STYLE` reads sources and writes the rewritten ones, each after its length (four bytes, the lowest first).
+//! `restyle STYLE` reads sources, each after its length (four bytes, the lowest first), and prints the rewritten ones in
+//! hexadecimal, one in each line.
 
 #[path = "../../../rust/tests/letters/mod.rs"]
 mod letters;
@@ -14,13 +15,17 @@ mod texts;
 use letters::{decoded, style_of};
 use navyspindle::{is_token, rewrite, rewrite_in_context, rewrite_source, ParseError, Style};
 use std::borrow::Cow;
-use std::io::{self, BufWriter, Read, Write};
+use std::io;
 
 fn written<'t>(front: &str, text: &'t str, style: Style) -> Result<Cow<'t, str>, ParseError> {
     match front {
         "" => rewrite(text, style),
         _ => rewrite_in_context(front, text, style),
     }
+}
+
+fn digits_of(text: &str) -> String {
+    text.bytes().map(|byte| format!("{byte:02x}")).collect()
 }
 
 /// Returns the output line for a row.
@@ -33,20 +38,16 @@ fn row(front: &str, text: &str, style: Style) -> String {
         Err(_) => "!".to_owned(),
         Ok(Cow::Borrowed(_)) => "=".to_owned(),
         Ok(Cow::Owned(new)) if !matches!(written(front, &new, style), Ok(Cow::Borrowed(_))) => "~".to_owned(),
-        Ok(Cow::Owned(new)) => new.bytes().map(|byte| format!("{byte:02x}")).collect(),
+        Ok(Cow::Owned(new)) => digits_of(&new),
     }
 }
 
 fn main() -> io::Result<()> {
     if let Some(letters) = std::env::args().nth(1) {
-        let (mut input, mut output) = (Vec::new(), BufWriter::new(io::stdout().lock()));
-        io::stdin().read_to_end(&mut input)?;
-        for text in texts::split(&input) {
-            let new = rewrite_source(text, style_of(&letters)).apply().unwrap_or(Cow::Borrowed(text));
-            output.write_all(&(new.len() as u32).to_le_bytes())?;
-            output.write_all(new.as_bytes())?;
-        }
-        return output.flush();
+        return texts::print(|text| {
+            let new = rewrite_source(text, style_of(&letters)).apply();
+            digits_of(new.as_deref().unwrap_or(text)) + "\n"
+        });
     }
     for line in io::stdin().lines() {
         let line = line?;

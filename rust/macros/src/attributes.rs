@@ -2,7 +2,7 @@
 
 use crate::{or_error, tokens_of};
 use navyspindle::{
-    next_literal_of, write_str, Attrs, Lit, LitChar, LitInt, LitStr, MacroError, Meta,
+    next_literal_of, write_str, AtSpan, Attrs, Lit, LitChar, LitInt, LitStr, MacroError, Meta,
 };
 use proc_macro::{Delimiter, Group, Span, TokenStream, TokenTree};
 use std::{panic, thread};
@@ -151,10 +151,7 @@ pub fn derive(item: TokenStream) -> TokenStream {
         let text = attrs.literal_of::<LitStr>("text")?;
         let (text, span) = text.ok_or_else(|| attrs.missing_error("text"))?;
         let level = attrs.literal_of::<LitInt>("level")?;
-        let level = level.map_or(Ok(0), |(level, span)| {
-            let level = level.value::<u8>();
-            level.map_err(|error| MacroError::from(error).at(span))
-        })?;
+        let level = level.map_or(Ok(0), |(level, span)| level.value::<u8>().at(span))?;
         let text = Lit::from(text).to_token_stream(span)?;
         Ok(tokens_of(&format!(
             "impl {name} {{ fn description() -> (&'static str, u8) {{ ({text}, {level}) }} }}"
@@ -188,11 +185,7 @@ pub fn converted(input: TokenStream) -> TokenStream {
 pub fn at_values(input: TokenStream) -> TokenStream {
     let metas = Meta::parse_all(input).expect("entries");
     let errors = metas.iter().map(|meta| meta.value_error(meta.name()));
-    let all = errors.reduce(|mut all, error| {
-        all.combine(error);
-        all
-    });
-    shown_errors(&all.expect("an entry"))
+    shown_errors(&MacroError::combine_all(errors).expect_err("an entry"))
 }
 
 /// Returns the message of the panic of `span` on another thread. There the span is that of the call of the thread's own macro. But

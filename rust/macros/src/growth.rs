@@ -33,11 +33,7 @@ fn join_errors(input: TokenStream) {
     let errors = input
         .into_iter()
         .map(|tree| MacroError::new("no", tree.span()));
-    let all = errors.reduce(|mut all, error| {
-        all.combine(error);
-        all
-    });
-    assert!(all.is_some());
+    assert!(MacroError::combine_all(errors).is_err());
 }
 
 fn read_literals(input: TokenStream) {

@@ -6,8 +6,8 @@ mod places;
 mod written;
 
 use navyspindle::{
-    next_literal, next_literal_of, next_value, parse_macro_settings, write_str, Key, Lit, LitInt,
-    LitStr, MacroError, MacroInput,
+    next_literal, next_literal_of, next_value, only_literal_of, parse_macro_settings, write_str,
+    AtSpan, Key, Lit, LitInt, LitStr, MacroError, MacroInput,
 };
 use proc_macro::{Punct, Spacing, Span, TokenStream, TokenTree};
 use std::iter::Peekable;
@@ -156,6 +156,38 @@ pub fn whole_string(input: TokenStream) -> TokenStream {
     }
 }
 
+/// The whole input must be one string literal. Returns two strings: the text of the literal, and the source text at its span. Its errors
+/// are those of `whole_string`.
+#[proc_macro]
+pub fn only_string(input: TokenStream) -> TokenStream {
+    match only_literal_of::<LitStr>(input) {
+        Ok((literal, span)) => {
+            let place = span.source_text().expect("a source");
+            tokens_of(&format!(
+                "({}, {})",
+                write_str(literal.text()),
+                write_str(&place)
+            ))
+        }
+        Err(error) => shown_errors(error.to_compile_error()),
+    }
+}
+
+/// Returns the input's integer as a `u8`, or the error in the form of `strings_errors`. The error of the value is at the integer.
+#[proc_macro]
+pub fn small(input: TokenStream) -> TokenStream {
+    let value = |input: TokenStream| -> Result<u8, MacroError> {
+        let (integer, span) = next_literal_of::<LitInt>(&mut input.into_iter())?;
+        // Both errors, of different types, are moved to the integer.
+        let value: u8 = integer.value().at(span)?;
+        Ok(value.max(integer.base10_parse().at(span)?))
+    };
+    match value(input) {
+        Ok(value) => tokens_of(&format!("{value}u8")),
+        Err(error) => shown_errors(error.to_compile_error()),
+    }
+}
+
 /// Returns a string literal with the text that `MacroInput` makes of the input's tokens.
 #[proc_macro]
 pub fn text(input: TokenStream) -> TokenStream {
@@ -186,11 +218,7 @@ fn no_strings(input: TokenStream) -> Result<(), MacroError> {
         errors.extend(next_literal_of::<LitStr>(&mut tokens).err());
         take_comma(&mut tokens)?;
     }
-    let all = errors.into_iter().reduce(|mut all, error| {
-        all.combine(error);
-        all
-    });
-    all.map_or(Ok(()), Err)
+    MacroError::combine_all(errors)
 }
 
 /// Expands to nothing if each literal of the input is a string, and to the errors of the other literals otherwise.

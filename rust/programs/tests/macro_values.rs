@@ -33,9 +33,20 @@ fn scanned(options: &[&str], source: &str) -> (Option<i32>, String) {
 }
 
 #[test]
-fn any_value_is_accepted_with_any_suffix() {
+fn any_value_is_accepted_in_macro_calls() {
     for large in LARGE {
         let source = format!("m!({large});\n");
+        for options in [&["--bad"][..], &["--bad", "--any-suffix"]] {
+            let (status, lines) = scanned(options, &source);
+            assert_eq!((status, lines.as_str()), (Some(0), ""), "{large}");
+        }
+    }
+}
+
+#[test]
+fn any_value_is_accepted_elsewhere_with_any_suffix() {
+    for large in LARGE {
+        let source = format!("f({large});\n");
         let (status, lines) = scanned(&["--bad", "--any-suffix"], &source);
         assert_eq!((status, lines.as_str()), (Some(0), ""), "{large}");
         let (status, lines) = scanned(&["--bad"], &source);
@@ -46,8 +57,22 @@ fn any_value_is_accepted_with_any_suffix() {
 
 #[test]
 fn other_flaws_stay() {
-    let (status, lines) = scanned(&["--bad", "--any-suffix"], "m!(0b2, '\\q');\n");
-    assert_eq!((status, lines.lines().count()), (Some(1), 2), "{lines}");
+    for options in [&["--bad"][..], &["--bad", "--any-suffix"]] {
+        let (status, lines) = scanned(options, "m!(0b2, '\\q');\n");
+        assert_eq!((status, lines.lines().count()), (Some(1), 2), "{lines}");
+    }
+}
+
+/// With `--macros all`, a literal in a macro call is checked like all others. The literal has the bytes 3 to 6.
+#[test]
+fn macro_calls_are_checked_on_request() {
+    let (status, lines) = scanned(&["--bad", "--macros", "all"], "m!(1u9);\n");
+    assert_eq!(
+        (status, lines.as_str()),
+        (Some(1), "3..6 error: unknown suffix: 1u9\n")
+    );
+    let (status, lines) = scanned(&["--bad", "--macros", "skip"], "m!(1u9);\n");
+    assert_eq!((status, lines.as_str()), (Some(0), ""));
 }
 
 /// `--fix` rewrites the other literals of the source, and leaves the large integer unchanged.

@@ -3,6 +3,7 @@
 
 use std::ffi::OsStr;
 use std::fs::{self, OpenOptions};
+use std::io::Write;
 use std::os::unix::ffi::OsStrExt;
 use std::path::Path;
 use std::process::{Command, Output, Stdio};
@@ -65,6 +66,44 @@ fn arguments_that_are_not_texts() {
         assert_eq!(status, Some(2), "{said}");
         assert!(said.contains(expected), "{said}");
     }
+}
+
+/// A path that isn't UTF-8 is skipped, as an argument and in a list. The other paths are read. An option that isn't UTF-8 is an error.
+#[test]
+fn paths_that_are_not_texts() {
+    let skipped = "rl_scan: a\\xff: skipped a path that is not UTF-8\n";
+    let bad = OsStr::from_bytes(b"a\xff");
+    for (options, expected) in [(&[][..], 0), (&["--find"], 2), (&["-c", "--extension"], 2)] {
+        let mut command = rl_scan();
+        let command = command
+            .arg("--files")
+            .args(options)
+            .arg(bad)
+            .arg("Cargo.toml");
+        let said = if expected == 0 {
+            skipped
+        } else {
+            "rl_scan: an argument is not UTF-8\n"
+        };
+        assert_eq!(ended(command), (Some(expected), said.to_owned()));
+    }
+    let mut child = rl_scan()
+        .args(["--files", "--files-from", "-"])
+        .stdin(Stdio::piped())
+        .stdout(Stdio::piped())
+        .stderr(Stdio::piped())
+        .spawn()
+        .unwrap();
+    child
+        .stdin
+        .take()
+        .unwrap()
+        .write_all(b"a\xff\nCargo.toml\n")
+        .unwrap();
+    let done = child.wait_with_output().unwrap();
+    assert_eq!(String::from_utf8(done.stdout).unwrap(), "Cargo.toml\n");
+    assert_eq!(String::from_utf8(done.stderr).unwrap(), skipped);
+    assert_eq!(done.status.code(), Some(0));
 }
 
 /// An empty path isn't a file, and a second argument is one too many.

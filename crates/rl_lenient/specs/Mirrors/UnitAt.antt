@@ -5,7 +5,7 @@ use Rattle.std.specs.Char.{IsScalar, digit_value}
 use Rattle.std.proofs.Math.Utf8.{scalar}
 use Prim.Native.Char.{code}
 use Rattle.rl_syntax.specs.declared.kind.Kind.{Kind}
-use Rattle.rl_syntax.specs.Quoted.{content_of, holds_characters, is_line_end, is_string, is_plain, allows_code, may_be_hex, has_unicode}
+use Rattle.rl_syntax.specs.Quoted.{content_of, holds_characters, is_line_end, is_string, is_plain, allows_code, may_be_hex, allows_unicode_escapes}
 use Rattle.rl_syntax.specs.Texts.{begins_char, is_blank}
 use Rattle.rl_lenient.specs.declared.units.Piece.{Piece}
 use Rattle.rl_lenient.specs.declared.units.Piece.TheVariants.{Character, Byte, Nothing}
@@ -122,7 +122,7 @@ unicode_at kind t = do
   inside ← brace_at t
   digits ← first_code_digits_at inside
   whole ← closed_at digits
-  number_if (has_unicode kind && allows_code kind whole.0) whole.0 whole.1
+  number_if (allows_unicode_escapes kind && allows_code kind whole.0) whole.0 whole.1
 
 -- The text after the spaces, TABs, LFs and CRs at its start.
 unfoldable pub after_blanks : List ℕ → List ℕ

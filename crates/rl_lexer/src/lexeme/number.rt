@@ -13,7 +13,7 @@ ghost use Rattle.rl_syntax.specs.Classes.{after_run};
 use super::suffix::after_suffix;
 use rl_syntax::characters::is_start;
 use rl_syntax::classes::{CharClass, skip_class};
-use rl_syntax::text::{split_ascii, split_char, without_first};
+use rl_syntax::text::{split_ascii, split_char, without_first_char};
 
 /// Returns the text after a decimal number, where `text` begins after some of the digits before its dot.
 #[inline(never)]
@@ -73,7 +73,7 @@ fn after_fraction(text: &str) -> &str
     ensures following { IsTail text.now result.now }
 {
     if begins_dot(text) {
-        skip_class(CharClass::Numeral, without_first(text))
+        skip_class(CharClass::Numeral, without_first_char(text))
     } else {
         text
     }

@@ -10,8 +10,8 @@ ghost use Rattle.rl_syntax.specs.Classes.{is_hash};
 
 use super::suffix::after_suffix;
 use rl_syntax::classes::skip_hashes;
-use rl_syntax::scan::{Marks, next_mark};
-use rl_syntax::text::{after_prefix, before, begins_with, split_char, without_first};
+use rl_syntax::scan::{Marks, split_after_mark};
+use rl_syntax::text::{after_prefix, before, begins_with_char, split_char, without_first_char};
 
 /// Returns the text after a string literal and its suffix, where `text` follows the opening `"`. Returns `None` if the
 /// literal isn't closed.
@@ -41,7 +41,7 @@ pub(crate) fn after_raw_literal(text: &str) -> Option<&str>
     ensures following { IfSome result (λ rest. IsTail text.now rest.now) }
 {
     let opener = skip_hashes(text);
-    let rest = after_raw(before(text, opener), without_first(opener))?;
+    let rest = after_raw(before(text, opener), without_first_char(opener))?;
     Some(after_suffix(rest))
 }
 
@@ -49,7 +49,7 @@ pub(crate) fn after_raw_literal(text: &str) -> Option<&str>
 pub(crate) fn begins_hashed_quote(text: &str) -> bool
     ensures { result ≡ begins_hashed_quote (chars text.now) }
 {
-    begins_with(skip_hashes(text), '"')
+    begins_with_char(skip_hashes(text), '"')
 }
 
 /// Returns the text after the `"` that closes a string literal, where `text` follows its opening `"`. A character after
@@ -60,7 +60,7 @@ fn after_quote(text: &str) -> Option<&str>
     ensures following { IfSome result (λ rest. IsTail text.now rest.now) }
 {
     let mut rest = text;
-    while let Some((mark, following)) = next_mark(Marks::two(b'"', b'\\'), rest) {
+    while let Some((mark, following)) = split_after_mark(Marks::two(b'"', b'\\'), rest) {
         if mark == b'"' {
             return Some(following);
         }
@@ -80,7 +80,7 @@ fn after_raw<'t>(hashes: &str, text: &'t str) -> Option<&'t str>
     ensures following { IfSome result (λ rest. IsTail text.now rest.now) }
 {
     let mut rest = text;
-    while let Some((_, following)) = next_mark(Marks::two(b'"', b'"'), rest) {
+    while let Some((_, following)) = split_after_mark(Marks::two(b'"', b'"'), rest) {
         if let Some(end) = after_prefix(hashes, following) {
             return Some(end);
         }

@@ -11,7 +11,7 @@ use super::after_any_name;
 use crate::lexeme::after_suffix;
 use rl_syntax::characters::is_start;
 use rl_syntax::classes::skip_word;
-use rl_syntax::text::{begins_with, split_ascii, split_char, without_first};
+use rl_syntax::text::{begins_with_char, split_ascii, split_char, without_first_char};
 
 /// Returns the text after the invalid quoted literal at its start, as `'ab'` or `b'hello'`, or `None` if that has no
 /// end.
@@ -23,8 +23,8 @@ pub(crate) fn after_bad_quote(text: &str) -> Option<&str>
 {
     match split_char(text) {
         Some(('\'', following)) => after_bare(following),
-        Some(('b', following)) if begins_with(following, '\'') => {
-            after_other(without_first(following))
+        Some(('b', following)) if begins_with_char(following, '\'') => {
+            after_other(without_first_char(following))
         }
         _ => None,
     }
@@ -54,7 +54,7 @@ fn after_other(text: &str) -> Option<&str>
     ensures rest { option_map (λ rest. chars rest.now) result ≡ after_other (chars text.now) }
     ensures following { IfSome result (λ rest. IsTail text.now rest.now) }
 {
-    if begins_with(text, '\\') {
+    if begins_with_char(text, '\\') {
         return None;
     }
     let rest = after_next_quote(text)?;
@@ -89,7 +89,7 @@ fn after_part(c: char, following: &str) -> Option<&str>
         let (_, more) = split_char(following)?;
         return Some(more);
     }
-    if c == '/' || (c == '\n' && !begins_with(following, '\'')) {
+    if c == '/' || (c == '\n' && !begins_with_char(following, '\'')) {
         return None;
     }
     Some(following)

@@ -3,7 +3,7 @@
 use crate::Page;
 use crate::memory::format_results::format_result;
 use crate::memory::trial::{Scarce, Trial};
-use rl_grammar::{Kind, Segments, byte_spans_of, bytes_of, digits_of, shape, str_of};
+use rl_grammar::{Kind, Segments, bytes_of, digits_of, shape, str_of, value_byte_spans};
 use rl_sources::{Options, scan};
 use rl_tokens::{Span, lex};
 use rust_literals::read_all;
@@ -37,7 +37,7 @@ fn contents_of<A: Scarce>(scant: A, text: &str, page: &mut Page) {
 fn spans<A: Scarce>(scant: A, text: &str, page: &mut Page) {
     if let Some(segments) = Segments::of(text) {
         let base = Span::new(7, 0, text.len());
-        format_result(byte_spans_of(scant, segments, base), page)
+        format_result(value_byte_spans(scant, segments, base), page)
     }
 }
 

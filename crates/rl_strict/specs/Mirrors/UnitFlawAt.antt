@@ -6,7 +6,7 @@ use Rattle.std.proofs.Math.Utf8.{scalar}
 use Prim.Native.Char.{code}
 use Rattle.rl_syntax.specs.declared.kind.Kind.{Kind}
 use Rattle.rl_syntax.specs.declared.kind.Kind.TheVariants.{CStr}
-use Rattle.rl_syntax.specs.Quoted.{allows_code, has_unicode, holds_characters}
+use Rattle.rl_syntax.specs.Quoted.{allows_code, allows_unicode_escapes, holds_characters}
 use Rattle.rl_lenient.specs.Mirrors.UnitAt.{CodeDigits, code_digits_at}
 use Rattle.rl_strict.specs.declared.flaws.FlawKind.{FlawKind}
 use Rattle.rl_strict.specs.declared.flaws.FlawKind.TheVariants.{Unclosed, UnknownEscape, NoUnicode, NoHexDigit, NoBrace, EmptyBraces, TooManyDigits, HexEscapeOutOfRange, UnicodeEscapeOutOfRange, Surrogate, Nul, NotAscii, MustEscape, NoCharacter}
@@ -75,7 +75,7 @@ escape_flaw_at kind [] = found_flaw Unclosed []
 escape_flaw_at kind (c ∷ cs) =
     if c == code "x" then hex_flaw_at kind cs
     else (if c == code "u" then
-    (if has_unicode kind then unicode_flaw_at kind cs else found_flaw NoUnicode (c ∷ cs))
+    (if allows_unicode_escapes kind then unicode_flaw_at kind cs else found_flaw NoUnicode (c ∷ cs))
     else (if c == code "0" then found_flaw Nul (c ∷ cs) else found_flaw UnknownEscape (c ∷ cs)))
 
 -- The reason why a character isn't allowed unescaped.

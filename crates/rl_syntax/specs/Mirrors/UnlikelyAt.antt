@@ -54,8 +54,8 @@ unlikely_after before [] = 0
 unlikely_after before (c ∷ cs) =
     cond (begins_none before c (first_or 0 cs)) (suc (unlikely_after c cs)) 0
 
-abbrev pub unlikely_len : List ℕ → ℕ
-unlikely_len bytes = unlikely_after 0 bytes
+abbrev pub skippable_len : List ℕ → ℕ
+skippable_len bytes = unlikely_after 0 bytes
 
 -- The last byte of a list, or `before` if the list is empty.
 abbrev pub last_of : ℕ → List ℕ → ℕ

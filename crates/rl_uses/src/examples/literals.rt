@@ -2,7 +2,7 @@
 
 use rl_grammar::{LineEnds, explain_value};
 use rl_tokens::{Literal, Span, Tokens};
-use rust_literals::{Lit, LitFloat, Literals, read_all, read_next};
+use rust_literals::{Lit, LitFloat, Literals, push_next_literal, read_all};
 use std::alloc::Global;
 
 /// Returns the value of the byte, character or `bool` literal `text` as a number.
@@ -38,7 +38,7 @@ pub fn first_flaw(alloc: Global, text: &str) -> Option<(&'static str, usize)> {
 pub fn after_literal(alloc: Global, text: &str) -> Option<&str> {
     let mut tokens = Tokens::new(text);
     let mut list: Vec<Lit> = Vec::new(alloc);
-    let is_read = read_next(alloc, &mut tokens, 0, &mut list).ok()?;
+    let is_read = push_next_literal(alloc, &mut tokens, 0, &mut list).ok()?;
     is_read.then_some(tokens.rest())
 }
 

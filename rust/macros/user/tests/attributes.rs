@@ -152,6 +152,9 @@ fn by_name() {
         inner(size = 340282366920938463463374607431768211456f64)
     );
     assert_eq!(large.5, Some(340282366920938463463374607431768211456f64));
+    // An integer without a suffix is a float too.
+    assert_eq!(options!(name = "a", inner(size = 1)).5, Some(1.0));
+    assert_eq!(options!(name = "a", inner(size = -0x10)).5, Some(-16.0));
 }
 
 #[test]
@@ -206,8 +209,8 @@ fn errors_by_name() {
         (unexpected, "'x'", "'x'")
     );
     assert_eq!(
-        error!(name = "a", inner(size = 1)),
-        ("integer where f64 is wanted", "1", "1")
+        error!(name = "a", inner(size = 1u8)),
+        ("suffix that isn't f64", "1u8", "1u8")
     );
     assert_eq!(
         error!(name = "a", size = 1.5),

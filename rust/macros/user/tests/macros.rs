@@ -2,8 +2,8 @@
 
 use navyspindle_macros::{
     again, byte_errors, entries_of, errors_of_tokens, hex_bytes, joined_slashes, literals,
-    made_errors, named, placed, printed, settings, slow_calls, strings, strings_errors, sum,
-    sum_error, text, whole, whole_string, written,
+    made_errors, named, only_string, placed, printed, settings, slow_calls, small, strings,
+    strings_errors, sum, sum_error, text, whole, whole_string, written,
 };
 use std::ffi::CStr;
 use std::fmt::Debug;
@@ -244,6 +244,34 @@ fn the_literal_that_is_the_whole_input() {
 }
 
 #[test]
+fn the_only_literal_has_a_span() {
+    macro_rules! passed {
+        ($e:literal) => {
+            only_string!($e)
+        };
+    }
+    assert_eq!(only_string!("a\x41"), (r#""a\x41""#, r#""a\x41""#));
+    assert_eq!(passed!(r"b"), (r#"r"b""#, r#"r"b""#));
+    assert_eq!(only_string!("a",), [("unexpected token", ",", ",")]);
+    let message = "expected string literal, found integer literal";
+    assert_eq!(only_string!(-1), [(message, "-", "1")]);
+    let [(message, ..)] = only_string!();
+    assert_eq!(message, "unexpected end of input, expected literal");
+}
+
+/// Without `at`, these errors would be at the macro's call.
+#[test]
+fn errors_of_values_move_to_a_literal() {
+    assert_eq!((small!(0x1F), small!(7u8)), (31, 7));
+    let message = "number that u8 doesn't hold";
+    assert_eq!(small!(256), [(message, "256", "256")]);
+    // The span is that of the number, without the minus.
+    let message = "minus before a number of u8";
+    assert_eq!(small!(-1), [(message, "1", "1")]);
+    assert_eq!(small!(1i8), [("suffix that isn't u8", "1i8", "1i8")]);
+}
+
+#[test]
 fn values_end_at_a_comma() {
     let found = entries_of!(
         "a": f(1, 2) + [3, 4][0],
@@ -394,6 +422,13 @@ fn settings_by_name() {
     assert_eq!(
         named!(name = "a" size = 1),
         ("expected `,`", "size", "size")
+    );
+    // The range of this error is empty, and begins where the number ends.
+    let message = "size: expected an integer from 0 to 255: integer above 128 bits";
+    let large = "340282366920938463463374607431768211456";
+    assert_eq!(
+        named!(size = 340282366920938463463374607431768211456, name = "a"),
+        (message, large, large)
     );
     // An input without tokens is an error at the macro's call.
     let (message, first, last) = named!();

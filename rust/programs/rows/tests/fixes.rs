@@ -1,9 +1,13 @@
-//! Tests the output for a source whose literals would be rewritten: lines of changes, and unified diffs. The expected output is
-//! written by hand.
+//! Tests the output for a source whose literals would be rewritten: changes as text, JSON objects and annotations, and unified
+//! diffs. The expected output is written by hand.
 
-use navyspindle_programs::rattle_std::{alloc::Global, string::String as Line};
-use navyspindle_programs::rl_output::{Form, LineColumn, Place};
-use navyspindle_programs::rl_scan::{push_change, push_diff};
+use navyspindle_programs::rattle_std::alloc::{Allocator, Global};
+use navyspindle_programs::rattle_std::string::String as Line;
+use navyspindle_programs::rattle_std::vec::Vec as List;
+use navyspindle_programs::rl_files::{MemoryReplacements, PathError, Tree, Visit};
+use navyspindle_programs::rl_options::parse_arguments;
+use navyspindle_programs::rl_output::{Extent, Form, LineColumn, Place, Position};
+use navyspindle_programs::rl_scan::{push_change, push_diff, report_of, Command, Output};
 
 fn diff(path: &str, old: &str, new: &str) -> String {
     let mut out = Line::new(Global);
@@ -20,7 +24,7 @@ fn hunks(old: &str, new: &str) -> String {
 
 fn change(form: Form, path: Option<&str>, place: &Place, old: &str, new: &str) -> String {
     let mut out = Line::new(Global);
-    push_change(&mut out, form, path, place, old, new).expect("memory");
+    push_change(Global, &mut out, form, path, place, old, new).expect("memory");
     out.as_str().to_string()
 }
 
@@ -104,10 +108,129 @@ fn lines_of_changes() {
             "\"a\nb\"",
             "\"\u{202e}\""
         ),
-        "2..9 \"a\\nb\" -> \"\\u{202e}\"\n"
+        "2..9 \"a\\nb\" -> \"<U+202E>\"\n"
     );
     assert_eq!(
         change(Form::Colored, Some("a.rs"), &place, "1", "2"),
         "\x1b[35ma.rs\x1b[0m:\x1b[32m3:7\x1b[0m: 1 -> 2\n"
     );
+}
+
+#[test]
+fn changes_as_objects_and_annotations() {
+    let position = |line, column, byte_column| Position {
+        line,
+        column,
+        byte_column,
+    };
+    let place = Place::Whole(Extent {
+        lo: 20,
+        hi: 29,
+        start: position(3, 7, 8),
+        end: position(4, 2, 3),
+    });
+    let old = "'\\'\u{200b}50%\n'";
+    assert_eq!(
+        change(Form::Json, Some("a:\u{202e}.rs"), &place, old, "\t\\"),
+        "{\"path\":\"a:\\u202e.rs\",\"lo\":20,\"hi\":29,\"line\":3,\"column\":7,\"end_line\":4,\"end_column\":2,\
+        \"byte_column\":8,\"end_byte_column\":3,\"text\":\"'\\\\'\\u200b50%\\n'\",\"new\":\"\\t\\\\\"}\n"
+    );
+    assert_eq!(
+        change(Form::Github, Some("./a:.rs"), &place, old, "\t\\"),
+        "::error file=a%3A.rs,line=3,endLine=4,col=7,endColumn=2,title=style::'\\'<U+200B>50%25\\n' -> \\t\\\n"
+    );
+    assert_eq!(
+        change(Form::Github, None, &place, "", ""),
+        "::error line=3,endLine=4,col=7,endColumn=2,title=style:: -> \n"
+    );
+}
+
+/// A directory in which every file has the same text.
+struct Same(&'static str);
+
+impl Tree for Same {
+    fn bytes<A: Allocator>(&self, alloc: A, _path: &str) -> Result<List<u8, A>, PathError> {
+        Ok(List::from_slice(alloc, self.0.as_bytes()).expect("memory"))
+    }
+
+    fn names<A: Allocator + Copy>(
+        &self,
+        _alloc: A,
+        _path: &str,
+    ) -> Result<List<Line<A>, A>, PathError> {
+        Err(PathError::NotADirectory)
+    }
+}
+
+/// Returns standard output for the file at `path` with the contents `text`. The command is that of the option `mode`, changed by
+/// `set`.
+fn output(mode: &str, set: impl Fn(&mut Command<'_>), path: &str, text: &'static str) -> String {
+    let words = [Line::from_str(Global, mode).expect("memory")];
+    let Ok(parsed) = parse_arguments(Global, false, &words) else {
+        panic!("{mode}");
+    };
+    let mut command = parsed.command;
+    set(&mut command);
+    let mut files = MemoryReplacements {
+        alloc: Global,
+        unwritable: &[],
+        handed: List::new(Global),
+    };
+    let visit = Visit::File(Line::from_str(Global, path).expect("memory"));
+    let report = report_of(Global, command, &Same(text), &mut files, &visit).expect("memory");
+    assert!(report.errors.is_empty());
+    String::from_utf8(report.out.to_vec()).expect("it is UTF-8")
+}
+
+/// A source with two literals that the default style rewrites. The second one contains a line end.
+const TEXT: &str = "let é = 1E5;\nf(\"it\\'s\nä\", 2);\n";
+
+#[test]
+fn changes_of_a_source_as_objects() {
+    let json = |command: &mut Command<'_>| command.form = Form::Json;
+    assert_eq!(
+        output("--check", json, "\u{200b}.rs", TEXT),
+        "{\"path\":\"\\u200b.rs\",\"lo\":9,\"hi\":12,\"line\":1,\"column\":9,\"end_line\":1,\"end_column\":12,\
+        \"byte_column\":10,\"end_byte_column\":13,\"text\":\"1E5\",\"new\":\"1e5\"}\n\
+        {\"path\":\"\\u200b.rs\",\"lo\":16,\"hi\":26,\"line\":2,\"column\":3,\"end_line\":3,\"end_column\":3,\
+        \"byte_column\":3,\"end_byte_column\":4,\"text\":\"\\\"it\\\\'s\\nä\\\"\",\"new\":\"\\\"it's\\nä\\\"\"}\n"
+    );
+    assert_eq!(
+        output("--check", json, "-", "1E5"),
+        "{\"lo\":0,\"hi\":3,\"line\":1,\"column\":1,\"end_line\":1,\"end_column\":4,\"byte_column\":1,\
+        \"end_byte_column\":4,\"text\":\"1E5\",\"new\":\"1e5\"}\n"
+    );
+    assert_eq!(output("--check", json, "a.rs", "1e5"), "");
+}
+
+#[test]
+fn changes_of_a_source_as_annotations() {
+    let github = |command: &mut Command<'_>| command.form = Form::Github;
+    assert_eq!(
+        output("--check", github, "./\u{200b}.rs", TEXT),
+        "::error file=\\u{200b}.rs,line=1,endLine=1,col=9,endColumn=12,title=style::1E5 -> 1e5\n\
+        ::error file=\\u{200b}.rs,line=2,endLine=3,col=3,endColumn=3,title=style::\"it\\'s\\nä\" -> \"it's\\nä\"\n"
+    );
+}
+
+#[test]
+fn changes_of_a_source_with_context() {
+    let around = |command: &mut Command<'_>| command.around = Some(1);
+    let first = "a.rs:1:9: 1E5 -> 1e5\n    let é = 1E5;\n            ^^^\n    f(\"it\\'s\n";
+    let second = "a.rs:2:3: \"it\\'s\\nä\" -> \"it's\\nä\"\n    let é = 1E5;\n    f(\"it\\'s\n      ^^^^^^\n    ä\", 2);\n";
+    assert_eq!(
+        output("--check", around, "a.rs", TEXT),
+        first.to_string() + second
+    );
+    let before = |command: &mut Command<'_>| command.before = Some(0);
+    assert_eq!(
+        output("--check", before, "-", "é 1E5\n"),
+        "3..6 1E5 -> 1e5\n    é 1E5\n      ^^^\n"
+    );
+    let count = |command: &mut Command<'_>| {
+        command.around = Some(1);
+        command.output = Output::Count;
+    };
+    assert_eq!(output("--check", count, "a.rs", TEXT), "a.rs:2\n");
+    assert_eq!(output("--fix", around, "a.rs", TEXT), "a.rs:2\n");
 }

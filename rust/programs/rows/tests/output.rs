@@ -101,8 +101,8 @@ fn annotations_of_what_hides_text() {
     };
     assert_eq!(
         printed(options, "a\u{202e}\n\u{200b}"),
-        "::error line=1,endLine=1,col=2,endColumn=3,title=hidden::U+202E RIGHT-TO-LEFT OVERRIDE\n\
-         ::error line=2,endLine=2,col=1,endColumn=2,title=hidden::U+200B\n"
+        "::error line=1,endLine=1,col=2,endColumn=3,title=bidirectional-character::U+202E RIGHT-TO-LEFT OVERRIDE\n\
+         ::error line=2,endLine=2,col=1,endColumn=2,title=invisible-character::U+200B\n"
     );
 }
 
@@ -311,7 +311,7 @@ fn sarif() {
         "{{\"version\":\"2.1.0\",\"$schema\":\"https://json.schemastore.org/sarif-2.1.0.json\",\"runs\":[{{\"tool\":{{\"driver\":\
          {{\"name\":\"rl_scan\",\"rules\":[{},{},{}]}}}},\
          \"columnKind\":\"unicodeCodePoints\",\"results\":[{},{},{}]}}]}}\n",
-        rule("hidden", "a character that turns or hides text"),
+        rule("bidirectional-character", "bidirectional character"),
         rule("unknown-escape", "unknown escape"),
         rule("unknown-suffix", "unknown suffix"),
         result(
@@ -327,7 +327,7 @@ fn sarif() {
             [2, 3, 2, 6]
         ),
         result(
-            "hidden",
+            "bidirectional-character",
             "U+202E RIGHT-TO-LEFT OVERRIDE",
             "-",
             [1, 1, 1, 2]

@@ -8,10 +8,12 @@ use navyspindle_programs::rl_restyle::{rewrite_source, Macros, RestyleError};
 use std::fs;
 use std::path::Path;
 
-/// The style: hexadecimal digits in lower case, no underscores, and no backslash before a quote that doesn't need one.
+/// The style: hexadecimal digits in lower case, no underscores, no leading zeros, and no backslash before a quote that doesn't need
+/// one.
 const RULES: Rules = Rules {
     hex_digits: Some(Case::Lower),
     underscores: true,
+    leading_zeros: true,
     quote_escapes: true,
     raw_hashes: true,
     ..Rules::KEEP
@@ -59,6 +61,13 @@ fn texts_are_written_anew() {
         ("é 0xA é 1_0é 'é'", "é 0xa é 10é 'é'"),
         ("\u{feff}0xA", "\u{feff}0xa"),
         ("0b12 '\\q' 0xA", "0b12 '\\q' 0xa"),
+        // clippy's `mistyped_literal_suffixes` warns of `2_32`, `0_8`, `0xAB_16` and `1E5_64`, and not of the others.
+        (
+            "2_32 2_032 2_32_ 2_32u8 0_8 0xAB_16 1E5_64 1.5_64 1_8.",
+            "2_32 2032 232 232u8 0_8 0xAB_16 1E5_64 1.564 18.",
+        ),
+        // clippy's `zero_prefixed_literal` suggests an octal number for `0123` and `0_7u8`.
+        ("0123 089 0_7u8 0_9u8", "0123 89 07u8 9u8"),
         ("m!(0xA) + 0xB", "m!(0xA) + 0xb"),
         ("#![a(0xA)] return !(0xB)", "#![a(0xA)] return !(0xb)"),
     ] {
@@ -110,6 +119,7 @@ fn sources_are_written_as_the_package_does() {
     let style = Style::new()
         .hex_digits(navyspindle::Case::Lower)
         .drop_underscores(true)
+        .drop_leading_zeros(true)
         .drop_quote_escapes(true)
         .fewest_hashes(true);
     let mut texts = Vec::new();

@@ -9,6 +9,36 @@ use super::rt::HostRuntime;
 use super::string::String;
 use super::vec::{IntoIter, Vec};
 use std::env;
+use std::ffi::OsString;
+use std::os::unix::ffi::OsStrExt;
+use std::sync::OnceLock;
+
+/// The arguments, which are copied once.
+static ALL: OnceLock<std::vec::Vec<OsString>> = OnceLock::new();
+
+/// The reason why a value isn't copied to a buffer.
+pub enum FillError {
+    /// There is no such value.
+    NotPresent,
+    /// The value is longer than the buffer.
+    TooLong,
+}
+
+/// Access to the arguments.
+pub trait Env {
+    /// Copies the argument with the number `i` to the start of `buf`, and returns its length. Argument 0 is the program's name.
+    fn arg(&self, i: usize, buf: &mut [u8]) -> Result<usize, FillError>;
+}
+
+impl Env for HostRuntime {
+    fn arg(&self, i: usize, buf: &mut [u8]) -> Result<usize, FillError> {
+        let all = ALL.get_or_init(|| env::args_os().collect());
+        let arg = all.get(i).ok_or(FillError::NotPresent)?.as_bytes();
+        let place = buf.get_mut(..arg.len()).ok_or(FillError::TooLong)?;
+        place.copy_from_slice(arg);
+        Ok(arg.len())
+    }
+}
 
 /// An iterator over a program's arguments.
 pub type Args = IntoIter<String>;

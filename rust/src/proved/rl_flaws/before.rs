@@ -1,4 +1,4 @@
-// Rendered from crates/rl_flaws/src/before.rt by tools/render, which erases contracts: change that file, and render anew.
+// Rendered from crates/rl_flaws/src/before.rt by tools/render, which erases contracts: change that file, and render again.
 //! Rules about the text directly before a literal: a minus, and prefixes that an edition of Rust reserves.
 
 /// An edition of Rust.

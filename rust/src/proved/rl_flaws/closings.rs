@@ -1,14 +1,14 @@
-// Rendered from crates/rl_flaws/src/closings.rt by tools/render, which erases contracts: change that file, and render anew.
+// Rendered from crates/rl_flaws/src/closings.rt by tools/render, which erases contracts: change that file, and render again.
 //! Finds the closing quote of an invalid character or byte literal, as rustc does.
 
 use crate::rl_strict::LineEnds;
 use crate::rl_strict::walk_units::split;
-use crate::rl_syntax::text::{begins_with, strip_byte};
+use crate::rl_syntax::text::{begins_with_char, strip_byte};
 
 /// Whether the search for a closing quote ends at `c`: at a slash, or at an LF that a quote doesn't follow directly.
 #[inline]
 fn ends_search(c: char, following: &str) -> bool {
-    c == '/' || (c == '\n' && !begins_with(following, '\''))
+    c == '/' || (c == '\n' && !begins_with_char(following, '\''))
 }
 
 /// Returns the text after the character `c`, or `None` if the search for a closing quote ends there. A backslash skips the
@@ -47,7 +47,7 @@ pub fn closing_quote(ends: LineEnds, text: &str) -> Option<&str> {
     let Some(second) = strip_byte(text, b'\'') else {
         return next_quote(ends, text);
     };
-    if begins_with(second, '\'') {
+    if begins_with_char(second, '\'') {
         Some(second)
     } else {
         next_quote(ends, text)

@@ -1,4 +1,4 @@
-// Rendered from crates/rl_flaws/src/flaws.rt by tools/render, which erases contracts: change that file, and render anew.
+// Rendered from crates/rl_flaws/src/flaws.rt by tools/render, which erases contracts: change that file, and render again.
 //! Iterates over all flaws in the text of a literal.
 
 use crate::rl_flaws::closings::closing_quote;
@@ -9,7 +9,7 @@ use crate::rl_lenient::quoted_forms::QuotedForm;
 use crate::rl_strict::read_quoted::suffix_flaw;
 use crate::rl_strict::{FlawKind, LineEnds, read};
 use crate::rl_syntax::Kind;
-use crate::rl_syntax::text::{before, without_first};
+use crate::rl_syntax::text::{before, without_first_char};
 
 /// The part of a text that is still to be checked for flaws.
 #[derive(Clone, Copy)]
@@ -116,7 +116,7 @@ pub fn next_flaw_inside<'t>(
 /// Returns the flaw after a character or byte literal. `closing` is the text that begins with its closing quote.
 #[inline]
 fn judge_closed<'t>(ends: LineEnds, len: usize, kind: Kind, closing: &'t str) -> NextFlaw<'t> {
-    let suffix = without_first(closing);
+    let suffix = without_first_char(closing);
     match suffix_flaw(QuotedForm::Single, closing, suffix) {
         None => NextFlaw {
             good: "",

@@ -1,4 +1,4 @@
-// Rendered from crates/rl_flaws/src/float_range.rt by tools/render, which erases contracts: change that file, and render anew.
+// Rendered from crates/rl_flaws/src/float_range.rt by tools/render, which erases contracts: change that file, and render again.
 //! Checks whether a decimal number rounds to infinity as an `f32` or `f64`.
 
 use crate::rl_flaws::number_types::NumberType;

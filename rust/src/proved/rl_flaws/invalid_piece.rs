@@ -1,4 +1,4 @@
-// Rendered from crates/rl_flaws/src/invalid_piece.rt by tools/render, which erases contracts: change that file, and render anew.
+// Rendered from crates/rl_flaws/src/invalid_piece.rt by tools/render, which erases contracts: change that file, and render again.
 //! A flaw, and the range of text to show for it.
 
 use crate::rl_flaws::piece_ends::{after_bad_piece, is_flaw_of_unit};

@@ -1,4 +1,4 @@
-// Rendered from crates/rl_flaws/src/kind_guess.rt by tools/render, which erases contracts: change that file, and render anew.
+// Rendered from crates/rl_flaws/src/kind_guess.rt by tools/render, which erases contracts: change that file, and render again.
 //! Guesses the kind of a possibly invalid literal from its beginning.
 
 use crate::rl_flaws::walks::open;

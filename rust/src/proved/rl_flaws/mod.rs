@@ -1,4 +1,4 @@
-// Rendered from crates/rl_flaws/src/lib.rt by tools/render, which erases contracts: change that file, and render anew.
+// Rendered from crates/rl_flaws/src/lib.rt by tools/render, which erases contracts: change that file, and render again.
 //! Finds every flaw of a possibly invalid literal, in a separate text or in a file. The crate also guesses the kind of an
 //! invalid literal, and splits a quoted literal into its valid and invalid pieces. For valid literals, it checks Rust's rules
 //! beyond the grammar: the suffix, the range, and the text directly before the literal. Nothing is allocated.

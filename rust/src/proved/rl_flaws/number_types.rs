@@ -1,4 +1,4 @@
-// Rendered from crates/rl_flaws/src/number_types.rt by tools/render, which erases contracts: change that file, and render anew.
+// Rendered from crates/rl_flaws/src/number_types.rt by tools/render, which erases contracts: change that file, and render again.
 //! The number types of Rust, and the greatest integer of each.
 
 use crate::rl_syntax::IntegerType;

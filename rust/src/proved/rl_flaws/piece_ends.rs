@@ -1,4 +1,4 @@
-// Rendered from crates/rl_flaws/src/piece_ends.rt by tools/render, which erases contracts: change that file, and render anew.
+// Rendered from crates/rl_flaws/src/piece_ends.rt by tools/render, which erases contracts: change that file, and render again.
 //! Finds the end of an invalid character or escape in a quoted literal.
 
 use crate::rl_strict::walk_units::split;

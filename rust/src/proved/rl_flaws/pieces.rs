@@ -1,4 +1,4 @@
-// Rendered from crates/rl_flaws/src/pieces.rt by tools/render, which erases contracts: change that file, and render anew.
+// Rendered from crates/rl_flaws/src/pieces.rt by tools/render, which erases contracts: change that file, and render again.
 //! Splits a quoted literal into its valid segments and its invalid pieces.
 
 use crate::rl_flaws::flaws::{Left, next_flaw, next_flaw_inside};

@@ -1,4 +1,4 @@
-// Rendered from crates/rl_flaws/src/type_errors.rt by tools/render, which erases contracts: change that file, and render anew.
+// Rendered from crates/rl_flaws/src/type_errors.rt by tools/render, which erases contracts: change that file, and render again.
 //! Checks whether Rust has a type for a literal: its suffix, and its range.
 
 use crate::rl_flaws::float_range::is_infinite;

@@ -1,4 +1,4 @@
-// Rendered from crates/rl_flaws/src/walks.rt by tools/render, which erases contracts: change that file, and render anew.
+// Rendered from crates/rl_flaws/src/walks.rt by tools/render, which erases contracts: change that file, and render again.
 //! Parses the content of a quoted literal up to its first flaw or its end, from any position inside the literal.
 
 use crate::rl_lenient::quoted_forms::{QuotedForm, split_opener};

@@ -1,4 +1,4 @@
-// Rendered from crates/rl_lenient/src/contents.rt by tools/render, which erases contracts: change that file, and render anew.
+// Rendered from crates/rl_lenient/src/contents.rt by tools/render, which erases contracts: change that file, and render again.
 //! Functions that decode quoted literals into a slice of the caller's, and functions that test whether a literal's body
 //! is its value, byte for byte.
 
@@ -6,7 +6,7 @@
 use crate::rl_lenient::found::{find, find_float, found_in};
 use crate::rl_lenient::units::{Piece, split_plain, unit};
 #[cfg(feature = "__rendered")]
-use crate::rl_lenient::units::piece_unit;
+use crate::rl_lenient::units::piece_code;
 use crate::rl_syntax::Kind;
 use crate::rl_syntax::slice_writer::{put, put_byte, put_char};
 
@@ -79,7 +79,7 @@ fn body_unit(kind: Kind, body: &str) -> u32 {
     let Some((piece, _)) = unit(kind, body) else {
         unreachable!()
     };
-    piece_unit(kind, piece)
+    piece_code(kind, piece)
 }
 
 /// Returns the value of the byte literal `text`. The text must be a byte literal: [`shape`](crate::rl_lenient::shape) returns the

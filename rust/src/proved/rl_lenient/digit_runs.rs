@@ -1,4 +1,4 @@
-// Rendered from crates/rl_lenient/src/digit_runs.rt by tools/render, which erases contracts: change that file, and render anew.
+// Rendered from crates/rl_lenient/src/digit_runs.rt by tools/render, which erases contracts: change that file, and render again.
 //! Functions that parse sequences of digits and underscores, the minus before them and the suffix after them. The
 //! number that the digits represent is computed within 128 bits.
 

@@ -1,9 +1,9 @@
-// Rendered from crates/rl_lenient/src/digits.rt by tools/render, which erases contracts: change that file, and render anew.
+// Rendered from crates/rl_lenient/src/digits.rt by tools/render, which erases contracts: change that file, and render again.
 //! Tests of whether a number's body already is its digits, and a function that writes a float's digits into a slice of
 //! the caller's.
 
 use crate::rl_lenient::digit_runs::after_minus;
-use crate::rl_syntax::scan::{Marks, next_mark};
+use crate::rl_syntax::scan::{Marks, split_after_mark};
 use crate::rl_syntax::slice_writer::{put_byte, put_char};
 use crate::rl_syntax::text::split_char;
 
@@ -41,7 +41,7 @@ pub fn is_plain_integer(body: &str) -> bool {
 
 /// Whether the digits of a float literal are its body as written. `numeral` is the text before the suffix.
 pub(crate) fn is_plain_float(numeral: &str) -> bool {
-    match next_mark(CHANGED, numeral) {
+    match split_after_mark(CHANGED, numeral) {
         Some(_) => false,
         None => true,
     }

@@ -1,4 +1,4 @@
-// Rendered from crates/rl_lenient/src/next_literals.rt by tools/render, which erases contracts: change that file, and render anew.
+// Rendered from crates/rl_lenient/src/next_literals.rt by tools/render, which erases contracts: change that file, and render again.
 //! Functions that return the next literal of a list of literals, or the list's error.
 
 use crate::rl_lenient::found::{Found, find, find_negative, find_truth};

@@ -1,4 +1,4 @@
-// Rendered from crates/rl_lenient/src/number_forms.rt by tools/render, which erases contracts: change that file, and render anew.
+// Rendered from crates/rl_lenient/src/number_forms.rt by tools/render, which erases contracts: change that file, and render again.
 //! Functions that parse numbers: integers with their base, floats, and texts that may be either, where an integer takes
 //! precedence.
 

@@ -1,4 +1,4 @@
-// Rendered from crates/rl_lenient/src/numbers.rt by tools/render, which erases contracts: change that file, and render anew.
+// Rendered from crates/rl_lenient/src/numbers.rt by tools/render, which erases contracts: change that file, and render again.
 //! Functions that split the text of a number into its parts.
 
 use crate::rl_lenient::digit_runs::{after_minus, read_digit_run, skip_digits};

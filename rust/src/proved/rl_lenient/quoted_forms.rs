@@ -1,8 +1,8 @@
-// Rendered from crates/rl_lenient/src/quoted_forms.rt by tools/render, which erases contracts: change that file, and render anew.
+// Rendered from crates/rl_lenient/src/quoted_forms.rt by tools/render, which erases contracts: change that file, and render again.
 //! Functions that parse quoted literals, and return the byte offsets of their parts.
 
 use crate::rl_lenient::found::{Body, Found};
-use crate::rl_lenient::units::{is_ascii, piece_unit, split_plain, unit};
+use crate::rl_lenient::units::{is_ascii, piece_code, split_plain, unit};
 use crate::rl_syntax::Kind;
 use crate::rl_syntax::classes::skip_hashes;
 use crate::rl_syntax::text::{after_prefix, before, split_ascii};
@@ -189,7 +189,7 @@ pub(crate) fn find_single(kind: Kind, text: &str, inside: &str) -> Option<Found>
     let (piece, closer) = unit(kind, inside)?;
     let suffix = after_quote(Kind::Char, closer)?;
     let body = places(text, inside, closer, suffix, false);
-    Some(quoted(kind, body, piece_unit(kind, piece)))
+    Some(quoted(kind, body, piece_code(kind, piece)))
 }
 
 /// Whether the text begins with `'`, and has the three bytes that a character literal has at least.

@@ -1,4 +1,4 @@
-// Rendered from crates/rl_lenient/src/ranges.rt by tools/render, which erases contracts: change that file, and render anew.
+// Rendered from crates/rl_lenient/src/ranges.rt by tools/render, which erases contracts: change that file, and render again.
 //! A function that maps a range of a quoted literal's decoded value to a range of the literal's text.
 
 use crate::rl_lenient::Body;

@@ -1,4 +1,4 @@
-// Rendered from crates/rl_lenient/src/segments.rt by tools/render, which erases contracts: change that file, and render anew.
+// Rendered from crates/rl_lenient/src/segments.rt by tools/render, which erases contracts: change that file, and render again.
 //! The segments of a quoted literal: the parts of the text between its quotes, each with its range and its value.
 
 use crate::rl_lenient::found::Body;

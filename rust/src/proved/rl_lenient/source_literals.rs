@@ -1,4 +1,4 @@
-// Rendered from crates/rl_lenient/src/source_literals.rt by tools/render, which erases contracts: change that file, and render anew.
+// Rendered from crates/rl_lenient/src/source_literals.rt by tools/render, which erases contracts: change that file, and render again.
 //! A function that returns the next literal of a whole Rust source.
 
 use crate::rl_lenient::found::{Found, find};

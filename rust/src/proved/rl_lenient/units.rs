@@ -1,4 +1,4 @@
-// Rendered from crates/rl_lenient/src/units.rt by tools/render, which erases contracts: change that file, and render anew.
+// Rendered from crates/rl_lenient/src/units.rt by tools/render, which erases contracts: change that file, and render again.
 //! Functions that parse the characters and escapes between the quotes of a literal.
 
 use crate::rl_syntax::Kind;
@@ -25,7 +25,7 @@ pub enum Piece {
 
 /// Returns the number of the character or byte `piece`, the only one of a character or byte literal.
 #[inline(always)]
-pub fn piece_unit(kind: Kind, piece: Piece) -> u32 {
+pub fn piece_code(kind: Kind, piece: Piece) -> u32 {
     match piece {
         Piece::Character(c) => c as u32,
         Piece::Byte(b) => b as u32,
@@ -36,7 +36,7 @@ pub fn piece_unit(kind: Kind, piece: Piece) -> u32 {
 /// Returns `true` if a literal between single quotes may contain the character unescaped: each character except `'`,
 /// the backslash, LF, CR and TAB. Byte literals have this rule in `syn`'s and in Rust's grammar, and character literals
 /// in Rust's grammar alone.
-pub fn is_bare_character(c: char) -> bool {
+pub fn is_allowed_in_single_quotes(c: char) -> bool {
     !matches!(c, '\'' | '\\' | '\n' | '\r' | '\t')
 }
 
@@ -47,7 +47,7 @@ pub fn is_plain(kind: Kind, c: char) -> bool {
         Kind::ByteStr => c.is_ascii() && !matches!(c, '"' | '\\' | '\r'),
         Kind::CStr => !matches!(c, '"' | '\\' | '\r' | '\0'),
         Kind::Char => c != '\\',
-        Kind::Byte => c.is_ascii() && is_bare_character(c),
+        Kind::Byte => c.is_ascii() && is_allowed_in_single_quotes(c),
         Kind::Int | Kind::Float | Kind::Bool => false,
     }
 }
@@ -65,7 +65,7 @@ fn may_be_hex(kind: Kind, code: u32) -> bool {
 }
 
 /// Returns `true` if literals of the kind may contain escapes `\u{..}`: all kinds except byte strings and bytes.
-pub fn has_unicode(kind: Kind) -> bool {
+pub fn allows_unicode_escapes(kind: Kind) -> bool {
     !matches!(kind, Kind::ByteStr | Kind::Byte)
 }
 
@@ -189,7 +189,7 @@ fn unicode_escape(kind: Kind, text: &str, at: usize) -> Option<(char, usize)> {
         return None;
     };
     let (c, after) = closed_code(text, code_digits(text, inside)?)?;
-    if has_unicode(kind) && allows_code(kind, c as u32) {
+    if allows_unicode_escapes(kind) && allows_code(kind, c as u32) {
         Some((c, after))
     } else {
         None

@@ -1,4 +1,4 @@
-// Rendered from crates/rl_lenient/src/values.rt by tools/render, which erases contracts: change that file, and render anew.
+// Rendered from crates/rl_lenient/src/values.rt by tools/render, which erases contracts: change that file, and render again.
 //! Functions that return the value of an integer literal with its sign, decode a string literal, and test for a suffix.
 
 use crate::rl_lenient::contents::str_into;

@@ -1,4 +1,4 @@
-// Rendered from crates/rl_lexer/src/lex_error.rt by tools/render, which erases contracts: change that file, and render anew.
+// Rendered from crates/rl_lexer/src/lex_error.rt by tools/render, which erases contracts: change that file, and render again.
 //! The errors of the lexer.
 
 use core::fmt;

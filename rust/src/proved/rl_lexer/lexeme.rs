@@ -1,4 +1,4 @@
-// Rendered from crates/rl_lexer/src/lexeme.rt by tools/render, which erases contracts: change that file, and render anew.
+// Rendered from crates/rl_lexer/src/lexeme.rt by tools/render, which erases contracts: change that file, and render again.
 //! Functions that lex the token at the start of a text: a literal, an identifier, a delimiter or another punctuation
 //! character.
 
@@ -12,7 +12,7 @@ use quotes::{after_character, after_quoted, after_raw_literal};
 use crate::rl_syntax::characters::is_start;
 use crate::rl_syntax::classes::skip_word;
 use crate::rl_syntax::lanes::has_bit;
-use crate::rl_syntax::text::{begins_with, split_ascii, split_char, strip_byte, without_first};
+use crate::rl_syntax::text::{begins_with_char, split_ascii, split_char, strip_byte, without_first_char};
 pub(crate) use suffix::after_suffix;
 
 /// The form of a token that [`Tokens`](crate::rl_lexer::Tokens) returns, which its first characters decide. A token with the form
@@ -118,9 +118,9 @@ fn wide_identifier(text: &str) -> Option<(Form, &str)> {
 #[inline(never)]
 fn literal_or_identifier(letter: char, text: &str) -> Option<(Form, &str)> {
     match letter {
-        'b' | 'c' if begins_with(text, '"') => quoted_literal(without_first(text)),
-        'b' if begins_with(text, '\'') => character_literal(without_first(text)),
-        'b' | 'c' if begins_raw_literal(text) => raw_literal(without_first(text)),
+        'b' | 'c' if begins_with_char(text, '"') => quoted_literal(without_first_char(text)),
+        'b' if begins_with_char(text, '\'') => character_literal(without_first_char(text)),
+        'b' | 'c' if begins_raw_literal(text) => raw_literal(without_first_char(text)),
         'r' if begins_hashed_quote(text) => raw_literal(text),
         'r' if begins_marked_identifier(text) => None,
         _ => Some((Form::Identifier, skip_word(text))),
@@ -283,7 +283,7 @@ fn after_digit(text: &str) -> &str {
 
 /// Whether the text begins with `r`, any number of hashes, and `"`.
 fn begins_raw_literal(text: &str) -> bool {
-    begins_with(text, 'r') && begins_hashed_quote(without_first(text))
+    begins_with_char(text, 'r') && begins_hashed_quote(without_first_char(text))
 }
 
 /// Whether the text begins with `#` and a character that may begin an identifier.

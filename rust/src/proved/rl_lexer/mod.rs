@@ -1,4 +1,4 @@
-// Rendered from crates/rl_lexer/src/lib.rt by tools/render, which erases contracts: change that file, and render anew.
+// Rendered from crates/rl_lexer/src/lib.rt by tools/render, which erases contracts: change that file, and render again.
 //! The lexer: it splits a text (`Tokens`) or a whole Rust source (`Sources`) into tokens, one at a time. It returns an
 //! error where no token begins. Nothing is allocated.
 

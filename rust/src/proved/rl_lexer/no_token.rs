@@ -1,11 +1,11 @@
-// Rendered from crates/rl_lexer/src/no_token.rt by tools/render, which erases contracts: change that file, and render anew.
+// Rendered from crates/rl_lexer/src/no_token.rt by tools/render, which erases contracts: change that file, and render again.
 //! Functions that return the kind of the lexer's error at a text that begins with no token.
 
 use crate::rl_lexer::lex_error::LexKind;
 use crate::rl_lexer::lexeme::{begins_hashed_quote, begins_marked_identifier};
 use crate::rl_syntax::characters::is_start;
 use crate::rl_syntax::kind::{BYTE_OPENER, BYTE_STR_OPENER, C_STR_OPENER, CHAR_OPENER, STR_OPENER};
-use crate::rl_syntax::text::{begins, begins_with, split_char};
+use crate::rl_syntax::text::{begins, begins_with_char, split_char};
 
 /// Returns the kind of the lexer's error at the start of `rest`, where no token begins. The first characters of `rest`
 /// decide.
@@ -37,7 +37,7 @@ pub fn source_error_kind(rest: &str) -> LexKind {
 
 /// Whether the text begins like a quoted literal or a block comment.
 pub(crate) fn opens(text: &str) -> bool {
-    begins(text, "/*") || (begins_quote(text) || begins_with(text, '\''))
+    begins(text, "/*") || (begins_quote(text) || begins_with_char(text, '\''))
 }
 
 fn begins_doc_comment(text: &str) -> bool {

@@ -1,4 +1,4 @@
-// Rendered from crates/rl_lexer/src/source.rt by tools/render, which erases contracts: change that file, and render anew.
+// Rendered from crates/rl_lexer/src/source.rt by tools/render, which erases contracts: change that file, and render again.
 //! Functions that lex the token at the start of a Rust source.
 
 mod bad_quote;
@@ -9,11 +9,11 @@ use crate::rl_lexer::whitespace::{after_block, after_line, is_comment_block, is_
 use bad_quote::after_bad_quote;
 use crate::rl_syntax::characters::is_start;
 use crate::rl_syntax::classes::{skip_white, skip_word};
-use crate::rl_syntax::lanes::{byte_before, is_word_byte, unlikely_len};
+use crate::rl_syntax::lanes::{byte_before, is_word_byte, skippable_len};
 use crate::rl_syntax::lines::split_line;
 #[cfg(feature = "__rendered")]
-use crate::rl_syntax::lines::next_line;
-use crate::rl_syntax::text::{begins_with, split_ascii, split_char, strip_byte, without_first};
+use crate::rl_syntax::lines::after_line_feed;
+use crate::rl_syntax::text::{begins_with_char, split_ascii, split_char, strip_byte, without_first_char};
 
 /// The form of a token that [`Sources`](crate::rl_lexer::Sources) returns.
 #[derive(Clone, Copy)]
@@ -52,7 +52,7 @@ pub fn first_source_token(text: &str) -> Option<(SourceForm, &str)> {
 #[inline(always)]
 pub(crate) fn skip_unlikely(text: &str) -> &str {
     let bytes = text.as_bytes();
-    let at = unlikely_len(bytes);
+    let at = skippable_len(bytes);
     let rest = after_word(byte_before(bytes, at), &text[at..]);
     skip_all_comments(skip_white(rest))
 }
@@ -190,7 +190,7 @@ fn line_end(text: &str) -> &str {
 /// Returns the text after its first LF, or `None` if it contains no LF.
 #[cfg(feature = "__rendered")]
 pub(crate) fn after_first_line(text: &str) -> Option<&str> {
-    next_line(text)
+    after_line_feed(text)
 }
 
 /// Returns the text after the identifier at its start, or `None` if it begins with no identifier.
@@ -213,7 +213,7 @@ fn after_marked(text: &str) -> Option<&str> {
 #[inline(always)]
 fn after_any_name(text: &str) -> Option<&str> {
     if begins_raw_identifier(text) {
-        return after_name(without_first(without_first(text)));
+        return after_name(without_first_char(without_first_char(text)));
     }
     after_name(text)
 }
@@ -251,7 +251,7 @@ fn without_line(text: &str) -> &str {
     let Some(following) = strip_byte(second, b'!') else {
         return text;
     };
-    if begins_with(skip(following), '[') {
+    if begins_with_char(skip(following), '[') {
         return text;
     }
     line_end(following)

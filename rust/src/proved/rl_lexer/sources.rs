@@ -1,4 +1,4 @@
-// Rendered from crates/rl_lexer/src/sources.rt by tools/render, which erases contracts: change that file, and render anew.
+// Rendered from crates/rl_lexer/src/sources.rt by tools/render, which erases contracts: change that file, and render again.
 //! The cursor that lexes a whole Rust source's tokens one at a time.
 
 use crate::rl_lexer::lex_error::LexError;

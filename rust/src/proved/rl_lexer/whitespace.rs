@@ -1,11 +1,11 @@
-// Rendered from crates/rl_lexer/src/whitespace.rt by tools/render, which erases contracts: change that file, and render anew.
+// Rendered from crates/rl_lexer/src/whitespace.rt by tools/render, which erases contracts: change that file, and render again.
 //! Functions that skip white space and plain comments. Plain comments are those that aren't doc comments.
 
 use crate::rl_syntax::classes::skip_white;
 use crate::rl_syntax::lanes::byte_at;
-use crate::rl_syntax::lines::next_line;
-use crate::rl_syntax::scan::{Marks, near_len_before};
-use crate::rl_syntax::text::{begins_with, split_ascii, strip_byte};
+use crate::rl_syntax::lines::after_line_feed;
+use crate::rl_syntax::scan::{Marks, len_before_near_mark};
+use crate::rl_syntax::text::{begins_with_char, split_ascii, strip_byte};
 
 /// Returns the text after its leading white space and plain comments, as a slice.
 ///
@@ -56,18 +56,22 @@ fn after_comment(text: &str) -> Option<&str> {
 #[inline(always)]
 pub(crate) fn is_comment_line(body: &str) -> bool {
     match split_ascii(body) {
-        Some((first, following)) => first != b'!' && (first != b'/' || begins_with(following, '/')),
+        Some((first, following)) => first != b'!'
+            && (first != b'/' || begins_with_char(following, '/')),
         None => true,
     }
 }
 
 /// Whether a block comment is plain, and not a doc comment. `inside` is the text after its `/*`.
-#[inline(always)]
+#[cfg_attr(debug_assertions, inline)]
+#[cfg_attr(not(debug_assertions), inline(always))]
 pub(crate) fn is_comment_block(inside: &str) -> bool {
     match split_ascii(inside) {
         Some((first, following)) => {
             first != b'!'
-                && (first != b'*' || begins_with(following, '/') || begins_with(following, '*'))
+                && (first != b'*'
+                    || begins_with_char(following, '/')
+                    || begins_with_char(following, '*'))
         }
         None => true,
     }
@@ -75,7 +79,7 @@ pub(crate) fn is_comment_block(inside: &str) -> bool {
 
 /// Returns the text after the LF that ends a line comment, or an empty text if the comment is at the end of the text.
 pub(crate) fn after_line(text: &str) -> &str {
-    next_line(text).unwrap_or("")
+    after_line_feed(text).unwrap_or("")
 }
 
 /// Returns the text after a block comment, where `text` follows its `/*`. Returns `None` if the comment isn't closed.
@@ -104,7 +108,7 @@ pub(crate) fn after_block(text: &str) -> Option<&str> {
                 depth += 1;
             }
         } else {
-            at += near_len_before(Marks::two(b'*', b'/'), &bytes[at..]);
+            at += len_before_near_mark(Marks::two(b'*', b'/'), &bytes[at..]);
         }
     }
     None

@@ -1,4 +1,4 @@
-// Rendered from crates/rl_recovery/src/leading.rt by tools/render, which erases contracts: change that file, and render anew.
+// Rendered from crates/rl_recovery/src/leading.rt by tools/render, which erases contracts: change that file, and render again.
 //! The literal at the start of a text, optionally with a minus before it.
 
 use crate::rl_lenient::digit_runs::begins_digit;

@@ -1,7 +1,7 @@
-// Rendered from crates/rl_recovery/src/lines.rt by tools/render, which erases contracts: change that file, and render anew.
+// Rendered from crates/rl_recovery/src/lines.rt by tools/render, which erases contracts: change that file, and render again.
 //! Finds the position where lexing resumes after an error.
 
-use crate::rl_syntax::text::{begins, begins_with, split_char};
+use crate::rl_syntax::text::{begins, begins_with_char, split_char};
 
 /// Returns the part of the text where lexing resumes after the error at the text's start, or `None` if there is no such part.
 ///
@@ -44,7 +44,7 @@ fn escapes_next(joins: bool, c: char, is_escaped: bool) -> bool {
 fn begins_character(text: &str) -> bool {
     match split_char(text) {
         Some(('\'', _)) => true,
-        Some(('b', following)) => begins_with(following, '\''),
+        Some(('b', following)) => begins_with_char(following, '\''),
         _ => false,
     }
 }

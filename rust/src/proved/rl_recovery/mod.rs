@@ -1,4 +1,4 @@
-// Rendered from crates/rl_recovery/src/lib.rt by tools/render, which erases contracts: change that file, and render anew.
+// Rendered from crates/rl_recovery/src/lib.rt by tools/render, which erases contracts: change that file, and render again.
 //! Finds the literal at the start of a text, and all literals and errors of a source. Lexing resumes after each error. Nothing
 //! is allocated.
 

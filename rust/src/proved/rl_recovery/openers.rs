@@ -1,4 +1,4 @@
-// Rendered from crates/rl_recovery/src/openers.rt by tools/render, which erases contracts: change that file, and render anew.
+// Rendered from crates/rl_recovery/src/openers.rt by tools/render, which erases contracts: change that file, and render again.
 //! The opening delimiters of quoted literals, which the search for unclosed literals compares.
 
 use crate::rl_syntax::classes::skip_hashes;

@@ -1,4 +1,4 @@
-// Rendered from crates/rl_recovery/src/recovery.rt by tools/render, which erases contracts: change that file, and render anew.
+// Rendered from crates/rl_recovery/src/recovery.rt by tools/render, which erases contracts: change that file, and render again.
 //! A cursor over the literals and the errors of a source. Lexing resumes after each error.
 
 use crate::rl_recovery::lines::lines_after;

@@ -1,4 +1,4 @@
-// Rendered from crates/rl_recovery/src/unclosed.rt by tools/render, which erases contracts: change that file, and render anew.
+// Rendered from crates/rl_recovery/src/unclosed.rt by tools/render, which erases contracts: change that file, and render again.
 //! The opening delimiters that are known to have no closing delimiter in the rest of a text.
 
 use crate::rl_recovery::openers::{Opener, split_opener};

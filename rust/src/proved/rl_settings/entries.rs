@@ -1,4 +1,4 @@
-// Rendered from crates/rl_settings/src/entries.rt by tools/render, which erases contracts: change that file, and render anew.
+// Rendered from crates/rl_settings/src/entries.rt by tools/render, which erases contracts: change that file, and render again.
 //! Reads the next entry of a configuration, or the error at its position.
 
 use crate::rl_settings::settings::{is_mark, missed, take_literal, take_mark, take_name};

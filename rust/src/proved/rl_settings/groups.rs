@@ -1,4 +1,4 @@
-// Rendered from crates/rl_settings/src/groups.rt by tools/render, which erases contracts: change that file, and render anew.
+// Rendered from crates/rl_settings/src/groups.rt by tools/render, which erases contracts: change that file, and render again.
 //! Checks that each group of a text (parentheses, brackets or braces) is closed by its own delimiter, and how deep they nest.
 
 use crate::rl_lexer::{Form, LexError, LexKind, Tokens, is_opener};

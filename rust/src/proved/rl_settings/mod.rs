@@ -1,4 +1,4 @@
-// Rendered from crates/rl_settings/src/lib.rt by tools/render, which erases contracts: change that file, and render anew.
+// Rendered from crates/rl_settings/src/lib.rt by tools/render, which erases contracts: change that file, and render again.
 //! Settings (`name = literal`, separated by commas or line ends), read one at a time.
 //!
 //! The crate also checks the groups of a text, and has the errors of texts of literals and texts of settings. Nothing is

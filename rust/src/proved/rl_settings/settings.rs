@@ -1,4 +1,4 @@
-// Rendered from crates/rl_settings/src/settings.rt by tools/render, which erases contracts: change that file, and render anew.
+// Rendered from crates/rl_settings/src/settings.rt by tools/render, which erases contracts: change that file, and render again.
 //! Reads the next setting of a text, or the error at its position.
 
 use crate::rl_settings::syntax_error::{Part, SyntaxError, SyntaxErrorKind, lexer_error};

@@ -1,4 +1,4 @@
-// Rendered from crates/rl_strict/src/flaws.rt by tools/render, which erases contracts: change that file, and render anew.
+// Rendered from crates/rl_strict/src/flaws.rt by tools/render, which erases contracts: change that file, and render again.
 //! The kinds of flaws (errors in the text of a literal), and a flaw's byte range.
 
 #[cfg(feature = "__rendered")]

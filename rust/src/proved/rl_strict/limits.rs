@@ -1,4 +1,4 @@
-// Rendered from crates/rl_strict/src/limits.rt by tools/render, which erases contracts: change that file, and render anew.
+// Rendered from crates/rl_strict/src/limits.rt by tools/render, which erases contracts: change that file, and render again.
 //! Integers above 128 bits, which are literal tokens without a value.
 
 use crate::rl_strict::flaws::{Flaw, FlawKind, make_flaw};

@@ -1,4 +1,4 @@
-// Rendered from crates/rl_strict/src/line_ends.rt by tools/render, which erases contracts: change that file, and render anew.
+// Rendered from crates/rl_strict/src/line_ends.rt by tools/render, which erases contracts: change that file, and render again.
 //! The two ways to read a CR LF in the text of a literal.
 
 /// How a CR LF in the text of a literal is read: unchanged in a separate text, and as LF in a file, as rustc does.

@@ -1,4 +1,4 @@
-// Rendered from crates/rl_strict/src/lib.rt by tools/render, which erases contracts: change that file, and render anew.
+// Rendered from crates/rl_strict/src/lib.rt by tools/render, which erases contracts: change that file, and render again.
 //! Literal tokens by the Rust Reference: parses a text as one literal token, or returns the reason why the text isn't a literal
 //! token or has no value.
 //!

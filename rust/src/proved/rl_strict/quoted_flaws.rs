@@ -1,8 +1,8 @@
-// Rendered from crates/rl_strict/src/quoted_flaws.rt by tools/render, which erases contracts: change that file, and render anew.
+// Rendered from crates/rl_strict/src/quoted_flaws.rt by tools/render, which erases contracts: change that file, and render again.
 //! The flaws of invalid escapes and invalid characters in quoted literals.
 
 use crate::rl_strict::flaws::{FlawAt, FlawKind, make_flaw};
-use crate::rl_lenient::units::{CodeDigits, allows_code, code_digits, has_unicode};
+use crate::rl_lenient::units::{CodeDigits, allows_code, allows_unicode_escapes, code_digits};
 use crate::rl_syntax::Kind;
 use crate::rl_syntax::text::split_char;
 
@@ -78,7 +78,7 @@ pub(crate) fn escape_flaw(kind: Kind, text: &str) -> FlawAt<'_> {
         None => make_flaw(FlawKind::Unclosed, text),
         Some(('x', digits)) => hex_flaw(kind, digits),
         Some(('u', braces)) => {
-            if !has_unicode(kind) {
+            if !allows_unicode_escapes(kind) {
                 return make_flaw(FlawKind::NoUnicode, text);
             }
             match split_char(braces) {

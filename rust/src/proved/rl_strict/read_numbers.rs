@@ -1,4 +1,4 @@
-// Rendered from crates/rl_strict/src/read_numbers.rt by tools/render, which erases contracts: change that file, and render anew.
+// Rendered from crates/rl_strict/src/read_numbers.rt by tools/render, which erases contracts: change that file, and render again.
 //! Numbers of Rust's grammar, parsed in one pass. The result is the number, or the reason and the position where the text can't
 //! continue as a number.
 

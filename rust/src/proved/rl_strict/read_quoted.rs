@@ -1,4 +1,4 @@
-// Rendered from crates/rl_strict/src/read_quoted.rt by tools/render, which erases contracts: change that file, and render anew.
+// Rendered from crates/rl_strict/src/read_quoted.rt by tools/render, which erases contracts: change that file, and render again.
 //! Quoted literals of Rust's grammar: parses one to the byte offsets of its parts and its value, or to its flaw.
 
 use crate::rl_strict::flaws::{FlawAt, FlawKind, make_flaw};
@@ -9,7 +9,7 @@ use crate::rl_strict::strict_reading::Reading;
 use crate::rl_strict::walk::{open_raw, parse_cooked_content, parse_raw_content, parse_single_unit};
 use crate::rl_lenient::Body;
 use crate::rl_lenient::quoted_forms::{QuotedForm, places};
-use crate::rl_lenient::units::{Piece, is_bare_character, piece_unit, unit};
+use crate::rl_lenient::units::{Piece, is_allowed_in_single_quotes, piece_code, unit};
 use crate::rl_syntax::Kind;
 use crate::rl_syntax::text::split_char;
 
@@ -104,7 +104,7 @@ pub fn split_unit(kind: Kind, text: &str) -> Option<(Piece, &str)> {
         None => None,
         Some(('\\', _)) => unit(kind, text),
         Some((first, _)) => {
-            if is_bare_character(first) {
+            if is_allowed_in_single_quotes(first) {
                 unit(kind, text)
             } else {
                 None
@@ -126,7 +126,7 @@ pub(crate) fn unit_at<'t>(
     match stretch.end {
         Ok((piece, suffix)) => Ok(Single {
             body: places(text, inside, stretch.closing, suffix, false),
-            unit: piece_unit(kind, piece),
+            unit: piece_code(kind, piece),
         }),
         Err(flaw) => Err(flaw),
     }

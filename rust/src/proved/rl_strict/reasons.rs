@@ -1,4 +1,4 @@
-// Rendered from crates/rl_strict/src/reasons.rt by tools/render, which erases contracts: change that file, and render anew.
+// Rendered from crates/rl_strict/src/reasons.rt by tools/render, which erases contracts: change that file, and render again.
 //! Returns the flaw of a text that isn't a literal token, or has no value.
 
 use crate::rl_strict::flaws::Flaw;

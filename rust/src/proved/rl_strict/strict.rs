@@ -1,4 +1,4 @@
-// Rendered from crates/rl_strict/src/strict.rt by tools/render, which erases contracts: change that file, and render anew.
+// Rendered from crates/rl_strict/src/strict.rt by tools/render, which erases contracts: change that file, and render again.
 //! The characters that raw strings of Rust's grammar may contain, and their closing delimiter.
 
 use crate::rl_lenient::units::split_ascii_run;

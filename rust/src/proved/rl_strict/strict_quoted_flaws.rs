@@ -1,4 +1,4 @@
-// Rendered from crates/rl_strict/src/strict_quoted_flaws.rt by tools/render, which erases contracts: change that file, and render anew.
+// Rendered from crates/rl_strict/src/strict_quoted_flaws.rt by tools/render, which erases contracts: change that file, and render again.
 //! The flaws of quoted literals: invalid characters and escapes, and invalid text after the closing quote.
 
 use crate::rl_strict::flaws::{FlawAt, FlawKind, make_flaw};

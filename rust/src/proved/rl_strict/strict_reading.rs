@@ -1,4 +1,4 @@
-// Rendered from crates/rl_strict/src/strict_reading.rt by tools/render, which erases contracts: change that file, and render anew.
+// Rendered from crates/rl_strict/src/strict_reading.rt by tools/render, which erases contracts: change that file, and render again.
 //! Parses a text as one literal token of Rust's grammar, or returns its flaw.
 
 use crate::rl_strict::flaws::{Flaw, FlawAt, FlawKind, end_flaw, first_flaw, make_flaw};
@@ -8,10 +8,10 @@ use crate::rl_strict::read_quoted::{Single, quoted_at, text_at, unit_at};
 use crate::rl_strict::walk_units::split;
 use crate::rl_lenient::digit_runs::begins_digit;
 use crate::rl_lenient::quoted_forms::split_opener;
-use crate::rl_lenient::units::is_bare_character;
+use crate::rl_lenient::units::is_allowed_in_single_quotes;
 use crate::rl_lenient::{Body, bool_of};
 use crate::rl_syntax::Kind;
-use crate::rl_syntax::text::{ascii_at, begins_with, strip_byte};
+use crate::rl_syntax::text::{ascii_at, begins_with_char, strip_byte};
 
 /// The parse result of a literal token. Offsets are in bytes of the token's text as written.
 ///
@@ -54,7 +54,7 @@ fn bare_of(text: &str) -> Option<u8> {
     if bytes.len() != 3 || bytes[0] != b'\'' || bytes[2] != b'\'' || bytes[1] >= 128 {
         return None;
     }
-    if is_bare_character(bytes[1] as char) {
+    if is_allowed_in_single_quotes(bytes[1] as char) {
         Some(bytes[1])
     } else {
         None
@@ -125,7 +125,7 @@ fn negative_at<'t>(text: &'t str, number: &'t str) -> Result<Reading, FlawAt<'t>
 
 /// Returns the flaw of a text that begins neither with a digit nor as a quoted literal, and isn't `true` or `false`.
 fn word_flaw(text: &str) -> FlawAt<'_> {
-    if begins_with(text, '-') {
+    if begins_with_char(text, '-') {
         make_flaw(FlawKind::Minus, text)
     } else {
         first_flaw(text).with_piece(text)

@@ -1,4 +1,4 @@
-// Rendered from crates/rl_strict/src/walk.rt by tools/render, which erases contracts: change that file, and render anew.
+// Rendered from crates/rl_strict/src/walk.rt by tools/render, which erases contracts: change that file, and render again.
 //! Parses a quoted literal of Rust's grammar in one pass, in a separate text or in a file. The result is the range of its valid
 //! content and its suffix, or its flaw.
 

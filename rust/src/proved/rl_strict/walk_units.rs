@@ -1,4 +1,4 @@
-// Rendered from crates/rl_strict/src/walk_units.rt by tools/render, which erases contracts: change that file, and render anew.
+// Rendered from crates/rl_strict/src/walk_units.rt by tools/render, which erases contracts: change that file, and render again.
 //! Skips the characters and escapes of a quoted literal, where a CR LF may be read as LF.
 
 use crate::rl_strict::line_ends::LineEnds;

@@ -1,11 +1,11 @@
-// Rendered from crates/rl_style/src/calls.rt by tools/render, which erases contracts: change that file, and render anew.
+// Rendered from crates/rl_style/src/calls.rt by tools/render, which erases contracts: change that file, and render again.
 //! Recognizes whether a token is inside a macro call, a `macro_rules!` definition or an attribute.
 
 use crate::rl_lexer::{Form, SourceForm, SourceToken};
 
 /// The position of the next token relative to macro calls. A macro's definition and an attribute count as calls.
 #[derive(Clone, Copy)]
-pub(crate) enum Calls<'t> {
+pub enum Calls<'t> {
     /// The next token is outside of macro calls.
     Outside,
     /// The next token follows this identifier, which may be a macro's name.
@@ -139,7 +139,7 @@ fn after_lexeme<'t>(calls: Calls<'t>, form: Form, text: &'t str) -> Calls<'t> {
 
 /// Returns the position after one more token of a source.
 #[inline(always)]
-pub(crate) fn calls_after<'t>(calls: Calls<'t>, token: SourceToken<'t>) -> Calls<'t> {
+pub fn calls_after<'t>(calls: Calls<'t>, token: SourceToken<'t>) -> Calls<'t> {
     match token.form {
         SourceForm::Token(form) => after_lexeme(calls, form, token.text),
         SourceForm::RawIdentifier => after_word(calls, token.text),
@@ -147,8 +147,8 @@ pub(crate) fn calls_after<'t>(calls: Calls<'t>, token: SourceToken<'t>) -> Calls
     }
 }
 
-/// Whether the next token is inside a macro call.
+/// Returns `true` if the next token is inside a macro call.
 #[inline(always)]
-pub(crate) fn is_in_call(calls: Calls<'_>) -> bool {
+pub fn is_in_call(calls: Calls<'_>) -> bool {
     matches!(calls, Calls::Inside(_))
 }

@@ -1,4 +1,4 @@
-// Rendered from crates/rl_style/src/case.rt by tools/render, which erases contracts: change that file, and render anew.
+// Rendered from crates/rl_style/src/case.rt by tools/render, which erases contracts: change that file, and render again.
 //! Converts hexadecimal digits to lower or upper case.
 
 use crate::rl_style::style::Case;

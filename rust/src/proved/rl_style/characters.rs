@@ -1,4 +1,4 @@
-// Rendered from crates/rl_style/src/characters.rt by tools/render, which erases contracts: change that file, and render anew.
+// Rendered from crates/rl_style/src/characters.rt by tools/render, which erases contracts: change that file, and render again.
 //! Rewrites the characters of numbers.
 
 use crate::rl_style::case::cased;

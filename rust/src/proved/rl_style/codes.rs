@@ -1,4 +1,4 @@
-// Rendered from crates/rl_style/src/codes.rt by tools/render, which erases contracts: change that file, and render anew.
+// Rendered from crates/rl_style/src/codes.rt by tools/render, which erases contracts: change that file, and render again.
 //! Rewrites the digits of numeric escapes: `\x` and `\u{..}`.
 
 use crate::rl_style::case::{cased, put_cased};

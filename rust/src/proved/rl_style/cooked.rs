@@ -1,4 +1,4 @@
-// Rendered from crates/rl_style/src/cooked.rt by tools/render, which erases contracts: change that file, and render anew.
+// Rendered from crates/rl_style/src/cooked.rt by tools/render, which erases contracts: change that file, and render again.
 //! Rewrites quoted literals with escapes, one character or escape at a time.
 
 use crate::rl_style::codes::put_digits;

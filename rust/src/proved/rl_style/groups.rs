@@ -1,4 +1,4 @@
-// Rendered from crates/rl_style/src/groups.rt by tools/render, which erases contracts: change that file, and render anew.
+// Rendered from crates/rl_style/src/groups.rt by tools/render, which erases contracts: change that file, and render again.
 //! Rewrites the digits of numbers in groups, with underscores between the groups.
 
 use crate::rl_style::characters::{Manner, begins_base_letter, put_character, put_numeral};

@@ -1,4 +1,4 @@
-// Rendered from crates/rl_style/src/hidden.rt by tools/render, which erases contracts: change that file, and render anew.
+// Rendered from crates/rl_style/src/hidden.rt by tools/render, which erases contracts: change that file, and render again.
 //! Writes invisible and bidirectional characters as numeric escapes.
 
 use crate::rl_style::codes::put_digits;

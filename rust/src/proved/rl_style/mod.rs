@@ -1,4 +1,4 @@
-// Rendered from crates/rl_style/src/lib.rt by tools/render, which erases contracts: change that file, and render anew.
+// Rendered from crates/rl_style/src/lib.rt by tools/render, which erases contracts: change that file, and render again.
 //! Rewrites literals by a style, such as the case of hexadecimal digits. A rewritten literal has the kind, the value and the
 //! suffix of the old one, except that `1.` may become `1.0`. Nothing is allocated.
 
@@ -10,6 +10,7 @@ mod codes;
 mod cooked;
 mod groups;
 mod hidden;
+mod mistyped;
 mod numbers;
 mod raw;
 #[cfg(feature = "sources")]
@@ -21,6 +22,8 @@ mod style;
 #[cfg(feature = "sources")]
 mod whole;
 
+#[cfg(feature = "sources")]
+pub use crate::rl_style::calls::{Calls, calls_after, is_in_call};
 #[cfg(feature = "sources")]
 pub use crate::rl_style::restylable::{Restylable, Restylables};
 pub use crate::rl_style::rewrite::rewrite_into;

@@ -1,8 +1,9 @@
-// Rendered from crates/rl_style/src/numbers.rt by tools/render, which erases contracts: change that file, and render anew.
+// Rendered from crates/rl_style/src/numbers.rt by tools/render, which erases contracts: change that file, and render again.
 //! Rewrites integers and floats by a style.
 
 use crate::rl_style::characters::{Manner, begins_base_letter, put_numeral};
 use crate::rl_style::groups::{group_size, put_digit_run};
+use crate::rl_style::mistyped::{contains_either, is_mistyped, is_mistyped_float};
 use crate::rl_style::style::{Separator, Style};
 use crate::rl_lenient::number_forms::split_radix;
 use crate::rl_strict::Number;
@@ -42,10 +43,11 @@ fn drops_zeros(style: Style, base: u32, suffix: &str) -> bool {
     style.leading_zeros && base == 10 && !begins_base_letter(suffix)
 }
 
-/// Returns the digits `run` of an integer, without leading zeros if the style drops them.
+/// Returns the digits `run` of an integer, without leading zeros if the style drops them. Digits that are all octal keep the
+/// zeros: `0123` may be meant as an octal number.
 #[inline]
 fn kept_digits<'t>(style: Style, base: u32, suffix: &str, run: &'t str) -> &'t str {
-    if drops_zeros(style, base, suffix) {
+    if drops_zeros(style, base, suffix) && contains_either(run, '8', '9') {
         significant(run)
     } else {
         run
@@ -116,9 +118,13 @@ fn number_style(style: Style, base: u32, suffix: &str) -> Manner {
     }
 }
 
-/// Writes the new form of an integer. `text` is its whole text, and `suffix` its end.
+/// Writes the new form of an integer. `text` is its whole text, and `suffix` its end. If the suffix may be mistyped, the new form
+/// is `text`.
 #[inline]
 fn write_integer(text: &str, suffix: &str, style: Style, out: &mut [u8]) -> usize {
+    if is_mistyped(suffix, text) {
+        return put_text(out, 0, text);
+    }
     let (base, digits) = split_radix(text);
     let whole = kept_run(style, suffix, before(digits, suffix));
     let run = kept_digits(style, base, suffix, whole);
@@ -161,9 +167,13 @@ fn put_fraction(out: &mut [u8], at: usize, manner: Manner, rest: &str) -> usize 
     }
 }
 
-/// Writes the new form of a float. `text` is its whole text, and `suffix` its end.
+/// Writes the new form of a float. `text` is its whole text, and `suffix` its end. If the suffix may be mistyped, the new form is
+/// `text`.
 #[inline]
 fn write_float(text: &str, suffix: &str, style: Style, out: &mut [u8]) -> usize {
+    if is_mistyped_float(suffix, text) {
+        return put_text(out, 0, text);
+    }
     let manner = number_style(style, 10, suffix);
     let numeral = kept_run(style, suffix, before(text, suffix));
     let rest = skip_class(CharClass::Numeral, numeral);

@@ -1,4 +1,4 @@
-// Rendered from crates/rl_style/src/raw.rt by tools/render, which erases contracts: change that file, and render anew.
+// Rendered from crates/rl_style/src/raw.rt by tools/render, which erases contracts: change that file, and render again.
 //! Rewrites raw strings by a style.
 
 use crate::rl_style::cooked::put_pair;

@@ -1,9 +1,9 @@
-// Rendered from crates/rl_style/src/restylable.rt by tools/render, which erases contracts: change that file, and render anew.
+// Rendered from crates/rl_style/src/restylable.rt by tools/render, which erases contracts: change that file, and render again.
 //! The literals of a source that a style may rewrite.
 
 use crate::rl_style::calls::{Calls, calls_after, is_in_call};
 use crate::rl_lexer::{Form, LexError, SourceForm, SourceToken, Sources};
-use crate::rl_syntax::text::{begins_with, strip_byte};
+use crate::rl_syntax::text::{begins_with_char, strip_byte};
 
 /// The last token before a number, as far as it shows whether the number is a field of a tuple.
 #[derive(Clone, Copy)]
@@ -73,7 +73,7 @@ fn last_after(last: Last, end: usize, token: SourceToken<'_>) -> Last {
 #[inline]
 fn begins_one_colon(text: &str) -> bool {
     match strip_byte(text, b':') {
-        Some(following) => !begins_with(following, ':'),
+        Some(following) => !begins_with_char(following, ':'),
         None => false,
     }
 }

@@ -1,4 +1,4 @@
-// Rendered from crates/rl_style/src/rewrite.rt by tools/render, which erases contracts: change that file, and render anew.
+// Rendered from crates/rl_style/src/rewrite.rt by tools/render, which erases contracts: change that file, and render again.
 //! Rewrites a literal of any kind by a style.
 
 use crate::rl_style::cooked::write_cooked;

@@ -1,4 +1,4 @@
-// Rendered from crates/rl_style/src/rules.rt by tools/render, which erases contracts: change that file, and render anew.
+// Rendered from crates/rl_style/src/rules.rt by tools/render, which erases contracts: change that file, and render again.
 //! The rules of a style, each by its name.
 
 use crate::rl_style::rewrite::rewrite_into;

@@ -1,4 +1,4 @@
-// Rendered from crates/rl_style/src/style.rt by tools/render, which erases contracts: change that file, and render anew.
+// Rendered from crates/rl_style/src/style.rt by tools/render, which erases contracts: change that file, and render again.
 //! Styles: the rules by which literals are rewritten.
 
 /// The case of letters in rewritten literals.
@@ -35,6 +35,9 @@ pub struct DigitGroups {
 
 /// A style: the rules by which literals are rewritten. Each field is a separate rule. A rule with the value `None` or `false`,
 /// as in [`Style::KEEP`], changes nothing.
+///
+/// No rule changes a number whose suffix may be mistyped, since `2_32` may be meant as `2_i32`. Such a number has no suffix, and
+/// ends with `_8`, `_16`, `_32` or `_64`. It is an integer, or a float with an exponent.
 #[derive(Clone, Copy)]
 pub struct Style {
     /// The case of the digits of hexadecimal integers.
@@ -42,8 +45,8 @@ pub struct Style {
     /// Whether underscores in numbers are dropped: `1_000_u8` becomes `1000u8`. A number whose suffix begins with `b`, `o` or
     /// `x` keeps them, since `0_b1` without its underscore would be a binary number.
     pub underscores: bool,
-    /// Whether leading zeros of decimal integers are dropped: `007` becomes `7`. An integer whose suffix begins with `b`, `o`
-    /// or `x` keeps them.
+    /// Whether leading zeros of decimal integers are dropped: `089` becomes `89`. An integer whose suffix begins with `b`, `o`
+    /// or `x` keeps them. An integer whose digits are all octal keeps them too, since `0123` may be meant as an octal number.
     pub leading_zeros: bool,
     /// The separator between a number and its suffix: `1u8` or `1_u8`. A number without a suffix loses the underscores at its
     /// end. With `Nothing`, a number whose suffix begins with `b`, `o` or `x` keeps the underscores.

@@ -1,4 +1,4 @@
-// Rendered from crates/rl_style/src/whole.rt by tools/render, which erases contracts: change that file, and render anew.
+// Rendered from crates/rl_style/src/whole.rt by tools/render, which erases contracts: change that file, and render again.
 //! Tests whether the literals of a whole source may be rewritten.
 
 use crate::rl_lexer::without_byte_order_mark;

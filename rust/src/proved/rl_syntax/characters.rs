@@ -1,4 +1,4 @@
-// Rendered from crates/rl_syntax/src/characters.rt by tools/render, which erases contracts: change that file, and render anew.
+// Rendered from crates/rl_syntax/src/characters.rt by tools/render, which erases contracts: change that file, and render again.
 //! Tests of characters: identifier characters and white space.
 
 /// Whether the character `c` is white space between tokens: it has Unicode's property White_Space, or is the direction

@@ -1,4 +1,4 @@
-// Rendered from crates/rl_syntax/src/classes.rt by tools/render, which erases contracts: change that file, and render anew.
+// Rendered from crates/rl_syntax/src/classes.rt by tools/render, which erases contracts: change that file, and render again.
 //! Classes of characters, and functions that return the text after its leading characters of one class.
 
 use crate::rl_syntax::characters::{is_continue, is_white, is_xid_continue};

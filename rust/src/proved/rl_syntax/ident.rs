@@ -1,4 +1,4 @@
-// Rendered from crates/rl_syntax/src/ident.rt by tools/render, which erases contracts: change that file, and render anew.
+// Rendered from crates/rl_syntax/src/ident.rt by tools/render, which erases contracts: change that file, and render again.
 //! A test of whether a text is an identifier.
 
 use crate::rl_syntax::characters::{is_xid_continue, is_xid_start};

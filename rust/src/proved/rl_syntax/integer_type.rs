@@ -1,4 +1,4 @@
-// Rendered from crates/rl_syntax/src/integer_type.rt by tools/render, which erases contracts: change that file, and render anew.
+// Rendered from crates/rl_syntax/src/integer_type.rt by tools/render, which erases contracts: change that file, and render again.
 //! Rust's integer types, which are suffixes of integer literals.
 
 /// An integer type that a literal's suffix names: `u8` in `1u8`.

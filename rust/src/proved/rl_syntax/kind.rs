@@ -1,4 +1,4 @@
-// Rendered from crates/rl_syntax/src/kind.rt by tools/render, which erases contracts: change that file, and render anew.
+// Rendered from crates/rl_syntax/src/kind.rt by tools/render, which erases contracts: change that file, and render again.
 //! The kinds of literals, and their names in messages.
 
 // These constants are the opening texts of quoted literals, prefix and quote. `Kind::opener` returns one of them for a

@@ -1,4 +1,4 @@
-// Rendered from crates/rl_syntax/src/lanes.rt by tools/render, which erases contracts: change that file, and render anew.
+// Rendered from crates/rl_syntax/src/lanes.rt by tools/render, which erases contracts: change that file, and render again.
 //! Searches in bytes, sixteen at a time: for the end of a sequence of identifier characters or white space, for the
 //! next byte that may begin a literal, and for a line feed.
 
@@ -138,7 +138,7 @@ fn likely_among(bytes: &[u8], at: usize) -> u64 {
 /// Returns a number of leading bytes that can be skipped in a search for literals: neither a literal nor a comment
 /// begins at one of them. Sixteen bytes are tested at once. The search stops where sixteen bytes or fewer are left.
 #[inline(never)]
-pub fn unlikely_len(bytes: &[u8]) -> usize {
+pub fn skippable_len(bytes: &[u8]) -> usize {
     if bytes.is_empty() || is_likely(bytes[0]) {
         return 0;
     }

@@ -1,4 +1,4 @@
-// Rendered from crates/rl_syntax/src/lines.rt by tools/render, which erases contracts: change that file, and render anew.
+// Rendered from crates/rl_syntax/src/lines.rt by tools/render, which erases contracts: change that file, and render again.
 //! Functions that find where a line of a text ends.
 
 use crate::rl_syntax::lanes::line_len;
@@ -12,7 +12,7 @@ pub fn split_line(text: &str) -> (&str, &str) {
 
 /// Returns the text after its first line feed, or `None` if it has no line feed.
 #[inline(always)]
-pub fn next_line(text: &str) -> Option<&str> {
+pub fn after_line_feed(text: &str) -> Option<&str> {
     let (_, from) = split_line(text);
     let (_, following) = split_ascii(from)?;
     Some(following)

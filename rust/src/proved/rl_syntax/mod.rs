@@ -1,4 +1,4 @@
-// Rendered from crates/rl_syntax/src/lib.rt by tools/render, which erases contracts: change that file, and render anew.
+// Rendered from crates/rl_syntax/src/lib.rt by tools/render, which erases contracts: change that file, and render again.
 //! Definitions and functions that `syn`'s and Rust's grammars of literals share: characters and their classes, searches
 //! for bytes, spans, the kinds of literals, the integer types, and writers into a slice. The definitions of the two
 //! grammars, of written forms and of printed token lists are in `specs/`, with their laws. Nothing is allocated.

@@ -1,4 +1,4 @@
-// Rendered from crates/rl_syntax/src/scan.rt by tools/render, which erases contracts: change that file, and render anew.
+// Rendered from crates/rl_syntax/src/scan.rt by tools/render, which erases contracts: change that file, and render again.
 //! Searches for the next delimiter in bytes: the first byte that is one of up to four given bytes. Eight, sixteen or
 //! sixty-four bytes are tested at once.
 
@@ -138,7 +138,7 @@ pub fn len_before(marks: Marks, bytes: &[u8]) -> usize {
 /// for a delimiter that is probably near the start, as in the tokens of a source: sixteen bytes are tested at once,
 /// where [`len_before`] tests sixty-four.
 #[inline(always)]
-pub fn near_len_before(marks: Marks, bytes: &[u8]) -> usize {
+pub fn len_before_near_mark(marks: Marks, bytes: &[u8]) -> usize {
     stop_by_sixteen::<false>(marks, bytes, 0)
 }
 
@@ -152,12 +152,12 @@ pub fn ascii_len_before(marks: Marks, bytes: &[u8]) -> usize {
 /// Splits the text before its first delimiter. If it has no delimiter, the first part is the whole text.
 #[inline(always)]
 pub fn split_before(marks: Marks, text: &str) -> (&str, &str) {
-    text.split_at(near_len_before(marks, text.as_bytes()))
+    text.split_at(len_before_near_mark(marks, text.as_bytes()))
 }
 
 /// Returns the first delimiter in the text and the text after it, or `None` if the text has no delimiter.
 #[inline(always)]
-pub fn next_mark(marks: Marks, text: &str) -> Option<(u8, &str)> {
+pub fn split_after_mark(marks: Marks, text: &str) -> Option<(u8, &str)> {
     let (_, from) = split_before(marks, text);
     split_ascii(from)
 }

@@ -1,4 +1,4 @@
-// Rendered from crates/rl_syntax/src/slice_writer.rt by tools/render, which erases contracts: change that file, and render anew.
+// Rendered from crates/rl_syntax/src/slice_writer.rt by tools/render, which erases contracts: change that file, and render again.
 //! Writers of bytes into a slice that the caller passes.
 //!
 //! Each function's parameter `at` is the number of bytes that the slice `out` already holds. The result is the number

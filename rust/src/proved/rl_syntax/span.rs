@@ -1,4 +1,4 @@
-// Rendered from crates/rl_syntax/src/span.rt by tools/render, which erases contracts: change that file, and render anew.
+// Rendered from crates/rl_syntax/src/span.rt by tools/render, which erases contracts: change that file, and render again.
 //! Spans: the byte ranges of tokens in files.
 
 /// The span of a token: its file, and the range of its bytes from `lo` up to `hi`. Two spans are equal if `file`, `lo`

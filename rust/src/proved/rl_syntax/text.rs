@@ -1,4 +1,4 @@
-// Rendered from crates/rl_syntax/src/text.rt by tools/render, which erases contracts: change that file, and render anew.
+// Rendered from crates/rl_syntax/src/text.rt by tools/render, which erases contracts: change that file, and render again.
 //! Functions that split the first characters off a text, and tests of a text's start.
 
 /// Returns the text's first character and the text after it, or `None` if the text is empty.
@@ -33,7 +33,7 @@ pub fn ascii_at(text: &str, at: usize) -> Option<(u8, usize)> {
 }
 
 /// Returns `true` if the text begins with the character `c`.
-pub fn begins_with(text: &str, c: char) -> bool {
+pub fn begins_with_char(text: &str, c: char) -> bool {
     match split_char(text) {
         Some((first, _)) => first == c,
         None => false,
@@ -46,7 +46,7 @@ pub fn begins(text: &str, word: &str) -> bool {
 }
 
 /// Returns the text after its first character. For an empty text the result is empty.
-pub fn without_first(text: &str) -> &str {
+pub fn without_first_char(text: &str) -> &str {
     match split_char(text) {
         Some((_, rest)) => rest,
         None => text,

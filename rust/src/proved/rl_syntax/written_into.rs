@@ -1,4 +1,4 @@
-// Rendered from crates/rl_syntax/src/written_into.rt by tools/render, which erases contracts: change that file, and render anew.
+// Rendered from crates/rl_syntax/src/written_into.rt by tools/render, which erases contracts: change that file, and render again.
 //! Functions that write values as literals into a slice of the caller's. The literals have the written forms of
 //! docs/GRAMMAR.md, as those of the module `writer` of `rl_tokens` do. Nothing is allocated.
 

@@ -1,4 +1,4 @@
-// Rendered from crates/rl_syntax/src/written_unit.rt by tools/render, which erases contracts: change that file, and render anew.
+// Rendered from crates/rl_syntax/src/written_unit.rt by tools/render, which erases contracts: change that file, and render again.
 //! The written form of characters and bytes in literals: which ones are escaped, and how.
 
 use crate::rl_syntax::kind::Kind;

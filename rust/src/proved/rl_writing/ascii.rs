@@ -1,4 +1,4 @@
-// Rendered from crates/rl_writing/src/ascii.rt by tools/render, which erases contracts: change that file, and render anew.
+// Rendered from crates/rl_writing/src/ascii.rt by tools/render, which erases contracts: change that file, and render again.
 //! Functions that write string and character literals in ASCII, with `\u{..}` for each non-ASCII character.
 
 use crate::rl_writing::numerals::{put_grouped, put_reversed};

@@ -1,4 +1,4 @@
-// Rendered from crates/rl_writing/src/base.rt by tools/render, which erases contracts: change that file, and render anew.
+// Rendered from crates/rl_writing/src/base.rt by tools/render, which erases contracts: change that file, and render again.
 //! The bases in which integers can be written.
 
 /// The base of an integer literal's digits.

@@ -1,4 +1,4 @@
-// Rendered from crates/rl_writing/src/hiding.rt by tools/render, which erases contracts: change that file, and render anew.
+// Rendered from crates/rl_writing/src/hiding.rt by tools/render, which erases contracts: change that file, and render again.
 //! Tests for characters that aren't visible as they are: invisible, bidirectional and control characters.
 
 /// Returns `true` if the character has no width or changes the direction of text. A text with this character isn't

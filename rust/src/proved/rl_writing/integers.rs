@@ -1,4 +1,4 @@
-// Rendered from crates/rl_writing/src/integers.rt by tools/render, which erases contracts: change that file, and render anew.
+// Rendered from crates/rl_writing/src/integers.rt by tools/render, which erases contracts: change that file, and render again.
 //! A function that writes an integer literal, and the style in which it writes.
 
 use crate::rl_writing::base::Base;

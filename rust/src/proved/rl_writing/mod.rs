@@ -1,4 +1,4 @@
-// Rendered from crates/rl_writing/src/lib.rt by tools/render, which erases contracts: change that file, and render anew.
+// Rendered from crates/rl_writing/src/lib.rt by tools/render, which erases contracts: change that file, and render again.
 //! Functions that write literals in other forms than those of `rl_syntax`: integers in a style, raw strings, and
 //! strings and characters in ASCII. Other functions test for invisible and bidirectional characters.
 //!

@@ -1,4 +1,4 @@
-// Rendered from crates/rl_writing/src/numerals.rt by tools/render, which erases contracts: change that file, and render anew.
+// Rendered from crates/rl_writing/src/numerals.rt by tools/render, which erases contracts: change that file, and render again.
 //! Functions that write the digits of a number in a base, with or without underscores.
 
 use crate::rl_syntax::slice_writer::put_byte;
@@ -54,8 +54,9 @@ pub fn group_size_for(group: usize, least: usize, count: usize) -> usize {
     if count < least { 0 } else { group }
 }
 
-/// Returns `true` if an underscore is written at a distance of `digits` digits from the end at which groups of `group`
-/// digits begin. If `digits` or `group` is 0, the result is `false`.
+/// Returns `true` if a group of `group` digits ends after `digits` digits, so that an underscore separates it from the next
+/// digit. The digits are counted from the end of the number at which the first group begins. If `digits` or `group` is 0, the
+/// result is `false`.
 #[inline]
 pub fn ends_group(group: usize, digits: usize) -> bool {
     group > 0 && digits > 0 && digits % group == 0

@@ -1,4 +1,4 @@
-// Rendered from crates/rl_writing/src/raw_strings.rt by tools/render, which erases contracts: change that file, and render anew.
+// Rendered from crates/rl_writing/src/raw_strings.rt by tools/render, which erases contracts: change that file, and render again.
 //! Functions that write raw string literals, as `r#"a"#`, with the fewest hashes.
 
 use crate::rl_syntax::Kind;

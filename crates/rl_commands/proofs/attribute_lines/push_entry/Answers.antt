@@ -5,6 +5,6 @@ use Rattle.rl_commands.proofs.EntryLineLemmas.{entry_pushed}
 use Rattle.rl_commands.proofs.attribute_lines.push_entry.Goals as goal
 
 pub returns : goal.returns
-returns g c = IfOk-weaker c.push_literal.result _ _ (λ u p. entry_pushed c.args.entry.now c.as_str.result.now _ _ _ _
+returns g c = IfOk-weaker c.push_literal_line.result _ _ (λ u p. entry_pushed c.args.entry.now c.as_str.result.now _ _ _ _
     c.as_str.ensures.value (pushed _ _ _ (IsUtf8-string_bytes c.args.out.now) c.in_ok-push_str.ensures.bytes)
-    (pushed _ _ _ (IsUtf8-string_bytes c.push_str.new.self) c.in_ok-push_str-2.ensures.bytes) p) c.push_literal.ensures
+    (pushed _ _ _ (IsUtf8-string_bytes c.push_str.new.self) c.in_ok-push_str-2.ensures.bytes) p) c.push_literal_line.ensures

@@ -5,8 +5,8 @@ use Rattle.rl_flaws.proofs.flaws.judge_closed.Goals as goal
 
 pub placed-requires : goal.placed-requires
 placed-requires c =
-    let quote : chars c.args.closing.now ≡ 39 ∷ chars c.without_first-suffix.result.now =
-    begins_quote _ c.requires.1 ∙ ap (λ z. 39 ∷ z) (sym c.without_first-suffix.ensures.rest) in
+    let quote : chars c.args.closing.now ≡ 39 ∷ chars c.without_first_char-suffix.result.now =
+    begins_quote _ c.requires.1 ∙ ap (λ z. 39 ∷ z) (sym c.without_first_char-suffix.ensures.rest) in
     let piece : IsUtf8 c.in-Some.found.piece.now = search rules in
     let rest : IsUtf8 c.in-Some.found.rest.now = search rules in
     let fits = rest_room c.args.ends _ _ c.requires.3 piece
@@ -17,14 +17,14 @@ placed-requires c =
 
 pub returns-in-None-clause-gives : goal.returns-in-None-clause-gives
 returns-in-None-clause-gives c =
-    let quote : chars c.args.closing.now ≡ 39 ∷ chars c.without_first-suffix.result.now =
-    begins_quote _ c.requires.1 ∙ ap (λ z. 39 ∷ z) (sym c.without_first-suffix.ensures.rest) in
+    let quote : chars c.args.closing.now ≡ 39 ∷ chars c.without_first_char-suffix.result.now =
+    begins_quote _ c.requires.1 ∙ ap (λ z. 39 ∷ z) (sym c.without_first_char-suffix.ensures.rest) in
     closed_none c.args.ends c.args.kind c.args.closing _ _ c.requires.0 quote c.in-None.ensures.flaw
 
 pub returns-in-Some-clause-gives : goal.returns-in-Some-clause-gives
 returns-in-Some-clause-gives c =
-    let quote : chars c.args.closing.now ≡ 39 ∷ chars c.without_first-suffix.result.now =
-    begins_quote _ c.requires.1 ∙ ap (λ z. 39 ∷ z) (sym c.without_first-suffix.ensures.rest) in
+    let quote : chars c.args.closing.now ≡ 39 ∷ chars c.without_first_char-suffix.result.now =
+    begins_quote _ c.requires.1 ∙ ap (λ z. 39 ∷ z) (sym c.without_first_char-suffix.ensures.rest) in
     let piece : IsUtf8 c.in-Some.found.piece.now = search rules in
     let rest : IsUtf8 c.in-Some.found.rest.now = search rules in
     closed_takes c.args.ends c.args.kind c.args.closing _ _ _ c.in-Some.found _ c.requires.0 quote piece rest

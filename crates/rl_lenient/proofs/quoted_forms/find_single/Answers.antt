@@ -23,11 +23,11 @@ places-body-requires-clause-closer c =
     let closer : IsUtf8 c.in_ok-piece.closer.now = search rules in
     tail_chars _ _ _ c.utf8.inside closer (unit_sound _ _ _ (sym c.in_ok-piece.ensures.value)).text_is
 
-pub piece_unit-requires-clause-single : goal.piece_unit-requires-clause-single
-piece_unit-requires-clause-single c = (front_sound _ _ c.requires).has
+pub piece_code-requires-clause-single : goal.piece_code-requires-clause-single
+piece_code-requires-clause-single c = (front_sound _ _ c.requires).has
 
-pub piece_unit-requires-clause-one : goal.piece_unit-requires-clause-one
-piece_unit-requires-clause-one c = unit_one _ _ _ (front_sound _ _ c.requires).has (sym c.in_ok-piece.ensures.value)
+pub piece_code-requires-clause-one : goal.piece_code-requires-clause-one
+piece_code-requires-clause-one c = unit_one _ _ _ (front_sound _ _ c.requires).has (sym c.in_ok-piece.ensures.value)
 
 pub returns-clause-found : goal.returns-clause-found
 returns-clause-found c =
@@ -35,5 +35,5 @@ returns-clause-found c =
     let single = (front_sound _ _ c.requires).has in
     let parts = single_found _ _ _ _ _ single (sym c.in_ok-piece.ensures.value) at.body c.in_ok-suffix.ensures.some in
     quoted_found _ _ _ _ _ c.utf8.text (form_at _ _ _ _ _ _ _ c.requires parts at.suffix at.stands at.plain
-    (opener_lo SingleForm _ _ _ _ (λ e. cc) c.utf8.text c.utf8.inside c.requires at.lo)) c.piece_unit.ensures
+    (opener_lo SingleForm _ _ _ _ (λ e. cc) c.utf8.text c.utf8.inside c.requires at.lo)) c.piece_code.ensures
     c.quoted.ensures

@@ -63,21 +63,21 @@ loop-at-preserved-else-byte_at-eq42 c =
 
 pub overflow_add-at-else-byte-eq47 : goal.overflow_add-at-else-byte-eq47
 overflow_add-at-else-byte-eq47 c =
-    let inside = run_inside _ c.as_bytes-bytes.result.now (c.loop-at.at + 1) c.near_len_before-at.result
-    c.near_len_before-at.ensures (omega arith) in
+    let inside = run_inside _ c.as_bytes-bytes.result.now (c.loop-at.at + 1) c.len_before_near_mark-at.result
+    c.len_before_near_mark-at.ensures (omega arith) in
     omega (arith, inside)
 
 pub loop-at-preserved : goal.loop-at-preserved
 loop-at-preserved c =
     let s = c.as_bytes-bytes.result.now in
-    let inside = run_inside _ s (c.loop-at.at + 1) c.near_len_before-at.result c.near_len_before-at.ensures
+    let inside = run_inside _ s (c.loop-at.at + 1) c.len_before_near_mark-at.result c.len_before_near_mark-at.ensures
     (omega arith) in
     record {
       within = inside;
       shallow = omega arith;
       same =
-          block_runs _ s (c.loop-at.at + 1) c.loop-at.depth c.near_len_before-at.result c.two.ensures
-          c.near_len_before-at.ensures
+          block_runs _ s (c.loop-at.at + 1) c.loop-at.depth c.len_before_near_mark-at.result c.two.ensures
+          c.len_before_near_mark-at.ensures
           ∙ sym (block_goes s c.loop-at.at c.loop-at.depth c.loop-at-test.true (λ p q. c.if-byte-eq42.false p)
           (λ p q. c.if-byte-eq47.false p)) ∙ c.loop-at.invariant.same;
     }

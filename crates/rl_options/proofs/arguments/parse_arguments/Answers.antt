@@ -1,6 +1,4 @@
 use Rattle.rl_syntax.proofs.Common.{arith, inl, inr, map, string_bytes, subst}
-use Rattle.rl_files.specs.Globs.{borrowed_texts}
-use Rattle.rl_files.specs.Trees.{string_texts}
 use Rattle.rl_options.specs.declared.flags.Next.{Next}
 use Rattle.rl_options.specs.Wishes.{wishes_in}
 use Rattle.rl_options.specs.Words.{AskSoFar}
@@ -23,9 +21,7 @@ returns-clause-asked g c = (
   all_taken c.args.has_colors string_bytes c.args.words.now c.loop-word.word-index c.loop-word.asked.next
       (wishes_in c.loop-word.asked) (omega (arith, c.loop-word-test.false)) c.loop-word.invariant,
   c.in_default.ensures.none,
-  c.in_default-clash_of.ensures.none (borrowed_texts c.loop-word.asked.finds.items)
-      (borrowed_texts c.loop-word.asked.extensions.items) (borrowed_texts c.loop-word.asked.excludes.items)
-      (borrowed_texts c.loop-word.asked.lists.items) (string_texts c.loop-word.asked.paths.items),
+  c.in_default-clash_of.ensures.none,
 )
 
 pub returns-in-Some-clash_of-clause-rejected : goal.returns-in-Some-clash_of-clause-rejected
@@ -34,9 +30,7 @@ returns-in-Some-clash_of-clause-rejected g c = inr (inl (
   wishes_in c.loop-word.asked,
   all_taken c.args.has_colors string_bytes c.args.words.now c.loop-word.word-index c.loop-word.asked.next
       (wishes_in c.loop-word.asked) (omega (arith, c.loop-word-test.false)) c.loop-word.invariant,
-  c.in-Some-clash_of.ensures.some (borrowed_texts c.loop-word.asked.finds.items)
-      (borrowed_texts c.loop-word.asked.extensions.items) (borrowed_texts c.loop-word.asked.excludes.items)
-      (borrowed_texts c.loop-word.asked.lists.items) (string_texts c.loop-word.asked.paths.items),
+  c.in-Some-clash_of.ensures.some,
 ))
 
 pub returns-in-Some-clause-rejected : goal.returns-in-Some-clause-rejected

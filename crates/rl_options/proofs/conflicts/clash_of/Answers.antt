@@ -1,33 +1,42 @@
-use Rattle.rl_syntax.proofs.Common.{◌++◌}
-use Rattle.rl_options.specs.Wishes.{wishes_of}
-use Rattle.rl_options.specs.Clashes.{printing_clashes, restyling_clashes, judging_clashes}
-use Rattle.rl_options.proofs.ClashLemmas.{first_of_front, past_printing, past_restyling}
+use Rattle.rl_syntax.proofs.Common.{inl, inr, refl, sym, ◌∙◌}
+use Rattle.rl_files.specs.Globs.{borrowed_texts}
+use Rattle.rl_files.specs.Trees.{string_texts}
 use Rattle.rl_options.proofs.conflicts.clash_of.Goals as goal
 
 pub returns-in-Some-clause-some : goal.returns-in-Some-clause-some
-returns-in-Some-clause-some g c = λ finds extensions excludes lists paths. first_of_front
-    (wishes_of c.args.command finds extensions excludes lists paths) printing_clashes
-    (restyling_clashes ++ judging_clashes) c.in-Some.error
-    (c.in-Some.ensures.some finds extensions excludes lists paths)
+returns-in-Some-clause-some g c = inl (c.in-Some.ensures.some (borrowed_texts c.args.asked.now.finds.items) (borrowed_texts c.args.asked.now.extensions.items)
+    (borrowed_texts c.args.asked.now.excludes.items) (borrowed_texts c.args.asked.now.lists.items)
+    (string_texts c.args.asked.now.paths.items))
 
-pub returns-in-Some-restyling_clash-clause-some : goal.returns-in-Some-restyling_clash-clause-some
-returns-in-Some-restyling_clash-clause-some g c = λ finds extensions excludes lists paths. past_printing
-    (wishes_of c.args.command finds extensions excludes lists paths) (restyling_clashes ++ judging_clashes)
-    c.in-Some-restyling_clash.error (c.in_default.ensures.none finds extensions excludes lists paths) (first_of_front
-    (wishes_of c.args.command finds extensions excludes lists paths) restyling_clashes judging_clashes
-    c.in-Some-restyling_clash.error (c.in-Some-restyling_clash.ensures.some finds extensions excludes lists paths))
+pub returns-in-Some-mode_clash-clause-some : goal.returns-in-Some-mode_clash-clause-some
+returns-in-Some-mode_clash-clause-some g c = inr (inl (
+  c.in_default.ensures.none (borrowed_texts c.args.asked.now.finds.items) (borrowed_texts c.args.asked.now.extensions.items)
+      (borrowed_texts c.args.asked.now.excludes.items) (borrowed_texts c.args.asked.now.lists.items)
+      (string_texts c.args.asked.now.paths.items),
+  c.in-Some-mode_clash.ensures.some (borrowed_texts c.args.asked.now.finds.items) (borrowed_texts c.args.asked.now.extensions.items)
+      (borrowed_texts c.args.asked.now.excludes.items) (borrowed_texts c.args.asked.now.lists.items)
+      (string_texts c.args.asked.now.paths.items),
+))
 
-pub returns-in-Some-judging_clash-clause-some : goal.returns-in-Some-judging_clash-clause-some
-returns-in-Some-judging_clash-clause-some g c = λ finds extensions excludes lists paths. past_printing
-    (wishes_of c.args.command finds extensions excludes lists paths) (restyling_clashes ++ judging_clashes)
-    c.in-Some-judging_clash.error (c.in_default.ensures.none finds extensions excludes lists paths) (past_restyling
-    (wishes_of c.args.command finds extensions excludes lists paths) judging_clashes c.in-Some-judging_clash.error
-    (c.in_default-restyling_clash.ensures.none finds extensions excludes lists paths)
-    (c.in-Some-judging_clash.ensures.some finds extensions excludes lists paths))
+pub returns-then-reads_input_twice-clause-some : goal.returns-then-reads_input_twice-clause-some
+returns-then-reads_input_twice-clause-some g c = inr (inr (
+  c.in_default.ensures.none (borrowed_texts c.args.asked.now.finds.items) (borrowed_texts c.args.asked.now.extensions.items)
+      (borrowed_texts c.args.asked.now.excludes.items) (borrowed_texts c.args.asked.now.lists.items)
+      (string_texts c.args.asked.now.paths.items),
+  c.in_default-mode_clash.ensures.none (borrowed_texts c.args.asked.now.finds.items) (borrowed_texts c.args.asked.now.extensions.items)
+      (borrowed_texts c.args.asked.now.excludes.items) (borrowed_texts c.args.asked.now.lists.items)
+      (string_texts c.args.asked.now.paths.items),
+  sym c.reads_input_twice.ensures ∙ c.if-reads_input_twice.true,
+  refl,
+))
 
 pub returns-clause-none : goal.returns-clause-none
-returns-clause-none g c = λ finds extensions excludes lists paths. (
-  c.in_default.ensures.none finds extensions excludes lists paths,
-  c.in_default-restyling_clash.ensures.none finds extensions excludes lists paths,
-  c.in_default-judging_clash.ensures.none finds extensions excludes lists paths,
+returns-clause-none g c = (
+  c.in_default.ensures.none (borrowed_texts c.args.asked.now.finds.items) (borrowed_texts c.args.asked.now.extensions.items)
+      (borrowed_texts c.args.asked.now.excludes.items) (borrowed_texts c.args.asked.now.lists.items)
+      (string_texts c.args.asked.now.paths.items),
+  c.in_default-mode_clash.ensures.none (borrowed_texts c.args.asked.now.finds.items) (borrowed_texts c.args.asked.now.extensions.items)
+      (borrowed_texts c.args.asked.now.excludes.items) (borrowed_texts c.args.asked.now.lists.items)
+      (string_texts c.args.asked.now.paths.items),
+  sym c.reads_input_twice.ensures ∙ c.if-reads_input_twice.false,
 )

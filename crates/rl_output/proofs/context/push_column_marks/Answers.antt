@@ -1,4 +1,4 @@
-use Rattle.rl_syntax.proofs.Common.{arith, nat_tests, sym, ◌<◌, ◌≡◌, ◌≤◌}
+use Rattle.rl_syntax.proofs.Common.{arith, nat_tests, ◌<◌, ◌≡◌, ◌≤◌}
 use Rattle.rl_output.proofs.WidthLemmas.{mark_more, marks_all}
 use Rattle.rl_output.proofs.context.push_column_marks.Goals as goal
 

@@ -11,13 +11,13 @@ returns-in-Rejected-clause-reports g c =
     let outcome = rw c.in-Rejected.is at c.in_ok-lines.ensures in (
       [],
       (
-        c.check_options-options.result,
+        c.source_check_options-checking.result,
         c.path_before-before.result,
         c.path_in-named.result,
         c.in-Rejected.lines.items,
         c.path_before-before.ensures,
         c.path_in-named.ensures,
-        rw (c.edition_for.ensures, c.is_by_line.ensures) at c.check_options-options.ensures,
+        rw (c.edition_for.ensures, c.is_by_line.ensures) at c.source_check_options-checking.ensures,
         outcome.0,
         inl (outcome.1, c.report_rejected.ensures),
       ),
@@ -30,13 +30,13 @@ returns-in-Script-clause-reports g c =
     (IsScriptReport c.args.restyling c.args.path.now c.args.text.now)
     (IsRestyledReport c.args.restyling c.args.command c.args.path.now c.args.text.now) c.report_script.result _ _
     (λ f is. (
-      c.check_options-options.result,
+      c.source_check_options-checking.result,
       c.path_before-before.result,
       c.path_in-named.result,
       [],
       c.path_before-before.ensures,
       c.path_in-named.ensures,
-      rw (c.edition_for.ensures, c.is_by_line.ensures) at c.check_options-options.ensures,
+      rw (c.edition_for.ensures, c.is_by_line.ensures) at c.source_check_options-checking.ensures,
       outcome.0,
       inr (inl (refl, outcome.1, is)),
     )) (unhanded (IsScriptReport c.args.restyling c.args.path.now c.args.text.now) c.report_script.result _ _ refl
@@ -50,26 +50,28 @@ report_change-requires g c = stand_in c.args.command.rules (macros_read c.args.c
 pub returns-clause-reports : goal.returns-clause-reports
 returns-clause-reports g c =
     let outcome = rw (c.macros_for.ensures, c.in-Restyled.is) at c.in_ok-lines.ensures in reports_as
-    (IsChanged c.args.restyling c.args.command c.check_options-options.result c.args.path.now c.path_in-named.result
+    (IsChanged c.args.restyling c.args.command c.options_for-options.result c.args.path.now c.path_in-named.result
     c.args.text.now (string_bytes c.in-Restyled.restyled.text) (map edit_in c.in-Restyled.restyled.edits.items))
     (IsRestyledReport c.args.restyling c.args.command c.args.path.now c.args.text.now) c.report_change.result _ _
     (λ f is. (
-      c.check_options-options.result,
+      c.source_check_options-checking.result,
       c.path_before-before.result,
       c.path_in-named.result,
       [],
       c.path_before-before.ensures,
       c.path_in-named.ensures,
-      rw (c.edition_for.ensures, c.is_by_line.ensures) at c.check_options-options.ensures,
+      rw (c.edition_for.ensures, c.is_by_line.ensures) at c.source_check_options-checking.ensures,
       outcome.0,
       inr (inr (
         refl,
         outcome.1,
         (
+          c.options_for-options.result,
           string_bytes c.in-Restyled.restyled.text,
           map edit_in c.in-Restyled.restyled.edits.items,
           IsUtf8-string_bytes c.in-Restyled.restyled.text,
           outcome.2,
+          c.options_for-options.ensures,
           is,
         ),
       )),

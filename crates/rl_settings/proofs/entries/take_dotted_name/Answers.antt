@@ -3,7 +3,7 @@ use Rattle.rl_lexer.specs.declared.cursor.Lexeme.{Lexeme}
 use Rattle.rl_lexer.specs.Cursors.{CursorState}
 use Rattle.rl_settings.specs.SettingSteps.{HasNo}
 use Rattle.rl_settings.specs.EntrySteps.{IsDotForm, JoinsName, BeginsDottedName}
-use Rattle.rl_settings.proofs.EntryLemmas.{name_begins, name_goes_on, name_boundary, name_text, slice_front, groups_if_any, none_of}
+use Rattle.rl_settings.proofs.EntryLemmas.{name_begins, name_goes_on, name_boundary, name_text, slice_front, holds_of_some, none_of}
 use Rattle.rl_settings.proofs.entries.take_dotted_name.Goals as goal
 
 pub loop-part-init : goal.loop-part-init
@@ -18,11 +18,11 @@ loop-part-preserved c =
     let part = c.in-Some.part in
     let at = c.loop-part in
     let new = c.take_part.new.tokens in
-    let shorter = groups_if_any (λ (l : Lexeme). length new.rest < length at.tokens.rest) c.in_ok-part.field-0 part c.in-Some.is
+    let shorter = holds_of_some (λ (l : Lexeme). length new.rest < length at.tokens.rest) c.in_ok-part.field-0 part c.in-Some.is
     c.in_ok-part.ensures.shorter in
     record {
       name = name_goes_on c.args.tokens.now at.tokens new c.in_ok-first.first part at.hi at.invariant.name
-          (groups_if_any (λ (l : Lexeme). JoinsName at.hi at.tokens l new) c.in_ok-part.field-0 part c.in-Some.is
+          (holds_of_some (λ (l : Lexeme). JoinsName at.hi at.tokens l new) c.in_ok-part.field-0 part c.in-Some.is
           c.in_ok-part.ensures.joins);
       shorter = omega (arith, shorter, at.invariant.shorter);
     }

@@ -1,4 +1,4 @@
-use Rattle.rl_syntax.proofs.Common.{length, ◌≡◌, ◌<◌, ◌≤◌}
+use Rattle.rl_syntax.proofs.Common.{length, ◌<◌}
 use Rattle.rl_settings.proofs.EntryLemmas.{NameUpTo}
 use Rattle.rl_settings.proofs.entries.take_dotted_name.Given as goal
 

@@ -33,11 +33,11 @@ loop-c-preserved g c = record {
   };
   passes = passes_more c.args.options.now (chars c.args.text.now) (without_byte_order_mark (chars c.args.text.now))
       (chars c.loop-c.rest.now) (chars c.in-Some.after.now) (chars (string_bytes c.loop-c.lines))
-      (chars (string_bytes c.push_character.new.out)) c.in-Some.c c.loop-c.invariant.passes c.in-Some.ensures.chars
+      (chars (string_bytes c.push_character.new.out)) c.loop-c.previous c.in-Some.c c.loop-c.invariant.passes c.in-Some.ensures.chars
       (rw c.loop-c.invariant.same at c.in_ok-push_character.ensures.shown);
 }
 
 pub returns : goal.returns
 returns g c = passes_all c.args.options.now (chars c.args.text.now) (without_byte_order_mark (chars c.args.text.now))
-    (chars c.loop-c.rest.now) (chars (string_bytes c.loop-c.lines)) c.loop-c.invariant.passes
+    c.loop-c.previous (chars c.loop-c.rest.now) (chars (string_bytes c.loop-c.lines)) c.loop-c.invariant.passes
     c.in_default.ensures.chars

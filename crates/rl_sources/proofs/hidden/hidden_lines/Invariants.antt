@@ -8,7 +8,7 @@ abbrev pub invariant-loop-c : goal.invariant-loop-c
 invariant-loop-c g l = record {
   same : l.places ≡ l.text;
   cursor : IsCursorState l.text l.rest;
-  passes : PassesHidden l.options (chars l.text) (without_byte_order_mark (chars l.text)) (chars l.rest)
+  passes : PassesHidden l.options (chars l.text) (without_byte_order_mark (chars l.text)) l.previous (chars l.rest)
       (chars (string_bytes l.lines));
 }
 

@@ -4,10 +4,10 @@ use Rattle.rl_sources.proofs.hidden.push_character.Goals as goal
 
 pub returns-then-not-hides-clause-shown : goal.returns-then-not-hides-clause-shown
 returns-then-not-hides-clause-shown g c = shown_plain c.args.options.now (chars c.args.places.now)
-    (chars c.args.after.now) (chars (string_bytes c.args.out.now)) c.args.c
+    (chars c.args.after.now) (chars (string_bytes c.args.out.now)) c.args.previous c.args.c
     (sym c.hides.ensures ∙ c.if-not-hides.true)
 
 pub returns-clause-shown : goal.returns-clause-shown
 returns-clause-shown g c = on_ok_weaker c.push_hidden_line.result (shown_hidden c.args.options.now
-    (chars c.args.places.now) (chars c.args.after.now) _ _ c.args.c (sym c.hides.ensures ∙ c.if-not-hides.false))
+    (chars c.args.places.now) (chars c.args.after.now) _ _ c.args.previous c.args.c (sym c.hides.ensures ∙ c.if-not-hides.false))
     c.push_hidden_line.ensures.line

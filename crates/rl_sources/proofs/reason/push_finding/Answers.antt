@@ -12,5 +12,5 @@ returns-clause-shown g c = on_ok_weaker c.push_context_inside.result (in_context
     (finding_line c.args.options.now (chars c.args.places.now)
     (chars c.args.literal.now.token.now.text.now) c.args.literal.now.token.now.lo c.args.finding
     c.place_inside-place.result (chars c.piece_of-piece.result.now) _ _ _ c.place_inside-place.ensures.place
-    c.piece_of-piece.ensures c.in_ok-push_front.ensures c.in_ok-push_finding_end.ensures))
+    c.piece_of-piece.ensures c.in_ok-push_line_start.ensures c.in_ok-push_finding_end.ensures))
     (rw c.place_inside-place.ensures.same at c.push_context_inside.ensures.context)

@@ -11,12 +11,12 @@ returns-in-Some-eq92-default-clause-rest c =
     ∙ good_at c.args.kind _ _ _ c.requires c.in-Some-eq92-default.ensures.chars
     (inl (ap (λ z. z == 92) c.in-Some-eq92-default.field-0-0-test))
 
-pub returns-then-is_bare_character-clause-rest : goal.returns-then-is_bare_character-clause-rest
-returns-then-is_bare_character-clause-rest c =
-    rest_is (λ p. piece_value c.args.kind p.0) (λ p. chars p.1.now) _ _ c.unit-then-is_bare_character.ensures.value
+pub returns-then-is_allowed_in_single_quotes-clause-rest : goal.returns-then-is_allowed_in_single_quotes-clause-rest
+returns-then-is_allowed_in_single_quotes-clause-rest c =
+    rest_is (λ p. piece_value c.args.kind p.0) (λ p. chars p.1.now) _ _ c.unit-then-is_allowed_in_single_quotes.ensures.value
     ∙ good_at c.args.kind _ _ _ c.requires c.in-Some.ensures.chars
-    (inr (sym c.is_bare_character.ensures ∙ c.if-is_bare_character.true))
+    (inr (sym c.is_allowed_in_single_quotes.ensures ∙ c.if-is_allowed_in_single_quotes.true))
 
-pub returns-else-is_bare_character-clause-rest : goal.returns-else-is_bare_character-clause-rest
-returns-else-is_bare_character-clause-rest c = bad_at c.args.kind _ _ _ c.requires c.in-Some.ensures.chars
-    (ne_eqb _ 92 c.in-Some.first-test.1) (sym c.is_bare_character.ensures ∙ c.if-is_bare_character.false)
+pub returns-else-is_allowed_in_single_quotes-clause-rest : goal.returns-else-is_allowed_in_single_quotes-clause-rest
+returns-else-is_allowed_in_single_quotes-clause-rest c = bad_at c.args.kind _ _ _ c.requires c.in-Some.ensures.chars
+    (ne_eqb _ 92 c.in-Some.first-test.1) (sym c.is_allowed_in_single_quotes.ensures ∙ c.if-is_allowed_in_single_quotes.false)

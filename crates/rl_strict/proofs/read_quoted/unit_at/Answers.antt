@@ -18,8 +18,8 @@ places-requires c =
       suffix = IfOk-at_ok _ c.in-Ok.is c.parse_single_unit-stretch.ensures.suffix;
     }
 
-pub piece_unit-requires : goal.piece_unit-requires
-piece_unit-requires c =
+pub piece_code-requires : goal.piece_code-requires
+piece_code-requires c =
     let single = (front_sound _ _ c.requires).has in
     record { single = single; one = unit_one _ _ _ single (IfOk-at_ok _ c.in-Ok.is c.parse_single_unit-stretch.ensures.unit) }
 
@@ -30,9 +30,9 @@ returns-in-Ok-clause-reads c =
     let quoted = single_quoted _ _ _ _ _ _ c.places.result c.requires (front_sound _ _ c.requires).has
     (IfOk-at_ok _ c.in-Ok.is walk.unit) (IfOk-at_ok _ c.in-Ok.is walk.quote) at.body at.suffix at.stands at.plain
     c.utf8.text c.utf8.inside at.lo in
-    unit_reads c.args.ends _ _ c.places.result c.piece_unit.result
+    unit_reads c.args.ends _ _ c.places.result c.piece_code.result
     (form_token _ Form _ _ c.requires (IfOk-at_ok _ c.in-Ok.is walk.whole))
-    (quoted_found _ _ _ _ _ c.utf8.text quoted c.piece_unit.ensures refl)
+    (quoted_found _ _ _ _ _ c.utf8.text quoted c.piece_code.ensures refl)
 
 pub returns-in-Ok-clause-token : goal.returns-in-Ok-clause-token
 returns-in-Ok-clause-token c = opened_token c.args.ends _ Form _ _ c.requires

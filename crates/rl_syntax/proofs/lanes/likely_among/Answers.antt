@@ -4,7 +4,7 @@ use Rattle.rl_syntax.specs.Mirrors.RunsAt.{is_word_byte}
 use Rattle.rl_syntax.specs.Mirrors.UnlikelyAt.{is_likely_mark}
 use Rattle.rl_syntax.proofs.LaneLemmas.{both, either, lane}
 use Rattle.rl_syntax.proofs.RunLanes.{joined, splat_is}
-use Rattle.rl_syntax.proofs.UnlikelyLanes.{before_is, here_is, lanes_of, likely_mask, near, near-length, near_low, begins_with_kind, same_lanes, three}
+use Rattle.rl_syntax.proofs.UnlikelyLanes.{before_is, here_is, lanes_of, likely_mask, near, near-length, near_low, next_bytes_are, same_lanes, three}
 use Rattle.rl_syntax.proofs.lanes.likely_among.Goals as goal
 
 pub returns : goal.returns
@@ -37,7 +37,7 @@ returns c =
     let digits = lanes_of is_ascii_digit (λ x. x.1) xs here
     (joined (λ a b. cond (leb a b) 255 0) _ _ w (zip2_splat {Y = ℕ} _ w 16 48 here_long) (splat_is w 16 9 here_long)
     ∙ same_lanes _ (λ c. lane (is_ascii_digit c)) refl w low) in
-    let next = begins_with_kind at bs some room in
+    let next = next_bytes_are at bs some room in
     let quotes = lanes_of (λ n. n == 34) (λ x. x.2) xs next (zip2_splat {Y = ℕ} _ u 16 34 next_long) in
     let ticks = lanes_of (λ n. n == 39) (λ x. x.2) xs next (zip2_splat {Y = ℕ} _ u 16 39 next_long) in
     let letters = lanes_of (λ n. n == 114) (λ x. x.2) xs next (zip2_splat {Y = ℕ} _ u 16 114 next_long) in

@@ -1,4 +1,4 @@
-use Rattle.rl_syntax.proofs.Common.{sym, ap, ◌∙◌, arith, not, count_trailing_zeros, drop, prefix_len}
+use Rattle.rl_syntax.proofs.Common.{sym, ap, ◌∙◌, arith, count_trailing_zeros}
 use Rattle.rl_syntax.specs.Scanning.{is_one_of, is_other, line_ends}
 use Rattle.rl_syntax.proofs.LaneLemmas.{not-not, run_through, run_stops}
 use Rattle.rl_syntax.proofs.lanes.line_len.Goals as goal

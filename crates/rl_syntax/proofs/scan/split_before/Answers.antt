@@ -9,7 +9,7 @@ split_at-requires c =
     let q = is_other c.args.marks in
     let high = other_high c.args.marks c.requires in
     let t = c.args.text.now in
-    subst (IsCharBoundary t) (sym (c.near_len_before.ensures ∙ ap (prefix_len q) c.as_bytes.ensures.value))
+    subst (IsCharBoundary t) (sym (c.len_before_near_mark.ensures ∙ ap (prefix_len q) c.as_bytes.ensures.value))
     (run_boundary q high t)
 
 pub returns : goal.returns
@@ -17,7 +17,7 @@ returns c =
     let q = is_other c.args.marks in
     let high = other_high c.args.marks c.requires in
     let t = c.args.text.now in
-    let len : c.near_len_before.result ≡ prefix_len q t = c.near_len_before.ensures
+    let len : c.len_before_near_mark.result ≡ prefix_len q t = c.len_before_near_mark.ensures
     ∙ ap (prefix_len q) c.as_bytes.ensures.value in
     let front : take (prefix_len q t) t ≡ c.split_at.result.0.now = ap (λ n. take n t) (sym len)
     ∙ sym c.split_at.ensures.front in

@@ -1,5 +1,5 @@
 use Rattle.rl_syntax.proofs.Common.{◌∙◌, arith}
-use Rattle.rl_writing.specs.Integers.{argument_len}
+use Rattle.rl_writing.specs.Integers.{base_view}
 use Rattle.rl_writing.proofs.GroupLemmas.{count_is, grouped_short}
 use Rattle.rl_writing.proofs.IntegerLaws.{prefix_short, written_bytes, written_is, written_utf8}
 use Rattle.rl_writing.proofs.integers.write_integer_into.Goals as goal
@@ -31,7 +31,7 @@ put_grouped-at-requires c =
     omega (
       arith,
       digits,
-      prefix_short (argument_len c.args.style.base) c.prefix.result.now c.prefix.ensures,
+      prefix_short (base_view c.args.style.base) c.prefix.result.now c.prefix.ensures,
       c.put_text-at.ensures.end,
       c.put_text-at.ensures.len,
       c.requires,
@@ -44,7 +44,7 @@ put_text-requires c =
     omega (
       arith,
       digits,
-      prefix_short (argument_len c.args.style.base) c.prefix.result.now c.prefix.ensures,
+      prefix_short (base_view c.args.style.base) c.prefix.result.now c.prefix.ensures,
       c.put_text-at.ensures.end,
       c.put_text-at.ensures.len,
       c.requires,
@@ -60,7 +60,7 @@ returns-clause-within c =
     omega (
       arith,
       digits,
-      prefix_short (argument_len c.args.style.base) c.prefix.result.now c.prefix.ensures,
+      prefix_short (base_view c.args.style.base) c.prefix.result.now c.prefix.ensures,
       c.put_text-at.ensures.end,
       c.put_grouped-at.ensures.end,
       c.suffix_of.ensures.short,

@@ -58,7 +58,7 @@ impl Read for Input<'_> {
     }
 }
 
-/// A replacement for standard output, with limits.
+/// A writer in place of standard output. It takes at most `at_once` bytes in one call. It fails after `writable` bytes.
 struct Output {
     held: Vec<u8>,
     streams: Streams,

@@ -4,7 +4,7 @@ use crate::rows::{check, check_headings};
 use crate::shown::{debug_or_error, range};
 use navyspindle_programs::rattle_std::alloc::Global;
 use navyspindle_programs::rl_grammar::{
-    self, byte_spans_of, text_offset, Kind, Parts, SegmentValue, Segments,
+    self, text_offset, value_byte_spans, Kind, Parts, SegmentValue, Segments,
 };
 use navyspindle_programs::rl_tokens::{whitespace, Span};
 
@@ -110,7 +110,7 @@ fn segment(lo: usize, hi: usize, value: SegmentValue<'_>) -> String {
     format!("{lo}..{hi} {value} ")
 }
 
-/// Shows a literal's segments, and the byte range that each byte of the value comes from. The ranges are computed by `byte_spans_of`,
+/// Shows a literal's segments, and the byte range that each byte of the value comes from. The ranges are computed by `value_byte_spans`,
 /// and again by `text_offset` and `end_of`, up to two bytes beyond the value's end.
 #[test]
 fn segments() {
@@ -123,7 +123,7 @@ fn segments() {
             .map(|it| segment(it.lo, it.hi, it.value))
             .collect();
         let bytes: usize = segments().map(|it| it.value.len()).sum();
-        let spans = byte_spans_of(Global, segments(), Span::new(7, 0, text.len())).unwrap();
+        let spans = value_byte_spans(Global, segments(), Span::new(7, 0, text.len())).unwrap();
         let table: String = spans.iter().map(|span| range(*span) + " ").collect();
         let each = (0..=bytes + 1).filter_map(|at| {
             Some(format!(

@@ -66,7 +66,7 @@ fn groups_if_any(len: usize) -> impl Iterator<Item = usize> {
 fn check_places<K: QuotedKind>(ours: &Places, proved: &Quoted<K>) {
     let text = proved.text();
     let base = rl_tokens::Span::new(0, 0, text.len());
-    let spans = rl_grammar::byte_spans_of(Global, proved.segments(), base).unwrap();
+    let spans = rl_grammar::value_byte_spans(Global, proved.segments(), base).unwrap();
     let spans = spans.as_slice();
     for (at, span) in spans.iter().enumerate() {
         assert_eq!(

@@ -61,7 +61,7 @@ impl Read for &mut Script<'_> {
     }
 }
 
-/// A writer that follows steps.
+/// A writer for tests. Each call of `write` does what the next step prescribes: it takes some bytes, or fails.
 pub struct Taker<'a> {
     steps: Steps<'a>,
     taken: std::vec::Vec<u8>,

@@ -42,11 +42,17 @@ const WORDS: &str =
 \"abab ab\" \"é e é\" '-' \"a-b\" \"3ab a b\" r\"\\ab\"";
 
 /// Invisible and bidirectional characters in literals, comments, identifiers and between tokens. Also text that isn't reported:
-/// escapes, tabs, a form feed, CR LF, a variation selector.
+/// escapes, tabs, a form feed, CR LF.
 const HIDES: &str = "\u{feff}\"a\\u{202e}b\" \"a\u{202e}b\"
 '\u{200b}' r\"ä\u{feff}\" b\"\u{202e}\" // \"\u{202e}\"
 \"a\tb\" 1 \"\u{fe0f}\" \"\u{1bca3}\"\r
 \u{c}let a\u{200b}b\u{ad}; \"\x1b[8m\" // a\rb\x07\x00\u{85}\u{2028}\r";
+
+/// Variation selectors after characters that take them, and after others: a selector, an emoji, a letter, a mathematical symbol, an
+/// ideograph. Also a joiner between emoji.
+const SELECTORS: &str = "\u{fe0f}\u{263a}\u{fe0e}\u{fe0f}1\u{fe0f}\u{20e3}a\u{fe00}
+\u{2229}\u{fe00}\u{2229}\u{fe0f}\u{845b}\u{e0100}\u{845b}\u{fe02}\u{263a}\u{e0100}\u{845b}\u{fe03}\u{e01ef}
+\u{1f469}\u{200d}\u{2764}\u{fe0f}";
 
 /// The published examples of Trojan Source (CVE-2021-42574) for Rust. In one a comment is displayed as code, and in the other the
 /// end of a string is displayed elsewhere.
@@ -92,6 +98,9 @@ const STRAYS: &str = "a \\ 1u9 `\u{200b}`\n\t😀 \"b";
 /// Literals that the default style rewrites, one of them in a macro call, and a field.
 const FIXED: &str = "f(1., \"it\\'s\"); m!(1E5);\nt.0 1E5f32 r##\"a\"##\n";
 
+/// Literals with invisible characters, control characters and line ends. One literal has an escape that the default style drops.
+const INVISIBLE: &str = "\"\u{200b}\x1b\té\" \"it\\'s\u{e0001}\\u{200b}\na\" 'x'\n";
+
 /// Files that can't be rewritten.
 pub const UNWRITABLE: [Unwritable<'static>; 2] = [
     Unwritable {
@@ -127,6 +136,7 @@ fn text_at(path: &str) -> Option<&'static str> {
         "prefixed" => Some(PREFIXED),
         "strays" => Some(STRAYS),
         "hides" => Some(HIDES),
+        "selectors" => Some(SELECTORS),
         "trojan.rs" => Some(TROJAN),
         "marked" => Some(MARKED),
         "marks" => Some("\u{feff}\u{feff}1"),
@@ -147,6 +157,7 @@ fn text_at(path: &str) -> Option<&'static str> {
         "fix/a.rs" => Some(FIXED),
         "fix/bad.rs" => Some("1. 0b12 \""),
         "fix/full.rs" | "fix/other.rs" | "./fix/other.rs" | ".//other.rs" => Some("1E5\n"),
+        "invisible.rs" => Some(INVISIBLE),
         "fix/none.rs" => Some("1.0 \"it's\"\n"),
         "fix/script.rs" => Some("#!/bin/x\n1E5\n"),
         "fix/space.rs" => Some("\u{feff}#! [allow(x)]\n1E5\n"),
@@ -161,6 +172,7 @@ fn text_at(path: &str) -> Option<&'static str> {
         "style/mark" => Some("\n/*\n*/ drop_raw true\n"),
         "style/marked" => Some("\u{feff}drop_raw = true\n"),
         "style/twomarks" => Some("\u{feff}\n\u{feff}drop_raw = true\n"),
+        "style/invisible" => Some("escape_invisible = true\n"),
         "style/number" => Some("drop_raw = true\n1 = true\n"),
         _ => None,
     }
@@ -173,6 +185,8 @@ fn bytes_at(path: &str) -> Result<&'static [u8], PathError> {
         "long.rs" => Err(PathError::TooLong),
         "./n.rs" => Ok(b"1 \"a\xff\"".as_slice()),
         "listff" => Ok(b"./a.rs\n\xff".as_slice()),
+        "list/fe" => Ok(b"\xef\xbb\xbfb\\\xe9 \x7f.rs\0\xc3\xa9\0\0./a.rs\0\xc3".as_slice()),
+        "list/ff" => Ok(b"\xff\n".as_slice()),
         _ => match text_at(path) {
             Some(text) => Ok(text.as_bytes()),
             None => Err(PathError::NotFound),

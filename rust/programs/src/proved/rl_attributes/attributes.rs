@@ -1,4 +1,4 @@
-// Rendered from crates/rl_attributes/src/attributes.rt by tools/render, which erases contracts: change that file, and render anew.
+// Rendered from crates/rl_attributes/src/attributes.rt by tools/render, which erases contracts: change that file, and render again.
 //! The types of attributes, which are settings `name = literal`, and of lists of them.
 
 use crate::rattle_std::prelude::{String, Vec};

@@ -1,4 +1,4 @@
-// Rendered from crates/rl_attributes/src/required.rt by tools/render, which erases contracts: change that file, and render anew.
+// Rendered from crates/rl_attributes/src/required.rt by tools/render, which erases contracts: change that file, and render again.
 //! Functions that return the value of a required setting, or of a setting with a default.
 
 use crate::rattle_std::prelude::{Drop, String};

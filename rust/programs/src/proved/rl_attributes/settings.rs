@@ -1,4 +1,4 @@
-// Rendered from crates/rl_attributes/src/settings.rt by tools/render, which erases contracts: change that file, and render anew.
+// Rendered from crates/rl_attributes/src/settings.rt by tools/render, which erases contracts: change that file, and render again.
 //! The type of settings, the check that names are known and values have no suffix, and the type of errors.
 
 use crate::rl_attributes::attributes::{Attrs, Entry};

@@ -1,4 +1,4 @@
-// Rendered from crates/rl_attributes/src/values.rt by tools/render, which erases contracts: change that file, and render anew.
+// Rendered from crates/rl_attributes/src/values.rt by tools/render, which erases contracts: change that file, and render again.
 //! Functions that return the value of a setting as a string, a number or a `bool`.
 
 use crate::rattle_std::prelude::{Drop, String};

@@ -1,9 +1,9 @@
-// Rendered from crates/rl_commands/src/attribute_lines.rt by tools/render, which erases contracts: change that file, and render anew.
+// Rendered from crates/rl_commands/src/attribute_lines.rt by tools/render, which erases contracts: change that file, and render again.
 //! Writes the output lines of attributes.
 
 use crate::rattle_std::prelude::{String};
 use crate::rl_commands::attr::{Entry, read};
-use crate::rl_commands::lit_line::push_literal;
+use crate::rl_commands::lit_line::push_literal_line;
 use crate::rl_program::ProgramError;
 use crate::rattle_std::alloc::{AllocError, Allocator};
 
@@ -15,7 +15,7 @@ fn push_entry<A: Allocator + Copy>(
 ) -> Result<(), AllocError> {
     out.push_str(entry.name.as_str())?;
     out.push_str(" ")?;
-    push_literal(alloc, out, &entry.value)
+    push_literal_line(alloc, out, &entry.value)
 }
 
 /// Returns the output lines of attributes, in order. Each has the attribute's name, a space, and the output line of its literal.

@@ -1,4 +1,4 @@
-// Rendered from crates/rl_commands/src/command.rt by tools/render, which erases contracts: change that file, and render anew.
+// Rendered from crates/rl_commands/src/command.rt by tools/render, which erases contracts: change that file, and render again.
 //! The commands of `rl_tool`.
 
 use crate::rattle_std::prelude::{String};

@@ -1,4 +1,4 @@
-// Rendered from crates/rl_commands/src/exit.rt by tools/render, which erases contracts: change that file, and render anew.
+// Rendered from crates/rl_commands/src/exit.rt by tools/render, which erases contracts: change that file, and render again.
 //! Runs `rl_tool` with its arguments, and determines its exit status.
 
 use crate::rattle_std::prelude::{String};

@@ -1,8 +1,8 @@
-// Rendered from crates/rl_commands/src/list.rt by tools/render, which erases contracts: change that file, and render anew.
+// Rendered from crates/rl_commands/src/list.rt by tools/render, which erases contracts: change that file, and render again.
 //! Writes the output lines of the literals in a list. Each literal is dropped after its line is written.
 
 use crate::rattle_std::prelude::{String};
-use crate::rl_commands::lit_line::push_literal;
+use crate::rl_commands::lit_line::push_literal_line;
 use crate::rl_program::ProgramError;
 use crate::rust_literals::{Lit, Literals};
 use crate::rattle_std::alloc::Allocator;
@@ -15,7 +15,7 @@ fn with_line<A: Allocator + Copy>(
     literal: Lit<A>,
 ) -> Option<String<A>> {
     let mut longer = lines?;
-    let pushed = push_literal(alloc, &mut longer, &literal);
+    let pushed = push_literal_line(alloc, &mut longer, &literal);
     // A call of `drop`: dropping the literal in place, without a call, doubles the steps of the proof.
     drop(literal);
     match pushed {

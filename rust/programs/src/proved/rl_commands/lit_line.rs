@@ -1,8 +1,8 @@
-// Rendered from crates/rl_commands/src/lit_line.rt by tools/render, which erases contracts: change that file, and render anew.
+// Rendered from crates/rl_commands/src/lit_line.rt by tools/render, which erases contracts: change that file, and render again.
 //! Writes the output line of a `Lit`.
 
 use crate::rattle_std::prelude::{String};
-use crate::rl_program::{push_found, push_kind, push_verbatim, truth_word};
+use crate::rl_program::{push_found, push_line_of_kind, push_verbatim_line, truth_word};
 use crate::rl_quoted::{Quoted, QuotedKind};
 use crate::rl_tokens::Kind;
 use crate::rust_literals::Lit;
@@ -22,7 +22,7 @@ fn push_quoted_literal<K: QuotedKind, A: Allocator + Copy>(
 /// # Errors
 ///
 /// Returns an error if an allocation fails. The error is the standard library's. A part of the line may have been appended then.
-pub fn push_literal<A: Allocator + Copy>(
+pub fn push_literal_line<A: Allocator + Copy>(
     alloc: A,
     out: &mut String<A>,
     literal: &Lit<A>,
@@ -33,10 +33,20 @@ pub fn push_literal<A: Allocator + Copy>(
         Lit::CStr(literal) => push_quoted_literal(alloc, out, literal),
         Lit::Byte(literal) => push_quoted_literal(alloc, out, literal),
         Lit::Char(literal) => push_quoted_literal(alloc, out, literal),
-        Lit::Int(number) => push_kind(out, Kind::Int, number.base10_digits(), number.suffix()),
-        Lit::Float(number) => push_kind(out, Kind::Float, number.base10_digits(), number.suffix()),
-        Lit::Bool(truth) => push_kind(out, Kind::Bool, truth_word(truth.value()), ""),
-        Lit::Verbatim(token) => push_verbatim(out, token.text()),
+        Lit::Int(number) => push_line_of_kind(
+            out,
+            Kind::Int,
+            number.base10_digits(),
+            number.suffix(),
+        ),
+        Lit::Float(number) => push_line_of_kind(
+            out,
+            Kind::Float,
+            number.base10_digits(),
+            number.suffix(),
+        ),
+        Lit::Bool(truth) => push_line_of_kind(out, Kind::Bool, truth_word(truth.value()), ""),
+        Lit::Verbatim(token) => push_verbatim_line(out, token.text()),
     }
 }
 
@@ -47,6 +57,6 @@ pub fn push_literal<A: Allocator + Copy>(
 /// Returns an error if an allocation fails. The error is the standard library's and has no position.
 pub fn line_of<A: Allocator + Copy>(alloc: A, literal: &Lit<A>) -> Result<String<A>, AllocError> {
     let mut line = String::new(alloc);
-    push_literal(alloc, &mut line, literal)?;
+    push_literal_line(alloc, &mut line, literal)?;
     Ok(line)
 }

@@ -1,4 +1,4 @@
-// Rendered from crates/rl_commands/src/run.rt by tools/render, which erases contracts: change that file, and render anew.
+// Rendered from crates/rl_commands/src/run.rt by tools/render, which erases contracts: change that file, and render again.
 //! Runs a command of `rl_tool` with any reader and writer.
 
 use crate::rattle_std::prelude::{String, Vec};

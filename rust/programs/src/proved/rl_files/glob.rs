@@ -1,4 +1,4 @@
-// Rendered from crates/rl_files/src/glob.rt by tools/render, which erases contracts: change that file, and render anew.
+// Rendered from crates/rl_files/src/glob.rt by tools/render, which erases contracts: change that file, and render again.
 //! Matches paths against patterns in the syntax of gitignore files, without allocations. The time grows with the product of the
 //! lengths of pattern and path.
 

@@ -1,4 +1,4 @@
-// Rendered from crates/rl_files/src/host.rt by tools/render, which erases contracts: change that file, and render anew.
+// Rendered from crates/rl_files/src/host.rt by tools/render, which erases contracts: change that file, and render again.
 //! Files of the operating system.
 
 use crate::rattle_std::prelude::{Alloc, Drop, Input, String, Vec};

@@ -1,4 +1,4 @@
-// Rendered from crates/rl_files/src/memory.rt by tools/render, which erases contracts: change that file, and render anew.
+// Rendered from crates/rl_files/src/memory.rt by tools/render, which erases contracts: change that file, and render again.
 //! Files and directories in memory.
 
 use crate::rattle_std::prelude::{String, Vec};

@@ -1,9 +1,10 @@
-// Rendered from crates/rl_files/src/lib.rt by tools/render, which erases contracts: change that file, and render anew.
+// Rendered from crates/rl_files/src/lib.rt by tools/render, which erases contracts: change that file, and render again.
 //! Trees of files: directories with the files in them. Reads files, walks through directories, and replaces files.
 
 mod glob;
 mod host;
 mod memory;
+mod path_texts;
 mod replace;
 mod tree;
 mod visible;
@@ -15,6 +16,7 @@ pub use crate::rl_files::host::{Host, LONGEST};
 pub use crate::rl_files::memory::{
     MemoryDirectory, MemoryFile, MemoryReplacement, MemoryReplacements, MemoryTree, Unwritable,
 };
+pub use crate::rl_files::path_texts::{escaped_path, path_text};
 pub use crate::rl_files::replace::Replace;
 pub use crate::rl_files::tree::{PathError, Tree};
 pub use crate::rl_files::visible::{make_visible, push_visible};

@@ -1,4 +1,4 @@
-// Rendered from crates/rl_files/src/replace.rt by tools/render, which erases contracts: change that file, and render anew.
+// Rendered from crates/rl_files/src/replace.rt by tools/render, which erases contracts: change that file, and render again.
 //! A trait for types that replace files.
 
 use crate::rl_files::tree::PathError;

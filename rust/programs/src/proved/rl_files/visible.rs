@@ -1,4 +1,4 @@
-// Rendered from crates/rl_files/src/visible.rt by tools/render, which erases contracts: change that file, and render anew.
+// Rendered from crates/rl_files/src/visible.rt by tools/render, which erases contracts: change that file, and render again.
 //! Writes texts with escapes for control characters and for invisible and bidirectional characters.
 
 use crate::rattle_std::prelude::{String};

@@ -1,8 +1,9 @@
-// Rendered from crates/rl_files/src/walk.rt by tools/render, which erases contracts: change that file, and render anew.
+// Rendered from crates/rl_files/src/walk.rt by tools/render, which erases contracts: change that file, and render again.
 //! Walks through directories: determines the files to read, and their order.
 
 use crate::rattle_std::prelude::{String, Vec};
 use crate::rl_files::glob::is_excluded;
+use crate::rl_files::path_texts::escaped_path;
 use crate::rl_files::tree::{PathError, Tree};
 use crate::rattle_std::alloc::{AllocError, Allocator, Global};
 use crate::rattle_std::fmt;
@@ -30,6 +31,8 @@ pub enum WalkEntry<A: Allocator = Global> {
     File(String<A>),
     /// A directory with a name that isn't UTF-8. The path is that of the directory.
     BadName(String<A>),
+    /// A path that the user passed and that isn't UTF-8. Its bytes are escaped.
+    BadPath(String<A>),
 }
 
 /// The next result of a walk.
@@ -168,6 +171,14 @@ fn pending_of<A: Allocator>(
     Ok(WalkEntry::File(path))
 }
 
+/// Returns the entry to visit for a path that the user passed.
+fn entry_given<A: Allocator>(alloc: A, path: String<A>) -> Result<WalkEntry<A>, AllocError> {
+    if let Some(shown) = escaped_path(path.as_str()) {
+        return Ok(WalkEntry::BadPath(String::from_str(alloc, shown)?));
+    }
+    Ok(WalkEntry::Directory(None, path))
+}
+
 impl<A: Allocator> Walk<A> {
     /// Returns a walk without any entries.
     fn new(alloc: A) -> Walk<A> {
@@ -183,11 +194,13 @@ impl<A: Allocator> Walk<A> {
     }
 
     /// Adds a path that the user passed. It is visited next, before the other entries.
-    fn push_given(&mut self, path: String<A>) -> Result<(), AllocError> {
-        self.push(WalkEntry::Directory(None, path))
+    fn push_given(&mut self, alloc: A, path: String<A>) -> Result<(), AllocError> {
+        let entry = entry_given(alloc, path)?;
+        self.push(entry)
     }
 
-    /// Returns a walk that visits the paths in their order.
+    /// Returns a walk that visits the paths in their order. A path that isn't UTF-8, as `path_text` represents it, is visited to be
+    /// reported.
     ///
     /// # Errors
     ///
@@ -197,7 +210,7 @@ impl<A: Allocator> Walk<A> {
         A: Copy, {
         let mut walk = Walk::new(alloc);
         while let Some(path) = paths.pop() {
-            walk.push_given(path)?;
+            walk.push_given(alloc, path)?;
         }
         Ok(walk)
     }
@@ -289,6 +302,9 @@ impl<A: Allocator> Walk<A> {
                 WalkEntry::File(path) => return Ok(Some(Visit::File(path))),
                 WalkEntry::BadName(directory) => {
                     return Ok(Some(Visit::Failed(directory, PathError::NameNotUtf8)));
+                }
+                WalkEntry::BadPath(path) => {
+                    return Ok(Some(Visit::Failed(path, PathError::PathNotUtf8)));
                 }
                 WalkEntry::Directory(from, path) => match tree.names(alloc, path.as_str()) {
                     Ok(mut names) => {

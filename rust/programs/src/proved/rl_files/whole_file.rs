@@ -1,4 +1,4 @@
-// Rendered from crates/rl_files/src/whole_file.rt by tools/render, which erases contracts: change that file, and render anew.
+// Rendered from crates/rl_files/src/whole_file.rt by tools/render, which erases contracts: change that file, and render again.
 //! Replaces a file of the operating system as a whole. After any error, and however the program ends, it has its
 //! old or its new bytes.
 

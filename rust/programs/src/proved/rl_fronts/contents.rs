@@ -1,4 +1,4 @@
-// Rendered from crates/rl_fronts/src/contents.rt by tools/render, which erases contracts: change that file, and render anew.
+// Rendered from crates/rl_fronts/src/contents.rt by tools/render, which erases contracts: change that file, and render again.
 //! Functions that return the decoded values of string, byte string and C string literals as new strings or vectors.
 
 use crate::rattle_std::prelude::{String, Vec, vec};

@@ -1,4 +1,4 @@
-// Rendered from crates/rl_fronts/src/digits.rt by tools/render, which erases contracts: change that file, and render anew.
+// Rendered from crates/rl_fronts/src/digits.rt by tools/render, which erases contracts: change that file, and render again.
 //! Functions that return the digits of an integer or float literal as a new string.
 
 use crate::rattle_std::prelude::{String, vec};

@@ -1,4 +1,4 @@
-// Rendered from crates/rl_fronts/src/front.rt by tools/render, which erases contracts: change that file, and render anew.
+// Rendered from crates/rl_fronts/src/front.rt by tools/render, which erases contracts: change that file, and render again.
 //! The literal at the start of a parse buffer: a literal token, `true` or `false`, or a minus and a number.
 
 use crate::rl_lenient::{Found, bool_of, find, find_negative};

@@ -1,4 +1,4 @@
-// Rendered from crates/rl_fronts/src/lib.rt by tools/render, which erases contracts: change that file, and render anew.
+// Rendered from crates/rl_fronts/src/lib.rt by tools/render, which erases contracts: change that file, and render again.
 //! Functions that return the values of literals in allocated memory (decoded values, digits and tables of spans), and
 //! the parser of the literal at the start of a parse buffer.
 
@@ -10,4 +10,4 @@ pub mod span_table;
 pub use crate::rl_fronts::contents::{bytes_of, bytes_of_body, str_of, str_of_body};
 pub use crate::rl_fronts::digits::{digits_of, digits_of_found};
 pub use crate::rl_fronts::front::{Front, Negative, begins_with_kind, take_literal_of_kind};
-pub use crate::rl_fronts::span_table::byte_spans_of;
+pub use crate::rl_fronts::span_table::value_byte_spans;

@@ -1,4 +1,4 @@
-// Rendered from crates/rl_fronts/src/span_table.rt by tools/render, which erases contracts: change that file, and render anew.
+// Rendered from crates/rl_fronts/src/span_table.rt by tools/render, which erases contracts: change that file, and render again.
 //! A table of the spans from which the bytes of a quoted literal's decoded value come.
 
 use crate::rattle_std::prelude::{Vec};
@@ -34,7 +34,7 @@ fn push_spans<A: Allocator>(
 /// # Errors
 ///
 /// Returns an error if an allocation fails.
-pub fn byte_spans_of<A: Allocator>(
+pub fn value_byte_spans<A: Allocator>(
     alloc: A,
     mut segments: Segments<'_>,
     base: Span,

@@ -1,4 +1,4 @@
-// Rendered from crates/rl_grammar/src/lib.rt by tools/render, which erases contracts: change that file, and render anew.
+// Rendered from crates/rl_grammar/src/lib.rt by tools/render, which erases contracts: change that file, and render again.
 //! Functions that examine one text: whether it is a literal, its kind, its parts and its value, or the reason why it
 //! isn't a literal. The crate is modelled on the module `value` in `src/lit.rs` of the crate `syn` 3.0.9, and on the
 //! Rust Reference. Most items are defined in the crates `rl_fronts`, `rl_lenient`, `rl_strict` and `rl_syntax`, and are
@@ -7,8 +7,8 @@
 pub mod strict;
 
 pub use crate::rl_fronts::{
-    Front, Negative, begins_with_kind, byte_spans_of, bytes_of, bytes_of_body, digits_of,
-    digits_of_found, str_of, str_of_body, take_literal_of_kind,
+    Front, Negative, begins_with_kind, bytes_of, bytes_of_body, digits_of, digits_of_found, str_of,
+    str_of_body, take_literal_of_kind, value_byte_spans,
 };
 pub use crate::rl_lenient::{
     Body, FloatParts, Found, IntegerParts, ListStep, NextLiteral, Parts, Rejection, RejectionKind,

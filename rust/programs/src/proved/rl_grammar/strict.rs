@@ -1,4 +1,4 @@
-// Rendered from crates/rl_grammar/src/strict.rt by tools/render, which erases contracts: change that file, and render anew.
+// Rendered from crates/rl_grammar/src/strict.rt by tools/render, which erases contracts: change that file, and render again.
 //! The strict grammar of literal tokens, which is that of the Rust Reference: functions that parse a text by it, or
 //! return the reason why the text isn't a literal token.
 

@@ -1,4 +1,4 @@
-// Rendered from crates/rl_options/src/argument_error.rt by tools/render, which erases contracts: change that file, and render anew.
+// Rendered from crates/rl_options/src/argument_error.rt by tools/render, which erases contracts: change that file, and render again.
 //! The errors in the command-line arguments of the program `rl_scan`.
 
 use crate::rattle_std::prelude::{String};
@@ -36,18 +36,10 @@ pub enum ArgumentError<A: Allocator = Global> {
     StatsOfPaths,
     /// `--fix`, `--check` and `--diff` are combined or repeated.
     TwoRestylings,
-    /// `--fix`, `--check` or `--diff` is combined with an option that selects other output.
-    RestylesAlone,
-    /// `--fix` or `--diff` is combined with an option that prints counts or paths. Only `--check` allows these options.
-    SumsOfCheck,
-    /// `--style` is used without `--fix`, `--check` or `--diff`.
-    StyleAlone,
-    /// `--macros` is used without `--fix`, `--check` or `--diff`.
-    MacrosAlone,
-    /// `--any-suffix` is used without `--bad`.
-    SuffixAlone,
-    /// `--edition` is used without `--bad`, `--fix`, `--check` or `--diff`.
-    EditionAlone,
+    /// An option has no effect in the mode of the command. The fields are the option, the words for the mode, and advice.
+    NoEffect(&'static str, &'static str, &'static str),
+    /// The value of `--style` is `-`, and sources or a list of paths are read from standard input too.
+    InputTwice,
     /// `--style` is the last argument, without its value.
     NoStyle,
     /// `--macros` is the last argument, without its value.
@@ -144,20 +136,13 @@ impl<A: Allocator> fmt::Display for ArgumentError<A> {
             ArgumentError::TwoRestylings => {
                 write!(f, "--fix, --check and --diff can't be combined or repeated")
             }
-            ArgumentError::RestylesAlone => write!(
-                f,
-                "--fix, --check and --diff can't be used with --bad, --invisible, --only, -e, --find, --files, --text, --json, --format, -C, -B, -A, --stats"
-            ),
-            ArgumentError::SumsOfCheck => write!(
-                f,
-                "-c, --count, -l, --files-with-matches can't be used with --fix or --diff"
-            ),
-            ArgumentError::StyleAlone => { write!(f, "--style needs --fix, --check or --diff") }
-            ArgumentError::MacrosAlone => { write!(f, "--macros needs --fix, --check or --diff") }
-            ArgumentError::SuffixAlone => write!(f, "--any-suffix needs --bad"),
-            ArgumentError::EditionAlone => {
-                write!(f, "--edition needs --bad, --fix, --check or --diff")
+            ArgumentError::NoEffect(option, mode, hint) => {
+                write!(f, "{option} has no effect {mode}: {hint}")
             }
+            ArgumentError::InputTwice => write!(
+                f,
+                "--style - reads standard input, so pass a PATH or --files-from FILE other than -"
+            ),
             ArgumentError::NoStyle => write!(f, "--style needs a value, such as --style style.txt"),
             ArgumentError::NoMacros => write!(f, "--macros needs a value: skip or all"),
             ArgumentError::UnknownMacros(word) => {

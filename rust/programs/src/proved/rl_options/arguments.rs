@@ -1,4 +1,4 @@
-// Rendered from crates/rl_options/src/arguments.rt by tools/render, which erases contracts: change that file, and render anew.
+// Rendered from crates/rl_options/src/arguments.rt by tools/render, which erases contracts: change that file, and render again.
 //! Parses the command-line arguments of the program `rl_scan`.
 
 use crate::rattle_std::prelude::{String, Vec};
@@ -6,11 +6,12 @@ use crate::rl_options::argument_error::ArgumentError;
 use crate::rl_options::command::{Action, Command, Output, PlaceForm};
 use crate::rl_options::conflicts::clash_of;
 use crate::rl_options::flags::{
-    Flag, Next, Operand, When, add_flag, after_front, count_of, edition_of, flag_of, form_in,
-    form_when, format_of, has_more_than_extension, has_other_mark, joined_of, letter_of, macros_of,
-    matches_nothing, next_after, recolored, taken_by, when_of,
+    Effect, Next, Operand, When, add_option, after_front, count_of, edition_of, form_in, form_when,
+    format_of, has_more_than_extension, has_other_mark, macros_of, matches_nothing, next_after,
+    operand_of, recolored, when_of,
 };
-use crate::rl_options::suggestion::{meant_by, option_part};
+use crate::rl_options::suggestion::option_part;
+use crate::rl_options::table::{effect_of, effect_of_letter, joined_of, meant_by};
 use crate::rl_options::visible::visible_text;
 use crate::rl_files::Selection;
 use crate::rl_output::{Matching, Shown, Spelling, names};
@@ -72,10 +73,10 @@ fn missing<A: Allocator>(operand: Operand) -> ArgumentError<A> {
 /// value.
 fn unknown_option<A: Allocator>(alloc: A, word: &str) -> Result<ArgumentError<A>, AllocError> {
     let option = option_part(word);
-    if flag_of(option).is_some() {
-        return Ok(ArgumentError::NoValue(visible_text(alloc, option)?));
+    match effect_of(option) {
+        Some(_) => Ok(ArgumentError::NoValue(visible_text(alloc, option)?)),
+        None => Ok(ArgumentError::UnknownOption(visible_text(alloc, word)?, meant_by(word))),
     }
-    Ok(ArgumentError::UnknownOption(visible_text(alloc, word)?, meant_by(word)))
 }
 
 /// Returns the error for the unknown letter `c` in `word`, a group of short options.
@@ -115,15 +116,15 @@ fn letters_of(word: &str) -> Option<&str> {
 ///
 /// `rest` is the argument after the option's letter. If `rest` is empty, the value isn't in this argument, and the result is
 /// `None`.
-fn operand_in(flag: Flag, rest: &str) -> Option<Operand> {
+fn operand_in(effect: Effect, rest: &str) -> Option<Operand> {
     if rest.is_empty() {
         return None;
     }
-    operand_of(next_after(flag))
+    operand_of(effect)
 }
 
 /// Returns the kind of value that the next argument must be, or `None` if the option before it doesn't need one.
-fn operand_of(wanted: Next) -> Option<Operand> {
+fn operand_wanted(wanted: Next) -> Option<Operand> {
     match wanted {
         Next::Operand(operand) => Some(operand),
         Next::Any | Next::Path => None,
@@ -296,12 +297,12 @@ impl<'a, A: Allocator + Copy> ParsedArguments<'a, A> {
     }
 
     /// Adds an option to the parsed arguments, and determines what the next argument may be.
-    fn take_flag(&mut self, flag: Flag) -> Result<(), ArgumentError<A>> {
-        match add_flag(self.command, flag) {
+    fn take_effect(&mut self, effect: Effect) -> Result<(), ArgumentError<A>> {
+        match add_option(self.command, effect) {
             Ok(command) => self.command = command,
             Err(error) => return Err(error),
         }
-        self.next = next_after(flag);
+        self.next = next_after(effect);
         Ok(())
     }
 
@@ -314,7 +315,7 @@ impl<'a, A: Allocator + Copy> ParsedArguments<'a, A> {
         operand: Operand,
         text: &'a str,
     ) -> Result<(), ArgumentError<A>> {
-        match add_flag(self.command, taken_by(operand)) {
+        match add_option(self.command, Effect::Takes(operand)) {
             Ok(_) => self.take_operand(alloc, has_colors, operand, text),
             Err(error) => Err(error),
         }
@@ -332,13 +333,13 @@ impl<'a, A: Allocator + Copy> ParsedArguments<'a, A> {
     ) -> Result<(), ArgumentError<A>> {
         let mut rest = letters;
         while let Some((c, after)) = split_char(rest) {
-            let Some(flag) = letter_of(c) else {
+            let Some(effect) = effect_of_letter(c) else {
                 return Err(unknown_letter(alloc, word, c)?);
             };
-            if let Some(operand) = operand_in(flag, after) {
+            if let Some(operand) = operand_in(effect, after) {
                 return self.take_joined(alloc, has_colors, operand, after);
             }
-            match self.take_flag(flag) {
+            match self.take_effect(effect) {
                 Ok(()) => {}
                 Err(error) => return Err(error),
             }
@@ -354,8 +355,8 @@ impl<'a, A: Allocator + Copy> ParsedArguments<'a, A> {
         has_colors: bool,
         word: &'a str,
     ) -> Result<(), ArgumentError<A>> {
-        if let Some(flag) = flag_of(word) {
-            return self.take_flag(flag);
+        if let Some(effect) = effect_of(word) {
+            return self.take_effect(effect);
         }
         if let Some((operand, text)) = joined_of(word) {
             return self.take_joined(alloc, has_colors, operand, text);
@@ -427,7 +428,7 @@ fn first_command<'a>(has_colors: bool) -> Command<'a> {
 ///
 /// Returns the error of the first invalid argument. After the last argument, it returns an error if that argument is an option
 /// without its value, as `NoKinds`. Then it returns an error if options contradict each other: `TextlessKinds`, `ObjectsOfPaths`,
-/// `StatsOfPaths`, `RestylesAlone`, `SumsOfCheck`, `StyleAlone`, `MacrosAlone`, `SuffixAlone`, `EditionAlone`.
+/// `StatsOfPaths`, `NoEffect` or `InputTwice`.
 pub fn parse_arguments<A: Allocator + Copy>(
     alloc: A,
     has_colors: bool,
@@ -448,10 +449,10 @@ pub fn parse_arguments<A: Allocator + Copy>(
             Err(error) => return Err(error),
         }
     }
-    if let Some(operand) = operand_of(asked.next) {
+    if let Some(operand) = operand_wanted(asked.next) {
         return Err(missing(operand));
     }
-    if let Some(error) = clash_of(asked.command) {
+    if let Some(error) = clash_of(&asked) {
         return Err(error);
     }
     Ok(asked)

@@ -1,4 +1,4 @@
-// Rendered from crates/rl_options/src/command.rt by tools/render, which erases contracts: change that file, and render anew.
+// Rendered from crates/rl_options/src/command.rt by tools/render, which erases contracts: change that file, and render again.
 //! The command that the command-line arguments of `rl_scan` describe.
 
 use crate::rl_files::Selection;

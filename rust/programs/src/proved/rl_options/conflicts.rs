@@ -1,9 +1,13 @@
-// Rendered from crates/rl_options/src/conflicts.rt by tools/render, which erases contracts: change that file, and render anew.
+// Rendered from crates/rl_options/src/conflicts.rt by tools/render, which erases contracts: change that file, and render again.
 //! Finds options of a command line that contradict each other.
 
+use crate::rattle_std::prelude::{String};
 use crate::rl_options::argument_error::ArgumentError;
-use crate::rl_options::command::{Action, Command, Output, Restyling};
-use crate::rl_output::{Shown, Spelling, has_extents, names};
+use crate::rl_options::arguments::ParsedArguments;
+use crate::rl_options::command::{Action, Command, Output};
+use crate::rl_options::modes::{mode_of, mode_words, modes_hint};
+use crate::rl_options::table::without_effect;
+use crate::rl_output::{Shown, has_extents, names};
 use crate::rattle_std::alloc::Allocator;
 
 /// The kinds of literals whose value may contain a text.
@@ -42,102 +46,6 @@ fn prints_no_objects(command: Command<'_>) -> bool {
     lists_files(command.action) || sums_lines(command.output)
 }
 
-/// Whether an option selects the literals that are printed.
-fn picks_literals(command: Command<'_>) -> bool {
-    !matches!(command.shown, Shown::All) || command.searches
-}
-
-/// Whether an option selects the format of lines: literals as written, JSON objects or GitHub annotations.
-fn spells_lines(command: Command<'_>) -> bool {
-    matches!(command.spelling, Spelling::Source) || has_extents(command.form)
-}
-
-/// Whether an option selects the output: the literals, the format of lines, the context, a list of files, or statistics.
-fn says_what_is_printed(command: Command<'_>) -> bool {
-    picks_literals(command)
-        || spells_lines(command)
-        || asks_context(command)
-        || lists_files(command.action)
-        || command.prints_stats
-}
-
-/// Whether literals are rewritten by `--fix` or `--diff`, which print no paths or counts.
-fn has_no_sums(restyle: Option<Restyling>) -> bool {
-    matches!(restyle, Some(Restyling::Fix | Restyling::Diff))
-}
-
-/// Whether the command prints paths or counts, and rewrites literals by `--fix` or `--diff`, which don't print them.
-fn restyles_and_sums(command: Command<'_>) -> bool {
-    sums_lines(command.output) && has_no_sums(command.restyle)
-}
-
-/// Whether the command rewrites literals, and an option selects other output.
-fn restyles_and_prints(command: Command<'_>) -> bool {
-    command.restyle.is_some() && says_what_is_printed(command)
-}
-
-/// Whether the command has a style, but doesn't rewrite literals.
-fn has_needless_style(command: Command<'_>) -> bool {
-    match (command.style, command.restyle) {
-        (Some(_), None) => true,
-        (Some(_), Some(_)) | (None, _) => false,
-    }
-}
-
-/// Whether the command has the option `--macros`, but doesn't rewrite literals.
-fn has_needless_macros(command: Command<'_>) -> bool {
-    match (command.restyle, command.macros) {
-        (None, Some(_)) => true,
-        (Some(_), Some(_)) | (_, None) => false,
-    }
-}
-
-/// Whether only invalid literals are printed.
-fn wants_bad(shown: Shown<'_>) -> bool {
-    matches!(shown, Shown::Bad)
-}
-
-/// Whether literals may have any suffix, but the command doesn't print invalid literals.
-fn has_needless_suffix(command: Command<'_>) -> bool {
-    command.any_suffix && !wants_bad(command.shown)
-}
-
-/// Whether the command has an edition, but neither prints invalid literals nor rewrites literals.
-fn has_needless_edition(command: Command<'_>) -> bool {
-    match (command.edition, command.restyle) {
-        (Some(_), None) => !wants_bad(command.shown),
-        (Some(_), Some(_)) | (None, _) => false,
-    }
-}
-
-/// Returns the first error of options that contradict the rewriting of literals, or `None`.
-fn restyling_clash<A: Allocator>(command: Command<'_>) -> Option<ArgumentError<A>> {
-    if restyles_and_prints(command) {
-        return Some(ArgumentError::RestylesAlone);
-    }
-    if restyles_and_sums(command) {
-        return Some(ArgumentError::SumsOfCheck);
-    }
-    if has_needless_style(command) {
-        return Some(ArgumentError::StyleAlone);
-    }
-    if has_needless_macros(command) {
-        return Some(ArgumentError::MacrosAlone);
-    }
-    None
-}
-
-/// Returns the first error of options that need `--bad` and are used without it, or `None`.
-fn judging_clash<A: Allocator>(command: Command<'_>) -> Option<ArgumentError<A>> {
-    if has_needless_suffix(command) {
-        return Some(ArgumentError::SuffixAlone);
-    }
-    if has_needless_edition(command) {
-        return Some(ArgumentError::EditionAlone);
-    }
-    None
-}
-
 /// Returns the first error of options that contradict the requested output, or `None`.
 fn printing_clash<A: Allocator>(command: Command<'_>) -> Option<ArgumentError<A>> {
     if command.searches && !may_hold(command.shown) {
@@ -152,16 +60,56 @@ fn printing_clash<A: Allocator>(command: Command<'_>) -> Option<ArgumentError<A>
     None
 }
 
+/// Returns the error of the first option that has no effect in the command's mode, or `None`.
+fn mode_clash<A: Allocator>(command: Command<'_>) -> Option<ArgumentError<A>> {
+    match without_effect(command) {
+        Some((name, modes)) => {
+            let mode = mode_words(mode_of(command));
+            Some(ArgumentError::NoEffect(name, mode, modes_hint(modes)))
+        }
+        None => None,
+    }
+}
+
+/// Whether one of the paths is standard input.
+fn has_input_path<A: Allocator>(paths: &[String<A>]) -> bool {
+    paths.iter().any(|path| path.as_str() == "-")
+}
+
+/// Whether one of the lists of paths is read from standard input.
+fn has_input_list(lists: &[&str]) -> bool {
+    lists.iter().any(|list| *list == "-")
+}
+
+/// Whether the rules of the style are read from standard input.
+fn has_input_style(style: Option<&str>) -> bool {
+    match style {
+        Some(file) => file == "-",
+        None => false,
+    }
+}
+
+/// Whether sources or a list of paths are read from standard input. They are also if there are no paths and no lists.
+fn reads_input<A: Allocator>(paths: &[String<A>], lists: &[&str]) -> bool {
+    paths.is_empty() && lists.is_empty() || has_input_path(paths) || has_input_list(lists)
+}
+
+/// Whether the rules of a style are read from standard input, and sources or a list of paths too.
+fn reads_input_twice<A: Allocator>(asked: &ParsedArguments<'_, A>) -> bool {
+    has_input_style(asked.command.style)
+        && reads_input(asked.paths.as_slice(), asked.lists.as_slice())
+}
+
 /// Returns the first error of options that contradict each other, or `None`.
-pub(crate) fn clash_of<A: Allocator>(command: Command<'_>) -> Option<ArgumentError<A>> {
-    if let Some(error) = printing_clash(command) {
+pub(crate) fn clash_of<A: Allocator>(asked: &ParsedArguments<'_, A>) -> Option<ArgumentError<A>> {
+    if let Some(error) = printing_clash(asked.command) {
         return Some(error);
     }
-    if let Some(error) = restyling_clash(command) {
+    if let Some(error) = mode_clash(asked.command) {
         return Some(error);
     }
-    if let Some(error) = judging_clash(command) {
-        return Some(error);
+    if reads_input_twice(asked) {
+        return Some(ArgumentError::InputTwice);
     }
     None
 }

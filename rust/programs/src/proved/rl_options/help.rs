@@ -1,4 +1,4 @@
-// Rendered from crates/rl_options/src/help.rt by tools/render, which erases contracts: change that file, and render anew.
+// Rendered from crates/rl_options/src/help.rt by tools/render, which erases contracts: change that file, and render again.
 //! The output of `--help` and `--version`.
 
 /// The output of `rl_scan --help`.
@@ -37,8 +37,9 @@ Options of these modes:
       --style FILE     for --fix: rewrite by the rules in FILE; without it, drop
                        needless escapes of quotes and needless hashes, and write
                        1e5 for 1E5
-      --macros WHICH   skip or all: whether --fix rewrites literals in macro
-                       calls, macro_rules! and attributes; skip by default
+      --macros WHICH   skip or all: whether --fix rewrites, and --bad checks the
+                       suffixes and ranges of, literals in macro calls,
+                       macro_rules! and attributes; skip by default
 
 Files:
       --all            also read hidden files and directories, and `target`

@@ -1,4 +1,4 @@
-// Rendered from crates/rl_options/src/lib.rt by tools/render, which erases contracts: change that file, and render anew.
+// Rendered from crates/rl_options/src/lib.rt by tools/render, which erases contracts: change that file, and render again.
 //! The command line of `rl_scan`, which prints the literals of Rust sources. Parses its arguments, and reads the files that list
 //! paths or contain the rules of a style.
 
@@ -8,9 +8,11 @@ mod command;
 mod conflicts;
 mod flags;
 mod help;
+mod modes;
 mod path_list;
 mod rules;
 mod suggestion;
+mod table;
 mod visible;
 
 pub use crate::rl_options::argument_error::ArgumentError;
@@ -19,5 +21,5 @@ pub use crate::rl_options::command::{Action, Command, Console, Macros, Output, P
 pub use crate::rl_options::conflicts::{asks_context, lists_files};
 pub use crate::rl_options::help::{HELP, VERSION};
 pub use crate::rl_options::path_list::{Unread, push_all_listed};
-pub use crate::rl_options::rules::{LineError, RulesError, rules_in};
+pub use crate::rl_options::rules::{LineError, RulesError, read_rules_file};
 pub use crate::rl_options::visible::visible_text;

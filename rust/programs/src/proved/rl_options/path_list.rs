@@ -1,9 +1,8 @@
-// Rendered from crates/rl_options/src/path_list.rt by tools/render, which erases contracts: change that file, and render anew.
+// Rendered from crates/rl_options/src/path_list.rt by tools/render, which erases contracts: change that file, and render again.
 //! Reads files that list paths.
 
 use crate::rattle_std::prelude::{String, Vec};
-use crate::rl_files::{PathError, Tree};
-use crate::rl_lexer::without_byte_order_mark;
+use crate::rl_files::{PathError, Tree, path_text};
 use crate::rattle_std::alloc::{AllocError, Allocator};
 
 /// A list of paths that can't be read, and the reason.
@@ -15,46 +14,73 @@ pub struct Unread<'a> {
     pub why: PathError,
 }
 
+/// Returns a list without a byte order mark at its start.
+fn after_mark(list: &[u8]) -> &[u8] {
+    if list.starts_with(b"\xef\xbb\xbf".as_slice()) {
+        return &list[3..];
+    }
+    list
+}
+
 /// Whether a list of paths contains a NUL.
 fn has_nul(list: &[u8]) -> bool {
     list.contains(&0)
 }
 
-/// Returns the character that ends each path in a list: NUL if the list contains one, else LF.
-fn separator(list: &str) -> char {
-    if has_nul(list.as_bytes()) {
-        return '\0';
+/// Returns the byte that ends each path in a list: NUL if the list contains one, else LF.
+fn separator(list: &[u8]) -> u8 {
+    if has_nul(list) {
+        return 0;
     }
-    '\n'
+    b'\n'
 }
 
-/// Appends `name` to `paths`, if it isn't empty.
+/// Appends the text of the path `name` to `paths`, if it isn't empty.
 fn push_name<A: Allocator + Copy>(
     alloc: A,
     paths: &mut Vec<String<A>, A>,
-    name: &str,
+    name: &[u8],
 ) -> Result<(), AllocError> {
-    if name.len() == 0 {
+    if name.is_empty() {
         return Ok(());
     }
-    paths.push(String::from_str(alloc, name)?)?;
+    paths.push(path_text(alloc, name)?)?;
     Ok(())
 }
 
-/// Appends the paths in a list to `paths`. `between` is the character that ends each path.
+/// Whether a byte ends a path.
+fn ends_path(byte: u8, between: u8) -> bool {
+    byte == between
+}
+
+/// Returns the first path in a list that isn't empty, and the list after it. `between` is the byte that ends each path.
+fn split_name(list: &[u8], between: u8) -> (&[u8], &[u8]) {
+    for (at, byte) in list.iter().enumerate() {
+        if ends_path(*byte, between) {
+            return (&list[..at], &list[at + 1..]);
+        }
+    }
+    (list, &[])
+}
+
+/// Appends the paths in a list to `paths`. `between` is the byte that ends each path.
 fn push_parts<A: Allocator + Copy>(
     alloc: A,
     paths: &mut Vec<String<A>, A>,
-    list: &str,
-    between: char,
+    list: &[u8],
+    between: u8,
 ) -> Result<(), AllocError> {
-    for name in list.split(between) {
+    let mut rest = list;
+    while !rest.is_empty() {
+        let (name, after) = split_name(rest, between);
         push_name(alloc, paths, name)?;
+        rest = after;
     }
     Ok(())
 }
 
-/// Appends the paths that a file lists to `paths`. A byte order mark at the start of the file is skipped.
+/// Appends the paths that a file lists to `paths`. A byte order mark at the start of the file is skipped. A path that isn't UTF-8
+/// is represented as `path_text` represents it.
 ///
 /// # Errors
 ///
@@ -69,10 +95,7 @@ fn push_listed<A: Allocator + Copy, T: Tree>(
         Ok(bytes) => bytes,
         Err(why) => return Err(why),
     };
-    let list = match crate::rattle_std::str::from_utf8(bytes.as_slice()) {
-        Ok(text) => without_byte_order_mark(text),
-        Err(error) => return Err(PathError::NotUtf8(error.valid_up_to())),
-    };
+    let list = after_mark(bytes.as_slice());
     match push_parts(alloc, paths, list, separator(list)) {
         Ok(()) => Ok(()),
         Err(_) => Err(PathError::OutOfMemory),

@@ -1,4 +1,4 @@
-// Rendered from crates/rl_options/src/rules.rt by tools/render, which erases contracts: change that file, and render anew.
+// Rendered from crates/rl_options/src/rules.rt by tools/render, which erases contracts: change that file, and render again.
 //! Reads the rules of a style from a file. Literals are rewritten by a style.
 
 use crate::rattle_std::prelude::{String};
@@ -103,7 +103,7 @@ fn rules_of<A: Allocator>(alloc: A, text: &str) -> Result<Style, RulesError<A>> 
 }
 
 /// Reads and parses a file with the rules of a style. A byte order mark at its start is skipped.
-pub fn rules_in<A: Allocator + Copy, T: Tree>(
+pub fn read_rules_file<A: Allocator + Copy, T: Tree>(
     alloc: A,
     tree: &T,
     file: &str,

@@ -1,9 +1,5 @@
-// Rendered from crates/rl_options/src/suggestion.rt by tools/render, which erases contracts: change that file, and render anew.
-//! Suggests the option, or the rule of a style, that a misspelled word was likely meant to be.
-
-/// The names of the options of `rl_scan`. Commas separate them.
-const OPTIONS: &str =
-    "--bad,--invisible,--only,--find,--ignore-case,--word,--no-stray,--any-suffix,--edition,--all,--extension,--exclude,--files,--files-from,--no-messages,--bytes,--lines,--text,--json,--format,--context,--before-context,--after-context,--color,--count,--files-with-matches,--null,--quiet,--stats,--fix,--check,--diff,--style,--macros,--help,--version";
+// Rendered from crates/rl_options/src/suggestion.rt by tools/render, which erases contracts: change that file, and render again.
+//! Suggests the rule of a style that a misspelled word was likely meant to be, and compares words for suggestions.
 
 /// The names of the rules of a style. Commas separate them.
 const RULES: &str =
@@ -49,7 +45,7 @@ fn is_slip(said: &[u8], meant: &[u8]) -> bool {
 }
 
 /// Whether `word` is similar to `meant`: they differ at most by one typing error, or `word` is the start of `meant`.
-fn is_near(word: &str, meant: &str) -> bool {
+pub(crate) fn is_near(word: &str, meant: &str) -> bool {
     is_slip(word.as_bytes(), meant.as_bytes()) || meant.as_bytes().starts_with(word.as_bytes())
 }
 
@@ -64,11 +60,6 @@ pub(crate) fn option_part(word: &str) -> &str {
 /// Returns the first name in a list that `word` is similar to, or `None`. Commas separate the names.
 fn nearest(list: &'static str, word: &str) -> Option<&'static str> {
     list.split(',').find(|meant| is_near(word, meant))
-}
-
-/// Returns the first option that an argument is similar to, or `None`. Only the part before `=` is compared.
-pub(crate) fn meant_by(word: &str) -> Option<&'static str> {
-    nearest(OPTIONS, option_part(word))
 }
 
 /// Returns the first rule of a style that `name` is similar to, or `None`.

@@ -1,4 +1,4 @@
-// Rendered from crates/rl_options/src/visible.rt by tools/render, which erases contracts: change that file, and render anew.
+// Rendered from crates/rl_options/src/visible.rt by tools/render, which erases contracts: change that file, and render again.
 //! Copies texts with escapes for invisible characters.
 
 use crate::rattle_std::prelude::{String};

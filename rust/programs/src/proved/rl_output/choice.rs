@@ -1,4 +1,4 @@
-// Rendered from crates/rl_output/src/choice.rt by tools/render, which erases contracts: change that file, and render anew.
+// Rendered from crates/rl_output/src/choice.rt by tools/render, which erases contracts: change that file, and render again.
 //! Selects the literals of a source that are shown, their form, and how a search compares texts.
 
 /// The form in which a literal is shown.

@@ -1,4 +1,4 @@
-// Rendered from crates/rl_output/src/color.rt by tools/render, which erases contracts: change that file, and render anew.
+// Rendered from crates/rl_output/src/color.rt by tools/render, which erases contracts: change that file, and render again.
 //! Colours of output on a terminal.
 
 use crate::rattle_std::prelude::{String};

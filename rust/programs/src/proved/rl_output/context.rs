@@ -1,4 +1,4 @@
-// Rendered from crates/rl_output/src/context.rt by tools/render, which erases contracts: change that file, and render anew.
+// Rendered from crates/rl_output/src/context.rt by tools/render, which erases contracts: change that file, and render again.
 //! Shows the line of a source where a range begins, with carets below the range, and lines of context before and after it.
 
 use crate::rattle_std::prelude::{String};
@@ -6,7 +6,7 @@ use crate::rl_output::line_column::front_covered;
 use crate::rl_output::member::push_ascii;
 use crate::rl_output::width::width_of;
 use crate::rl_files::{needs_escape, push_visible};
-use crate::rl_syntax::text::{before, begins_with, split_char};
+use crate::rl_syntax::text::{before, begins_with_char, split_char};
 use crate::rattle_std::alloc::{AllocError, Allocator};
 
 /// The indentation of the source's lines in the output.
@@ -29,7 +29,7 @@ pub struct Context {
 
 /// Whether the line ends at `c`, since `c` is an LF or the CR of a CR LF. `after` is the text after `c`.
 fn ends_line(c: char, after: &str) -> bool {
-    c == '\n' || c == '\r' && begins_with(after, '\n')
+    c == '\n' || c == '\r' && begins_with_char(after, '\n')
 }
 
 /// Returns the first line of a text, without its line end, which is an LF or CR LF.

@@ -1,4 +1,4 @@
-// Rendered from crates/rl_output/src/error_id.rt by tools/render, which erases contracts: change that file, and render anew.
+// Rendered from crates/rl_output/src/error_id.rt by tools/render, which erases contracts: change that file, and render again.
 //! Identifiers of the errors of a source, for output that programs read.
 
 use crate::rl_lexer::LexKind;

@@ -1,4 +1,4 @@
-// Rendered from crates/rl_output/src/form.rt by tools/render, which erases contracts: change that file, and render anew.
+// Rendered from crates/rl_output/src/form.rt by tools/render, which erases contracts: change that file, and render again.
 //! The format of an output line.
 
 /// The format of an output line.

@@ -1,4 +1,4 @@
-// Rendered from crates/rl_output/src/github.rt by tools/render, which erases contracts: change that file, and render anew.
+// Rendered from crates/rl_output/src/github.rt by tools/render, which erases contracts: change that file, and render again.
 //! Annotations for GitHub workflows: `::error file=PATH,line=L,endLine=L,col=C,endColumn=C,title=ID::MESSAGE`.
 
 use crate::rattle_std::prelude::{String};

@@ -1,4 +1,4 @@
-// Rendered from crates/rl_output/src/last_lines.rt by tools/render, which erases contracts: change that file, and render anew.
+// Rendered from crates/rl_output/src/last_lines.rt by tools/render, which erases contracts: change that file, and render again.
 //! Counts the lines of a text, and finds its last lines.
 
 /// Returns the number of LFs in at most 255 bytes. The count fits a byte, so that the compiler can count sixteen bytes at once.

@@ -1,4 +1,4 @@
-// Rendered from crates/rl_output/src/line_column.rt by tools/render, which erases contracts: change that file, and render anew.
+// Rendered from crates/rl_output/src/line_column.rt by tools/render, which erases contracts: change that file, and render again.
 //! Converts byte offsets of a text to lines and columns. Columns are in characters and in bytes.
 
 use crate::rl_output::last_lines::{count_line_feeds, last_lines, through_end};

@@ -1,4 +1,4 @@
-// Rendered from crates/rl_output/src/member.rt by tools/render, which erases contracts: change that file, and render anew.
+// Rendered from crates/rl_output/src/member.rt by tools/render, which erases contracts: change that file, and render again.
 //! Writes members of JSON objects.
 
 use crate::rattle_std::prelude::{String};

@@ -1,4 +1,4 @@
-// Rendered from crates/rl_output/src/lib.rt by tools/render, which erases contracts: change that file, and render anew.
+// Rendered from crates/rl_output/src/lib.rt by tools/render, which erases contracts: change that file, and render again.
 //! The parts of the output lines for literals: positions, colours, JSON strings, GitHub annotations, and the lines of the source
 //! with carets below a range. Also selects the literals that have an output line.
 
@@ -15,6 +15,8 @@ mod member;
 mod path;
 mod place;
 mod rows;
+mod selector;
+mod selector_rows;
 mod width;
 mod width_rows;
 
@@ -29,4 +31,5 @@ pub use crate::rl_output::last_lines::count_line_feeds;
 pub use crate::rl_output::line_column::{Extent, Places, Position};
 pub use crate::rl_output::member::{push_ascii, push_member};
 pub use crate::rl_output::path::without_dot;
-pub use crate::rl_output::place::{LineColumn, Place, push_front};
+pub use crate::rl_output::place::{LineColumn, Place, push_line_start};
+pub use crate::rl_output::selector::{is_selector, takes_selector};

@@ -1,13 +1,13 @@
-// Rendered from crates/rl_output/src/path.rt by tools/render, which erases contracts: change that file, and render anew.
+// Rendered from crates/rl_output/src/path.rt by tools/render, which erases contracts: change that file, and render again.
 //! Paths as `git apply` and the annotations of GitHub need them.
 
-use crate::rl_syntax::text::{begins_with, split_char};
+use crate::rl_syntax::text::{begins_with_char, split_char};
 
 /// Returns the relative path after a slash at the start of a text, or `None` if the text doesn't begin with exactly one
 /// slash.
 fn relative_after(text: &str) -> Option<&str> {
     match split_char(text) {
-        Some(('/', rest)) if !begins_with(rest, '/') => Some(rest),
+        Some(('/', rest)) if !begins_with_char(rest, '/') => Some(rest),
         _ => None,
     }
 }

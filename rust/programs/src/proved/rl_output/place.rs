@@ -1,4 +1,4 @@
-// Rendered from crates/rl_output/src/place.rt by tools/render, which erases contracts: change that file, and render anew.
+// Rendered from crates/rl_output/src/place.rt by tools/render, which erases contracts: change that file, and render again.
 //! Writes positions, and the start of an output line.
 
 use crate::rattle_std::prelude::{String};
@@ -140,7 +140,7 @@ fn push_annotation_front<A: Allocator>(
 ///
 /// Returns an error if an allocation fails. A part of this start may have been appended then.
 #[inline(always)]
-pub fn push_front<A: Allocator>(
+pub fn push_line_start<A: Allocator>(
     out: &mut String<A>,
     level: Level,
     form: Form,

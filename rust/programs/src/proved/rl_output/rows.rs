@@ -1,4 +1,4 @@
-// Rendered from crates/rl_output/src/rows.rt by tools/render, which erases contracts: change that file, and render anew.
+// Rendered from crates/rl_output/src/rows.rt by tools/render, which erases contracts: change that file, and render again.
 //! Searches in tables of characters.
 
 /// Returns the number of the range that contains the character with the code `code`, or `other` if none does.

@@ -1,4 +1,4 @@
-// Rendered from crates/rl_output/src/width.rt by tools/render, which erases contracts: change that file, and render anew.
+// Rendered from crates/rl_output/src/width.rt by tools/render, which erases contracts: change that file, and render again.
 //! The numbers of columns that characters take on a terminal.
 
 use crate::rl_output::rows::row_value;

@@ -1,4 +1,4 @@
-// Rendered from crates/rl_program/src/digits.rt by tools/render, which erases contracts: change that file, and render anew.
+// Rendered from crates/rl_program/src/digits.rt by tools/render, which erases contracts: change that file, and render again.
 //! Decodes pairs of hexadecimal digits to bytes.
 
 use crate::rattle_std::prelude::{Vec};

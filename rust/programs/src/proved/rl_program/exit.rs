@@ -1,4 +1,4 @@
-// Rendered from crates/rl_program/src/exit.rt by tools/render, which erases contracts: change that file, and render anew.
+// Rendered from crates/rl_program/src/exit.rt by tools/render, which erases contracts: change that file, and render again.
 //! The arguments of a program, and its exit status.
 
 use crate::rattle_std::prelude::{Drop, Eprint, HostRuntime, String, Vec};

@@ -1,8 +1,8 @@
-// Rendered from crates/rl_program/src/found_line.rt by tools/render, which erases contracts: change that file, and render anew.
+// Rendered from crates/rl_program/src/found_line.rt by tools/render, which erases contracts: change that file, and render again.
 //! Writes the output line of a literal from its parse result, without a `Lit` and without a copy of the text.
 
 use crate::rattle_std::prelude::{String};
-use crate::rl_program::line::{push_kind, push_text, push_verbatim};
+use crate::rl_program::line::{push_line_of_kind, push_text, push_verbatim_line};
 use crate::rl_fronts::{bytes_of_body, digits_of_found, str_of_body};
 use crate::rl_lenient::Found;
 use crate::rl_tokens::{CString, Error, Kind, Literal};
@@ -17,7 +17,7 @@ fn push_shown<A: Allocator>(
     shown: &str,
     suffix: &str,
 ) -> Result<(), AllocError> {
-    push_kind(out, kind, shown, suffix)
+    push_line_of_kind(out, kind, shown, suffix)
 }
 
 /// Appends the output line of `text`, a literal of the kind `kind`. `written` is its value as a literal, or the failed allocation
@@ -151,6 +151,6 @@ pub fn push_found<A: Allocator + Copy>(
 ) -> Result<(), AllocError> {
     match found {
         Some(found) => push_read(alloc, out, text, &found, found.suffix_in(text)),
-        None => push_verbatim(out, text),
+        None => push_verbatim_line(out, text),
     }
 }

@@ -1,4 +1,4 @@
-// Rendered from crates/rl_program/src/line.rt by tools/render, which erases contracts: change that file, and render anew.
+// Rendered from crates/rl_program/src/line.rt by tools/render, which erases contracts: change that file, and render again.
 //! Writes output lines. A line has a label, a value and a suffix, with a space between.
 
 use crate::rattle_std::prelude::{String};
@@ -96,7 +96,7 @@ pub fn label_of(kind: Option<Kind>) -> &'static str {
 /// # Errors
 ///
 /// Returns an error if an allocation fails. The error is the standard library's. A part of the line may have been appended then.
-pub fn push_kind<A: Allocator>(
+pub fn push_line_of_kind<A: Allocator>(
     out: &mut String<A>,
     kind: Kind,
     shown: &str,
@@ -128,7 +128,7 @@ const END: &str = "\" -\n";
 ///
 /// Returns an error if an allocation fails. The error is the standard library's. A part of the line may have been appended then.
 #[inline(never)]
-pub fn push_unescaped<A: Allocator>(out: &mut String<A>, value: &str) -> Result<(), AllocError> {
+pub fn push_unescaped_line<A: Allocator>(out: &mut String<A>, value: &str) -> Result<(), AllocError> {
     push(out, FRONT)?;
     push(out, value)?;
     push(out, END)
@@ -142,7 +142,7 @@ pub(crate) fn push_text<A: Allocator>(
     suffix: &str,
 ) -> Result<(), AllocError> {
     if suffix.is_empty() && need_no_escapes(value.as_bytes()) {
-        return push_unescaped(out, value);
+        return push_unescaped_line(out, value);
     }
     push_quoted(out, word(Kind::Str), value, suffix)
 }
@@ -152,6 +152,6 @@ pub(crate) fn push_text<A: Allocator>(
 /// # Errors
 ///
 /// Returns an error if an allocation fails. The error is the standard library's. A part of the line may have been appended then.
-pub fn push_verbatim<A: Allocator>(out: &mut String<A>, text: &str) -> Result<(), AllocError> {
+pub fn push_verbatim_line<A: Allocator>(out: &mut String<A>, text: &str) -> Result<(), AllocError> {
     push_quoted(out, "Verbatim", text, "")
 }

@@ -1,4 +1,4 @@
-// Rendered from crates/rl_program/src/program_error.rt by tools/render, which erases contracts: change that file, and render anew.
+// Rendered from crates/rl_program/src/program_error.rt by tools/render, which erases contracts: change that file, and render again.
 //! The errors that end a program's run.
 
 use crate::rl_program::exit::RunError;

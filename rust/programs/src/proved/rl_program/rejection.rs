@@ -1,4 +1,4 @@
-// Rendered from crates/rl_program/src/rejection.rt by tools/render, which erases contracts: change that file, and render anew.
+// Rendered from crates/rl_program/src/rejection.rt by tools/render, which erases contracts: change that file, and render again.
 //! The line by which programs report an error of the library.
 
 use crate::rl_tokens::Error;

@@ -1,4 +1,4 @@
-// Rendered from crates/rl_program/src/streams.rt by tools/render, which erases contracts: change that file, and render anew.
+// Rendered from crates/rl_program/src/streams.rt by tools/render, which erases contracts: change that file, and render again.
 //! Reads a whole input, and writes all bytes of an output.
 
 use crate::rattle_std::prelude::{Vec, prove};

@@ -1,9 +1,9 @@
-// Rendered from crates/rl_quoted/src/inside.rt by tools/render, which erases contracts: change that file, and render anew.
+// Rendered from crates/rl_quoted/src/inside.rt by tools/render, which erases contracts: change that file, and render again.
 //! Methods that parse the decoded value of a string literal.
 
 use crate::rattle_std::prelude::{Drop, String};
 use crate::rl_quoted::lit_str::LitStr;
-use crate::rl_fronts::byte_spans_of;
+use crate::rl_fronts::value_byte_spans;
 use crate::rl_tokens::{
     ByParse, Error, ErrorKind, Parse, ParseBuffer, Parser, Span, TokenStream, lex_for_parsing,
 };
@@ -50,7 +50,7 @@ impl<A: Allocator> LitStr<A> {
             stream.respan(span);
             return Ok(());
         }
-        match byte_spans_of(alloc, self.segments(), span) {
+        match value_byte_spans(alloc, self.segments(), span) {
             Ok(table) => {
                 stream.relocate(table.as_slice());
                 Ok(())

@@ -1,4 +1,4 @@
-// Rendered from crates/rl_quoted/src/lit_byte.rt by tools/render, which erases contracts: change that file, and render anew.
+// Rendered from crates/rl_quoted/src/lit_byte.rt by tools/render, which erases contracts: change that file, and render again.
 //! The type of byte literals.
 
 use crate::rl_quoted::quoted::{Quoted, QuotedKind};

@@ -1,4 +1,4 @@
-// Rendered from crates/rl_quoted/src/lit_c_str.rt by tools/render, which erases contracts: change that file, and render anew.
+// Rendered from crates/rl_quoted/src/lit_c_str.rt by tools/render, which erases contracts: change that file, and render again.
 //! The type of C string literals.
 
 use crate::rl_quoted::quoted::{Quoted, QuotedKind};

@@ -1,4 +1,4 @@
-// Rendered from crates/rl_quoted/src/lit_str.rt by tools/render, which erases contracts: change that file, and render anew.
+// Rendered from crates/rl_quoted/src/lit_str.rt by tools/render, which erases contracts: change that file, and render again.
 //! The type of string literals.
 
 use crate::rattle_std::prelude::{String};

@@ -1,4 +1,4 @@
-// Rendered from crates/rl_quoted/src/lib.rt by tools/render, which erases contracts: change that file, and render anew.
+// Rendered from crates/rl_quoted/src/lib.rt by tools/render, which erases contracts: change that file, and render again.
 //! The types of quoted literals: strings, byte strings, C strings, bytes and characters. The crate is modelled on
 //! `src/lit.rs` of the crate `syn` 3.0.9.
 

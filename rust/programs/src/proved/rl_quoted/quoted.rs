@@ -1,4 +1,4 @@
-// Rendered from crates/rl_quoted/src/quoted.rt by tools/render, which erases contracts: change that file, and render anew.
+// Rendered from crates/rl_quoted/src/quoted.rt by tools/render, which erases contracts: change that file, and render again.
 //! The type `Quoted`, which the five types of quoted literals are instances of: a token, its kind, and the byte offsets
 //! of the parts of its text.
 

@@ -1,4 +1,4 @@
-// Rendered from crates/rl_quoted/src/written.rt by tools/render, which erases contracts: change that file, and render anew.
+// Rendered from crates/rl_quoted/src/written.rt by tools/render, which erases contracts: change that file, and render again.
 //! The byte offsets of the parts of a literal that was written from its value.
 
 use crate::rl_lenient::Body;

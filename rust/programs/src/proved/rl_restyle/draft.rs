@@ -1,4 +1,4 @@
-// Rendered from crates/rl_restyle/src/draft.rt by tools/render, which erases contracts: change that file, and render anew.
+// Rendered from crates/rl_restyle/src/draft.rt by tools/render, which erases contracts: change that file, and render again.
 //! The new text of a source while it is being written.
 
 use crate::rattle_std::prelude::{String, Vec};

@@ -1,4 +1,4 @@
-// Rendered from crates/rl_restyle/src/edit.rt by tools/render, which erases contracts: change that file, and render anew.
+// Rendered from crates/rl_restyle/src/edit.rt by tools/render, which erases contracts: change that file, and render again.
 //! The edits that rewrite a source, and the reasons why a source isn't rewritten.
 
 use crate::rattle_std::prelude::{String, Vec};

@@ -1,4 +1,4 @@
-// Rendered from crates/rl_restyle/src/lib.rt by tools/render, which erases contracts: change that file, and render anew.
+// Rendered from crates/rl_restyle/src/lib.rt by tools/render, which erases contracts: change that file, and render again.
 //! Rewrites all literals of a source by a style, and returns the edits and the new text. Parses styles from configurations too.
 
 mod draft;

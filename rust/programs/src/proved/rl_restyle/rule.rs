@@ -1,4 +1,4 @@
-// Rendered from crates/rl_restyle/src/rule.rt by tools/render, which erases contracts: change that file, and render anew.
+// Rendered from crates/rl_restyle/src/rule.rt by tools/render, which erases contracts: change that file, and render again.
 //! The rules of a style by their names in configurations.
 
 use crate::rl_restyle::style_error::Expected;

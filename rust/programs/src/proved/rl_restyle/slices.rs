@@ -1,4 +1,4 @@
-// Rendered from crates/rl_restyle/src/slices.rt by tools/render, which erases contracts: change that file, and render anew.
+// Rendered from crates/rl_restyle/src/slices.rt by tools/render, which erases contracts: change that file, and render again.
 //! Returns slices of texts by byte offsets.
 
 /// Returns the part of the text between the byte offsets `lo` and `hi`.

@@ -1,4 +1,4 @@
-// Rendered from crates/rl_restyle/src/style_error.rt by tools/render, which erases contracts: change that file, and render anew.
+// Rendered from crates/rl_restyle/src/style_error.rt by tools/render, which erases contracts: change that file, and render again.
 //! The errors of a style's configuration.
 
 use crate::rl_settings::SyntaxErrorKind;

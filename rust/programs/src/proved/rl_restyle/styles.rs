@@ -1,4 +1,4 @@
-// Rendered from crates/rl_restyle/src/styles.rt by tools/render, which erases contracts: change that file, and render anew.
+// Rendered from crates/rl_restyle/src/styles.rt by tools/render, which erases contracts: change that file, and render again.
 //! Parses the configuration of a style.
 
 use crate::rl_restyle::rule::{expected_of, rule_of};

@@ -1,4 +1,4 @@
-// Rendered from crates/rl_restyle/src/texts.rt by tools/render, which erases contracts: change that file, and render anew.
+// Rendered from crates/rl_restyle/src/texts.rt by tools/render, which erases contracts: change that file, and render again.
 //! Creates the new text of a literal in a style.
 
 use crate::rattle_std::prelude::{String, vec};

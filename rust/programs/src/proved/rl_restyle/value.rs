@@ -1,4 +1,4 @@
-// Rendered from crates/rl_restyle/src/value.rt by tools/render, which erases contracts: change that file, and render anew.
+// Rendered from crates/rl_restyle/src/value.rt by tools/render, which erases contracts: change that file, and render again.
 //! Converts a literal of a configuration to the value of a rule.
 
 use crate::rl_restyle::style_error::Expected;

@@ -1,4 +1,4 @@
-// Rendered from crates/rl_restyle/src/values.rt by tools/render, which erases contracts: change that file, and render anew.
+// Rendered from crates/rl_restyle/src/values.rt by tools/render, which erases contracts: change that file, and render again.
 //! The values of a style's rules in a configuration.
 
 use crate::rl_restyle::rule::{RULES, Rule, number_of};

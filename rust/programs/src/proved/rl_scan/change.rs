@@ -1,19 +1,117 @@
-// Rendered from crates/rl_scan/src/change.rt by tools/render, which erases contracts: change that file, and render anew.
-//! Writes the output line for a literal that is rewritten.
+// Rendered from crates/rl_scan/src/change.rt by tools/render, which erases contracts: change that file, and render again.
+//! Writes the output for a literal that is rewritten.
 
 use crate::rattle_std::prelude::{String};
-use crate::rl_files::push_visible;
-use crate::rl_output::{Form, Level, Place, push_ascii, push_front};
+use crate::rl_files::needs_escape;
+use crate::rl_output::{
+    Form, Level, Place, push_annotation_end, push_ascii, push_line_start, push_member,
+};
 use crate::rattle_std::alloc::{AllocError, Allocator};
 
-/// Appends the output line for a literal that is rewritten: its position, its old text, `->` and its new text.
+/// Appends the number of a character in angle brackets, as `<U+200B>`.
+fn push_number<A: Allocator>(out: &mut String<A>, c: char) -> Result<(), AllocError> {
+    let number = c as u32;
+    write!(out, "<U+{number:04X}>")
+}
+
+/// Appends a character, or its number if it is a control, invisible or bidirectional character.
+fn push_numbered_char<A: Allocator>(out: &mut String<A>, c: char) -> Result<(), AllocError> {
+    if needs_escape(c) {
+        return push_number(out, c);
+    }
+    out.push(c)?;
+    Ok(())
+}
+
+/// Appends a character of a literal. LF, CR and a tab are written as escapes. Another control, invisible or bidirectional character
+/// is written as its number, which differs from its escape.
+fn push_literal_char<A: Allocator>(out: &mut String<A>, c: char) -> Result<(), AllocError> {
+    match c {
+        '\n' => push_ascii(out, "\\n"),
+        '\r' => push_ascii(out, "\\r"),
+        '\t' => push_ascii(out, "\\t"),
+        _ => push_numbered_char(out, c),
+    }
+}
+
+/// Appends the text of a literal, with numbers for control, invisible and bidirectional characters.
+fn push_literal<A: Allocator>(out: &mut String<A>, literal: &str) -> Result<(), AllocError> {
+    for c in literal.chars() {
+        push_literal_char(out, c)?;
+    }
+    Ok(())
+}
+
+/// Appends the old text of a rewritten literal, `->` and its new text.
+fn push_change_words<A: Allocator>(
+    out: &mut String<A>,
+    old: &str,
+    new: &str,
+) -> Result<(), AllocError> {
+    push_literal(out, old)?;
+    push_ascii(out, " -> ")?;
+    push_literal(out, new)
+}
+
+/// Appends the old text of a rewritten literal, `->`, its new text and a line end.
+fn push_worded_change<A: Allocator>(
+    out: &mut String<A>,
+    old: &str,
+    new: &str,
+) -> Result<(), AllocError> {
+    push_change_words(out, old, new)?;
+    push_ascii(out, "\n")
+}
+
+/// Appends the JSON members for a rewritten literal, `}` and a line end. The members are the old text and the new text.
+fn push_change_members<A: Allocator>(
+    out: &mut String<A>,
+    old: &str,
+    new: &str,
+) -> Result<(), AllocError> {
+    push_member(out, "text", old)?;
+    push_member(out, "new", new)?;
+    push_ascii(out, "}\n")
+}
+
+/// Appends a GitHub annotation's text after its position, for a rewritten literal.
+fn push_change_annotation<A: Allocator + Copy>(
+    alloc: A,
+    out: &mut String<A>,
+    old: &str,
+    new: &str,
+) -> Result<(), AllocError> {
+    let mut words = String::new(alloc);
+    push_change_words(&mut words, old, new)?;
+    push_annotation_end(out, "style", words.as_str(), "")
+}
+
+/// Appends the output for a rewritten literal after its position: its old and its new text, JSON members, or an annotation's text.
+fn push_change_end<A: Allocator + Copy>(
+    alloc: A,
+    out: &mut String<A>,
+    form: Form,
+    old: &str,
+    new: &str,
+) -> Result<(), AllocError> {
+    match form {
+        Form::Json => push_change_members(out, old, new),
+        Form::Github => push_change_annotation(alloc, out, old, new),
+        Form::Plain | Form::Colored => push_worded_change(out, old, new),
+    }
+}
+
+/// Appends the output for a literal that is rewritten: its position, its old text and its new text, in the format `form`.
 ///
-/// Invisible and bidirectional characters are written as escapes.
+/// A line of text has `->` between the old and the new text. In both texts, LF, CR and a tab are written as escapes. Another
+/// control, invisible or bidirectional character is written as its number, as in `<U+200B>`. So a character differs from its escape.
+/// The message of a GitHub annotation is the same text. A JSON object has both texts as JSON strings.
 ///
 /// # Errors
 ///
-/// Returns an error if an allocation fails. A beginning of the line may have been appended then.
-pub fn push_change<A: Allocator>(
+/// Returns an error if an allocation fails. A beginning of the output may have been appended then.
+pub fn push_change<A: Allocator + Copy>(
+    alloc: A,
     out: &mut String<A>,
     form: Form,
     path: Option<&str>,
@@ -21,9 +119,6 @@ pub fn push_change<A: Allocator>(
     old: &str,
     new: &str,
 ) -> Result<(), AllocError> {
-    push_front(out, Level::Error, form, path, place)?;
-    push_visible(out, old)?;
-    push_ascii(out, " -> ")?;
-    push_visible(out, new)?;
-    push_ascii(out, "\n")
+    push_line_start(out, Level::Error, form, path, place)?;
+    push_change_end(alloc, out, form, old, new)
 }

@@ -1,10 +1,10 @@
-// Rendered from crates/rl_scan/src/diff.rt by tools/render, which erases contracts: change that file, and render anew.
+// Rendered from crates/rl_scan/src/diff.rt by tools/render, which erases contracts: change that file, and render again.
 //! Writes the unified diff of two texts, without lines of context.
 
 use crate::rattle_std::prelude::{String};
 use crate::rl_files::push_visible;
 use crate::rl_output::{push_ascii, without_dot};
-use crate::rl_syntax::lines::next_line;
+use crate::rl_syntax::lines::after_line_feed;
 use crate::rl_syntax::text::{before, split_char};
 use crate::rattle_std::alloc::{AllocError, Allocator};
 
@@ -17,7 +17,7 @@ fn split_line(text: &str) -> Option<(&str, &str)> {
     if text.is_empty() {
         return None;
     }
-    match next_line(text) {
+    match after_line_feed(text) {
         Some(rest) => Some((before(text, rest), rest)),
         None => Some((text, "")),
     }
@@ -57,7 +57,7 @@ fn count_lines(text: &str) -> usize {
 
 /// Whether a text has an LF.
 fn has_end(text: &str) -> bool {
-    next_line(text).is_some()
+    after_line_feed(text).is_some()
 }
 
 /// Whether two texts are equal.

@@ -1,12 +1,13 @@
-// Rendered from crates/rl_scan/src/exit.rt by tools/render, which erases contracts: change that file, and render anew.
+// Rendered from crates/rl_scan/src/exit.rt by tools/render, which erases contracts: change that file, and render again.
 //! Runs `rl_scan` with its arguments, and determines its exit status.
 
 use crate::rattle_std::prelude::{String, Vec};
 use crate::rl_scan::runs::{RunStop, Tally, run};
-use crate::rl_files::{PathError, Replace, Selection, Tree, Walk, WalkError};
+use crate::rl_files::{PathError, Replace, Selection, Tree, Walk, WalkError, escaped_path};
 use crate::rl_options::{
     Action, ArgumentError, Command, Console, HELP, LineError, ParsedArguments, Restyling,
-    RulesError, VERSION, lists_files, parse_arguments, push_all_listed, rules_in, visible_text,
+    RulesError, VERSION, lists_files, parse_arguments, push_all_listed, read_rules_file,
+    visible_text,
 };
 use crate::rl_program::{Ending, RunError, WriteError, write_bytes};
 use crate::rl_restyle::default_style;
@@ -18,7 +19,7 @@ use crate::rattle_std::io::Write;
 
 /// The reason why a call of `rl_scan` fails.
 pub enum CallError<A: Allocator = Global> {
-    /// The arguments can't be read, since one isn't UTF-8.
+    /// An argument isn't UTF-8, and isn't a path.
     NoArguments,
     /// An argument is invalid.
     Word(ArgumentError<A>),
@@ -345,7 +346,7 @@ fn scan_styled<A: Allocator + Copy, T: Tree, W: Write, E: Write, F: Replace>(
             files,
         );
     };
-    match rules_in(alloc, tree, file) {
+    match read_rules_file(alloc, tree, file) {
         Ok(rules) => scan_requested(alloc, asked, rules, is_terminal, tree, out, err, files),
         Err(error) => rules_error(alloc, file, error),
     }
@@ -382,7 +383,27 @@ pub fn out_of_memory<A: Allocator>() -> Ending<CallError<A>> {
     Ending::Failed(error)
 }
 
-/// Runs `rl_scan` with the arguments `args`, and returns the result of the call. The first argument is the program's name.
+/// Returns the number of texts that represent a path that isn't UTF-8.
+fn count_marked<A: Allocator>(texts: &[String<A>]) -> usize {
+    let mut count = 0;
+    let mut rest = texts;
+    while let [text, after @ ..] = rest {
+        if escaped_path(text.as_str()).is_some() {
+            count += 1;
+        }
+        rest = after;
+    }
+    count
+}
+
+/// Whether all arguments that aren't UTF-8 are paths. Such an argument can't be an option or a value. `words` are the arguments,
+/// and `paths` the paths among them.
+fn only_paths<A: Allocator>(words: &[String<A>], paths: &[String<A>]) -> bool {
+    count_marked(words) == count_marked(paths)
+}
+
+/// Runs `rl_scan` with the arguments `args`, and returns the result of the call. The first argument is the program's name. An
+/// argument that isn't UTF-8 is represented as `path_text` of `rl_files` represents it.
 ///
 /// Files are read from `tree` and replaced by `files`. `out` is standard output, and `err` standard error.
 pub fn call<A: Allocator + Copy, T: Tree, W: Write, E: Write, F: Replace>(
@@ -398,15 +419,20 @@ pub fn call<A: Allocator + Copy, T: Tree, W: Write, E: Write, F: Replace>(
         return Ending::Failed(CallError::NoArguments);
     };
     match parse_arguments(alloc, console.has_colors, words) {
-        Ok(asked) => answer(
-            alloc,
-            asked,
-            console.input_is_terminal,
-            tree,
-            out,
-            err,
-            files,
-        ),
+        Ok(asked) => {
+            if !only_paths(words, asked.paths.as_slice()) {
+                return Ending::Failed(CallError::NoArguments);
+            }
+            answer(
+                alloc,
+                asked,
+                console.input_is_terminal,
+                tree,
+                out,
+                err,
+                files,
+            )
+        }
         Err(error) => Ending::Failed(CallError::Word(error)),
     }
 }

@@ -1,4 +1,4 @@
-// Rendered from crates/rl_scan/src/main.rt by tools/render, which erases contracts: change that file, and render anew.
+// Rendered from crates/rl_scan/src/main.rt by tools/render, which erases contracts: change that file, and render again.
 //! The program `rl_scan`. It prints each literal of Rust sources with its position, kind, value and suffix, or the errors in the
 //! sources. It also rewrites the literals in a style, and prints the changes or a unified diff.
 
@@ -7,6 +7,7 @@ mod change;
 mod changes;
 mod diff;
 mod exit;
+mod host;
 mod outcome;
 mod report;
 mod restyling;
@@ -18,7 +19,8 @@ pub use crate::rl_scan::change::push_change;
 pub use crate::rl_scan::changes::push_changes;
 pub use crate::rl_scan::diff::push_diff;
 pub use crate::rl_scan::exit::{CallError, call, out_of_memory};
-pub use crate::rl_scan::outcome::{Outcome, check_options, rewrite_outcome};
+use crate::rl_scan::host::host_arguments;
+pub use crate::rl_scan::outcome::{Outcome, rewrite_outcome, source_check_options};
 pub use crate::rl_scan::report::Report;
 pub use crate::rl_scan::runs::{RunStop, Tally, run};
 pub use crate::rl_scan::visit_report::report_of;
@@ -27,7 +29,7 @@ pub use crate::rl_options::{
     Action, ArgumentError, Command, Console, HELP, LineError, Macros, Output, PlaceForm, Restyling,
     VERSION,
 };
-use crate::rl_program::{arguments, finish};
+use crate::rl_program::finish;
 use crate::rattle_std::alloc::Global;
 use crate::rattle_std::env;
 use crate::rattle_std::env::VarError;
@@ -59,7 +61,7 @@ fn console(rt: &HostRuntime) -> Console {
 }
 
 pub fn main(rt: HostRuntime) -> ExitCode {
-    let Ok(args) = arguments(&rt) else {
+    let Ok(args) = host_arguments(&rt) else {
         return finish(&rt, out_of_memory::<Global>());
     };
     let ending = call(

@@ -1,4 +1,4 @@
-// Rendered from crates/rl_scan/src/outcome.rt by tools/render, which erases contracts: change that file, and render anew.
+// Rendered from crates/rl_scan/src/outcome.rt by tools/render, which erases contracts: change that file, and render again.
 //! Rewrites a source in a style, unless it has an error or begins as a script.
 
 use crate::rattle_std::prelude::{String, Vec};
@@ -22,7 +22,7 @@ pub enum Outcome<A: Allocator = Global> {
 ///
 /// Lines explain each literal that isn't a token of Rust, each stray character, and a quote or a comment that isn't closed.
 /// Literals may have any suffix and any value.
-pub fn check_options(edition: Edition, by_line: bool, path: Option<&str>) -> Options<'_> {
+pub fn source_check_options(edition: Edition, by_line: bool, path: Option<&str>) -> Options<'_> {
     Options {
         shown: Shown::Bad,
         finds: &[],
@@ -37,6 +37,7 @@ pub fn check_options(edition: Edition, by_line: bool, path: Option<&str>) -> Opt
         rejects_strays: true,
         explains: true,
         any_suffix: true,
+        judges_macros: true,
         edition,
         path,
     }

@@ -1,4 +1,4 @@
-// Rendered from crates/rl_scan/src/report.rt by tools/render, which erases contracts: change that file, and render anew.
+// Rendered from crates/rl_scan/src/report.rt by tools/render, which erases contracts: change that file, and render again.
 //! Creates the output for a source, for a file that is only listed, and for a path that can't be read.
 
 use crate::rattle_std::prelude::{String, Vec};
@@ -6,6 +6,7 @@ use crate::rl_scan::stats::requested_count;
 use crate::rl_files::{PathError, push_visible};
 use crate::rl_options::{Command, Output, PlaceForm, asks_context, visible_text};
 use crate::rl_output::{LineColumn, count_line_feeds};
+use crate::rl_restyle::Macros;
 use crate::rl_sources::{
     Context, Edition, Form, Options, Paint, Place, ScanError, Shown, is_json, push_painted,
     push_source_error, scan,
@@ -106,9 +107,18 @@ fn context_of(command: Command<'_>) -> Option<Context> {
     })
 }
 
-/// Returns the options for scanning the file at `path`. `shown` is the path with escapes for invisible characters, or `None` for
-/// standard input.
-fn options_for<'a>(command: Command<'a>, path: &'a str, shown: Option<&'a str>) -> Options<'a> {
+/// Whether literals inside macro calls are checked like all others, by the option `--macros`.
+fn judges_macros(macros: Option<Macros>) -> bool {
+    matches!(macros, Some(Macros::All))
+}
+
+/// Returns the options for the output lines of the file at `path`. `shown` is the path with escapes for invisible characters, or
+/// `None` for standard input.
+pub(crate) fn options_for<'a>(
+    command: Command<'a>,
+    path: &'a str,
+    shown: Option<&'a str>,
+) -> Options<'a> {
     Options {
         shown: command.shown,
         finds: command.finds,
@@ -119,6 +129,7 @@ fn options_for<'a>(command: Command<'a>, path: &'a str, shown: Option<&'a str>) 
         by_line: is_by_line(command.places, path),
         rejects_strays: command.rejects_strays,
         any_suffix: command.any_suffix,
+        judges_macros: judges_macros(command.macros),
         edition: edition_for(command),
         explains: is_bad(command.shown),
         path: path_in(is_json(command.form), path, shown),
@@ -268,12 +279,12 @@ pub(crate) fn report_text<A: Allocator + Copy>(
     })
 }
 
-/// Whether an error ends a call with status 2. A name in a directory that isn't UTF-8 is skipped, with a warning.
+/// Whether an error ends a call with status 2. A name in a directory, or a path, that isn't UTF-8 is skipped, with a warning.
 fn is_error(error: PathError) -> bool {
-    !matches!(error, PathError::NameNotUtf8)
+    !matches!(error, PathError::NameNotUtf8 | PathError::PathNotUtf8)
 }
 
-/// Returns the output for a path that can't be read: a line on standard error. For a skipped name the line is a warning.
+/// Returns the output for a path that can't be read: a line on standard error. For a skipped name or path the line is a warning.
 pub(crate) fn report_error<A: Allocator + Copy>(
     alloc: A,
     path: &str,

@@ -1,11 +1,12 @@
-// Rendered from crates/rl_scan/src/restyling.rt by tools/render, which erases contracts: change that file, and render anew.
+// Rendered from crates/rl_scan/src/restyling.rt by tools/render, which erases contracts: change that file, and render again.
 //! Creates the output for a source whose literals are rewritten.
 
 use crate::rattle_std::prelude::{String, Vec};
 use crate::rl_scan::report::{
-    Report, edition_for, is_by_line, is_input, path_before, path_in, report_error, written,
+    Report, edition_for, is_by_line, is_input, options_for, path_before, path_in, report_error,
+    written,
 };
-use crate::rl_scan::{Outcome, check_options, push_changes, push_diff, rewrite_outcome};
+use crate::rl_scan::{Outcome, push_changes, push_diff, rewrite_outcome, source_check_options};
 use crate::rl_files::{Replace, push_visible};
 use crate::rl_options::{Command, Output, Restyling, visible_text};
 use crate::rl_restyle::{Macros, Restyled};
@@ -24,22 +25,15 @@ fn report_out<A: Allocator + Copy>(alloc: A, out: Vec<u8, A>, found: bool) -> Re
     }
 }
 
-/// Returns an output line for each rewritten literal of a source.
+/// Returns an output line for each rewritten literal of a source, and the lines of context below each.
 fn change_lines<A: Allocator + Copy>(
     alloc: A,
-    command: Command<'_>,
     options: Options<'_>,
     text: &str,
     restyled: &Restyled<A>,
 ) -> Result<Vec<u8, A>, AllocError> {
     let mut lines = String::new(alloc);
-    push_changes(
-        &mut lines,
-        options,
-        command.form,
-        text,
-        restyled.edits.as_slice(),
-    )?;
+    push_changes(alloc, &mut lines, options, text, restyled.edits.as_slice())?;
     Ok(lines.into_bytes())
 }
 
@@ -52,7 +46,7 @@ fn report_checked<A: Allocator + Copy>(
     text: &str,
     restyled: &Restyled<A>,
 ) -> Result<Report<A>, AllocError> {
-    let lines = change_lines(alloc, command, options, text, restyled)?;
+    let lines = change_lines(alloc, options, text, restyled)?;
     let out = written(
         alloc,
         command.output,
@@ -130,7 +124,9 @@ fn report_fixed<A: Allocator + Copy, F: Replace>(
     if restyled.edits.as_slice().is_empty() {
         return Ok(report_out(alloc, Vec::new(alloc), false));
     }
-    let lines = change_lines(alloc, command, options, text, &restyled)?;
+    let mut bare = options;
+    bare.context = None;
+    let lines = change_lines(alloc, bare, text, &restyled)?;
     let output = fixed_output(command.output);
     let out = written(
         alloc,
@@ -232,16 +228,19 @@ pub(crate) fn report_restyled<A: Allocator + Copy, F: Replace>(
     let shown = visible_text(alloc, path)?;
     let before = path_before(path, shown.as_str());
     let named = path_in(command.nul_after_paths, path, before);
-    let options = check_options(
+    let checking = source_check_options(
         edition_for(command),
         is_by_line(command.places, path),
         before,
     );
-    match rewrite_outcome(alloc, options, command.rules, macros_for(command), text)? {
+    match rewrite_outcome(alloc, checking, command.rules, macros_for(command), text)? {
         Outcome::Rejected(lines) => Ok(report_rejected(alloc, lines)),
         Outcome::Script => report_script(alloc, restyling, path, text),
-        Outcome::Restyled(restyled) => report_change(
-            alloc, command, restyling, options, files, path, named, text, restyled,
-        ),
+        Outcome::Restyled(restyled) => {
+            let options = options_for(command, path, before);
+            report_change(
+                alloc, command, restyling, options, files, path, named, text, restyled,
+            )
+        }
     }
 }

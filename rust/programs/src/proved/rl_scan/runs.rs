@@ -1,4 +1,4 @@
-// Rendered from crates/rl_scan/src/runs.rt by tools/render, which erases contracts: change that file, and render anew.
+// Rendered from crates/rl_scan/src/runs.rt by tools/render, which erases contracts: change that file, and render again.
 //! Runs a command over all files of a walk.
 
 use crate::rl_scan::report::{Report, is_alarm};
@@ -23,7 +23,7 @@ pub enum RunStop {
 /// The counts of a run over files. Counts stop at the largest `u64`.
 #[derive(Clone, Copy)]
 pub struct Tally {
-    /// The number of visited files, and of paths that can't be read.
+    /// The number of visited files, and of paths that can't be read. Skipped names and paths don't count.
     pub visited: u64,
     /// The number of files that were read.
     pub read: u64,
@@ -50,7 +50,7 @@ impl Tally {
     /// Returns the counts for the output of one file.
     fn of_report<A: Allocator>(report: &Report<A>) -> Tally {
         Tally {
-            visited: 1,
+            visited: one_where_true(is_counted(report)),
             read: one_where_true(report.read),
             with_findings: one_where_true(report.found),
             findings: report.count as u64,
@@ -116,6 +116,11 @@ impl Tally {
             _ => 0,
         }
     }
+}
+
+/// Whether a report counts as a visit: a file was read or listed, or a path has an error. A skipped name or path doesn't count.
+fn is_counted<A: Allocator>(report: &Report<A>) -> bool {
+    report.has_error || report.read || report.found
 }
 
 /// Returns 1 if `is` is true, else 0.

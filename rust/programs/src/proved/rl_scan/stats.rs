@@ -1,4 +1,4 @@
-// Rendered from crates/rl_scan/src/stats.rt by tools/render, which erases contracts: change that file, and render anew.
+// Rendered from crates/rl_scan/src/stats.rt by tools/render, which erases contracts: change that file, and render again.
 //! Counts findings, and writes the statistics of a run.
 
 use crate::rattle_std::prelude::{String};

@@ -1,4 +1,4 @@
-// Rendered from crates/rl_scan/src/visit_report.rt by tools/render, which erases contracts: change that file, and render anew.
+// Rendered from crates/rl_scan/src/visit_report.rt by tools/render, which erases contracts: change that file, and render again.
 //! Creates the output for one visit of a walk.
 
 use crate::rl_scan::report::{Report, report_error, report_listed, report_text};

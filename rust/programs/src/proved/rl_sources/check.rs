@@ -1,4 +1,4 @@
-// Rendered from crates/rl_sources/src/check.rt by tools/render, which erases contracts: change that file, and render anew.
+// Rendered from crates/rl_sources/src/check.rt by tools/render, which erases contracts: change that file, and render again.
 //! Finds the error of a literal in a Rust source, as rustc does.
 
 use crate::rl_sources::finding::Wrong;
@@ -10,7 +10,7 @@ use crate::rl_strict::{Flaw, LineEnds, explain_value, read};
 use crate::rl_syntax::Kind;
 
 /// Whether literals are checked for errors: if `options` request the reasons of errors, or only invalid literals.
-fn looks_for_flaws(options: &Options<'_>) -> bool {
+pub(crate) fn looks_for_flaws(options: &Options<'_>) -> bool {
     options.explains || matches!(options.shown, Shown::Bad)
 }
 

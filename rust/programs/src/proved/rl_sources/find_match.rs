@@ -1,4 +1,4 @@
-// Rendered from crates/rl_sources/src/find_match.rt by tools/render, which erases contracts: change that file, and render anew.
+// Rendered from crates/rl_sources/src/find_match.rt by tools/render, which erases contracts: change that file, and render again.
 //! Finds the byte range of a literal that encodes a match in the literal's value.
 
 use crate::rattle_std::prelude::{String, Vec};

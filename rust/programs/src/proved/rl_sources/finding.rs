@@ -1,4 +1,4 @@
-// Rendered from crates/rl_sources/src/finding.rt by tools/render, which erases contracts: change that file, and render anew.
+// Rendered from crates/rl_sources/src/finding.rt by tools/render, which erases contracts: change that file, and render again.
 //! The errors of literals in a Rust source, and their byte ranges.
 
 use crate::rl_flaws::TypeError;

@@ -1,4 +1,4 @@
-// Rendered from crates/rl_sources/src/flaw_lines.rt by tools/render, which erases contracts: change that file, and render anew.
+// Rendered from crates/rl_sources/src/flaw_lines.rt by tools/render, which erases contracts: change that file, and render again.
 //! Writes one line for each error of a literal.
 
 use crate::rattle_std::prelude::{String};

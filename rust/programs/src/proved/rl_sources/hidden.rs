@@ -1,4 +1,4 @@
-// Rendered from crates/rl_sources/src/hidden.rt by tools/render, which erases contracts: change that file, and render anew.
+// Rendered from crates/rl_sources/src/hidden.rt by tools/render, which erases contracts: change that file, and render again.
 //! Invisible and bidirectional characters of a source, wherever they are.
 
 use crate::rattle_std::prelude::{String, format};
@@ -6,24 +6,28 @@ use crate::rl_sources::options::Options;
 use crate::rl_sources::place::{displayed_place, push_context_of};
 use crate::rl_files::needs_escape;
 use crate::rl_lexer::without_byte_order_mark;
-use crate::rl_output::{Form, Level, Places, push_annotation_end, push_ascii, push_front, push_member};
-use crate::rl_tokens::text::{begins_with, split_char};
+use crate::rl_output::{
+    Form, Level, Places, is_selector, push_annotation_end, push_ascii, push_line_start,
+    push_member, takes_selector,
+};
+use crate::rl_tokens::text::{begins_with_char, split_char};
 use crate::rattle_std::alloc::{AllocError, Allocator};
-
-/// The identifier of a finding of an invisible or bidirectional character. It never changes.
-const HIDDEN_ID: &str = "hidden";
 
 /// Whether `c` is a control character of the layout: a tab, an LF, a form feed, or a CR before an LF. `after` is the text after
 /// `c`.
 fn is_layout(c: char, after: &str) -> bool {
-    matches!(c, '\t' | '\n' | '\u{c}') || c == '\r' && begins_with(after, '\n')
+    matches!(c, '\t' | '\n' | '\u{c}') || c == '\r' && begins_with_char(after, '\n')
 }
 
-/// Whether `c` is invisible or bidirectional: displayed as an escape, and not part of the layout. `after` is the text after `c`.
+/// Whether `c` is reported: an invisible or bidirectional character that isn't part of the layout, or a variation selector after a
+/// character that doesn't take it. `previous` is the character before `c`, or NUL at the start. `after` is the text after `c`.
 #[inline(always)]
-fn hides(c: char, after: &str) -> bool {
+fn hides(previous: char, c: char, after: &str) -> bool {
     if c >= ' ' && c <= '~' {
         return false;
+    }
+    if is_selector(c) {
+        return !takes_selector(previous, c);
     }
     needs_escape(c) && !is_layout(c, after)
 }
@@ -47,6 +51,18 @@ fn direction_name(c: char) -> &'static str {
     }
 }
 
+/// Returns the identifier of the finding of a character. It never changes.
+fn id_of_hidden(c: char) -> &'static str {
+    match c {
+        '\u{61c}' | '\u{200e}'..='\u{200f}' | '\u{202a}'..='\u{202e}' | '\u{2066}'..='\u{2069}' =>
+            "bidirectional-character",
+        '\u{200c}'..='\u{200d}' => "joiner",
+        _ if is_selector(c) => "variation-selector",
+        _ if c.is_control() => "control-character",
+        _ => "invisible-character",
+    }
+}
+
 /// Returns the message for a character: its number, as in `U+202E`, and its name if it changes the direction of text.
 fn words_of<A: Allocator>(alloc: A, c: char) -> Result<String<A>, AllocError> {
     let number = c as u32;
@@ -62,15 +78,23 @@ fn push_hidden_words<A: Allocator>(out: &mut String<A>, words: &str) -> Result<(
 
 /// Appends the JSON members `id` and `hidden` for an invisible or bidirectional character, `}` and a line end. `words` is the
 /// message for the character.
-fn push_hidden_member<A: Allocator>(out: &mut String<A>, words: &str) -> Result<(), AllocError> {
-    push_member(out, "id", HIDDEN_ID)?;
+fn push_hidden_member<A: Allocator>(
+    out: &mut String<A>,
+    id: &str,
+    words: &str,
+) -> Result<(), AllocError> {
+    push_member(out, "id", id)?;
     push_member(out, "hidden", words)?;
     push_ascii(out, "}\n")
 }
 
 /// Appends a GitHub annotation's text after its position. `words` is the message for an invisible or bidirectional character.
-fn push_hidden_annotation<A: Allocator>(out: &mut String<A>, words: &str) -> Result<(), AllocError> {
-    push_annotation_end(out, HIDDEN_ID, words, "")
+fn push_hidden_annotation<A: Allocator>(
+    out: &mut String<A>,
+    id: &str,
+    words: &str,
+) -> Result<(), AllocError> {
+    push_annotation_end(out, id, words, "")
 }
 
 /// Appends the output for the invisible or bidirectional character `c` after its position: the message, JSON members, or an
@@ -81,10 +105,11 @@ fn push_hidden_end<A: Allocator>(
     form: Form,
     c: char,
 ) -> Result<(), AllocError> {
+    let id = id_of_hidden(c);
     let words = words_of(alloc, c)?;
     match form {
-        Form::Json => push_hidden_member(out, words.as_str()),
-        Form::Github => push_hidden_annotation(out, words.as_str()),
+        Form::Json => push_hidden_member(out, id, words.as_str()),
+        Form::Github => push_hidden_annotation(out, id, words.as_str()),
         Form::Plain | Form::Colored => push_hidden_words(out, words.as_str()),
     }
 }
@@ -105,14 +130,15 @@ fn push_hidden_line<'t, A: Allocator>(
     let lo = places.byte_of(rest);
     let hi = places.byte_of(after);
     let place = displayed_place(options, places, rest, lo, hi);
-    push_front(out, Level::Error, options.form, options.path, &place)?;
+    push_line_start(out, Level::Error, options.form, options.path, &place)?;
     push_hidden_end(alloc, out, options.form, c)?;
     push_context_of(out, options, places, rest, lo, hi)
 }
 
-/// Appends the line for `c` if it is invisible or bidirectional.
+/// Appends the line for `c` if it is reported.
 ///
-/// `rest` is the end of the source from `c`, and `after` the text after `c`.
+/// `rest` is the end of the source from `c`, and `after` the text after `c`. `previous` is the character before `c`, or NUL at the
+/// start.
 #[inline(always)]
 fn push_character<'t, A: Allocator>(
     alloc: A,
@@ -120,16 +146,18 @@ fn push_character<'t, A: Allocator>(
     options: &Options<'_>,
     places: &mut Places<'t>,
     rest: &'t str,
+    previous: char,
     c: char,
     after: &'t str,
 ) -> Result<(), AllocError> {
-    if !hides(c, after) {
+    if !hides(previous, c, after) {
         return Ok(());
     }
     push_hidden_line(alloc, out, options, places, rest, c, after)
 }
 
-/// Returns the lines for the invisible and bidirectional characters of the source `text`, in order.
+/// Returns the lines for the invisible and bidirectional characters of the source `text`, in order. A variation selector has a line
+/// if the character before it doesn't take it.
 ///
 /// A line has the position of the character, its number, and its name if it changes the direction of text.
 ///
@@ -144,8 +172,19 @@ pub(crate) fn hidden_lines<A: Allocator + Copy>(
     let mut lines = String::new(alloc);
     let mut places = Places::new(text);
     let mut rest = without_byte_order_mark(text);
+    let mut previous = '\0';
     while let Some((c, after)) = split_char(rest) {
-        push_character(alloc, &mut lines, options, &mut places, rest, c, after)?;
+        push_character(
+            alloc,
+            &mut lines,
+            options,
+            &mut places,
+            rest,
+            previous,
+            c,
+            after,
+        )?;
+        previous = c;
         rest = after;
     }
     Ok(lines)

@@ -1,4 +1,4 @@
-// Rendered from crates/rl_sources/src/json.rt by tools/render, which erases contracts: change that file, and render anew.
+// Rendered from crates/rl_sources/src/json.rt by tools/render, which erases contracts: change that file, and render again.
 //! Writes the output for a source as JSON: one object a line.
 
 use crate::rattle_std::prelude::{String};

@@ -1,4 +1,4 @@
-// Rendered from crates/rl_sources/src/literal.rt by tools/render, which erases contracts: change that file, and render anew.
+// Rendered from crates/rl_sources/src/literal.rt by tools/render, which erases contracts: change that file, and render again.
 //! A literal of a source.
 
 use crate::rl_sources::finding::Wrong;

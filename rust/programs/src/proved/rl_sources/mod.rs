@@ -1,4 +1,4 @@
-// Rendered from crates/rl_sources/src/lib.rt by tools/render, which erases contracts: change that file, and render anew.
+// Rendered from crates/rl_sources/src/lib.rt by tools/render, which erases contracts: change that file, and render again.
 //! Lists the literals of whole Rust sources, one a line, each with its position: all literals, only invalid literals, or only
 //! literals whose value contains a text. Lists the invisible and bidirectional characters of a source instead, on request.
 
@@ -19,7 +19,7 @@ mod search;
 mod step;
 
 pub use crate::rl_sources::options::Options;
-pub use crate::rl_sources::place::displayed_place;
+pub use crate::rl_sources::place::{displayed_place, push_context_of};
 pub use crate::rl_sources::reason::push_source_error;
 pub use crate::rl_sources::scan_error::ScanError;
 pub use crate::rl_sources::scanner::scan;

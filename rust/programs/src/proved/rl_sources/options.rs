@@ -1,8 +1,9 @@
-// Rendered from crates/rl_sources/src/options.rt by tools/render, which erases contracts: change that file, and render anew.
+// Rendered from crates/rl_sources/src/options.rt by tools/render, which erases contracts: change that file, and render again.
 //! The options of a scan, which lists the literals of a source.
 
 use crate::rl_flaws::Edition;
 use crate::rl_output::{Context, Form, Matching, Shown, Spelling};
+use crate::rl_style::{Calls, is_in_call};
 
 /// The options of a scan, which lists the literals of a source.
 #[derive(Clone, Copy)]
@@ -30,8 +31,11 @@ pub struct Options<'a> {
     /// Whether lines explain errors. The line of an invalid literal is replaced by its errors, and the error that ends the source
     /// has the last line.
     pub explains: bool,
-    /// Whether a literal may have any suffix and any value, as in a macro's argument.
+    /// Whether every literal may have any suffix and any value.
     pub any_suffix: bool,
+    /// Whether literals inside macro calls, `macro_rules!` definitions and attributes are checked like all others. Else they may
+    /// have any suffix and any value, because only the code that a macro expands to has to be valid.
+    pub judges_macros: bool,
     /// The edition that determines which words or hashes right before a quote are a reserved prefix.
     pub edition: Edition,
     /// The path that is printed before each position: as displayed, or for the format `Json` unchanged.
@@ -56,6 +60,7 @@ impl Default for Options<'_> {
             rejects_strays: false,
             explains: false,
             any_suffix: false,
+            judges_macros: true,
             edition: Edition::E2021,
             path: None,
         }
@@ -70,4 +75,14 @@ pub(crate) fn ends_at_strays(options: &Options<'_>) -> bool {
 /// Whether a stray character is a finding of its own, after which the source continues.
 pub(crate) fn finds_strays(options: &Options<'_>) -> bool {
     options.rejects_strays && options.explains
+}
+
+/// Returns the options for the token at the position `calls`. Unless `judges_macros` is true, a literal inside a macro call may have
+/// any suffix and any value.
+pub(crate) fn options_at<'a>(options: &Options<'a>, calls: Calls<'_>) -> Options<'a> {
+    let any_suffix = options.any_suffix || !options.judges_macros && is_in_call(calls);
+    Options {
+        any_suffix,
+        ..*options
+    }
 }

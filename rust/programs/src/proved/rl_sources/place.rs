@@ -1,4 +1,4 @@
-// Rendered from crates/rl_sources/src/place.rt by tools/render, which erases contracts: change that file, and render anew.
+// Rendered from crates/rl_sources/src/place.rt by tools/render, which erases contracts: change that file, and render again.
 //! Positions in a source, as the output displays them, and the lines of context below them.
 
 use crate::rattle_std::prelude::{String};
@@ -70,8 +70,12 @@ fn push_context_at<'t, A: Allocator>(
 
 /// Appends the lines of context for the bytes from `lo` to `hi` of a source, if `options` request context. `rest` is the end of the
 /// source from `lo`.
+///
+/// # Errors
+///
+/// Returns an error if an allocation fails. Some lines may have been appended then.
 #[inline(always)]
-pub(crate) fn push_context_of<'t, A: Allocator>(
+pub fn push_context_of<'t, A: Allocator>(
     out: &mut String<A>,
     options: &Options<'_>,
     places: &mut Places<'t>,

@@ -1,4 +1,4 @@
-// Rendered from crates/rl_sources/src/prefix.rt by tools/render, which erases contracts: change that file, and render anew.
+// Rendered from crates/rl_sources/src/prefix.rt by tools/render, which erases contracts: change that file, and render again.
 //! The reserved prefix of a literal: a word or hashes right before it that the edition reserves.
 
 use crate::rl_flaws::{Edition, first_reserving_edition};

@@ -1,4 +1,4 @@
-// Rendered from crates/rl_sources/src/reason.rt by tools/render, which erases contracts: change that file, and render anew.
+// Rendered from crates/rl_sources/src/reason.rt by tools/render, which erases contracts: change that file, and render again.
 //! Writes the lines that report an error of a source or of one of its literals.
 
 use crate::rattle_std::prelude::{String};
@@ -9,7 +9,7 @@ use crate::rl_sources::options::Options;
 use crate::rl_sources::place::{displayed_place, place_inside, push_context_inside, push_context_of};
 use crate::rl_files::push_visible;
 use crate::rl_output::{
-    Form, Level, Place, Places, id_of, push_annotation_end, push_error_word, push_front,
+    Form, Level, Place, Places, id_of, push_annotation_end, push_error_word, push_line_start,
 };
 use crate::rl_tokens::LexKind;
 use crate::rattle_std::alloc::{AllocError, Allocator};
@@ -89,7 +89,7 @@ pub(crate) fn push_finding<'t, A: Allocator>(
     let token = *literal.token;
     let place = place_inside(options, places, token, literal.rest, finding.lo, finding.hi);
     let piece = piece_of(token.text, finding);
-    push_front(out, Level::Error, options.form, options.path, &place)?;
+    push_line_start(out, Level::Error, options.form, options.path, &place)?;
     push_finding_end(out, options.form, token.text, finding.reason, piece)?;
     push_context_inside(
         out,
@@ -137,7 +137,7 @@ pub fn push_source_error<A: Allocator>(
     place: Place,
     kind: LexKind,
 ) -> Result<(), AllocError> {
-    push_front(out, Level::Error, form, path, &place)?;
+    push_line_start(out, Level::Error, form, path, &place)?;
     push_error_end(out, form, kind, "")
 }
 
@@ -157,7 +157,7 @@ pub(crate) fn push_error_line<'t, A: Allocator>(
 ) -> Result<(), AllocError> {
     let (lo, hi) = range;
     let place = displayed_place(options, places, rest, lo, hi);
-    push_front(out, Level::Error, options.form, options.path, &place)?;
+    push_line_start(out, Level::Error, options.form, options.path, &place)?;
     push_error_end(out, options.form, kind, piece)?;
     push_context_of(out, options, places, rest, lo, hi)
 }

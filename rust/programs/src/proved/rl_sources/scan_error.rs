@@ -1,4 +1,4 @@
-// Rendered from crates/rl_sources/src/scan_error.rt by tools/render, which erases contracts: change that file, and render anew.
+// Rendered from crates/rl_sources/src/scan_error.rt by tools/render, which erases contracts: change that file, and render again.
 //! The reason why a scan ends before the end of the source.
 
 use crate::rl_output::Place;

@@ -1,4 +1,4 @@
-// Rendered from crates/rl_sources/src/scanner.rt by tools/render, which erases contracts: change that file, and render anew.
+// Rendered from crates/rl_sources/src/scanner.rt by tools/render, which erases contracts: change that file, and render again.
 //! Writes the lines for the literals or the invisible characters of a whole source.
 
 use crate::rattle_std::prelude::{String};
@@ -8,6 +8,7 @@ use crate::rl_sources::scan_error::ScanError;
 use crate::rl_sources::step::{Step, gather};
 use crate::rl_output::{Places, Shown};
 use crate::rl_program::{ProgramError, write_whole};
+use crate::rl_style::Calls;
 use crate::rl_tokens::Sources;
 use crate::rattle_std::alloc::Allocator;
 use crate::rattle_std::io::Write;
@@ -26,11 +27,19 @@ fn scan_tokens<A: Allocator + Copy, W: Write>(
     out: &mut W,
 ) -> Result<bool, ScanError<A>> {
     let mut tokens = Sources::new(text);
+    let mut calls = Calls::Outside;
     let mut places = Places::new(text);
     let mut lines = String::new(alloc);
     let mut any = false;
     loop {
-        let Ok(step) = gather(alloc, options, &mut tokens, &mut places, &mut lines) else {
+        let Ok(step) = gather(
+            alloc,
+            options,
+            &mut tokens,
+            &mut calls,
+            &mut places,
+            &mut lines,
+        ) else {
             return Err(ScanError::Program(ProgramError::Memory));
         };
         match write_whole(out, lines.as_bytes()) {
@@ -74,6 +83,8 @@ fn scan_hidden<A: Allocator + Copy, W: Write>(
 ///
 /// - With `explains` the line of a literal that Rust rejects has the position of its error and the reason.
 /// - With `finds` only literals whose value contains one of the `finds` have a line. Its position is that of the first match.
+/// - Unless `judges_macros` is true, a literal inside a macro call, a `macro_rules!` definition or an attribute may have any suffix
+///   and any value.
 /// - With `Hidden` literals have no line. Each invisible or bidirectional character of the source has one instead, with its number.
 /// - With `explains` the first error of the source has the last line. With `rejects_strays` each stray character before that error
 ///   has a line too.

@@ -1,4 +1,4 @@
-// Rendered from crates/rl_sources/src/search.rt by tools/render, which erases contracts: change that file, and render anew.
+// Rendered from crates/rl_sources/src/search.rt by tools/render, which erases contracts: change that file, and render again.
 //! Searches for bytes in other bytes by the algorithm of Knuth, Morris and Pratt. The time grows linearly with both lengths.
 
 use crate::rattle_std::prelude::{Vec};

@@ -1,21 +1,22 @@
-// Rendered from crates/rl_sources/src/step.rt by tools/render, which erases contracts: change that file, and render anew.
+// Rendered from crates/rl_sources/src/step.rt by tools/render, which erases contracts: change that file, and render again.
 //! Writes the lines for the tokens of a source, one token after another.
 
 use crate::rattle_std::prelude::{String};
-use crate::rl_sources::check::{find_wrong, reason_of};
+use crate::rl_sources::check::{find_wrong, looks_for_flaws, reason_of};
 use crate::rl_sources::find_match::first_match_range;
 use crate::rl_sources::flaw_lines::push_error_lines;
 use crate::rl_sources::json::push_json_literal;
 use crate::rl_sources::literal::{Literal, kind_of};
-use crate::rl_sources::options::{Options, ends_at_strays, finds_strays};
+use crate::rl_sources::options::{Options, ends_at_strays, finds_strays, options_at};
 use crate::rl_sources::place::{displayed_place, place_inside, push_context_inside, push_context_of};
 use crate::rl_sources::reason::push_error_line;
 use crate::rl_files::{make_visible, push_visible};
 use crate::rl_lenient::{Found, find};
 use crate::rl_output::{
-    Form, Level, Place, Places, Spelling, first_line, push_annotation_end, push_front,
+    Form, Level, Place, Places, Spelling, first_line, push_annotation_end, push_line_start,
 };
-use crate::rl_program::{label_of, push_found, push_unescaped, unescaped_value};
+use crate::rl_program::{label_of, push_found, push_unescaped_line, unescaped_value};
+use crate::rl_style::{Calls, calls_after, is_in_call};
 use crate::rl_tokens::{LexError, LexKind, SourceForm, SourceToken, Sources};
 use crate::rattle_std::alloc::{AllocError, Allocator};
 
@@ -49,7 +50,7 @@ fn push_text_line<A: Allocator + Copy>(
     found: &Option<Found>,
 ) -> Result<(), AllocError> {
     match unescaped_value(text) {
-        Some(value) => push_unescaped(out, value),
+        Some(value) => push_unescaped_line(out, value),
         None => push_made_line(alloc, out, text, *found),
     }
 }
@@ -113,7 +114,7 @@ fn push_line_at<A: Allocator + Copy>(
     literal: &Literal<'_, '_>,
     place: Place,
 ) -> Result<(), AllocError> {
-    push_front(out, Level::Notice, options.form, options.path, &place)?;
+    push_line_start(out, Level::Notice, options.form, options.path, &place)?;
     push_line_end(alloc, out, options, literal)
 }
 
@@ -251,6 +252,59 @@ fn push_token<'t, A: Allocator + Copy>(
     push_literal_token(alloc, out, options, token, rest, places)
 }
 
+/// Whether the scan needs the positions of tokens relative to macro calls: it looks for errors, and checks literals inside macro
+/// calls differently.
+fn follows_calls(options: &Options<'_>) -> bool {
+    looks_for_flaws(options) && !options.any_suffix && !options.judges_macros
+}
+
+/// Changes `calls` to the position relative to macro calls after one more token, if `follows` is true.
+#[inline(always)]
+fn pass_token<'t>(follows: bool, calls: &mut Calls<'t>, token: SourceToken<'t>) {
+    if follows {
+        *calls = calls_after(*calls, token)
+    }
+}
+
+/// Whether a literal may have any suffix and any value because it is inside a macro call.
+fn is_unjudged(options: &Options<'_>, calls: Calls<'_>) -> bool {
+    is_in_call(calls) && follows_calls(options)
+}
+
+/// Appends the lines for a literal inside a macro call, or the line of a stray character there. `rest` is the end of the source from
+/// the token.
+#[inline(never)]
+fn push_token_in_call<'t, A: Allocator + Copy>(
+    alloc: A,
+    out: &mut String<A>,
+    options: &Options<'_>,
+    calls: Calls<'t>,
+    token: SourceToken<'t>,
+    rest: &'t str,
+    places: &mut Places<'t>,
+) -> Result<(), AllocError> {
+    let here = options_at(options, calls);
+    push_token(alloc, out, &here, token, rest, places)
+}
+
+/// Appends the lines for a literal, or the line of a stray character. `calls` is the token's position relative to macro calls, which
+/// is only read if the scan needs it. `rest` is the end of the source from the token.
+#[inline(always)]
+fn push_token_at<'t, A: Allocator + Copy>(
+    alloc: A,
+    out: &mut String<A>,
+    options: &Options<'_>,
+    calls: Calls<'t>,
+    token: SourceToken<'t>,
+    rest: &'t str,
+    places: &mut Places<'t>,
+) -> Result<(), AllocError> {
+    if is_unjudged(options, calls) {
+        return push_token_in_call(alloc, out, options, calls, token, rest, places);
+    }
+    push_token(alloc, out, options, token, rest, places)
+}
+
 /// Lexes the next token, or returns `None` at the end of the source.
 ///
 /// With `ends_at_strays` a stray character is an error.
@@ -279,10 +333,13 @@ fn may_show(options: &Options<'_>, token: &SourceToken<'_>) -> bool {
 
 /// Lexes tokens up to the next literal and returns that literal, or `None` at the end of the source.
 ///
-/// A stray character is an error, or is returned like a literal if stray characters are findings.
+/// A stray character is an error, or is returned like a literal if stray characters are findings. If `follows` is true, `calls`
+/// becomes the position of the returned token relative to macro calls.
 fn next_strictly<'t>(
     options: Options<'_>,
+    follows: bool,
     tokens: &mut Sources<'t>,
+    calls: &mut Calls<'t>,
 ) -> Result<Option<SourceToken<'t>>, LexError> {
     let ends = ends_at_strays(&options);
     loop {
@@ -291,6 +348,7 @@ fn next_strictly<'t>(
                 if may_show(&options, &token) {
                     return Ok(Some(token));
                 }
+                pass_token(follows, calls, token)
             }
             Ok(None) => return Ok(None),
             Err(error) => return Err(error),
@@ -300,13 +358,17 @@ fn next_strictly<'t>(
 
 /// Lexes tokens up to the next one that may have a line in the output, and returns that token. The result is `None` at the end of
 /// the source.
+///
+/// If `follows` is true, `calls` becomes the position of the returned token relative to macro calls.
 #[inline(always)]
 fn next_literal<'t>(
     options: Options<'_>,
+    follows: bool,
     tokens: &mut Sources<'t>,
+    calls: &mut Calls<'t>,
 ) -> Result<Option<SourceToken<'t>>, LexError> {
-    if options.rejects_strays {
-        return next_strictly(options, tokens);
+    if options.rejects_strays || follows {
+        return next_strictly(options, follows, tokens, calls);
     }
     match tokens.next_literal() {
         Some(token) => Ok(Some(token)),
@@ -347,19 +409,23 @@ fn stop_at<'t, A: Allocator>(
     Ok(Step::Error(place, error.kind))
 }
 
-/// Collects the lines for the next tokens, up to about 64 KB, and returns the state of the scan.
+/// Collects the lines for the next tokens, up to about 64 KB, and returns the state of the scan. `calls` is the position of the next
+/// token relative to macro calls, if the scan needs it.
 pub(crate) fn gather<'t, A: Allocator + Copy>(
     alloc: A,
     options: Options<'_>,
     tokens: &mut Sources<'t>,
+    calls: &mut Calls<'t>,
     places: &mut Places<'t>,
     out: &mut String<A>,
 ) -> Result<Step, AllocError> {
+    let follows = follows_calls(&options);
     while out.len() < FULL {
-        match next_literal(options, tokens) {
+        match next_literal(options, follows, tokens, calls) {
             Ok(Some(token)) => {
                 let rest = places.rest_at(token.lo);
-                push_token(alloc, out, &options, token, rest, places)?
+                push_token_at(alloc, out, &options, *calls, token, rest, places)?;
+                pass_token(follows, calls, token)
             }
             Ok(None) => return Ok(Step::End),
             Err(error) => {

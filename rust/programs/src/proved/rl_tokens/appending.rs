@@ -1,4 +1,4 @@
-// Rendered from crates/rl_tokens/src/appending.rt by tools/render, which erases contracts: change that file, and render anew.
+// Rendered from crates/rl_tokens/src/appending.rt by tools/render, which erases contracts: change that file, and render again.
 //! Functions that append a token to a token stream.
 
 use crate::rl_tokens::error::Error;

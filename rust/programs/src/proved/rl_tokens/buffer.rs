@@ -1,4 +1,4 @@
-// Rendered from crates/rl_tokens/src/buffer.rt by tools/render, which erases contracts: change that file, and render anew.
+// Rendered from crates/rl_tokens/src/buffer.rt by tools/render, which erases contracts: change that file, and render again.
 //! The buffer of token trees that parsers consume.
 
 use crate::rl_tokens::error::{Error, ErrorKind};

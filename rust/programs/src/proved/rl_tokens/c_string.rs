@@ -1,4 +1,4 @@
-// Rendered from crates/rl_tokens/src/c_string.rt by tools/render, which erases contracts: change that file, and render anew.
+// Rendered from crates/rl_tokens/src/c_string.rt by tools/render, which erases contracts: change that file, and render again.
 //! C strings: sequences of bytes without a zero byte.
 
 use crate::rattle_std::prelude::{Vec};

@@ -1,4 +1,4 @@
-// Rendered from crates/rl_tokens/src/error.rt by tools/render, which erases contracts: change that file, and render anew.
+// Rendered from crates/rl_tokens/src/error.rt by tools/render, which erases contracts: change that file, and render again.
 //! Errors of lexing and parsing: the kind of an error, and the span of the rejected text.
 
 use crate::rattle_std::prelude::{Drop, String};

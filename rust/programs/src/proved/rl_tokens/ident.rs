@@ -1,4 +1,4 @@
-// Rendered from crates/rl_tokens/src/ident.rt by tools/render, which erases contracts: change that file, and render anew.
+// Rendered from crates/rl_tokens/src/ident.rt by tools/render, which erases contracts: change that file, and render again.
 //! Identifier tokens.
 
 use crate::rattle_std::prelude::{String};

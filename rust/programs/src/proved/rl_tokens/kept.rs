@@ -1,4 +1,4 @@
-// Rendered from crates/rl_tokens/src/kept.rt by tools/render, which erases contracts: change that file, and render anew.
+// Rendered from crates/rl_tokens/src/kept.rt by tools/render, which erases contracts: change that file, and render again.
 //! A value that a function was given, returned with the error if the function fails.
 
 use crate::rattle_std::prelude::{Drop};

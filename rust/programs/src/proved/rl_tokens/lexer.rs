@@ -1,4 +1,4 @@
-// Rendered from crates/rl_tokens/src/lexer.rt by tools/render, which erases contracts: change that file, and render anew.
+// Rendered from crates/rl_tokens/src/lexer.rt by tools/render, which erases contracts: change that file, and render again.
 //! The lexer, which turns a text into token trees.
 
 use crate::rl_tokens::nest::TreeBuilder;

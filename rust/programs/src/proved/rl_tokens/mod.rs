@@ -1,4 +1,4 @@
-// Rendered from crates/rl_tokens/src/lib.rt by tools/render, which erases contracts: change that file, and render anew.
+// Rendered from crates/rl_tokens/src/lib.rt by tools/render, which erases contracts: change that file, and render again.
 //! Tokens of Rust's literals, token trees, the lexer, parse buffers, the traits of parsers, functions that write values
 //! as literals, and errors. The crate is modelled on `src/whitespace.rs` and the parsers of the crate `syn` 3.0.9. The
 //! items that don't allocate are defined in the crates `rl_lexer` and `rl_syntax`, and are re-exported here.

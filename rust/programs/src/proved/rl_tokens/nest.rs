@@ -1,4 +1,4 @@
-// Rendered from crates/rl_tokens/src/nest.rt by tools/render, which erases contracts: change that file, and render anew.
+// Rendered from crates/rl_tokens/src/nest.rt by tools/render, which erases contracts: change that file, and render again.
 //! The builder that collects tokens into token trees while a text is lexed.
 
 use crate::rattle_std::prelude::{String, Vec};

@@ -1,4 +1,4 @@
-// Rendered from crates/rl_tokens/src/parse.rt by tools/render, which erases contracts: change that file, and render anew.
+// Rendered from crates/rl_tokens/src/parse.rt by tools/render, which erases contracts: change that file, and render again.
 //! Traits of types whose values are parsed from a parse buffer, found at its start without parsing, or appended to a
 //! token stream.
 

@@ -1,4 +1,4 @@
-// Rendered from crates/rl_tokens/src/punct.rt by tools/render, which erases contracts: change that file, and render anew.
+// Rendered from crates/rl_tokens/src/punct.rt by tools/render, which erases contracts: change that file, and render again.
 //! Punctuation tokens.
 
 use crate::rl_syntax::Span;

@@ -1,4 +1,4 @@
-// Rendered from crates/rl_tokens/src/rewind.rt by tools/render, which erases contracts: change that file, and render anew.
+// Rendered from crates/rl_tokens/src/rewind.rt by tools/render, which erases contracts: change that file, and render again.
 //! A function that runs a parser and puts the buffer back to its old position if the parser fails.
 
 use crate::rattle_std::prelude::{Drop};

@@ -1,4 +1,4 @@
-// Rendered from crates/rl_tokens/src/token.rt by tools/render, which erases contracts: change that file, and render anew.
+// Rendered from crates/rl_tokens/src/token.rt by tools/render, which erases contracts: change that file, and render again.
 //! Token trees, the result of lexing a text.
 
 use crate::rattle_std::prelude::{Vec};

@@ -1,4 +1,4 @@
-// Rendered from crates/rl_tokens/src/whole.rt by tools/render, which erases contracts: change that file, and render anew.
+// Rendered from crates/rl_tokens/src/whole.rt by tools/render, which erases contracts: change that file, and render again.
 //! Functions that lex a whole text, or parse it as one value.
 
 use crate::rattle_std::prelude::{Drop};

@@ -1,4 +1,4 @@
-// Rendered from crates/rl_tokens/src/writer.rt by tools/render, which erases contracts: change that file, and render anew.
+// Rendered from crates/rl_tokens/src/writer.rt by tools/render, which erases contracts: change that file, and render again.
 //! Functions that write a value as a literal: a string, bytes, or a character.
 
 use crate::rattle_std::prelude::{String};

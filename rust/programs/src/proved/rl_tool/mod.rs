@@ -1,4 +1,4 @@
-// Rendered from crates/rl_tool/src/main.rt by tools/render, which erases contracts: change that file, and render anew.
+// Rendered from crates/rl_tool/src/main.rt by tools/render, which erases contracts: change that file, and render again.
 //! The program `rl_tool`. It reads literals or attributes, and prints the kind, the value and the suffix of each literal.
 
 use crate::rattle_std::prelude::{HostRuntime, Vec};

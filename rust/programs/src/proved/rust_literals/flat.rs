@@ -1,5 +1,6 @@
-// Rendered from crates/rust_literals/src/flat.rt by tools/render, which erases contracts: change that file, and render anew.
-//! Functions that read the literals of a text token by token, without building token trees. The text has no groups.
+// Rendered from crates/rust_literals/src/flat.rt by tools/render, which erases contracts: change that file, and render again.
+//! Functions that read the literals of a text token by token, without building token trees. A text of literals contains no
+//! groups.
 
 use crate::rattle_std::prelude::{Vec};
 use crate::rust_literals::lit::Lit;
@@ -85,7 +86,7 @@ pub(crate) fn take_next<A: Allocator + Copy>(
 /// [`Literals`] reports such a failure with its position.
 ///
 /// [`Literals`]: crate::rust_literals::Literals
-pub fn read_next<A: Allocator + Copy>(
+pub fn push_next_literal<A: Allocator + Copy>(
     alloc: A,
     tokens: &mut Tokens<'_>,
     file: u32,
@@ -115,7 +116,7 @@ pub(crate) fn read_flat<A: Allocator + Copy>(
     let mut list = Vec::new(alloc);
     let mut tokens = Tokens::new(text);
     while !tokens.rest().is_empty() {
-        let Ok(true) = read_next(alloc, &mut tokens, file, &mut list) else {
+        let Ok(true) = push_next_literal(alloc, &mut tokens, file, &mut list) else {
             return Err(list);
         };
     }

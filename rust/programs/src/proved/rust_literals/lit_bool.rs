@@ -1,4 +1,4 @@
-// Rendered from crates/rust_literals/src/lit_bool.rt by tools/render, which erases contracts: change that file, and render anew.
+// Rendered from crates/rust_literals/src/lit_bool.rt by tools/render, which erases contracts: change that file, and render again.
 //! The type of the literals `true` and `false`.
 
 mod copies;

@@ -1,4 +1,4 @@
-// Rendered from crates/rust_literals/src/lit_float.rt by tools/render, which erases contracts: change that file, and render anew.
+// Rendered from crates/rust_literals/src/lit_float.rt by tools/render, which erases contracts: change that file, and render again.
 //! The type of float literals.
 
 use crate::rust_literals::number::{Number, NumberKind};

@@ -1,4 +1,4 @@
-// Rendered from crates/rust_literals/src/literals.rt by tools/render, which erases contracts: change that file, and render anew.
+// Rendered from crates/rust_literals/src/literals.rt by tools/render, which erases contracts: change that file, and render again.
 //! An iterator over the literals of a text.
 
 use crate::rust_literals::flat::take_next;

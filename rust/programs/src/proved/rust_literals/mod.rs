@@ -1,4 +1,4 @@
-// Rendered from crates/rust_literals/src/lib.rt by tools/render, which erases contracts: change that file, and render anew.
+// Rendered from crates/rust_literals/src/lib.rt by tools/render, which erases contracts: change that file, and render again.
 //! The types of Rust's literals: `Lit` with its nine variants, and the types of numbers and of `bool`. Functions that
 //! read all literals of a text. The crate is modelled on `src/lit.rs` of the crate `syn` 3.0.9.
 
@@ -11,7 +11,7 @@ mod literals;
 mod number;
 mod read;
 
-pub use crate::rust_literals::flat::read_next;
+pub use crate::rust_literals::flat::push_next_literal;
 pub use crate::rust_literals::lit::Lit;
 pub use crate::rust_literals::lit_bool::LitBool;
 pub use crate::rust_literals::lit_float::{FloatKind, LitFloat};

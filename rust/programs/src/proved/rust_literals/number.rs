@@ -1,4 +1,4 @@
-// Rendered from crates/rust_literals/src/number.rt by tools/render, which erases contracts: change that file, and render anew.
+// Rendered from crates/rust_literals/src/number.rt by tools/render, which erases contracts: change that file, and render again.
 //! The type `Number`, of which `LitInt` and `LitFloat` are instances: a token, its digits in base ten, and the byte
 //! offset of its suffix.
 

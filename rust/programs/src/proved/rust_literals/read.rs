@@ -1,4 +1,4 @@
-// Rendered from crates/rust_literals/src/read.rt by tools/render, which erases contracts: change that file, and render anew.
+// Rendered from crates/rust_literals/src/read.rt by tools/render, which erases contracts: change that file, and render again.
 //! The function that returns all literals of a text.
 
 use crate::rattle_std::prelude::{Vec};
@@ -33,8 +33,8 @@ fn read_on<A: Allocator + Copy>(
     Ok(list)
 }
 
-/// Returns `list`, and appends the literals of `text` after its first `count` ones. The literals of `list` are the last
-/// of these `count`. Those before may have been dropped.
+/// Returns `list` with the literals of `text` after its first `count` ones appended. The literals of `list` are the last of these
+/// `count`. Those before may have been dropped.
 fn read_from<A: Allocator + Copy>(
     alloc: A,
     text: &str,
@@ -66,7 +66,7 @@ pub(crate) fn read_after<A: Allocator + Copy>(
 /// minus is from the minus to the number's last byte.
 ///
 /// On an error the literals before the error aren't returned. A caller that needs them, or each error of a list, can
-/// call [`read_next`](crate::rust_literals::read_next) with [`Tokens`](crate::rl_tokens::Tokens).
+/// call [`push_next_literal`](crate::rust_literals::push_next_literal) with [`Tokens`](crate::rl_tokens::Tokens).
 ///
 /// # Errors
 ///

@@ -1,10 +1,10 @@
-// Rendered from crates/rl_lexer/src/lexeme/number.rt by tools/render, which erases contracts: change that file, and render anew.
+// Rendered from crates/rl_lexer/src/lexeme/number.rt by tools/render, which erases contracts: change that file, and render again.
 //! Functions that lex numbers.
 
 use super::suffix::after_suffix;
 use crate::rl_syntax::characters::is_start;
 use crate::rl_syntax::classes::{CharClass, skip_class};
-use crate::rl_syntax::text::{split_ascii, split_char, without_first};
+use crate::rl_syntax::text::{split_ascii, split_char, without_first_char};
 
 /// Returns the text after a decimal number, where `text` begins after some of the digits before its dot.
 #[inline(never)]
@@ -45,7 +45,7 @@ pub(crate) fn ends_number(text: &str) -> bool {
 /// number, the result is the text itself.
 fn after_fraction(text: &str) -> &str {
     if begins_dot(text) {
-        skip_class(CharClass::Numeral, without_first(text))
+        skip_class(CharClass::Numeral, without_first_char(text))
     } else {
         text
     }

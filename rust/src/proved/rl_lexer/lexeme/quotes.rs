@@ -1,10 +1,10 @@
-// Rendered from crates/rl_lexer/src/lexeme/quotes.rt by tools/render, which erases contracts: change that file, and render anew.
+// Rendered from crates/rl_lexer/src/lexeme/quotes.rt by tools/render, which erases contracts: change that file, and render again.
 //! Functions that find the end of a string, character, byte or raw literal.
 
 use super::suffix::after_suffix;
 use crate::rl_syntax::classes::skip_hashes;
-use crate::rl_syntax::scan::{Marks, next_mark};
-use crate::rl_syntax::text::{after_prefix, before, begins_with, split_char, without_first};
+use crate::rl_syntax::scan::{Marks, split_after_mark};
+use crate::rl_syntax::text::{after_prefix, before, begins_with_char, split_char, without_first_char};
 
 /// Returns the text after a string literal and its suffix, where `text` follows the opening `"`. Returns `None` if the
 /// literal isn't closed.
@@ -24,13 +24,13 @@ pub(crate) fn after_character(text: &str) -> Option<&str> {
 /// literal isn't closed.
 pub(crate) fn after_raw_literal(text: &str) -> Option<&str> {
     let opener = skip_hashes(text);
-    let rest = after_raw(before(text, opener), without_first(opener))?;
+    let rest = after_raw(before(text, opener), without_first_char(opener))?;
     Some(after_suffix(rest))
 }
 
 /// Whether the text begins with any number of hashes and a `"`.
 pub(crate) fn begins_hashed_quote(text: &str) -> bool {
-    begins_with(skip_hashes(text), '"')
+    begins_with_char(skip_hashes(text), '"')
 }
 
 /// Returns the text after the `"` that closes a string literal, where `text` follows its opening `"`. A character after
@@ -38,7 +38,7 @@ pub(crate) fn begins_hashed_quote(text: &str) -> bool {
 #[inline(never)]
 fn after_quote(text: &str) -> Option<&str> {
     let mut rest = text;
-    while let Some((mark, following)) = next_mark(Marks::two(b'"', b'\\'), rest) {
+    while let Some((mark, following)) = split_after_mark(Marks::two(b'"', b'\\'), rest) {
         if mark == b'"' {
             return Some(following);
         }
@@ -53,7 +53,7 @@ fn after_quote(text: &str) -> Option<&str> {
 #[inline(never)]
 fn after_raw<'t>(hashes: &str, text: &'t str) -> Option<&'t str> {
     let mut rest = text;
-    while let Some((_, following)) = next_mark(Marks::two(b'"', b'"'), rest) {
+    while let Some((_, following)) = split_after_mark(Marks::two(b'"', b'"'), rest) {
         if let Some(end) = after_prefix(hashes, following) {
             return Some(end);
         }

@@ -1,4 +1,4 @@
-// Rendered from crates/rl_lexer/src/lexeme/suffix.rt by tools/render, which erases contracts: change that file, and render anew.
+// Rendered from crates/rl_lexer/src/lexeme/suffix.rt by tools/render, which erases contracts: change that file, and render again.
 //! Functions that lex the suffix of a literal.
 
 use crate::rl_syntax::characters::is_start;

@@ -1,4 +1,4 @@
-// Rendered from crates/rl_lexer/src/source/bad_quote.rt by tools/render, which erases contracts: change that file, and render anew.
+// Rendered from crates/rl_lexer/src/source/bad_quote.rt by tools/render, which erases contracts: change that file, and render again.
 //! Functions that find the end of invalid quoted literals, as `''` and `'ab'`. Each begins neither as a valid character
 //! literal nor as a lifetime, but ends before the text does.
 
@@ -6,7 +6,7 @@ use super::after_any_name;
 use crate::rl_lexer::lexeme::after_suffix;
 use crate::rl_syntax::characters::is_start;
 use crate::rl_syntax::classes::skip_word;
-use crate::rl_syntax::text::{begins_with, split_ascii, split_char, without_first};
+use crate::rl_syntax::text::{begins_with_char, split_ascii, split_char, without_first_char};
 
 /// Returns the text after the invalid quoted literal at its start, as `'ab'` or `b'hello'`, or `None` if that has no
 /// end.
@@ -14,8 +14,8 @@ use crate::rl_syntax::text::{begins_with, split_ascii, split_char, without_first
 pub(crate) fn after_bad_quote(text: &str) -> Option<&str> {
     match split_char(text) {
         Some(('\'', following)) => after_bare(following),
-        Some(('b', following)) if begins_with(following, '\'') => {
-            after_other(without_first(following))
+        Some(('b', following)) if begins_with_char(following, '\'') => {
+            after_other(without_first_char(following))
         }
         _ => None,
     }
@@ -39,7 +39,7 @@ fn after_bare(text: &str) -> Option<&str> {
 /// Returns the text after the next apostrophe and a suffix, which end an invalid quoted literal. `text` follows its
 /// opening apostrophe. Returns `None` if a backslash follows that apostrophe, or if the literal has no end.
 fn after_other(text: &str) -> Option<&str> {
-    if begins_with(text, '\\') {
+    if begins_with_char(text, '\\') {
         return None;
     }
     let rest = after_next_quote(text)?;
@@ -67,7 +67,7 @@ fn after_part(c: char, following: &str) -> Option<&str> {
         let (_, more) = split_char(following)?;
         return Some(more);
     }
-    if c == '/' || (c == '\n' && !begins_with(following, '\'')) {
+    if c == '/' || (c == '\n' && !begins_with_char(following, '\'')) {
         return None;
     }
     Some(following)

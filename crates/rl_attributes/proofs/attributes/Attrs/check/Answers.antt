@@ -4,7 +4,7 @@ use Rattle.std.proofs.lemmas.List.Elements.{All-push}
 use Rattle.std.proofs.lemmas.Result.{err_from_is_err_and}
 use Rattle.rl_attributes.specs.Settings.{IsAccepted}
 use Rattle.rl_attributes.proofs.EntryLemmas.{parted_at}
-use Rattle.rl_attributes.proofs.TextLemmas.{are_named, need_no_escapes, check_accepts}
+use Rattle.rl_attributes.proofs.TextLemmas.{are_named, have_no_suffix, check_accepts}
 use Rattle.rl_attributes.proofs.attributes.Attrs.check.Goals as goal
 
 pub returns-in_err-check_entry-clause-first : goal.returns-in_err-check_entry-clause-first
@@ -78,4 +78,4 @@ returns-clause-bare_texts g c =
     let all = subst (λ l. All (IsAccepted c.args.settings.now) l)
     (take_all c.loop-entry.entry-index entries (omega (arith, ap length c.entries-entry-items.ensures.entries)))
     c.loop-entry.invariant in
-    need_no_escapes entries c.args.self.now.read (λ k d h. (all k d h).bare)
+    have_no_suffix entries c.args.self.now.read (λ k d h. (all k d h).bare)

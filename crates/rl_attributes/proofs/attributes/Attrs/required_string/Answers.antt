@@ -1,5 +1,5 @@
-use Rattle.std.proofs.Common.{◌≡◌, List, ℕ, Option, Some, None, inl, subst}
-use Rattle.std.specs.Prelude.{Ok, String, string_bytes}
+use Rattle.std.proofs.Common.{inl, subst}
+use Rattle.std.specs.Prelude.{Ok}
 use Rattle.rl_attributes.proofs.TextLemmas.{in_some, in_none}
 use Rattle.rl_attributes.specs.TextSettings.{IsSomeStringOrMemory}
 use Rattle.rl_attributes.proofs.attributes.Attrs.required_string.Goals as goal

@@ -1,6 +1,6 @@
 use Rattle.rl_lenient.specs.Values.{whole_text}
 use Rattle.std.specs.Str.{chars}
-use Rattle.rl_lenient.proofs.ValueLemmas.{unescaped_value, no_bare_value, suffixed_none}
+use Rattle.rl_lenient.proofs.ValueLemmas.{value_without_suffix, no_bare_value, suffixed_none}
 use Rattle.rl_lenient.proofs.next_literals.NextLiteral.value.Goals as goal
 
 pub returns-then-has_suffix-clause-none : goal.returns-then-has_suffix-clause-none
@@ -8,7 +8,7 @@ returns-then-has_suffix-clause-none c = suffixed_none (chars (whole_text c.args.
 
 pub returns-clause-some : goal.returns-clause-some
 returns-clause-some c =
-    unescaped_value (chars (whole_text c.args.self.now)) c.signed.result c.signed.ensures.some c.if-has_suffix.ensures.reads
+    value_without_suffix (chars (whole_text c.args.self.now)) c.signed.result c.signed.ensures.some c.if-has_suffix.ensures.reads
 
 pub returns-clause-none : goal.returns-clause-none
 returns-clause-none c =

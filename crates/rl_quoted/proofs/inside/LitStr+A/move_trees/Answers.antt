@@ -8,8 +8,8 @@ pub returns-then-not-spans_text-clause-moved : goal.returns-then-not-spans_text-
 returns-then-not-spans_text-clause-moved g c =
     moved_elsewhere c.args.self.now _ _ _ c.span-span.ensures c.if-not-spans_text.ensures.long c.respan.ensures
 
-pub byte_spans_of-requires : goal.byte_spans_of-requires
-byte_spans_of-requires g c =
+pub value_byte_spans-requires : goal.value_byte_spans-requires
+value_byte_spans-requires g c =
     omega (
       arith,
       c.segments.ensures.within,

@@ -1,4 +1,4 @@
-use Rattle.rl_syntax.proofs.Common.{◌≡◌, ◌<◌, ◌∙◌, IsUtf8, ap, false, rules, subst, sym}
+use Rattle.rl_syntax.proofs.Common.{◌≡◌, ◌<◌, ◌∙◌, ap, false, rules, subst, sym}
 use Rattle.rl_lenient.proofs.Names.{IsScalar, Kind}
 use Rattle.rl_lenient.specs.declared.found.Found.{Found}
 use Rattle.rl_quoted.specs.Places.{HasPartsAt}

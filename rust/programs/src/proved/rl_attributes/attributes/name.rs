@@ -1,4 +1,4 @@
-// Rendered from crates/rl_attributes/src/attributes/name.rt by tools/render, which erases contracts: change that file, and render anew.
+// Rendered from crates/rl_attributes/src/attributes/name.rt by tools/render, which erases contracts: change that file, and render again.
 //! Names of attributes, as elements of an ordered set.
 
 use crate::rattle_std::cmp::Ordering;

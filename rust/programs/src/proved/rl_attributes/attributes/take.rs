@@ -1,4 +1,4 @@
-// Rendered from crates/rl_attributes/src/attributes/take.rt by tools/render, which erases contracts: change that file, and render anew.
+// Rendered from crates/rl_attributes/src/attributes/take.rt by tools/render, which erases contracts: change that file, and render again.
 //! The parser of a list of attributes from token trees.
 
 use crate::rattle_std::prelude::{String, Vec};

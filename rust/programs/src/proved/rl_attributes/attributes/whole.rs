@@ -1,4 +1,4 @@
-// Rendered from crates/rl_attributes/src/attributes/whole.rt by tools/render, which erases contracts: change that file, and render anew.
+// Rendered from crates/rl_attributes/src/attributes/whole.rt by tools/render, which erases contracts: change that file, and render again.
 //! The function that reads the list of attributes of a text. It lexes the text token by token, and doesn't build token
 //! trees unless there is an error.
 

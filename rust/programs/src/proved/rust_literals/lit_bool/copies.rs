@@ -1,4 +1,4 @@
-// Rendered from crates/rust_literals/src/lit_bool/copies.rt by tools/render, which erases contracts: change that file, and render anew.
+// Rendered from crates/rust_literals/src/lit_bool/copies.rt by tools/render, which erases contracts: change that file, and render again.
 //! Methods of `LitBool` that copy, compare, hash and print a literal, and append it to a token stream.
 
 use crate::rust_literals::lit_bool::{LitBool, word};

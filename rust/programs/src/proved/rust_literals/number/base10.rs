@@ -1,4 +1,4 @@
-// Rendered from crates/rust_literals/src/number/base10.rt by tools/render, which erases contracts: change that file, and render anew.
+// Rendered from crates/rust_literals/src/number/base10.rt by tools/render, which erases contracts: change that file, and render again.
 //! The conversion of a number literal to a value of a Rust type as `u8` or `f64`.
 
 use crate::rattle_std::prelude::{Drop, format};

@@ -1,4 +1,4 @@
-// Rendered from crates/rust_literals/src/number/copies.rt by tools/render, which erases contracts: change that file, and render anew.
+// Rendered from crates/rust_literals/src/number/copies.rt by tools/render, which erases contracts: change that file, and render again.
 //! Methods of `Number` that copy, compare, hash and print a number, and append it to a token stream.
 
 use crate::rattle_std::prelude::{String};
