@@ -91,6 +91,14 @@ IsRight options before text found =
 abbrev pub IsBad : Options → List ℕ → List ℕ → Option Found → Type 0
 IsBad options before text found = (why : Wrong) × IsWrong options before text found why
 
+-- `IsRightText` says that the literal `text` has no error after the source `before`, for a parse result of the literal.
+-- `IsWrongText` says that it has one.
+abbrev pub IsRightText : Options → List ℕ → List ℕ → Type 0
+IsRightText options before text = (found : Option Found) × IsFoundIn text found × IsRight options before text found
+
+abbrev pub IsWrongText : Options → List ℕ → List ℕ → Type 0
+IsWrongText options before text = (found : Option Found) × IsFoundIn text found × IsBad options before text found
+
 -- The byte range `lo..hi` of the text begins and ends between characters.
 abbrev pub IsSlice : List ℕ → ℕ → ℕ → Type 0
 IsSlice text lo hi = (lo ≤ hi) × IsCharBoundary text lo × IsCharBoundary text hi

@@ -18,7 +18,7 @@ use Rattle.rl_style.specs.Calls.{CallState, Outside}
 use Rattle.rl_sources.specs.Called.{calls_past_all}
 use Rattle.rl_sources.specs.Options.{ends_at_strays, finds_strays, options_at}
 use Rattle.rl_sources.specs.Places.{IsPlaceIn}
-use Rattle.rl_sources.specs.Findings.{IsFoundIn, IsRight, IsWrong}
+use Rattle.rl_sources.specs.Findings.{IsFoundIn, IsRight, IsRightText, IsWrong}
 use Rattle.rl_output.specs.Spots.{bytes_before}
 use Rattle.rl_sources.specs.Scans.{ShowsSource, ShowsUpTo, IsErrorAt, IsErrorLine, IsShownToken}
 
@@ -53,6 +53,16 @@ IsAcceptedToken ends_at_strays token =
 -- A token may have output: it is a literal, or a stray character if stray characters are findings.
 abbrev pub MayShow : Options → SourceKind → List ℕ → Type 0
 MayShow options kind text = IsLiteralText kind text ⊎ (IsTrue (finds_strays options) × (kind ≡ StrayKind))
+
+-- The token has no output in the source `whole`, at any position relative to macro calls.
+abbrev pub ShowsNothing : Options → List ℕ → SourceToken → Type 0
+ShowsNothing options whole l =
+    (calls : CallState) → IsShownToken (options_at options calls) whole (source_view l.form) (chars l.text.now) l.lo l.hi []
+
+-- Only invalid literals are shown, and the literal is valid outside of macro calls in the source `whole`.
+abbrev pub IsPassedOver : Options → List ℕ → SourceToken → Type 0
+IsPassedOver options whole l =
+    (options.shown ≡ Bad) × IsRightText options (bytes_before whole l.lo) l.text.now
 
 -- The token begins `rest`, the end of the text, and its byte offsets are those in the text.
 pub record BeginsRest (token : SourceToken) (text rest : List ℕ) : Type 0 where
@@ -120,13 +130,19 @@ pub record TakesShown (options : Options) (old : CursorState) (seen : CallState)
   pub takes : TakesSource between l new
   pub may_show : MayShow options (source_view l.form) (chars l.text.now)
 
--- The tokens up to the end of the source have no output.
-abbrev pub EndsUnshown : Options → CursorState → CallState → CallState → Type 0
-EndsUnshown options old seen now = (end : CursorState) × IsUnshown options old seen end now × (end.rest ≡ [])
+-- The tokens between the old and the new cursor have no output, at any position of the old cursor relative to macro calls.
+abbrev pub PassesUnshown : Options → CursorState → CursorState → Type 0
+PassesUnshown options old new = (seen : CallState) → (now : CallState) × IsUnshown options old seen new now
 
--- The tokens up to the error of the source have no output.
-pub record StopsUnshown (options : Options) (old : CursorState) (seen now : CallState) (e : LexError) : Type 0 where
+-- The tokens up to the end of the source have no output. `seen` is the position of the cursor relative to macro calls.
+abbrev pub EndsUnshown : Options → CursorState → CallState → Type 0
+EndsUnshown options old seen =
+    (end : CursorState) × (now : CallState) × IsUnshown options old seen end now × (end.rest ≡ [])
+
+-- The tokens up to the error of the source have no output. `seen` is the position of the cursor relative to macro calls.
+pub record StopsUnshown (options : Options) (old : CursorState) (seen : CallState) (e : LexError) : Type 0 where
   pub stop : CursorState
+  pub now : CallState
   pub unshown : IsUnshown options old seen stop now
   pub error : IsErrorAt (ends_at_strays options) e.kind (chars stop.rest)
   pub place : e.at + length stop.rest ≡ length stop.text

@@ -1,16 +1,16 @@
 //! Finds the error of a literal in a Rust source, as rustc does.
 
-ghost use Rattle.std.specs.Prelude.{◌≡◌, ◌≢◌, ◌↔◌, [], None, Some, IsTrue, IfNone, IfSome};
+ghost use Rattle.std.specs.Prelude.{◌≡◌, ◌≢◌, ◌↔◌, [], None, Some, IsFalse, IsTrue, IfNone, IfSome};
 ghost use Rattle.std.specs.Str.{chars};
 ghost use Rattle.rl_syntax.specs.declared.kind.Kind.TheVariants.{Float};
 ghost use Rattle.rl_lenient.specs.Founds.{IsFound, suffix_in};
-ghost use Rattle.rl_sources.specs.Findings.{FindsFlaw, FindsNoFlaw, HasFoundError, HasFoundType, IsFoundIn, IsRight, IsWrong};
+ghost use Rattle.rl_sources.specs.Findings.{FindsFlaw, FindsNoFlaw, HasFoundError, HasFoundType, IsFoundIn, IsRight, IsRightText, IsWrong, IsWrongText};
 ghost use Rattle.rl_sources.specs.Steps.{LooksForFlaws};
 
 use crate::finding::Wrong;
 use crate::options::Options;
 use rl_flaws::{TypeError, may_be_negated, type_error};
-use rl_lenient::Found;
+use rl_lenient::{Found, find};
 use rl_output::Shown;
 use rl_strict::{Flaw, LineEnds, explain_value, read};
 use rl_syntax::Kind;
@@ -107,6 +107,17 @@ pub(crate) fn find_wrong(
         Some(flaw) => Some(Wrong::Flaw(flaw)),
         None => find_wrong_in_context(options, before, text, found),
     }
+}
+
+/// Whether the literal `text` has no error. If `options` don't need errors, the result is always `true`.
+///
+/// `before` is the source before the literal.
+pub(crate) fn is_right(options: &Options<'_>, before: &str, text: &str) -> bool
+    ensures right { IsTrue result → LooksForFlaws options.now → IsRightText options.now before.now text.now }
+    ensures wrong { IsFalse result → IsWrongText options.now before.now text.now }
+{
+    let found = find(text);
+    find_wrong(options, before, text, &found).is_none()
 }
 
 /// Returns the error that the output explains: `wrong` if `explains` is true, else `None`.

@@ -1,10 +1,10 @@
 //! Writes the lines for the tokens of a source, one token after another.
 
-ghost use Rattle.std.specs.Prelude.{◌≡◌, ◌↔◌, ◌+◌, ◌<◌, ◌≤◌, ◌++◌, [], length, codes, IsTrue, IfSome, IfOk, IfErr, OnOk, MatchOption, string_bytes};
-ghost use Rattle.std.specs.Str.{chars};
+ghost use Rattle.std.specs.Prelude.{◌≡◌, ◌↔◌, ◌+◌, ◌<◌, ◌≤◌, ◌++◌, [], length, codes, IsFalse, IsTrue, IfSome, IfOk, IfErr, OnOk, MatchOption, false, string_bytes};
+ghost use Rattle.std.specs.Str.{IsCharBoundary, chars};
 ghost use Rattle.rl_syntax.specs.Texts.{byte_len};
 ghost use Rattle.rl_lexer.specs.Cursors.{IsCursorState};
-ghost use Rattle.rl_lexer.specs.Sources.{StrayKind, TakesSource, source_view};
+ghost use Rattle.rl_lexer.specs.Sources.{BeginsNoSource, StrayKind, TakesSource, source_view};
 ghost use Rattle.rl_files.specs.Globs.{borrowed_texts};
 ghost use Rattle.rl_files.specs.Visible.{visible};
 ghost use Rattle.rl_program.specs.Lines.{Appends};
@@ -12,12 +12,13 @@ ghost use Rattle.rl_sources.specs.Held.{IsCutAt};
 ghost use Rattle.rl_sources.specs.Scans.{IsErrorAt, IsHeldLine, IsLineAt, IsLineEnd, IsLineIn, IsPickedLine, IsPlacedLine, IsPrintedAs, IsShownLiteral, IsShownToken};
 ghost use Rattle.rl_output.specs.declared.form.Form.TheVariants.{Github};
 ghost use Rattle.rl_output.specs.declared.choice.Spelling.TheVariants.{Value};
-ghost use Rattle.rl_sources.specs.Steps.{BeginsRest, EndsUnshown, IsAcceptedToken, IsCursorOver, FollowsCalls, IsLiteralOf, IsShownAt, IsStepOf, IsStopAt, MayShow, StopsUnshown, TakesShown};
+ghost use Rattle.rl_output.specs.declared.choice.Shown.TheVariants.{Bad};
+ghost use Rattle.rl_sources.specs.Steps.{BeginsRest, EndsUnshown, IsAcceptedToken, IsCursorOver, FollowsCalls, IsLiteralOf, IsPassedOver, IsShownAt, IsStepOf, IsStopAt, MayShow, PassesUnshown, ShowsNothing, StopsUnshown, TakesShown};
 ghost use Rattle.rl_sources.specs.Findings.{IsFoundIn};
 ghost use Rattle.rl_style.specs.Calls.{calls_after, calls_seen, is_in_call};
 ghost use Rattle.rl_sources.specs.Options.{options_at as options_in};
 
-use crate::check::{find_wrong, looks_for_flaws, reason_of};
+use crate::check::{find_wrong, is_right, looks_for_flaws, reason_of};
 use crate::find_match::first_match_range;
 use crate::flaw_lines::push_error_lines;
 use crate::json::push_json_literal;
@@ -28,7 +29,7 @@ use crate::reason::push_error_line;
 use rl_files::{make_visible, push_visible};
 use rl_lenient::{Found, find};
 use rl_output::{
-    Form, Level, Place, Places, Spelling, first_line, push_annotation_end, push_line_start,
+    Form, Level, Place, Places, Shown, Spelling, first_line, push_annotation_end, push_line_start,
 };
 use rl_program::{label_of, push_found, push_unescaped_line, unescaped_value};
 use rl_style::{Calls, calls_after, is_in_call};
@@ -454,14 +455,38 @@ fn next_token<'t>(
     }
 }
 
-/// Whether a token may have a line in the output: literals may, and stray characters if they are findings.
-fn may_show(options: &Options<'_>, token: &SourceToken<'_>) -> bool
-    ensures { IsTrue result ↔ MayShow options.now (source_view token.now.form) (chars token.now.text.now) }
+/// Whether a literal has no line since only invalid literals are shown, and it is valid. A literal that is valid outside of macro
+/// calls is valid inside of them, so its position relative to macro calls isn't needed.
+#[inline(always)]
+fn is_passed_over<'t>(
+    options: &Options<'_>,
+    places: &Places<'t>,
+    token: &SourceToken<'t>,
+) -> bool
+    requires { IsCharBoundary places.now token.now.lo }
+    ensures { IsTrue result → IsPassedOver options.now (chars places.now) token.now }
 {
-    token.is_literal() || finds_strays(options) && is_stray(token)
+    if !matches!(options.shown, Shown::Bad) {
+        return false;
+    }
+    is_right(options, places.before(token.lo), token.text)
 }
 
-/// Lexes tokens up to the next literal and returns that literal, or `None` at the end of the source.
+/// Whether a token may have a line in the output. Literals may, except for valid ones if only invalid ones are shown. Stray
+/// characters may if they are findings.
+fn may_show<'t>(options: &Options<'_>, places: &Places<'t>, token: &SourceToken<'t>) -> bool
+    requires { IsCharBoundary places.now token.now.lo }
+    ensures shown { IsTrue result → MayShow options.now (source_view token.now.form) (chars token.now.text.now) }
+    ensures unshown { IsFalse result → ShowsNothing options.now (chars places.now) token.now }
+{
+    if token.is_literal() {
+        return !is_passed_over(options, places, token);
+    }
+    finds_strays(options) && is_stray(token)
+}
+
+/// Lexes tokens up to the next one that may have a line in the output, and returns that token. The result is `None` at the end of
+/// the source.
 ///
 /// A stray character is an error, or is returned like a literal if stray characters are findings. If `follows` is true, `calls`
 /// becomes the position of the returned token relative to macro calls.
@@ -470,22 +495,22 @@ fn next_strictly<'t>(
     follows: bool,
     tokens: &mut Sources<'t>,
     calls: &mut Calls<'t>,
+    places: &Places<'t>,
 ) -> Result<Option<SourceToken<'t>>, LexError>
-    requires cursor { IsCursorState tokens.old.text tokens.old.rest }
+    requires stands { IsCursorOver tokens.old places.now }
     requires follows { FollowsCalls options → IsTrue follows }
     ensures literal { IfOk result (λ token. MatchOption token
-        (EndsUnshown options.entry tokens.old (calls_seen calls.old) (calls_seen calls.new))
+        (EndsUnshown options.entry tokens.old (calls_seen calls.old))
         (λ l. TakesShown options.entry tokens.old (calls_seen calls.old) l (calls_seen calls.new) tokens.new)) }
     ensures shorter { IfOk result (λ token. IfSome token
         (λ l. length tokens.new.rest < length tokens.old.rest)) }
-    ensures error { IfErr result
-        (StopsUnshown options.entry tokens.old (calls_seen calls.old) (calls_seen calls.new)) }
+    ensures error { IfErr result (StopsUnshown options.entry tokens.old (calls_seen calls.old)) }
 {
     let ends = ends_at_strays(&options);
     loop {
         match next_token(ends, tokens) {
             Ok(Some(token)) => {
-                if may_show(&options, &token) {
+                if may_show(&options, places, &token) {
                     return Ok(Some(token));
                 }
                 pass_token(follows, calls, token)
@@ -494,6 +519,91 @@ fn next_strictly<'t>(
             Err(error) => return Err(error),
         }
     }
+}
+
+/// Consumes tokens up to and including the next literal that is invalid outside of macro calls, and returns `true` if there is one.
+/// Only invalid literals are shown. Stray characters are consumed too.
+///
+/// If there is no such literal, the cursor is at the end of the source, or before its error.
+fn finds_invalid<'t>(options: &Options<'_>, tokens: &mut Sources<'t>, places: &Places<'t>) -> bool
+    requires stands { IsCursorOver tokens.old places.now }
+    requires bad { options.now.shown ≡ Bad }
+    requires lax { options.now.rejects_strays ≡ false }
+    ensures unshown { IsFalse result → PassesUnshown options.now tokens.old tokens.new }
+    ensures none { IsFalse result → BeginsNoSource (chars tokens.new.rest) }
+{
+    while let Some(token) = tokens.next_literal() {
+        if !is_right(options, places.before(token.lo), token.text) {
+            return true;
+        }
+    }
+    false
+}
+
+/// Creates another cursor at the position of `tokens`. `places` is the table of positions of its source.
+fn same_position<'t>(tokens: &Sources<'t>, places: &Places<'t>) -> Sources<'t>
+    requires { IsCursorOver tokens.now places.now }
+    ensures { result ≡ tokens.now }
+{
+    Sources::resume(places.rest_at(0), tokens.rest())
+}
+
+/// Lexes tokens up to the next literal that is invalid outside of macro calls, and returns that literal. `calls` becomes its position
+/// relative to macro calls. Only invalid literals are shown.
+///
+/// Most sources have no such literal. So another cursor first looks for one without following macro calls, which takes less than
+/// half of the instructions. Then at most one pass follows macro calls up to that literal.
+fn next_invalid<'t>(
+    options: Options<'_>,
+    tokens: &mut Sources<'t>,
+    calls: &mut Calls<'t>,
+    places: &Places<'t>,
+) -> Result<Option<SourceToken<'t>>, LexError>
+    requires stands { IsCursorOver tokens.old places.now }
+    requires bad { options.shown ≡ Bad }
+    requires lax { options.rejects_strays ≡ false }
+    ensures literal { IfOk result (λ token. MatchOption token
+        (EndsUnshown options.entry tokens.old (calls_seen calls.old))
+        (λ l. TakesShown options.entry tokens.old (calls_seen calls.old) l (calls_seen calls.new) tokens.new)) }
+    ensures shorter { IfOk result (λ token. IfSome token
+        (λ l. length tokens.new.rest < length tokens.old.rest)) }
+    ensures error { IfErr result (StopsUnshown options.entry tokens.old (calls_seen calls.old)) }
+{
+    let mut ahead = same_position(tokens, places);
+    if finds_invalid(&options, &mut ahead, places) {
+        return next_strictly(options, true, tokens, calls, places);
+    }
+    match ahead.error() {
+        Some(error) => Err(error),
+        None => Ok(None),
+    }
+}
+
+/// Lexes tokens up to the next one that may have a line in the output, and returns that token. The result is `None` at the end of
+/// the source. Here `options` reject stray characters, or the scan needs the positions of tokens relative to macro calls.
+///
+/// If `follows` is true, `calls` becomes the position of the returned token relative to macro calls.
+#[inline(never)]
+fn next_followed<'t>(
+    options: Options<'_>,
+    follows: bool,
+    tokens: &mut Sources<'t>,
+    calls: &mut Calls<'t>,
+    places: &Places<'t>,
+) -> Result<Option<SourceToken<'t>>, LexError>
+    requires stands { IsCursorOver tokens.old places.now }
+    requires follows { FollowsCalls options → IsTrue follows }
+    ensures literal { IfOk result (λ token. MatchOption token
+        (EndsUnshown options.entry tokens.old (calls_seen calls.old))
+        (λ l. TakesShown options.entry tokens.old (calls_seen calls.old) l (calls_seen calls.new) tokens.new)) }
+    ensures shorter { IfOk result (λ token. IfSome token
+        (λ l. length tokens.new.rest < length tokens.old.rest)) }
+    ensures error { IfErr result (StopsUnshown options.entry tokens.old (calls_seen calls.old)) }
+{
+    if options.rejects_strays || !matches!(options.shown, Shown::Bad) {
+        return next_strictly(options, follows, tokens, calls, places);
+    }
+    next_invalid(options, tokens, calls, places)
 }
 
 /// Lexes tokens up to the next one that may have a line in the output, and returns that token. The result is `None` at the end of
@@ -506,19 +616,19 @@ fn next_literal<'t>(
     follows: bool,
     tokens: &mut Sources<'t>,
     calls: &mut Calls<'t>,
+    places: &Places<'t>,
 ) -> Result<Option<SourceToken<'t>>, LexError>
-    requires cursor { IsCursorState tokens.old.text tokens.old.rest }
+    requires stands { IsCursorOver tokens.old places.now }
     requires follows { FollowsCalls options → IsTrue follows }
     ensures literal { IfOk result (λ token. MatchOption token
-        (EndsUnshown options.entry tokens.old (calls_seen calls.old) (calls_seen calls.new))
+        (EndsUnshown options.entry tokens.old (calls_seen calls.old))
         (λ l. TakesShown options.entry tokens.old (calls_seen calls.old) l (calls_seen calls.new) tokens.new)) }
     ensures shorter { IfOk result (λ token. IfSome token
         (λ l. length tokens.new.rest < length tokens.old.rest)) }
-    ensures error { IfErr result
-        (StopsUnshown options.entry tokens.old (calls_seen calls.old) (calls_seen calls.new)) }
+    ensures error { IfErr result (StopsUnshown options.entry tokens.old (calls_seen calls.old)) }
 {
     if options.rejects_strays || follows {
-        return next_strictly(options, follows, tokens, calls);
+        return next_followed(options, follows, tokens, calls, places);
     }
     match tokens.next_literal() {
         Some(token) => Ok(Some(token)),
@@ -581,7 +691,7 @@ pub(crate) fn gather<'t, A: Allocator + Copy>(
 {
     let follows = follows_calls(&options);
     while out.len() < FULL {
-        match next_literal(options, follows, tokens, calls) {
+        match next_literal(options, follows, tokens, calls, places) {
             Ok(Some(token)) => {
                 let rest = places.rest_at(token.lo);
                 push_token_at(alloc, out, &options, *calls, token, rest, places)?;

@@ -4,7 +4,7 @@
 use crate::rl_sources::finding::Wrong;
 use crate::rl_sources::options::Options;
 use crate::rl_flaws::{TypeError, may_be_negated, type_error};
-use crate::rl_lenient::Found;
+use crate::rl_lenient::{Found, find};
 use crate::rl_output::Shown;
 use crate::rl_strict::{Flaw, LineEnds, explain_value, read};
 use crate::rl_syntax::Kind;
@@ -80,6 +80,14 @@ pub(crate) fn find_wrong(
         Some(flaw) => Some(Wrong::Flaw(flaw)),
         None => find_wrong_in_context(options, before, text, found),
     }
+}
+
+/// Whether the literal `text` has no error. If `options` don't need errors, the result is always `true`.
+///
+/// `before` is the source before the literal.
+pub(crate) fn is_right(options: &Options<'_>, before: &str, text: &str) -> bool {
+    let found = find(text);
+    find_wrong(options, before, text, &found).is_none()
 }
 
 /// Returns the error that the output explains: `wrong` if `explains` is true, else `None`.

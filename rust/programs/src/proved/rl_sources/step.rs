@@ -2,7 +2,7 @@
 //! Writes the lines for the tokens of a source, one token after another.
 
 use crate::rattle_std::prelude::{String};
-use crate::rl_sources::check::{find_wrong, looks_for_flaws, reason_of};
+use crate::rl_sources::check::{find_wrong, is_right, looks_for_flaws, reason_of};
 use crate::rl_sources::find_match::first_match_range;
 use crate::rl_sources::flaw_lines::push_error_lines;
 use crate::rl_sources::json::push_json_literal;
@@ -13,7 +13,7 @@ use crate::rl_sources::reason::push_error_line;
 use crate::rl_files::{make_visible, push_visible};
 use crate::rl_lenient::{Found, find};
 use crate::rl_output::{
-    Form, Level, Place, Places, Spelling, first_line, push_annotation_end, push_line_start,
+    Form, Level, Place, Places, Shown, Spelling, first_line, push_annotation_end, push_line_start,
 };
 use crate::rl_program::{label_of, push_found, push_unescaped_line, unescaped_value};
 use crate::rl_style::{Calls, calls_after, is_in_call};
@@ -326,12 +326,31 @@ fn next_token<'t>(
     }
 }
 
-/// Whether a token may have a line in the output: literals may, and stray characters if they are findings.
-fn may_show(options: &Options<'_>, token: &SourceToken<'_>) -> bool {
-    token.is_literal() || finds_strays(options) && is_stray(token)
+/// Whether a literal has no line since only invalid literals are shown, and it is valid. A literal that is valid outside of macro
+/// calls is valid inside of them, so its position relative to macro calls isn't needed.
+#[inline(always)]
+fn is_passed_over<'t>(
+    options: &Options<'_>,
+    places: &Places<'t>,
+    token: &SourceToken<'t>,
+) -> bool {
+    if !matches!(options.shown, Shown::Bad) {
+        return false;
+    }
+    is_right(options, places.before(token.lo), token.text)
 }
 
-/// Lexes tokens up to the next literal and returns that literal, or `None` at the end of the source.
+/// Whether a token may have a line in the output. Literals may, except for valid ones if only invalid ones are shown. Stray
+/// characters may if they are findings.
+fn may_show<'t>(options: &Options<'_>, places: &Places<'t>, token: &SourceToken<'t>) -> bool {
+    if token.is_literal() {
+        return !is_passed_over(options, places, token);
+    }
+    finds_strays(options) && is_stray(token)
+}
+
+/// Lexes tokens up to the next one that may have a line in the output, and returns that token. The result is `None` at the end of
+/// the source.
 ///
 /// A stray character is an error, or is returned like a literal if stray characters are findings. If `follows` is true, `calls`
 /// becomes the position of the returned token relative to macro calls.
@@ -340,12 +359,13 @@ fn next_strictly<'t>(
     follows: bool,
     tokens: &mut Sources<'t>,
     calls: &mut Calls<'t>,
+    places: &Places<'t>,
 ) -> Result<Option<SourceToken<'t>>, LexError> {
     let ends = ends_at_strays(&options);
     loop {
         match next_token(ends, tokens) {
             Ok(Some(token)) => {
-                if may_show(&options, &token) {
+                if may_show(&options, places, &token) {
                     return Ok(Some(token));
                 }
                 pass_token(follows, calls, token)
@@ -354,6 +374,63 @@ fn next_strictly<'t>(
             Err(error) => return Err(error),
         }
     }
+}
+
+/// Consumes tokens up to and including the next literal that is invalid outside of macro calls, and returns `true` if there is one.
+/// Only invalid literals are shown. Stray characters are consumed too.
+///
+/// If there is no such literal, the cursor is at the end of the source, or before its error.
+fn finds_invalid<'t>(options: &Options<'_>, tokens: &mut Sources<'t>, places: &Places<'t>) -> bool {
+    while let Some(token) = tokens.next_literal() {
+        if !is_right(options, places.before(token.lo), token.text) {
+            return true;
+        }
+    }
+    false
+}
+
+/// Creates another cursor at the position of `tokens`. `places` is the table of positions of its source.
+fn same_position<'t>(tokens: &Sources<'t>, places: &Places<'t>) -> Sources<'t> {
+    Sources::resume(places.rest_at(0), tokens.rest())
+}
+
+/// Lexes tokens up to the next literal that is invalid outside of macro calls, and returns that literal. `calls` becomes its position
+/// relative to macro calls. Only invalid literals are shown.
+///
+/// Most sources have no such literal. So another cursor first looks for one without following macro calls, which takes less than
+/// half of the instructions. Then at most one pass follows macro calls up to that literal.
+fn next_invalid<'t>(
+    options: Options<'_>,
+    tokens: &mut Sources<'t>,
+    calls: &mut Calls<'t>,
+    places: &Places<'t>,
+) -> Result<Option<SourceToken<'t>>, LexError> {
+    let mut ahead = same_position(tokens, places);
+    if finds_invalid(&options, &mut ahead, places) {
+        return next_strictly(options, true, tokens, calls, places);
+    }
+    match ahead.error() {
+        Some(error) => Err(error),
+        None => Ok(None),
+    }
+}
+
+/// Lexes tokens up to the next one that may have a line in the output, and returns that token. The result is `None` at the end of
+/// the source. Here `options` reject stray characters, or the scan needs the positions of tokens relative to macro calls.
+///
+/// If `follows` is true, `calls` becomes the position of the returned token relative to macro calls.
+#[inline(never)]
+fn next_followed<'t>(
+    options: Options<'_>,
+    follows: bool,
+    tokens: &mut Sources<'t>,
+    calls: &mut Calls<'t>,
+    places: &Places<'t>,
+) -> Result<Option<SourceToken<'t>>, LexError> {
+    if options.rejects_strays || !matches!(options.shown, Shown::Bad) {
+        return next_strictly(options, follows, tokens, calls, places);
+    }
+    next_invalid(options, tokens, calls, places)
 }
 
 /// Lexes tokens up to the next one that may have a line in the output, and returns that token. The result is `None` at the end of
@@ -366,9 +443,10 @@ fn next_literal<'t>(
     follows: bool,
     tokens: &mut Sources<'t>,
     calls: &mut Calls<'t>,
+    places: &Places<'t>,
 ) -> Result<Option<SourceToken<'t>>, LexError> {
     if options.rejects_strays || follows {
-        return next_strictly(options, follows, tokens, calls);
+        return next_followed(options, follows, tokens, calls, places);
     }
     match tokens.next_literal() {
         Some(token) => Ok(Some(token)),
@@ -421,7 +499,7 @@ pub(crate) fn gather<'t, A: Allocator + Copy>(
 ) -> Result<Step, AllocError> {
     let follows = follows_calls(&options);
     while out.len() < FULL {
-        match next_literal(options, follows, tokens, calls) {
+        match next_literal(options, follows, tokens, calls, places) {
             Ok(Some(token)) => {
                 let rest = places.rest_at(token.lo);
                 push_token_at(alloc, out, &options, *calls, token, rest, places)?;
