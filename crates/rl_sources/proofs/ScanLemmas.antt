@@ -10,7 +10,7 @@ use Rattle.std.proofs.lemmas.List.Elements.{All-push}
 use Rattle.rl_syntax.specs.Texts.{IsTail, byte_len}
 use Rattle.rl_lexer.specs.Cursors.{CursorState, IsCursorState}
 use Rattle.rl_lexer.specs.Lexemes.{LiteralForm, IdentifierForm, DelimiterForm, MarkForm}
-use Rattle.rl_lexer.specs.Sources.{source_text, source_end, source_view, source_kind, SourceKind, PlainKind, RawIdentifierKind, LifetimeKind, DocCommentKind, StrayKind, CutSource, IsBorrowedSource, TakesSource, IsLiteralText, IsOtherToken, PassesTo}
+use Rattle.rl_lexer.specs.Sources.{source_text, source_end, source_view, source_kind, SourceKind, PlainKind, RawIdentifierKind, LifetimeKind, DocCommentKind, StrayKind, CutSource, IsBorrowedSource, TakesSource, IsLiteralText, IsOtherToken, PassesTo, TakesLiteralAfter}
 use Rattle.rl_lexer.specs.declared.sources.SourceToken.{SourceToken}
 use Rattle.rl_lexer.specs.declared.lex_error.LexError.{LexError}
 use Rattle.rl_lexer.specs.declared.lex_error.LexKind.{LexKind}
@@ -25,11 +25,12 @@ use Rattle.rl_sources.specs.declared.step.Step.TheVariants.{More, End, Error}
 use Rattle.rl_lexer.specs.declared.lex_error.LexKind.TheVariants.{StrayCharacter}
 use Rattle.rl_style.specs.Calls.{CallState, Outside, calls_after}
 use Rattle.rl_sources.proofs.CallLemmas.{calls_append, past_token, with_append}
+use Rattle.rl_sources.proofs.StepLemmas.{right_unshown}
 use Rattle.rl_sources.specs.Called.{calls_past, calls_past_all, with_calls}
 use Rattle.rl_sources.specs.Options.{ends_at_strays, finds_strays, options_at}
 use Rattle.rl_sources.specs.Places.{IsPlaceIn}
 use Rattle.rl_sources.specs.Scans.{IsShownLiteral, IsShownStray, IsShownToken, IsShown, IsNoStray, ShowsUpTo, ShowsPart, ShowsSource, IsErrorAt, IsErrorLine}
-use Rattle.rl_sources.specs.Steps.{BeginsRest, FollowsCalls, IsCursorOver, IsShownAt, Adds, Completes, IsUnshown, MayShow, HasShown, Spot, TakesShown, IsStepOf, IsStopAt, spot}
+use Rattle.rl_sources.specs.Steps.{BeginsRest, FollowsCalls, IsCursorOver, IsPassedOver, IsShownAt, Adds, Completes, IsUnshown, MayShow, HasShown, PassesUnshown, ShowsNothing, Spot, TakesShown, IsStepOf, IsStopAt, spot}
 
 -- Without further tokens, nothing is added to the output.
 pub adds_none : (options : Options) (whole : List ℕ) (at : Spot) (piece : List ℕ) → piece ≡ []
@@ -262,9 +263,12 @@ joins_nothing options whole calls (w ∷ ws) lax each =
     (no_literal_shown options (source_kind w.token) (source_text w.token) lax each.0)))
     (joins_nothing options whole (calls_past calls w) ws lax each.1)
 
-pub unshown_passed : (options : Options) (old new : CursorState) (calls : CallState) → options.rejects_strays ≡ false
-    → (FollowsCalls options → ⊥) → PassesTo old new → IsUnshown options old calls new calls
-unshown_passed options old new calls lax unfollowed p = record {
+-- Tokens that aren't literals have no output. `now` is the position relative to macro calls after these tokens, if the scan needs
+-- it.
+pub unshown_passed : (options : Options) (old new : CursorState) (seen now : CallState) → options.rejects_strays ≡ false
+    → (p : PassesTo old new) → (FollowsCalls options → now ≡ calls_past_all seen p.cuts)
+    → IsUnshown options old seen new now
+unshown_passed options old new seen now lax p passed = record {
   adds = record {
     more = p.cuts;
     goes_on = λ cuts shown reached. record {
@@ -277,7 +281,8 @@ unshown_passed options old new calls lax unfollowed p = record {
             (with_calls (calls_past_all Outside cuts) p.cuts) shown [] reached.shows.lines
             (joins_nothing options (chars old.text) (calls_past_all Outside cuts) p.cuts lax p.others));
       };
-      calls_are = λ follows. absurd (unfollowed follows);
+      calls_are = λ follows. calls_append Outside cuts p.cuts
+          ∙ ap (λ (z : CallState). calls_past_all z p.cuts) (reached.calls_are follows) ∙ sym (passed follows);
     };
   };
   same = p.same;
@@ -297,14 +302,10 @@ pub unshown_more : (options : Options) (a : CursorState) (seen : CallState) (b :
     (d : CursorState) (now : CallState) (l : SourceToken) → IsUnshown options a seen b there → TakesSource b l d
     → (IsTrue (ends_at_strays options) → source_view l.form ≢ StrayKind)
     → (FollowsCalls options → now ≡ calls_after there (source_view l.form) l.text.now)
-    → (MayShow options (source_view l.form) (chars l.text.now) → ⊥) → IsUnshown options a seen d now
-unshown_more options a seen b there d now l u takes accepted passed other = record {
-  adds = adds_token options a.text (spot a seen) b there d now b.text l [] [] u.same refl u.adds takes accepted passed (
-    [],
-    λ real known. nothing_of (options_at options real) (chars b.text) (chars l.text.now) (source_view l.form) l.lo l.hi
-        other,
-    refl,
-  );
+    → ShowsNothing options (chars b.text) l → IsUnshown options a seen d now
+unshown_more options a seen b there d now l u takes accepted passed nothing = record {
+  adds = adds_token options a.text (spot a seen) b there d now b.text l [] [] u.same refl u.adds takes accepted passed
+      ([], λ real known. nothing real, refl);
   same = takes.same ∙ u.same;
   following = tail_step a.rest b.rest d.rest u.following takes.following;
 }
@@ -329,6 +330,19 @@ shown_literal : (options : Options) (whole text : List ℕ) (kind : SourceKind) 
 shown_literal options whole text (PlainKind LiteralForm) lo hi shown is h = h
 shown_literal options whole text (PlainKind IdentifierForm) lo hi shown is h = inl (is.0, is.1, h)
 shown_literal options whole text kind lo hi shown is h = absurd is
+
+-- A token that may not have output has none.
+pub other_nothing : (options : Options) (whole : List ℕ) (l : SourceToken)
+    → (MayShow options (source_view l.form) (chars l.text.now) → ⊥) → ShowsNothing options whole l
+other_nothing options whole l other calls =
+    nothing_of (options_at options calls) whole (chars l.text.now) (source_view l.form) l.lo l.hi other
+
+-- If only invalid literals are shown, a literal that is valid outside of macro calls has no output.
+pub right_nothing : (options : Options) (whole : List ℕ) (l : SourceToken)
+    → IsLiteralText (source_view l.form) (chars l.text.now) → IsPassedOver options whole l → ShowsNothing options whole l
+right_nothing options whole l literal (bad, right) calls =
+    shown_literal (options_at options calls) whole (chars l.text.now) (source_view l.form) l.lo l.hi [] literal
+    (right_unshown options calls whole l.text.now l.lo l.hi bad right)
 
 -- A stray character that may have output is a finding.
 pub shown_stray : (options : Options) (whole text : List ℕ) (kind : SourceKind) (lo hi : ℕ) (old new : List ℕ)
@@ -394,6 +408,48 @@ adds_unshown options text start piece old seen new now same adds unshown =
     (λ (z : List ℕ). Adds options (chars z) (spot old seen) (spot new now) []) same unshown.adds in
     subst (λ (z : List ℕ). Adds options (chars text) start (spot new now) z) (append-nil piece)
     (adds_join options (chars text) start (spot old seen) (spot new now) piece [] adds nothing)
+
+-- ---- tokens without output at any position relative to macro calls
+
+unshown_join : (options : Options) (a : CursorState) (seen : CallState) (b : CursorState) (there : CallState)
+    (d : CursorState) (now : CallState) → IsUnshown options a seen b there → IsUnshown options b there d now
+    → IsUnshown options a seen d now
+unshown_join options a seen b there d now first last = record {
+  adds = adds_unshown options a.text (spot a seen) [] b there d now first.same first.adds last;
+  same = last.same ∙ first.same;
+  following = tail_step a.rest b.rest d.rest first.following last.following;
+}
+
+-- Tokens that aren't literals have no output.
+pub passes_others : (options : Options) (a b d : CursorState) → options.rejects_strays ≡ false
+    → PassesUnshown options a b → PassesTo b d → PassesUnshown options a d
+passes_others options a b d lax passes p seen =
+    let first = passes seen in
+    let now : CallState = calls_past_all first.0 p.cuts in (
+      now,
+      unshown_join options a seen b first.0 d now first.1 (unshown_passed options b d first.0 now lax p (λ _. refl)),
+    )
+
+-- Tokens that aren't literals have no output, and neither has the literal after them, which isn't shown.
+pub passes_literal : (options : Options) (a b : CursorState) (l : SourceToken) (d : CursorState)
+    → options.rejects_strays ≡ false → PassesUnshown options a b → TakesLiteralAfter b l d
+    → ShowsNothing options (chars b.text) l → PassesUnshown options a d
+passes_literal options a b l d lax passes t nothing seen =
+    let before = passes_others options a b t.between lax passes t.passes seen in
+    let now : CallState = calls_after before.0 (source_view l.form) l.text.now in (
+      now,
+      unshown_more options a seen t.between before.0 d now l before.1 t.takes
+      (λ ends. absurd (false≢true (sym (ap (λ (b : Bool). b && not options.explains) lax) ∙ ends))) (λ _. refl)
+      (subst (λ (z : List ℕ). ShowsNothing options (chars z) l) (sym t.passes.same) nothing),
+    )
+
+-- Before the next literal, the cursor and the table of positions still belong to one text.
+pub stands_between : (options : Options) (a b : CursorState) (l : SourceToken) (d : CursorState) (places : List ℕ)
+    → options.rejects_strays ≡ false → IsCursorOver a places → PassesUnshown options a b → (t : TakesLiteralAfter b l d)
+    → IsCursorOver t.between places
+stands_between options a b l d places lax stands passes t =
+    let before = passes_others options a b t.between lax passes t.passes Outside in
+    stands_before options a Outside t.between before.0 places stands before.1
 
 -- The byte offset where an end of the source begins is between characters.
 pub rest_boundary : (text places rest : List ℕ) (at : ℕ) → IsCursorState text rest → places ≡ text → at + length rest

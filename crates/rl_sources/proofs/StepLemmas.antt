@@ -3,7 +3,7 @@ use Rattle.rl_lenient.proofs.Names.{Float, HasNoReading, HasReading, Kind}
 use Rattle.rl_syntax.proofs.Common.{Bool, Bor, false, ◌==◌, IsUtf8, List, None, Option, Some, [], ap, append_assoc, arith, chars, chars-nil, inl, inr, nat_tests, refl, subst, sym, true, ℕ, ◌++◌, ◌&&◌, ◌∙◌, ◌∷◌, ◌≡◌, ◌⊎◌, IsCharBoundary, and_parts, codes, list_all, length, take, drop, ◌+◌, chars_from_encodes, encodes-append, encodes-chars, length-append, take-append_seam}
 use Rattle.std.proofs.lemmas.List.{append-nil}
 use Rattle.std.proofs.lemmas.Str.{IsCharBoundary-from_drop}
-use Rattle.std.specs.Prelude.{◌↔◌, IfNone, IfSome, MatchOption, IsTrue, is_some, encode_utf8_all}
+use Rattle.std.specs.Prelude.{◌↔◌, IfNone, IfSome, MatchOption, IsFalse, IsTrue, is_some, encode_utf8_all, not, ◌||◌}
 use Rattle.std.proofs.lemmas.Bool.{false≢true}
 use Rattle.std.proofs.lemmas.Option.{none-some}
 use Rattle.std.proofs.Math.Seq.{drop-append_seam}
@@ -34,9 +34,11 @@ use Rattle.rl_files.specs.Globs.{borrowed_texts}
 use Rattle.rl_sources.specs.Held.{IsFirstHeld}
 use Rattle.rl_sources.specs.Scans.{IsPicked, IsPlacedLine, AreReasonLines, IsHeldLine, IsLineAt, IsLineEnd, IsLineIn, IsOwnLine, IsPickedLine, IsPrintedAs, IsShownLiteral}
 use Rattle.rl_sources.specs.Steps.{LooksForFlaws}
-use Rattle.rl_sources.specs.Findings.{FindsFlaw, FindsNoFlaw, HasFoundError, HasFoundType, IsBad, IsFoundIn, IsRight, IsWrong}
+use Rattle.rl_sources.specs.Options.{options_at}
+use Rattle.rl_style.specs.Calls.{CallState, is_in_call}
+use Rattle.rl_sources.specs.Findings.{FindsFlaw, FindsNoFlaw, HasFoundError, HasFoundType, IsBad, IsFoundIn, IsRight, IsRightText, IsWrong}
 use Rattle.rl_output.specs.Spots.{bytes_before}
-use Rattle.rl_flaws.specs.Before.{may_negate}
+use Rattle.rl_flaws.specs.Before.{may_negate, reserved}
 use Rattle.rl_flaws.specs.TypeErrors.{HasType, HasTypeError}
 use Rattle.rl_sources.specs.declared.finding.Wrong.{Wrong}
 use Rattle.rl_sources.specs.declared.finding.Wrong.TheVariants as wrong
@@ -283,6 +285,54 @@ pub at_end : (old new : CursorState) → BeginsNoSource (chars old.rest) → new
 at_end old new none stays (inl ends) = ap (λ (s : CursorState). s.rest) (sym stays) ∙ ends
 at_end old new none stays (inr (kind, after, before)) = absurd
     (none kind after (subst (λ (s : CursorState). SourceBefore (chars s.rest) kind after) stays before))
+
+-- ---- valid literals, if only invalid ones are shown
+
+-- The check of a literal for errors, where every suffix and value is accepted if the first argument is true.
+abbrev RightBy : Bool → Options → List ℕ → List ℕ → Option Found → Type 0
+RightBy any options before text found =
+    FindsNoFlaw any (chars text) × IsFalse (reserved options.edition before text)
+    × (IsTrue any ⊎ HasFoundType before text found)
+
+-- A literal that is valid by the options is valid at any position relative to macro calls.
+right_at : (options : Options) (calls : CallState) (before text : List ℕ) (found : Option Found)
+    → IsRight options before text found → IsRight (options_at options calls) before text found
+right_at options calls before text found right = widen options.any_suffix
+    (not options.judges_macros && is_in_call calls) right
+  where
+    widen : (any more : Bool) → RightBy any options before text found → RightBy (any || more) options before text found
+    widen true more is = is
+    widen false true ((token, value), free, types) = ((token, tt), free, inl refl)
+    widen false false is = is
+
+label_found : (text : List ℕ) (found : Option Found) → IsFoundIn text found
+    → (label : List ℕ) × IsLabelOf (chars text) label
+label_found text (Some f) read =
+    (label_of (Some f.kind), found_label text (label_of (Some f.kind)) (Some f.kind) (Some f) read.none read.some refl refl)
+label_found text None read = (label_of None, found_label text (label_of None) None None read.none read.some refl refl)
+
+-- If only invalid literals are shown, a valid literal has no output.
+pub right_unshown : (options : Options) (calls : CallState) (whole text : List ℕ) (lo hi : ℕ) → options.shown ≡ Bad
+    → IsRightText options (bytes_before whole lo) text
+    → IsShownLiteral (options_at options calls) whole (chars text) lo hi []
+right_unshown options calls whole text lo hi bad (found, read, right) =
+    let labelled = label_found text found read in
+    let before : List ℕ = bytes_before whole lo in
+    let here : Options = options_at options calls in (
+      labelled.0,
+      text,
+      found,
+      labelled.1,
+      refl,
+      read,
+      inr (
+        λ picked.
+          let is : IsBad here before text found = subst (λ (s : Shown). Picks s labelled.0 (IsBad here before text found)) bad
+          picked in
+          not_bad here before text found is.0 (right_at options calls before text found right) is.1,
+        refl,
+      ),
+    )
 
 -- The GitHub annotation for a literal has the first line of its output as its message.
 pub annotated : (spelling : Spelling) (text old printed new line : List ℕ)

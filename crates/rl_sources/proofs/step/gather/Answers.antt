@@ -43,7 +43,7 @@ pub rest_at-rest-requires-in-Err : goal.rest_at-rest-requires-in-Err
 rest_at-rest-requires-in-Err g c =
     let error = c.in-Err.ensures.error in
     let stands = stands_before c.args.options c.loop-options.tokens (calls_seen c.loop-options.calls) error.stop
-    (calls_seen c.next_literal.new.calls) c.loop-options.places
+    error.now c.loop-options.places
     c.loop-options.invariant.stands error.unshown in
     rest_boundary error.stop.text c.loop-options.places error.stop.rest c.in-Err.error.at stands.cursor stands.text_is
     error.place
@@ -52,7 +52,7 @@ pub stop_at-requires-clause-text : goal.stop_at-requires-clause-text
 stop_at-requires-clause-text g c =
     let error = c.in-Err.ensures.error in
     let stands = stands_before c.args.options c.loop-options.tokens (calls_seen c.loop-options.calls) error.stop
-    (calls_seen c.next_literal.new.calls) c.loop-options.places
+    error.now c.loop-options.places
     c.loop-options.invariant.stands error.unshown in
     let same = rest_is error.stop.text c.loop-options.places error.stop.rest c.rest_at-rest-in-Err.result.now
     c.in-Err.error.at stands.cursor stands.text_is error.place c.rest_at-rest-in-Err.ensures in
@@ -82,18 +82,18 @@ pub returns-in-Ok-None : goal.returns-in-Ok-None
 returns-in-Ok-None g c =
     let ends = rw c.in-Ok-None.field-0-is at c.in-Ok-None.ensures.literal in
     let start = spot c.args.tokens.now (calls_seen c.args.calls.now) in
-    let end = spot ends.0 (calls_seen c.next_literal.new.calls) in
+    let end = spot ends.0 ends.1 in
     completes c.args.options (chars c.args.tokens.now.text) start end (chars (string_bytes c.loop-options.out))
-    (ap chars ends.2 ∙ chars-nil) (adds_unshown c.args.options c.args.tokens.now.text start
+    (ap chars ends.3 ∙ chars-nil) (adds_unshown c.args.options c.args.tokens.now.text start
     (chars (string_bytes c.loop-options.out)) c.loop-options.tokens (calls_seen c.loop-options.calls) ends.0
-    (calls_seen c.next_literal.new.calls) c.loop-options.invariant.text_is c.loop-options.invariant.adds ends.1)
+    ends.1 c.loop-options.invariant.text_is c.loop-options.invariant.adds ends.2)
 
 pub returns-in-Err : goal.returns-in-Err
 returns-in-Err g c =
     let before = c.loop-options.invariant in
     let error = c.in-Err.ensures.error in
     let seen = calls_seen c.loop-options.calls in
-    let there = calls_seen c.next_literal.new.calls in
+    let there = error.now in
     let start = spot c.args.tokens.now (calls_seen c.args.calls.now) in
     IfOk-weaker c.stop_at.result _ _ (λ step is. stopped c.args.options c.args.tokens.now
     (calls_seen c.args.calls.now) error.stop there c.loop-options.places _ _ _ _ _ c.in-Err.error step

@@ -10,9 +10,9 @@ returns-in-Some-clause-literal c =
     let found = c.in-Some.ensures.found in
     record {
       between = found.between;
-      unshown = unshown_passed c.args.options c.args.tokens.now found.between
-          (calls_seen c.args.calls.now) c.if-options.false
-          (λ is. false≢true (sym c.if-follows.false ∙ c.requires.follows is)) found.passes;
+      unshown = unshown_passed c.args.options c.args.tokens.now found.between (calls_seen c.args.calls.now)
+          (calls_seen c.args.calls.now) c.if-options.false found.passes
+          (λ is. absurd (false≢true (sym c.if-follows.false ∙ c.requires.follows is)));
       takes = found.takes;
       may_show = inl found.is_literal;
     }
@@ -20,8 +20,10 @@ returns-in-Some-clause-literal c =
 pub returns-in-Some-error-clause-error : goal.returns-in-Some-error-clause-error
 returns-in-Some-error-clause-error c = record {
   stop = c.next_literal.new.self;
+  now = calls_seen c.args.calls.now;
   unshown = unshown_passed c.args.options c.args.tokens.now c.next_literal.new.self (calls_seen c.args.calls.now)
-      c.if-options.false (λ is. false≢true (sym c.if-follows.false ∙ c.requires.follows is)) c.in-None.ensures.passed;
+      (calls_seen c.args.calls.now) c.if-options.false c.in-None.ensures.passed
+      (λ is. absurd (false≢true (sym c.if-follows.false ∙ c.requires.follows is)));
   error = inl c.in-Some-error.ensures.error;
   place = c.in-Some-error.ensures.place;
 }
@@ -29,7 +31,9 @@ returns-in-Some-error-clause-error c = record {
 pub returns-in-None-error-clause-literal : goal.returns-in-None-error-clause-literal
 returns-in-None-error-clause-literal c = (
   c.next_literal.new.self,
+  calls_seen c.args.calls.now,
   unshown_passed c.args.options c.args.tokens.now c.next_literal.new.self (calls_seen c.args.calls.now)
-      c.if-options.false (λ is. false≢true (sym c.if-follows.false ∙ c.requires.follows is)) c.in-None.ensures.passed,
+      (calls_seen c.args.calls.now) c.if-options.false c.in-None.ensures.passed
+      (λ is. absurd (false≢true (sym c.if-follows.false ∙ c.requires.follows is))),
   at_end c.next_literal.new.self c.next_literal.new.self c.in-None.ensures.none refl c.in-None-error.ensures.none,
 )
