@@ -150,6 +150,60 @@ fn other_modes_list_all_literals() {
     }
 }
 
+/// Valid literals before an invalid one change nothing: the position relative to macro calls follows from all tokens before it.
+#[test]
+fn valid_literals_are_passed() {
+    let text = "1 m!(2 (3) 4u9 5) 6 7u9 n![8 [9u9]] 10u9";
+    assert_eq!(
+        printed(bad(false), text),
+        "20..23 error: unknown suffix: 7u9\n36..40 error: unknown suffix: 10u9\n"
+    );
+    let call = format!("m!({} 1u9)", "1 ".repeat(50_000));
+    assert_eq!(printed(bad(false), &call), "");
+    assert_eq!(
+        printed(bad(true), &call),
+        "100004..100007 error: unknown suffix: 1u9\n"
+    );
+}
+
+/// The error of a source is reported after valid literals and after macro calls.
+#[test]
+fn errors_of_sources_follow() {
+    for text in ["m!(1u9) 2 \"", "m!(123) 2 \""] {
+        assert_eq!(
+            printed(bad(false), text),
+            "10..10 error: unclosed quote\n",
+            "{text}"
+        );
+        let options = Options {
+            explains: false,
+            ..bad(false)
+        };
+        let mut out = Bytes::new(Global);
+        assert!(scan(Global, options, text, &mut out).is_err(), "{text}");
+        assert_eq!(out.as_slice(), b"");
+    }
+}
+
+/// If errors are explained and all literals are shown, a literal inside a macro call has the line with its value.
+#[test]
+fn explained_lists_skip_macro_code() {
+    let options = |judges_macros| Options {
+        shown: Shown::All,
+        ..bad(judges_macros)
+    };
+    assert_eq!(
+        printed(options(false), "m!(1u9) 2u9 3u8"),
+        "3..6 Int 1 u9\n8..11 error: unknown suffix: 2u9\n12..15 Int 3 u8\n"
+    );
+    assert_eq!(
+        printed(options(true), "m!(1u9) 2u9 3u8"),
+        "3..6 error: unknown suffix: 1u9\n\
+         8..11 error: unknown suffix: 2u9\n\
+         12..15 Int 3 u8\n"
+    );
+}
+
 /// The state of macro calls is kept from one block of output lines to the next. A block has 65,536 bytes.
 #[test]
 fn calls_are_longer_than_a_block() {
