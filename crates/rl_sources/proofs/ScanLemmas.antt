@@ -30,7 +30,7 @@ use Rattle.rl_sources.specs.Called.{calls_past, calls_past_all, with_calls}
 use Rattle.rl_sources.specs.Options.{ends_at_strays, finds_strays, options_at}
 use Rattle.rl_sources.specs.Places.{IsPlaceIn}
 use Rattle.rl_sources.specs.Scans.{IsShownLiteral, IsShownStray, IsShownToken, IsShown, IsNoStray, ShowsUpTo, ShowsPart, ShowsSource, IsErrorAt, IsErrorLine}
-use Rattle.rl_sources.specs.Steps.{BeginsRest, FollowsCalls, IsCursorOver, IsPassedOver, IsShownAt, Adds, Completes, IsUnshown, MayShow, HasShown, PassesUnshown, ShowsNothing, Spot, TakesShown, IsStepOf, IsStopAt, spot}
+use Rattle.rl_sources.specs.Steps.{BeginsRest, FollowsCalls, IsCursorOver, IsShownAt, Adds, Completes, IsUnshown, IsValidUnshown, MayShow, HasShown, PassesUnshown, ShowsNothing, Spot, TakesShown, IsStepOf, IsStopAt, spot}
 
 -- Without further tokens, nothing is added to the output.
 pub adds_none : (options : Options) (whole : List ℕ) (at : Spot) (piece : List ℕ) → piece ≡ []
@@ -339,8 +339,8 @@ other_nothing options whole l other calls =
 
 -- If only invalid literals are shown, a literal that is valid outside of macro calls has no output.
 pub right_nothing : (options : Options) (whole : List ℕ) (l : SourceToken)
-    → IsLiteralText (source_view l.form) (chars l.text.now) → IsPassedOver options whole l → ShowsNothing options whole l
-right_nothing options whole l literal (bad, right) calls =
+    → IsValidUnshown options whole l → ShowsNothing options whole l
+right_nothing options whole l (bad, literal, right) calls =
     shown_literal (options_at options calls) whole (chars l.text.now) (source_view l.form) l.lo l.hi [] literal
     (right_unshown options calls whole l.text.now l.lo l.hi bad right)
 

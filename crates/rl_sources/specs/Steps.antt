@@ -59,10 +59,11 @@ abbrev pub ShowsNothing : Options → List ℕ → SourceToken → Type 0
 ShowsNothing options whole l =
     (calls : CallState) → IsShownToken (options_at options calls) whole (source_view l.form) (chars l.text.now) l.lo l.hi []
 
--- Only invalid literals are shown, and the literal is valid outside of macro calls in the source `whole`.
-abbrev pub IsPassedOver : Options → List ℕ → SourceToken → Type 0
-IsPassedOver options whole l =
-    (options.shown ≡ Bad) × IsRightText options (bytes_before whole l.lo) l.text.now
+-- Only invalid literals are shown, and the token is a literal that is valid outside of macro calls in the source `whole`.
+abbrev pub IsValidUnshown : Options → List ℕ → SourceToken → Type 0
+IsValidUnshown options whole l =
+    (options.shown ≡ Bad) × IsLiteralText (source_view l.form) (chars l.text.now)
+    × IsRightText options (bytes_before whole l.lo) l.text.now
 
 -- The token begins `rest`, the end of the text, and its byte offsets are those in the text.
 pub record BeginsRest (token : SourceToken) (text rest : List ℕ) : Type 0 where

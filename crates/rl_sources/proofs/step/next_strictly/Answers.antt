@@ -10,8 +10,8 @@ loop-token-init c = record {
   not_longer = omega arith;
 }
 
-pub may_show-requires : goal.may_show-requires
-may_show-requires c =
+pub may_have_line-requires : goal.may_have_line-requires
+may_have_line-requires c =
     let takes = rw c.in-Ok-Some.field-0-is at c.in-Ok-Some.ensures.token in
     let stands = stands_before c.args.options c.args.tokens.now (calls_seen c.args.calls.now) c.loop-token.tokens
     (calls_seen c.loop-token.calls) c.args.places.now c.requires.stands c.loop-token.invariant.unshown in
@@ -30,6 +30,6 @@ loop-token-preserved c =
           (calls_seen c.loop-token.calls) c.next_token.new.tokens (calls_seen c.pass_token.new.calls) c.in-Ok-Some.token
           c.loop-token.invariant.unshown takes accepted (λ is. c.pass_token.ensures (c.requires.follows is))
           (subst (λ (t : List ℕ). ShowsNothing c.args.options (chars t) c.in-Ok-Some.token) stands.text_is
-          (c.may_show.ensures.unshown c.if-may_show.false));
+          (c.may_have_line.ensures.unshown c.if-may_have_line.false));
       not_longer = omega (arith, shorter, c.loop-token.invariant.not_longer);
     }

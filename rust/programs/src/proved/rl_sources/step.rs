@@ -326,27 +326,38 @@ fn next_token<'t>(
     }
 }
 
-/// Whether a literal has no line since only invalid literals are shown, and it is valid. A literal that is valid outside of macro
-/// calls is valid inside of them, so its position relative to macro calls isn't needed.
-#[inline(always)]
-fn is_passed_over<'t>(
+/// Whether a token may have a line in the output: literals may, and stray characters if they are findings.
+fn may_show(options: &Options<'_>, token: &SourceToken<'_>) -> bool {
+    token.is_literal() || finds_strays(options) && is_stray(token)
+}
+
+/// Whether a token has no line because it is a valid literal, and only invalid literals are shown.
+///
+/// The literal is checked as if it were outside of macro calls. If it is valid there, it is valid inside of macro calls too, so its
+/// position relative to macro calls isn't needed.
+fn is_valid_unshown<'t>(
     options: &Options<'_>,
     places: &Places<'t>,
     token: &SourceToken<'t>,
 ) -> bool {
-    if !matches!(options.shown, Shown::Bad) {
-        return false;
+    match options.shown {
+        Shown::Bad if token.is_literal() => {
+            is_right(options, places.before(token.lo), token.text)
+        }
+        _ => false,
     }
-    is_right(options, places.before(token.lo), token.text)
 }
 
-/// Whether a token may have a line in the output. Literals may, except for valid ones if only invalid ones are shown. Stray
-/// characters may if they are findings.
-fn may_show<'t>(options: &Options<'_>, places: &Places<'t>, token: &SourceToken<'t>) -> bool {
-    if token.is_literal() {
-        return !is_passed_over(options, places, token);
+/// Whether a token may have a line in the output. If only invalid literals are shown, no valid one may.
+fn may_have_line<'t>(
+    options: &Options<'_>,
+    places: &Places<'t>,
+    token: &SourceToken<'t>,
+) -> bool {
+    if is_valid_unshown(options, places, token) {
+        return false;
     }
-    finds_strays(options) && is_stray(token)
+    may_show(options, token)
 }
 
 /// Lexes tokens up to the next one that may have a line in the output, and returns that token. The result is `None` at the end of
@@ -365,7 +376,7 @@ fn next_strictly<'t>(
     loop {
         match next_token(ends, tokens) {
             Ok(Some(token)) => {
-                if may_show(&options, places, &token) {
+                if may_have_line(&options, places, &token) {
                     return Ok(Some(token));
                 }
                 pass_token(follows, calls, token)
@@ -427,10 +438,10 @@ fn next_followed<'t>(
     calls: &mut Calls<'t>,
     places: &Places<'t>,
 ) -> Result<Option<SourceToken<'t>>, LexError> {
-    if options.rejects_strays || !matches!(options.shown, Shown::Bad) {
-        return next_strictly(options, follows, tokens, calls, places);
+    match options.shown {
+        Shown::Bad if !options.rejects_strays => next_invalid(options, tokens, calls, places),
+        _ => next_strictly(options, follows, tokens, calls, places),
     }
-    next_invalid(options, tokens, calls, places)
 }
 
 /// Lexes tokens up to the next one that may have a line in the output, and returns that token. The result is `None` at the end of
