@@ -1,7 +1,8 @@
 //! Makes calls of `rattle_std` without memory. The tests of `tests/rattle_std/room.rs` run this program.
 //!
 //! It is called `without_memory TEST PATH` with the name of a test, and a path of more than 512 bytes of a directory that
-//! contains a file. The exit status is 0 if each call returned the error for too little memory.
+//! contains a file. The system must limit the program to less than 256 MB. The exit status is 0 if each call returned the error
+//! for too little memory.
 //!
 //! The program has one thread. In a test program, the thread that waits for the test may need memory while there is none, and
 //! then Rust ends the process.
@@ -14,13 +15,19 @@ use navyspindle_programs::rattle_std::io::{ErrorKind, Read, Result, Stdin, Stdou
 use navyspindle_programs::rattle_std::rt::HostRuntime;
 use std::{hint, mem, process};
 
+/// The most bytes that the program allocates.
+const MOST: usize = 1 << 28;
+
 /// Allocates blocks until no block of `least` bytes is left.
 fn take_all(least: usize) {
     let mut size = 1 << 24;
+    let mut taken = 0;
     while size >= least {
         let mut block = Vec::<u8>::new();
         if block.try_reserve_exact(size).is_ok() {
             mem::forget(hint::black_box(block));
+            taken += size;
+            assert!(taken <= MOST, "the memory has no limit");
         } else {
             size /= 2;
         }
