@@ -25,7 +25,7 @@ none_listed : (list : List Attribute) → AreListed [] list → list ≡ []
 none_listed [] h = refl
 none_listed (a ∷ others) (b, i, c) = absurd (no_attribute a b i)
 
--- If token trees begin with a punctuation character, the token trees after it are unique.
+-- If token trees begin with a punctuation character, only one list can be the token trees after it.
 one_mark : (ch : ℕ) (trees a b : List Tree) → IsAfterMark ch trees a → IsAfterMark ch trees b → a ≡ b
 one_mark ch trees a b h k = let e = h.trees_are in let f = k.trees_are in cc
 
@@ -284,8 +284,8 @@ refused_next trees done rest scope e t d some r = record {
       never_refused done on.more rest scope e some (subst NamesDiffer on.list_is are.differ) on.listed r;
 }
 
--- If two tests of names give the same results, a name at the start of token trees is new for both or for neither. So both give
--- the next attribute the same errors (`same_seen`).
+-- If two tests of names give the same results, a name at the start of token trees is new for both or for neither. So
+-- both tests give the next attribute equal errors (`same_seen`).
 same_new : (s t : List ℕ → Bool) (trees : List Tree) (name : SpannedText) (following : List Tree)
     → ((n : List ℕ) → s n ≡ t n) → HasNewName s trees name following → HasNewName t trees name following
 same_new s t trees name following e h = record { named = h.named; anew = sym (e name.text) ∙ h.anew }

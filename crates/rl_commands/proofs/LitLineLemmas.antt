@@ -71,7 +71,7 @@ prints_float text old new shown suffix d s h =
           ∙ ap (λ z. old ++ line (kind_label Float) z suffix) (d.3 ∙ ap float_digits one.0),
     )
 
--- The output line of a text is that for its kind, if it is parsed as that kind.
+-- If a text is parsed as a kind, its output line is the output line for that kind.
 pub kind_lined : (kind : Kind) (t shown : List ℕ) → ReadsAs kind t → IsLineOf t shown → IsLineOfKind kind t shown
 kind_lined kind t shown r (inl (k, contents, suffix, reads, is)) =
     let one = one_reading t k kind contents r.0 suffix r.1 reads r.2 in

@@ -68,7 +68,7 @@ front_of kind trees token rest h r = record { front = h; reads = r; shorter = fr
 pub one_kind : (t : List ℕ) (k l : Kind) → ReadsAs k t → ReadsAs l t → k ≡ l
 one_kind t k l (v, x, r) (w, y, s) = (one_reading t k l v w x y r s).0
 
--- A parse result of the kind exists exactly if the text is of the kind.
+-- A text has a parse result of a kind exactly if it is a literal of that kind.
 pub found_as : (kind : Kind) (t : List ℕ) (o : Option Found) → IfSome o (IsFound t) → IfSome o (λ f. f.kind ≡ kind)
     → IfNone o (ReadsAs kind (chars t) → ⊥) → IsTrue (is_some o) ↔ ReadsAs kind (chars t)
 found_as kind t (Some f) found is none = (

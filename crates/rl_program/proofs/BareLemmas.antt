@@ -80,7 +80,7 @@ bare_is_line text suffix bare none =
     let same : chars text ≡ text = bare_chars text bare in
     rw (no_suffix suffix none) (bare_shown (chars text) (ap (list_all is_bare) same ∙ bare))
 
--- ---- a string literal whose value can be copied from the text
+-- ---- lemmas about a string literal whose value can be copied from the text
 
 quote : chars (codes "\"") ≡ codes "\""
 unfolding chars

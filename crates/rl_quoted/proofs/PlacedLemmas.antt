@@ -39,8 +39,8 @@ range_fits kind t lo hi first last u r =
 
 -- ---- lemmas about tables with a span for each byte
 
--- A table's span for a byte of the decoded value is the span of the character or escape from which the byte comes. For
--- a byte after the end it is the last span.
+-- A table has a span for each byte of a literal's decoded value: the span of the character or escape from which the
+-- byte comes. For an index after the end, the table returns its last span.
 entry_is : (s : SegmentsState) (base : Span) (table : List Span) (t : IsSpanTable s base table) (at : ℕ)
     → entry_at table at ≡ unit_span s base t.units at
 entry_is s base table t at = go (ltb at (length table)) refl

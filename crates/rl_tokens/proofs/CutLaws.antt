@@ -66,7 +66,7 @@ same_tail : (groups : List OpenGroup) (v w : LexedToken) (x y : List ℕ) → Sa
 same_tail groups v w x y same = ap (λ f. after_form groups f v.at) same.form
     ∙ ap (λ n. after_form groups (form_of w.lexeme) n) same.at
 
--- If the groups after all tokens are known, the groups after the first token are known too.
+-- If a list of tokens can be added to the open groups, its first token can be added to them.
 opened : (o : Option (List OpenGroup)) (ws : List LexedToken) (h : List OpenGroup)
     → option_and_then (λ g. open_groups g ws) o ≡ Some h → (g : List OpenGroup) × (o ≡ Some g)
     × (open_groups g ws ≡ Some h)

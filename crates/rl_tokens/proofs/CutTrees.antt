@@ -61,7 +61,8 @@ flat_is_cut file w after is scalar = go (form_of w.lexeme) refl
     go (DelimiterForm c) form = delimiter (is_opener c) c
     go (MarkForm c) form = tt
 
--- If all characters of a text are valid, so are those of the text after white space and comments.
+-- If all characters of a text are Unicode scalar values, so are the characters that remain after white space and
+-- comments are skipped.
 skipped_scalars : (t r : List ℕ) → Skipped t r → scalars t ≡ true → scalars r ≡ true
 skipped_scalars t r (inl s) h = (scalars_parts s.front r (ap scalars (sym s.text) ∙ h)).1
 skipped_scalars t r (inr s) h = ap scalars s.nothing

@@ -1,4 +1,5 @@
--- Texts that may follow a literal in a printed list of literals, and tests that their first characters fail.
+-- Lemmas about the texts that may follow a literal in a printed list of literals, and about tests that their first
+-- characters fail.
 use Rattle.rl_syntax.proofs.Common.{◌≡◌, ℕ, ◌<◌, inl, inr, Bool, true, false, not, ◌&&◌, ◌||◌, ◌==◌, List, [], ◌∷◌, ◌++◌, refl, ◌∙◌, ap, lit<, and_parts, IsTrue, ⊤, codes, list_all, is_ascii_digit, is_ascii_alphanumeric, and_from, or_from, is_xid_start, is_xid_continue}
 use Rattle.rl_syntax.specs.Texts.{is_white, is_among, first_passes, is_run_part, is_start, is_continue}
 use Rattle.rl_lexer.specs.Lexemes.{is_base_letter, IsLexedSuffix, IsLexeme}

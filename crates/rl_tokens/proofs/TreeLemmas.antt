@@ -90,7 +90,8 @@ pub relocated_group : {A : Type 0} (table : List Span) (g h : Group A) → group
     → tree_view (tree.Group h) ≡ relocated table (tree_view (tree.Group g))
 relocated_group table g h e = tree_view-group h ∙ e ∙ ap (relocated table) (sym (tree_view-group g))
 
--- If the first token tree of a list is consumed, the plain data of the list begins with its plain data.
+-- If the first token tree of a list is consumed, the plain data of the list begins with the plain data of that token
+-- tree.
 pub first_taken : {A : Type 0} (xs rest : List (TokenTree A)) (x : TokenTree A) (t : Tree) → xs ≡ x ∷ rest → tree_view x
     ≡ t → map tree_view xs ≡ t ∷ map tree_view rest
 first_taken xs rest x t e is = ap (map tree_view) e ∙ ap (λ z. z ∷ map tree_view rest) is

@@ -94,7 +94,7 @@ body_is : (text : List ℕ) (found : Found) → text ≡ body_in text found.body
 body_is text found cut = append_cancel_right (body_in text found.body) (take found.body.suffix_at text)
     (suffix_in text found.body) (sym cut ∙ sym (take-append-drop found.body.suffix_at text))
 
--- If a number is plain, its digits are the text before its suffix.
+-- If the flag `plain` of a number's parse result is `true`, the digits of the number are the text before its suffix.
 pub holds_lent : (kind : Kind) (text : List ℕ) (found : Found) → IsUtf8 text → IsFoundNumber text found → found.kind
     ≡ kind → found.body.plain ≡ true → HoldsNumber kind text (take found.body.suffix_at text) found.body.suffix_at
 holds_lent kind text found utf8 h e plain =
@@ -118,7 +118,7 @@ pub wants_memory : {A : Type 0} (kind : Kind) (text : List ℕ) (e : Error A) (s
 wants_memory {A} kind text e span is number =
     let P : Error A → Type 0 = λ x. (x.span ≡ span) × IsRejectedAs kind text x.kind in subst P (sym is) (refl, number)
 
--- A text whose digits are the text before its suffix isn't rejected as a number.
+-- If a text is a number whose digits are the text before its suffix, the text isn't rejected as a number.
 pub no_number_plain : {A : Type 0} (kind : Kind) (text : List ℕ) (reason : ErrorKind A)
     → IsNoNumber kind (chars text) reason → IsPlain kind text → ⊥
 no_number_plain Int text NotInteger none p = none p.reads.sign p.reads.magnitude p.suffix p.reads.reads
