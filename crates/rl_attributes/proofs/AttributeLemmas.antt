@@ -168,7 +168,7 @@ names_before done a more h =
     distinct_before a.name.text (names_of done) (names_of more)
     (subst (IsDistinct bytes_eq) (map-append (λ x. x.name.text) done (a ∷ more)) h)
 
--- ---- token trees are at most one list of attributes
+-- ---- lemmas: token trees are at most one list of attributes
 
 pub one_listing : (trees : List Tree) (xs ys : List Attribute) → AreListed trees xs → AreListed trees ys → xs ≡ ys
 one_listing trees [] ys h k = sym (none_listed ys (subst (λ (t : List Tree). AreListed t ys) h k))
@@ -186,7 +186,7 @@ one_listing trees (x ∷ xs) (y ∷ ys) (b, i, inr (r, m, k)) (c, j, inr (s, n, 
     ap (λ z. z ∷ xs) one.0 ∙ ap (λ zs. y ∷ zs) (one_listing s xs ys (subst (λ (t : List Tree). AreListed t xs) rests k)
     l)
 
--- ---- rejected token trees aren't a list
+-- ---- lemmas: rejected token trees aren't a list of attributes
 
 -- The list of attributes `list` begins with the consumed attributes `done`, and the remaining token trees `rest` are
 -- its other attributes.

@@ -36,8 +36,8 @@ use Rattle.rl_attributes.specs.Names.{has_name}
 use Rattle.rl_attributes.specs.AttributeSteps.{AddsName, IsNext, LacksMemoryInStep, RejectsStep, reported_at, kind_reported_at}
 use Rattle.rl_attributes.proofs.AttributeLemmas.{AreTaken, taken_none, taken_more, taken_all, taken_begins, differ_more, differ_none, named_more, refused_next, same_seen, one_listing}
 
--- The invariant of the parser's loop: the attributes `entries` were consumed from the token trees `trees`, `names` is
--- the set of their names, and the token trees `rest` remain.
+-- The invariant of the loop that parses a list of attributes: the attributes `entries` were consumed from the token
+-- trees `trees`, `names` is the set of their names, and the token trees `rest` remain.
 pub record IsAt {A : Type 0} (trees : List Tree) (entries : List (Entry A)) (names : BTreeSet Name)
     (rest : List Tree) : Type 0 where
   pub taken : AreTaken trees (attributes_of entries) rest
@@ -46,7 +46,7 @@ pub record IsAt {A : Type 0} (trees : List Tree) (entries : List (Entry A)) (nam
   pub knows : (name : List ℕ) → has_name names name ≡ is_named name (attributes_of entries)
   pub left : IsRest trees rest
 
--- The invariant of the parser's loop holds at the start.
+-- The invariant of the loop that parses a list of attributes holds at the start.
 pub at_first : {A : Type 0} (trees : List Tree) (entries : List (Entry A)) (names : BTreeSet Name) → entries
     ≡ [] → IsEmpty names → IsAt trees entries names trees
 at_first {A = A} trees entries names e n = record {
@@ -57,7 +57,7 @@ at_first {A = A} trees entries names e n = record {
   left = rest_self trees;
 }
 
--- The invariant of the parser's loop holds after one more attribute.
+-- The invariant of the loop that parses a list of attributes holds again after one more attribute.
 pub at_next : {A : Type 0} (trees : List Tree) (entries more : List (Entry A)) (old new : BTreeSet Name)
     (rest next : List Tree) (entry : Entry A) → IsAt trees entries old rest → rest ≢ []
     → IsNext rest (attribute_of entry) next → IsFalse (has_name old (string_bytes entry.name)) → IsReadEntry entry

@@ -24,11 +24,11 @@ help_text =
 abbrev pub version_text : List ℕ
 version_text = codes "rl_tool 0.2.0\n"
 
--- The argument is `--help` or `-h`.
+-- Whether an argument is `--help` or `-h`.
 abbrev pub is_help_word : List ℕ → Bool
 is_help_word word = bytes_eq word (codes "--help") || bytes_eq word (codes "-h")
 
--- The argument is `--version` or `-V`.
+-- Whether an argument is `--version` or `-V`.
 abbrev pub is_version_word : List ℕ → Bool
 is_version_word word = bytes_eq word (codes "--version") || bytes_eq word (codes "-V")
 
@@ -50,8 +50,8 @@ EndsHelp text old new Done = Appends old new text
 EndsHelp text old new (Failed Write) = AppendsBeginning old new text
 EndsHelp text old new _ = ⊥
 
--- The result of a call with arguments that name a command: that of the command. With other arguments it is the usage, and nothing
--- is written.
+-- If the arguments name a command, the result of the call is the result of the command. With other arguments, the
+-- result is the usage, and nothing is written.
 abbrev pub EndsCommand : {A B : Type 0} → List (String A) → Option (List ℕ) → Option (List ℕ)
     → Option (List ℕ) → Ending (ProgramError B) → Type 0
 EndsCommand args input old new Done =
@@ -64,7 +64,8 @@ EndsCommand args input old new (Usage line) =
 EndsCommand args input old new (Failed error) =
     (command : Command) × AskFor args command × IsErrorOf command input old new error
 
--- The result of a call: that of writing the requested text, or else that of the command.
+-- The result of a call is the result of writing the requested text, if there is one, and otherwise the result of the
+-- command.
 abbrev pub EndsBy : {A B : Type 0} → Option (List ℕ) → List (String A) → Option (List ℕ) → Option (List ℕ)
     → Option (List ℕ) → Ending (ProgramError B) → Type 0
 EndsBy (Some text) args input old new ending = EndsHelp text old new ending

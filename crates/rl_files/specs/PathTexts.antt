@@ -25,10 +25,10 @@ shown_path bytes = bytes_shown bytes ++ 0 ∷ []
 abbrev pub path_text : List ℕ → List ℕ
 path_text bytes = cond (is_utf8 bytes) bytes (shown_path bytes)
 
--- The text represents a path that isn't UTF-8: it ends with a NUL.
+-- Whether a text represents a path that isn't UTF-8: the text ends with a NUL.
 abbrev pub is_marked : List ℕ → Bool
 is_marked text = not (length text == 0) && (slice_index text (length text - 1) == 0)
 
--- The text without the NUL at its end.
+-- A text without its last character, the NUL that marks a path that isn't UTF-8.
 abbrev pub unmarked : List ℕ → List ℕ
 unmarked text = take (length text - 1) text

@@ -189,7 +189,8 @@ are_respanned goes place h (t ∷ ts) = (
   refl,
 )
 
--- If the spans of token trees are looked up in the table, each token tree has the span in the file from which it comes.
+-- A table has a span in the file for each byte of a string literal's decoded value. If the spans of the value's token
+-- trees are looked up in the table, each token tree has the span in the file from which it comes.
 pub moved_by_table : (token : SpannedText) (s : SegmentsState) (base : Span) (table : List Span) (cut trees : List Tree)
     → IsSegmentsOf Str (chars token.text) s → base ≡ token.span → IsSpanTable s base table
     → token.span.lo + length token.text ≡ token.span.hi → trees ≡ map (relocated table) cut

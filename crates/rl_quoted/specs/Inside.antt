@@ -59,8 +59,8 @@ AreMoved goes (t ∷ ts) moved =
     (first : Tree) × (others : List Tree) × IsMoved goes t first × AreMoved goes ts others
     × (moved ≡ first ∷ others)
 
--- The string literal's decoded value is lexed into the token trees `trees`, with their spans replaced as `placing`
--- says, also inside groups.
+-- The string literal's decoded value is lexed into the token trees `trees`, and their spans are replaced as `placing`
+-- selects, also inside groups.
 pub record AreInside (placing : Placing) (token : SpannedText) (trees : List Tree) : Type 0 where
   pub value : List ℕ
   pub contents : HasContents Str (chars token.text) (Characters value)
@@ -69,7 +69,7 @@ pub record AreInside (placing : Placing) (token : SpannedText) (trees : List Tre
   pub moved : AreMoved (IsReportedAt placing token) cut trees
 
 -- A parser runs on the token trees of a string literal's decoded value. The parser's result is `answer`, and it leaves
--- the token trees `rest` over. `runs` is the parser's meaning.
+-- the token trees `rest` over. The relation `runs` specifies the parser.
 pub record Runs {R : Type 0} (placing : Placing)
     (runs : List Tree → Span → R → List Tree → Type 0) (token : SpannedText) (answer : R)
     (rest : List Tree) : Type 0 where
@@ -86,7 +86,7 @@ pub record IsParsed {T E : Type 0} (placing : Placing)
   pub no_suffix : HasSuffix Str (chars token.text) []
 
 -- The error `e` is that of a string literal whose decoded value can't be lexed: the first error of the decoded value,
--- or an allocation failure, at the span in the file that `placing` gives for its position.
+-- or an allocation failure, at the span in the file that `placing` selects for its position.
 pub record RejectsLexingInside {A : Type 0} (placing : Placing) (token : SpannedText) (e : Error A)
     : Type 0 where
   pub value : List ℕ

@@ -117,7 +117,7 @@ surrounds style macros t s at out edits d token tokens takes =
     let n = next_token style macros t s at out edits d token tokens takes in
     record { after = n.later ++ chars tokens.rest; text_is = n.text_is; at_is = n.place_is; skips = n.skips }
 
--- The context after one more token, in the definitions, is that of the cursor's state after the token.
+-- After one more token, the definitions and the cursor's state give the next token equal contexts.
 seen_passed : (s : RestylableState) (token : SourceToken) (tokens : CursorState) (w : CutSource)
     → IsBorrowedSource token w → seen_after (seen_of s) w ≡ seen_of (passed s token tokens)
 seen_passed s token tokens w is =

@@ -12,7 +12,7 @@ use Rattle.rl_restyle.specs.declared.edit.Macros.{Macros}
 
 -- ---- lemmas about the ends of a text
 
--- The second text is an end of the first one.
+-- The text `r` is an end of the text `t`.
 abbrev pub Ends : List ℕ → List ℕ → Type 0
 Ends t r = (front : List ℕ) × (t ≡ front ++ r)
 

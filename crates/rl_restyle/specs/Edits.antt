@@ -21,7 +21,7 @@ use Rattle.rl_restyle.specs.declared.edit.Macros.TheVariants.{Skip, All}
 use Rattle.rl_restyle.specs.declared.edit.RestyleError.{RestyleError}
 use Rattle.rl_restyle.specs.declared.edit.RestyleError.TheVariants.{Script, Source, Memory}
 
--- ---- which literals are rewritten
+-- ---- the choice of the literals that are rewritten
 
 -- The context of the next token: the token before it, the byte offset after that token, and the position relative to macro
 -- calls.
@@ -43,12 +43,14 @@ seen_after seen w = record {
   calls = calls_after seen.calls (source_kind w.token) (cut_bytes w);
 }
 
--- Whether a literal is rewritten. The flags are true if it may be a field of a tuple, and if it is inside a macro call.
+-- Whether a literal is rewritten. The first flag is `true` if the literal may be a field of a tuple, and the second if
+-- it is inside a macro call.
 abbrev pub is_chosen : Macros → Bool → Bool → Bool
 is_chosen Skip field inside = not field && not inside
 is_chosen All field inside = not field
 
--- The token is a literal that is rewritten. `rest` is the text after it, without white space and comments at its beginning.
+-- A condition on a token: it is a literal that is rewritten. `rest` is the text after the token, without white space
+-- and comments at its beginning.
 abbrev pub IsChosen : Macros → Seen → CutSource → List ℕ → Type 0
 IsChosen macros seen w rest =
     IsLiteralText (source_kind w.token) (source_text w.token)
@@ -68,7 +70,7 @@ abbrev pub IsRewritten : Style → List ℕ → List ℕ → Option (List ℕ) �
 IsRewritten style front old (Some new) = Rewrites style front old new × (new ≢ old)
 IsRewritten style front old None = (new : List ℕ) → Rewrites style front old new → new ≡ old
 
--- The new text of a token of the text, or `None` if the token isn't a literal that the style changes.
+-- The new text of a token of a source, or `None` if the token isn't a literal that the style changes.
 abbrev pub IsEditOf : Style → Macros → List ℕ → Seen → CutSource → Option (List ℕ) → Type 0
 IsEditOf style macros t seen w e =
     (front rest : List ℕ) × Surrounds t w front rest
@@ -81,7 +83,8 @@ AreEdits style macros t seen (w ∷ ws) (e ∷ es) =
     IsEditOf style macros t seen w e × AreEdits style macros t (seen_after seen w) ws es
 AreEdits style macros t seen _ _ = ⊥
 
--- The new texts, each with the byte offsets in the old text where the token begins and ends.
+-- The edits of a source: the new texts of tokens, each with the byte offsets in the old text where its token begins and
+-- ends.
 abbrev pub placed_edits : List CutSource → List (Option (List ℕ)) → List (ℕ × ℕ × List ℕ)
 placed_edits (w ∷ ws) (Some new ∷ es) = (w.at, source_end w, new) ∷ placed_edits ws es
 placed_edits (w ∷ ws) (None ∷ es) = placed_edits ws es

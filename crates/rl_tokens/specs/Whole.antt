@@ -1,5 +1,5 @@
--- The meaning of parsing a whole text: the text is lexed into token trees, and a parser runs on these, with the text's
--- end as scope. A text is the list of its bytes here.
+-- The meaning of parsing a whole text: the text is lexed into token trees, and a parser runs on the token trees, with
+-- the text's end as scope. A text is the list of its bytes here.
 use Rattle.std.specs.Prelude.{◌≡◌, ◌≢◌, ◌⊎◌, ℕ, List, [], length, Result, Ok, Err}
 use Rattle.std.specs.Str.{chars}
 use Rattle.rl_syntax.specs.declared.span.Span.{Span}
@@ -24,8 +24,9 @@ pub record RejectsLexing {A : Type 0} (text : List ℕ) (file : ℕ) (e : Error 
   pub rejected : Rejects text kind at
   pub error : e ≡ lex_rejection kind (place_at file at)
 
--- The error `e` is that of token trees after a parsed value: the parser parses a value from the start of `trees`, and
--- `Unexpected` is reported at the first token tree that it leaves. `runs` is the parser's meaning.
+-- The error `e` is that of token trees after a parsed value. The parser parses a value from the start of `trees`, and
+-- leaves token trees over. The error `Unexpected` is reported at the first of them. The relation `runs` specifies the
+-- parser.
 pub record LeavesTrees {T A : Type 0}
     (runs : List Tree → Span → Result T (Error A) → List Tree → Type 0) (trees : List Tree)
     (scope : Span) (e : Error A) : Type 0 where

@@ -112,7 +112,7 @@ found_number kind text found utf8 h e = go kind e (of_kind kind text found utf8 
     go Float e h = (chars (body_in text found.body), chars (suffix_in text found.body), h.reads)
     go kind e h = absurd h
 
--- `Memory` at a span is one of the errors for a text that is a number.
+-- If a text is a number, an allocation failure at a span is one of the errors that are allowed for the text.
 pub wants_memory : {A : Type 0} (kind : Kind) (text : List ℕ) (e : Error A) (span : Span) → e ≡ memory_at span
     → IsNumber kind text → (e.span ≡ span) × IsRejectedAs kind text e.kind
 wants_memory {A} kind text e span is number =
@@ -151,7 +151,7 @@ no_number_plain Float text (Number w) none p = absurd none
 no_number_plain Float text Memory none p = absurd none
 no_number_plain kind text reason none p = absurd none
 
--- The reason why a text isn't a number is one of the errors for the text.
+-- The reason why a text isn't a number is one of the errors that are allowed for the text.
 pub no_number_rejected : {A : Type 0} (kind : Kind) (text : List ℕ) (reason : ErrorKind A) → IsNoNumber kind text reason
     → IsRejectedAs kind text reason
 no_number_rejected kind text (Expected w) none = none
@@ -167,7 +167,8 @@ no_number_rejected kind text (Number w) none = none
 no_number_rejected Int text Memory none = absurd none
 no_number_rejected kind text Memory none = absurd none
 
--- If the result for a number is an error with `Memory` at a span, it is one of the errors for the number's text.
+-- If the result for a number is an allocation failure at a span, it is one of the errors that are allowed for the
+-- number's text.
 pub memory_rejected : {T A : Type 0} (kind : Kind) (text : List ℕ) (span : Span) (r : Result T (Kept SpannedText A))
     → IfErr r (λ k. k.error ≡ memory_at span) → IsNumber kind text
     → IfErr r (λ k. (k.error.span ≡ span) × IsRejectedAs kind text k.error.kind)

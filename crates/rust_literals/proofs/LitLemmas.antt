@@ -68,8 +68,8 @@ one_kind text (Some k) (Some l) (v, x, r) (w, y, s) = ap Some (one_reading text 
 pub one_lit : {A : Type 0} (token : SpannedText) (a b : Lit A) → IsReadFrom token a → IsReadFrom token b → a ≡ b
 one_lit token a b (e, h) (f, k) = same_lit a b (one_kind (chars token.text) (kind_of a) (kind_of b) h k) (e ∙ sym f)
 
--- If the characters of the text are `true` or `false`, its bytes equal them. If a text with this property is parsed as a kind, a
--- `Lit` of that kind exists for it (`read_lit`).
+-- A condition on a text: if its characters are `true` or `false`, its bytes equal these characters. If a text that
+-- meets the condition is parsed as a kind, a `Lit` of that kind exists for the text (`read_lit`).
 abbrev pub SpellsWords : List ℕ → Type 0
 SpellsWords text = (b : Truths) → chars text ≡ truth_text b → text ≡ truth_text b
 

@@ -13,8 +13,8 @@ pub record AreBase10Digits (kind : Kind) (text digits : List ℕ) : Type 0 where
   pub digits_are : HasDigits kind (chars text) (chars digits)
   pub is_text : IsUtf8 digits
 
--- `number` is a value that the number type's `from_str` may return for the digits in base ten. `gives` is the meaning
--- of `from_str`.
+-- `number` is a value that the number type's `from_str` may return for the digits in base ten. The relation `gives`
+-- specifies `from_str`.
 pub record IsMadeOf {N E : Type 0} (gives : List ℕ → Result N E → Type 0) (AreOf : List ℕ → Type 0)
     (number : N) : Type 0 where
   pub digits : List ℕ
