@@ -33,7 +33,7 @@ pub struct MemoryTree<'a> {
     pub directories: &'a [MemoryDirectory<'a>],
 }
 
-/// Returns the bytes of the first file in the list with the path.
+/// Returns the bytes of the first file in the list `files` that has the path `path`.
 fn find_file<'a>(files: &[MemoryFile<'a>], path: &str) -> Result<&'a [u8], PathError> {
     let mut rest = files;
     while let [file, after @ ..] = rest {
@@ -45,7 +45,7 @@ fn find_file<'a>(files: &[MemoryFile<'a>], path: &str) -> Result<&'a [u8], PathE
     Err(PathError::NotFound)
 }
 
-/// Returns the names in the first directory in the list with the path.
+/// Returns the names in the first directory in the list that has the path `path`.
 fn find_directory<'a>(
     directories: &[MemoryDirectory<'a>],
     path: &str,

@@ -117,7 +117,7 @@ pub fn unescaped_value(text: &str) -> Option<&str> {
     }
 }
 
-/// The start of a string literal's output line. `END` is the line's end if the literal has no suffix.
+/// The start of the output line of a string literal. `END` is the end of that line if the literal has no suffix.
 const FRONT: &str = "Str \"";
 
 const END: &str = "\" -\n";
