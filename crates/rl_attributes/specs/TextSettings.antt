@@ -131,8 +131,8 @@ IsSomeNumberOrRejected gives digits (Ok (Some n)) = gives digits (Ok n)
 IsSomeNumberOrRejected gives digits (Ok None) = ⊥
 IsSomeNumberOrRejected {E = E} gives digits (Err e) = (error : E) × gives digits (Err error)
 
--- The error `e` is that of a required setting: `Missing` if no attribute has the setting's name, or the error of the
--- value.
+-- The error `e` is the error for a required setting: `Missing` if no attribute has the setting's name, or the error of
+-- the value.
 abbrev pub RejectsRequired : {A : Type 0} → Setting → Attrs A
     → (Lit A → SettingError A → Type 0) → SettingError A → Type 0
 RejectsRequired setting attrs Rejects e =

@@ -37,7 +37,8 @@ abbrev pub text_of_word : List ℕ → Option (List ℕ)
 text_of_word word =
     cond (is_help_word word) (Some help_text) (cond (is_version_word word) (Some version_text) None)
 
--- The text that the program's arguments request. The arguments are the program's name and one that requests a text.
+-- The text that the program's arguments request, or `None`. The arguments request a text if they are the program's name
+-- and one argument that requests a text.
 abbrev pub requested_text : {A : Type 0} → List (String A) → Option (List ℕ)
 requested_text [] = None
 requested_text (program ∷ []) = None

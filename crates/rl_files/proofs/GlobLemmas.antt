@@ -185,7 +185,8 @@ module _ {P X : Type 0} (star : P → Bool) (one : P → X → Bool) where
       smaller = reached_smaller pattern text (pattern_of after) (text_of rest) s.stands;
     }
 
-    -- If the pattern after a star doesn't match from one start, it matches exactly if it matches from a later start.
+    -- If the pattern after a star doesn't match from one position of the text, it matches exactly if it matches from a
+    -- later position.
     pub fails_here : (pattern : List P) (first : List X) (x : X) (rest : List X)
         → any_end (all_match star one pattern) first ≡ any_end (all_match star one pattern) (x ∷ rest)
         → all_match star one pattern (x ∷ rest) ≡ false

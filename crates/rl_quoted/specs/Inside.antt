@@ -85,8 +85,8 @@ pub record IsParsed {T E : Type 0} (placing : Placing)
   pub ran : Runs placing runs token (Ok value) []
   pub no_suffix : HasSuffix Str (chars token.text) []
 
--- The error `e` is that of a string literal whose decoded value can't be lexed: the first error of the decoded value,
--- or an allocation failure, at the span in the file that `placing` selects for its position.
+-- The error `e` is the error for a string literal whose decoded value can't be lexed: the first error of the decoded
+-- value, or an allocation failure, at the span in the file that `placing` selects for its position.
 pub record RejectsLexingInside {A : Type 0} (placing : Placing) (token : SpannedText) (e : Error A)
     : Type 0 where
   pub value : List ℕ
@@ -124,12 +124,12 @@ ReportsSuffix text (Suffix suffix) =
     HasSuffix Str text (chars (string_bytes suffix)) × (string_bytes suffix ≢ [])
 ReportsSuffix text _ = ⊥
 
--- The error `e` is that of a string literal with a suffix: `Suffix`, at the literal's span.
+-- The error `e` is the error for a string literal with a suffix: `Suffix`, at the literal's span.
 pub record IsSuffixed {A : Type 0} (token : SpannedText) (e : Error A) : Type 0 where
   pub span : e.span ≡ token.span
   pub suffix : ReportsSuffix (chars token.text) e.kind
 
--- The error `e` is that of a string literal with a suffix, and a parser consumes all token trees of the literal's
+-- The error `e` is the error for a string literal with a suffix. A parser consumes all token trees of the literal's
 -- decoded value.
 pub record LeavesSuffix {T A : Type 0} (placing : Placing)
     (runs : List Tree → Span → Result T (Error A) → List Tree → Type 0) (token : SpannedText)

@@ -92,8 +92,8 @@ placed_edits _ _ = []
 
 -- ---- a rewritten source
 
--- The new text is the source in the style, and the edits are its changed literals. The source is lexed to its end, and the new
--- text consists of the old tokens, each with its text in the style.
+-- The text `new` is the source `t` rewritten in a style, and `edits` are the changed literals. The source is lexed to
+-- its end, and `new` consists of the old tokens, each with its text in the style.
 pub record Restyles (style : Style) (macros : Macros) (t new : List ℕ) (edits : List (ℕ × ℕ × List ℕ)) : Type 0 where
   pub is_code : IsTrue (begins_with_code t)
   pub cuts : List CutSource
@@ -109,7 +109,7 @@ IsRestyleError t Script = IsFalse (begins_with_code t)
 IsRestyleError t (Source e) = IsTrue (begins_with_code t) × SourceError t e.kind e.at
 IsRestyleError t Memory = ⊤
 
--- ---- the edits as values of the code
+-- ---- the edits, as values of the code
 
 abbrev pub edit_in : {A : Type 0} → Edit A → ℕ × ℕ × List ℕ
 edit_in edit = (edit.lo, edit.hi, chars (string_bytes edit.text))
@@ -127,13 +127,14 @@ IsTextOf style macros source l e =
 
 -- ---- theorems
 
--- A rewritten source is lexed as before, except for the edits. The source contains neither invalid quotes nor stray characters.
+-- A theorem: a rewritten source is lexed as before, except for the edits, if the source contains neither invalid quotes
+-- nor stray characters.
 abbrev pub KeepsTheWholeSource : Type 0
 KeepsTheWholeSource =
     (style : Style) (macros : Macros) (t new : List ℕ) (edits : List (ℕ × ℕ × List ℕ))
     → (r : Restyles style macros t new edits) → AllByRecursion IsSound r.cuts → IsEditedSource new r.cuts r.texts []
 
--- A source has exactly one new text and one list of edits in a style.
+-- A theorem: a source has exactly one new text and one list of edits in a style.
 abbrev pub HasOneText : Type 0
 HasOneText =
     (style : Style) (macros : Macros) (t new other : List ℕ) (edits others : List (ℕ × ℕ × List ℕ))

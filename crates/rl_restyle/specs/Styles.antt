@@ -177,7 +177,7 @@ pub record IsUnexpected (before : List Setting) (entry : NextEntry) (e : StyleEr
   pub lo : e.lo ≡ literal_lo entry.value
   pub hi : e.hi ≡ entry.value.token.hi
 
--- The error `e` is that of an entry that sets no rule.
+-- The error `e` is the error for an entry that sets no rule.
 abbrev pub RejectsEntry : List Setting → NextEntry → StyleError → Type 0
 RejectsEntry before entry e =
     IsUnknown entry.name e ⊎ IsRepeated before entry.name e ⊎ IsUnexpected before entry e

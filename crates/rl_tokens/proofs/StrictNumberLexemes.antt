@@ -194,7 +194,7 @@ power_facts e s =
     let (sign, same) = sign_of s.sign s.is_sign in
     record { letter = s.letter; sign = sign; run = s.run; is_letter = s.is_letter; power = p; text = s.text ∙ ap (λ z. s.letter ∷ (z ++ s.run)) same ∙ ap (λ z. s.letter ∷ (lexed_sign_text sign ++ z)) p.text }
 
--- Lemmas about integers.
+-- Lemmas about integer literals by Rust's grammar.
 decimal_int : (t x : List ℕ) (v : Contents) (s : StrictInt t v x) → s.prefix ≡ [] → IsDigits s.run → IsDecimalText t
     → LexedBefore EndsLiteral t
 decimal_int t x v s none digits decimal =
@@ -251,7 +251,7 @@ int_lexed t x v s =
       ]
     ]
 
--- Lemmas about floats.
+-- Lemmas about float literals by Rust's grammar.
 float_from : (t x d : List ℕ) (v : Contents) (s : StrictFloat t v x) (f : LexedFraction) (e : LexedExponent)
     → IsDigits d → s.numeral ≡ d ++ (lexed_fraction_text f ++ lexed_exponent_text e)
     → first_passes (is_run_part is_ascii_digit) (lexed_fraction_text f ++ (lexed_exponent_text e ++ x)) ≡ false

@@ -85,8 +85,8 @@ MissesWord [] word (EndOfInput w) = w.now ≡ word
 MissesWord (t ∷ ts) word (Expected w) = w.now ≡ word
 MissesWord _ word _ = ⊥
 
--- The error of a parser that expected the token named `word` at the start of `trees`. Its span is that of the first
--- token tree, or the scope if `trees` is empty.
+-- The error of a parser that expected the token named `word` at the start of `trees`. The error's span is the span of
+-- the first token tree, or the scope if `trees` is empty.
 pub record IsRejection {A : Type 0} (trees : List Tree) (scope : Span) (word : List ℕ) (e : Error A)
     : Type 0 where
   pub span : e.span ≡ first_span trees scope

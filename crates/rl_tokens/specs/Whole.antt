@@ -16,17 +16,17 @@ use Rattle.rl_tokens.specs.Buffers.{first_span}
 abbrev pub place_at : ℕ → ℕ → Span
 place_at file at = record { file = file; lo = at; hi = at }
 
--- The error `e` is that of a text that can't be lexed: the text's first error, or an allocation failure at the start of
--- a token. The error's span is empty, at the error's byte offset. The text is the list of its characters here.
+-- The error `e` is the error for a text that can't be lexed: the text's first error, or an allocation failure at the
+-- start of a token. The error's span is empty, at the error's byte offset. The text is the list of its characters here.
 pub record RejectsLexing {A : Type 0} (text : List ℕ) (file : ℕ) (e : Error A) : Type 0 where
   pub kind : LexKind
   pub at : ℕ
   pub rejected : Rejects text kind at
   pub error : e ≡ lex_rejection kind (place_at file at)
 
--- The error `e` is that of token trees after a parsed value. The parser parses a value from the start of `trees`, and
--- leaves token trees over. The error `Unexpected` is reported at the first of them. The relation `runs` specifies the
--- parser.
+-- The error `e` is the error for token trees after a parsed value. The parser parses a value from the start of `trees`,
+-- and leaves token trees over. The error `Unexpected` is reported at the first of them. The relation `runs` specifies
+-- the parser.
 pub record LeavesTrees {T A : Type 0}
     (runs : List Tree → Span → Result T (Error A) → List Tree → Type 0) (trees : List Tree)
     (scope : Span) (e : Error A) : Type 0 where
@@ -36,8 +36,8 @@ pub record LeavesTrees {T A : Type 0}
   pub some : rest ≢ []
   pub error : e ≡ record { span = first_span rest scope; kind = Unexpected }
 
--- The error `e` is that of token trees that aren't exactly one value: the parser's own error, or `Unexpected` for a
--- token tree after the value.
+-- The error `e` is the error for token trees that aren't exactly one value: the parser's own error, or `Unexpected` for
+-- a token tree after the value.
 pub record RejectsParse {T A : Type 0}
     (runs : List Tree → Span → Result T (Error A) → List Tree → Type 0) (trees : List Tree)
     (scope : Span) (e : Error A) : Type 0 where

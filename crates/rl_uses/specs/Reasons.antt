@@ -30,7 +30,7 @@ HasValue literal =
     IsSignedToken (chars (token_of literal).text)
     × (HasReading (chars (token_of literal).text) ⊎ IsFloatBySuffix (chars (token_of literal).text))
 
--- The reasons are those of the literals of the list that have no value in Rust, in order.
+-- The reasons are the reasons for the literals of the list that have no value in Rust, in order.
 abbrev pub AreReasons : {A : Type 0} → List (Lit A) → List Reason → Type 0
 AreReasons [] reasons = reasons ≡ []
 AreReasons (l ∷ ls) reasons =

@@ -35,8 +35,8 @@ pub record IsReported {A : Type 0} (words : Option (List ℕ)) (span : Span) (e 
   pub span_is : e.span ≡ span
   pub kind_is : IsInWords words e.kind
 
--- The error `e` is that of a number type whose `from_str` rejects the digits in base ten. It has the span `span` and
--- the message of the number type's own error.
+-- The error `e` is the error of a number type whose `from_str` rejects the digits in base ten. The error has the span
+-- `span` and the message of the number type's own error.
 pub record IsRejectedBy {N E A : Type 0} (gives : List ℕ → Result N E → Type 0)
     (output : E → Option (List ℕ)) (AreOf : List ℕ → Type 0) (span : Span) (e : Error A)
     : Type 0 where

@@ -84,8 +84,8 @@ RejectsCloser groups delimiter UnmatchedClose = closes groups (closer_of delimit
 RejectsCloser groups delimiter Memory = ⊤
 RejectsCloser groups delimiter _ = ⊥
 
--- The error `e` is that of a text that ends inside a group: `UnclosedGroup` at the opening delimiter of the innermost
--- open group.
+-- The error `e` is the error for a text that ends inside a group: `UnclosedGroup` at the opening delimiter of the
+-- innermost open group.
 pub record EndsInGroup (groups : List OpenGroup) (e : LexError) : Type 0 where
   pub kind : e.kind ≡ UnclosedGroup
   pub some_open : groups ≢ []
