@@ -28,7 +28,8 @@ pub record HasSomeLitSuffix {A : Type 0} (literal : Lit A) : Type 0 where
   pub has : HasLitSuffix literal suffix
   pub some : suffix ≢ []
 
--- One of the settings has the attribute's name, and the attribute's value has no suffix.
+-- The attribute `entry` is accepted: one of the settings has the attribute's name, and the attribute's value has no
+-- suffix.
 pub record IsAccepted {A : Type 0} (settings : List Setting) (entry : Entry A) : Type 0 where
   pub known : IsTrue (knows settings (string_bytes entry.name))
   pub bare : HasLitSuffix entry.value []
@@ -62,8 +63,9 @@ pub record RejectsFirst {A : Type 0} (settings : List Setting) (entries : List (
 
 -- ---- the value of a setting, and the errors of a value
 
--- `found` is the value of the setting: the property `Holds` relates it to the value of each attribute with the
--- setting's name, and an attribute has that name. Or `found` is `None`, and no attribute has the name.
+-- The option `found` is the value of a setting. If it is `Some`, an attribute has the setting's name, and the property
+-- `Holds` relates the value of each attribute with that name to the value in `found`. If it is `None`, no attribute has
+-- the setting's name.
 pub record IsSetAs {A V : Type 0} (setting : Setting) (entries : List (Entry A))
     (Holds : Lit A → V → Type 0) (found : Option V) : Type 0 where
   pub every : All (λ e. HasName setting.name.now e → IsSomeAnd found (Holds e.value)) entries

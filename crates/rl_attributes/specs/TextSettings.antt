@@ -117,14 +117,15 @@ IsSomeStringOrMemory value (Ok (Some s)) = chars (string_bytes s) ≡ chars valu
 IsSomeStringOrMemory value (Ok None) = ⊥
 IsSomeStringOrMemory value (Err e) = IsMemoryError e
 
--- The result is a number that the number type parses from `digits`, or an error, and the number type rejects `digits`.
+-- The result is a number that the number type parses from `digits`. Or the result is an error, and the number type
+-- rejects `digits`.
 abbrev pub IsNumberOrRejected : {A N E : Type 0} → (List ℕ → Result N E → Type 0) → List ℕ
     → Result N (SettingError A) → Type 0
 IsNumberOrRejected gives digits (Ok n) = gives digits (Ok n)
 IsNumberOrRejected {E = E} gives digits (Err e) = (error : E) × gives digits (Err error)
 
--- The result is `Some` number that the number type parses from `digits`, or an error, and the number type rejects
--- `digits`.
+-- The result is `Some` number that the number type parses from `digits`. Or the result is an error, and the number type
+-- rejects `digits`.
 abbrev pub IsSomeNumberOrRejected : {A N E : Type 0} → (List ℕ → Result N E → Type 0) → List ℕ
     → Result (Option N) (SettingError A) → Type 0
 IsSomeNumberOrRejected gives digits (Ok (Some n)) = gives digits (Ok n)

@@ -110,7 +110,7 @@ some_visits selection w (AtBadPath path ∷ rest) = let more = some_visits selec
 some_visits selection w (AtDirectory given path ∷ rest) = let more = some_visits selection w rest in
     (ErrorAt path OutOfMemory ∷ more.0, MissesDirectory OutOfMemory (inl refl) more.1)
 
--- The walk has entered `turns` directories, and has returned nothing since the first of them.
+-- The walk has entered `turns` directories one right after another, and has returned nothing meanwhile.
 abbrev pub HasEntered : Selection → Option World → List Waypoint → ℕ → List Waypoint → Type 0
 HasEntered selection holds old turns new = IfSome holds (λ w. EntersInTurn selection w old turns new)
 

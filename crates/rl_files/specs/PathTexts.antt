@@ -5,7 +5,7 @@ use Rattle.std.specs.Fmt.{digits, format_spec, padded_integral}
 use Rattle.std.specs.List.{flat_map, slice_index}
 use Rattle.std.specs.Str.{is_utf8}
 
--- A byte in base sixteen, with two digits.
+-- The two hexadecimal digits of a byte.
 abbrev pub byte_digits : ℕ → List ℕ
 byte_digits b = padded_integral (format_spec 32 0 4 2 (2 ^ 64 - 1)) false [] (digits 16 false b)
 

@@ -180,8 +180,8 @@ VisitsFirst selection holds old first new =
 abbrev pub VisitsNone : Selection → Option World → List Waypoint → Type 0
 VisitsNone selection holds old = IfSome holds (λ w. Visits selection w old [])
 
--- The walk enters a number of directories, one right after another, and returns nothing before, between or after them. The entries
--- were `old` before.
+-- A walk enters a number of directories, one right after another, and returns nothing before, between or after them.
+-- `old` are the entries to visit before the first of the directories.
 pub data EntersInTurn (selection : Selection) (w : World) (old : List Waypoint) : ℕ → List Waypoint → Type 0 where
   EntersNone : EntersInTurn selection w old 0 old
   EntersNext : {turns : ℕ} {from : Option ℕ} {path : List ℕ} {rest : List Waypoint} (names sorted : List (List ℕ))

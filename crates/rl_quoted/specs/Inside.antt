@@ -98,15 +98,15 @@ pub record RejectsLexingInside {A : Type 0} (placing : Placing) (token : Spanned
   pub reported : IsReportedAt placing token (place_at token.span.file at) place
   pub error : e ≡ lex_rejection kind place
 
--- The error `e` is the own error of a parser that runs on the token trees of a string literal's decoded value.
+-- A parser that runs on the token trees of a string literal's decoded value returns the error `e`.
 pub record IsOwnRejection {T E : Type 0} (placing : Placing)
     (runs : List Tree → Span → Result T E → List Tree → Type 0) (token : SpannedText) (e : E)
     : Type 0 where
   pub rest : List Tree
   pub ran : Runs placing runs token (Err e) rest
 
--- The error `e` is `Unexpected`: a parser returns a value, and leaves over token trees of a string literal's decoded
--- value.
+-- The error `e` is `Unexpected`. A parser returns a value, but leaves some token trees of a string literal's decoded
+-- value over.
 pub record LeavesTreesInside {T A : Type 0} (placing : Placing)
     (runs : List Tree → Span → Result T (Error A) → List Tree → Type 0) (token : SpannedText)
     (e : Error A) : Type 0 where
@@ -139,8 +139,8 @@ pub record LeavesSuffix {T A : Type 0} (placing : Placing)
   pub suffixed : IsSuffixed token e
 
 -- The errors of parsing a string literal's decoded value, in the order in which they are reported: a lexing error, the
--- parser's own error, token trees that are left over, and a suffix of the literal. An allocation failure at the
--- literal's span is one more.
+-- parser's own error, token trees that are left over, and a suffix of the literal. Another error is an allocation
+-- failure at the literal's span.
 abbrev pub RejectsInsideAt : {T A : Type 0} → Placing
     → (List Tree → Span → Result T (Error A) → List Tree → Type 0) → SpannedText → Error A → Type 0
 RejectsInsideAt placing runs token e =

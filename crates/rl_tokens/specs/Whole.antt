@@ -58,8 +58,8 @@ pub record RejectsLexed {T A : Type 0}
   pub lexes : Lexes (chars text) file trees
   pub rejected : RejectsParse runs trees (place_at file (length text)) e
 
--- The error of parsing a whole text: that of a text that can't be lexed, or of token trees that aren't exactly one
--- value.
+-- The error of parsing a whole text: the error for a text that can't be lexed, or the error for token trees that aren't
+-- exactly one value.
 abbrev pub RejectsAll : {T A : Type 0}
     → (List Tree → Span → Result T (Error A) → List Tree → Type 0) → List ℕ → ℕ → Error A → Type 0
 RejectsAll runs text file e = RejectsLexing (chars text) file e ⊎ RejectsLexed runs text file e

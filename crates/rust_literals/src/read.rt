@@ -85,7 +85,7 @@ pub(crate) fn read_after<A: Allocator + Copy>(
     file: u32,
     count: usize,
 ) -> Result<Vec<Lit<A>, A>, Error<A>>
-    // The text consists of its first literals and the returned ones.
+    // The text consists of its first `count` literals and the returned ones after them.
     ensures read { (first : List (Lit A)) → AreFirst (chars text.now) file count first
         → IfOk result (λ more. AreRead (chars text.now) file (first ++ more.items)) }
     ensures rejected { (first : List (Lit A)) → AreFirst (chars text.now) file count first
