@@ -12,7 +12,8 @@ use Rattle.rl_attributes.specs.Attributes.{AreAttributesOf}
 use Rattle.rl_attributes.specs.Entries.{attributes_of, IsReadEntry}
 use Rattle.rl_commands.specs.EntryLines.{AreAttributeLines, ShowsAttributes, IsLineOfEntry, AreLinesOfEntries}
 
--- The output line of an attribute is appended as its name, a space and the line of its literal.
+-- If the name of an attribute, a space and the output line of its literal are appended to a text one after another, the
+-- output line of the attribute is appended.
 pub entry_pushed : {A : Type 0} (entry : Entry A) (name a b c d : List ℕ) → name ≡ string_bytes entry.name → b ≡ a
     ++ chars name → c ≡ b ++ chars (32 ∷ []) → Appends (IsLineOfLit entry.value) c d → Appends (IsLineOfEntry entry) a d
 entry_pushed entry name a b c d e p q (line, prints, r) = (

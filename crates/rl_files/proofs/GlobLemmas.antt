@@ -85,8 +85,8 @@ module _ {P X : Type 0} (star : P → Bool) (one : P → X → Bool) where
       go true e = any_end_here (all_match star one pattern) text (same ∙ e) ∙ sym e
       go false e = any_end_none (all_match star one pattern) text (λ k h. false≢true (sym e ∙ later k h)) ∙ sym e
 
-  -- The invariant of the loop over parts: the pattern matches the text if the parts `after` match the elements `rest`. The
-  -- parts before `after` aren't stars.
+  -- The invariant of the loop over the parts of a pattern: the pattern matches the text exactly if the parts `after`
+  -- match the elements `rest`. The parts before `after` aren't stars.
   pub record Goes (pattern : List P) (text : List X) (after : List P) (rest : List X) : Type 0 where
     pub passed : List P
     pub plain : All (λ p. star p ≡ false) passed

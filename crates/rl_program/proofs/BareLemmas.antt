@@ -58,7 +58,8 @@ no_suffix (c ∷ cs) h = absurd (let e = eqb-true (length (c ∷ cs)) 0 h in ome
 pub bare_chars : (text : List ℕ) → list_all is_bare text ≡ true → chars text ≡ text
 bare_chars text bare = chars-IsAscii text (IsAscii-from_all text (bare_low text bare))
 
--- The output line of a string literal is appended in three parts.
+-- If the start, the value and the end of a string literal's output line are appended to a text one after another, the
+-- output line is appended.
 pub bare_pieces : (a b d e text : List ℕ) → b ≡ a ++ chars (codes "Str \"") → d ≡ b ++ chars text → e ≡ d
     ++ chars (codes "\" -\n") → e ≡ a ++ bare_line (chars text)
 bare_pieces a b d e text p q r =

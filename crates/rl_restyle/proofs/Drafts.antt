@@ -309,7 +309,7 @@ literal_front style macros t at out edits l new a =
       hi_is = sym a.takes.is_cut.lo_is ∙ n.place_is;
     }
 
--- The text between the last edit and the next literal is the unchanged text of the draft.
+-- The part of the source between the last edit and the next literal is the text that the draft leaves unchanged.
 literal_middle : (style : Style) (macros : Macros) (t : List ℕ) (at : ℕ) (out : List ℕ) (edits : Told) (l : Restylable)
     (new : RestylableState) → (a : AtLiteral style macros t at out edits l new)
     → IsTextBetween t at l.token.lo (a.draft.tail ++ a.draft.gap)

@@ -18,7 +18,7 @@ use Rattle.rl_syntax.specs.Reading.{IsReadAs}
 use Rattle.rust_literals.specs.Literals.{kind_of, token_of, IsReadFrom}
 use Rattle.rust_literals.specs.LitParts.{ReadsPlain}
 
--- ---- kind and token determine a literal
+-- ---- lemmas: the kind and the token of a literal determine the literal
 
 -- The value of the word `true` or `false`, by its first character.
 is_true_word : List ℕ → Truths
