@@ -39,7 +39,8 @@ no_behind ch trees rest h e = let f = h.trees_are in absurd (cc)
 abbrev attribute : SpannedText → SpannedText → Attribute
 attribute name literal = record { name = name; literal = literal }
 
--- If token trees begin with two attributes, the two are equal, and so are the token trees after them.
+-- If two attributes are each at the start of the same token trees, the two attributes are equal, and so are the token
+-- trees after them.
 one_attribute : (trees : List Tree) (a b : Attribute) (r s : List Tree) → IsAttribute trees a r → IsAttribute trees b s
     → (a ≡ b) × (r ≡ s)
 one_attribute trees a b r s h k =

@@ -96,7 +96,7 @@ pub next_memory : {B : Type 0} (rest next : List Tree) (a : Attribute) (e : Erro
     ≡ Memory → LacksMemoryInStep rest e
 next_memory rest next a e n m = record { begun = subst (λ (ts : List Tree). begins_ident ts ≡ true) (sym n.is.named) refl; memory = m }
 
--- An error of the next attribute is an error of all of the token trees.
+-- If the parser of a list of attributes fails at the next attribute, its error is an error of the whole list.
 pub at_refusal : {A B : Type 0} (trees : List Tree) (entries : List (Entry A)) (names : BTreeSet Name)
     (rest : List Tree) (scope was : Span) (e : Error B) → IsAt trees entries names rest → rest ≢ [] → was ≡ scope
     → RejectsStep (has_name names) rest was e → LacksMemoryInStep trees e ⊎ RejectsAttributes trees scope e

@@ -384,7 +384,7 @@ no_integer : (t : List ℕ) → ∥ ReadsAs FloatKind t ∥₁ → HasNoInteger 
 no_integer t h = λ sign magnitude suffix r.
     ∥∥₁_elim h (λ p q. absurd p) (λ is. is.2.no_integer sign magnitude suffix r)
 
--- The digits of a text that is a float and not an integer are its value as a literal.
+-- If a text is a float and not an integer, the text's value as a literal is its digits.
 float_contents : (t ds : List ℕ) → HasNoInteger t → HasDigits FloatKind t (chars ds)
     → HasContents FloatKind t (Digits (chars ds))
 float_contents t ds none h =

@@ -20,7 +20,8 @@ use Rattle.rl_lenient.specs.Founds.{IsFound}
 use Rattle.rl_lenient.proofs.FoundLemmas.{found_reads}
 use Rattle.rl_lenient.proofs.MinusLemmas.{no_truth, minus_chars}
 
--- If token trees begin with two literals, the two literals are equal, and so are the token trees after them.
+-- If two literals are each at the start of the same token trees, the two literals are equal, and so are the token trees
+-- after them.
 pub one_front : (trees : List Tree) (a b : SpannedText) (r s : List Tree) → IsFront trees a r → IsFront trees b s
     → (a ≡ b) × (r ≡ s)
 one_front [] a b r s h k = absurd h

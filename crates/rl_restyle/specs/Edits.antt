@@ -1,4 +1,5 @@
--- A source in a style: the literals that are rewritten, and the new text. Texts are lists of characters.
+-- A source that is rewritten in a style: the choice of the literals that are rewritten, their new texts, and the new
+-- source. Texts are lists of characters.
 use Rattle.std.specs.Prelude.{◌≡◌, ◌≢◌, ◌⊎◌, ℕ, Bool, not, ◌&&◌, List, [], ◌∷◌, ◌++◌, Option, Some, None, option_map, encode_utf8_all, String, string_bytes, IsFalse, IsTrue, ⊤}
 use Rattle.std.specs.List.{AllByRecursion}
 use Rattle.std.specs.Str.{chars}

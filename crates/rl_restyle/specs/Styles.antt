@@ -57,7 +57,7 @@ abbrev pub value_in : List Setting → Rule → Option Value
 value_in [] rule = None
 value_in (s ∷ ss) rule = if rule_number s.rule == rule_number rule then Some s.value else value_in ss rule
 
--- The entry sets the rule of its name to a value. No earlier entry sets this rule.
+-- The entry sets the rule with the entry's name to a value. No earlier entry sets the rule.
 pub record SetsRule (before : List Setting) (entry : NextEntry) (s : Setting) : Type 0 where
   pub named : entry.name.text.now ≡ rule_name s.rule
   pub is_new : value_in before s.rule ≡ None

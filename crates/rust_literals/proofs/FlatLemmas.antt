@@ -226,7 +226,7 @@ read_whole text file list rest ends read = record {
     nil_behind [] = refl
     nil_behind (t ∷ ts) = ap (λ z. t ∷ z) (nil_behind ts)
 
--- If a text consists of two lists of literals, the two lists are equal.
+-- If a text consists of the literals of one list, and also of the literals of another list, the two lists are equal.
 pub one_read : {A : Type 0} (text : List ℕ) (file : ℕ) (found list : List (Lit A)) → AreRead text file found
     → AreRead text file list → found ≡ list
 one_read text file found list r q =
