@@ -40,9 +40,9 @@ pub enum PathError {
     DirectoryDenied,
     /// A replacement would give the file another owner or group.
     OwnerChanges,
-    /// Reading failed for another reason.
+    /// Reading failed for a reason that no other variant describes.
     ReadFailed,
-    /// Writing failed for another reason.
+    /// Writing failed for a reason that no other variant describes.
     WriteFailed,
 }
 
