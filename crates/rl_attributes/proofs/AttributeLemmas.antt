@@ -95,8 +95,8 @@ stand_more trees [] rest a following next h i m = (
 stand_more trees (x ∷ xs) rest a following next (b, n, j, k, h) i m =
     (b, n, j, k, stand_more n xs rest a following next h i m)
 
--- If token trees begin with an attribute and its comma or the end, and a list of attributes follows, all of them are a
--- list.
+-- If token trees are an attribute, followed by a comma or the end, and then a list of attributes, all of the token
+-- trees are a list of attributes.
 pub listed_more : (rest : List Tree) (a : Attribute) (next : List Tree) (more : List Attribute) → IsNext rest a next
     → AreListed next more → AreListed rest (a ∷ more)
 listed_more rest a next more n h =

@@ -28,7 +28,8 @@ rejection_error command input old bytes (Literal error) e r = (
 )
 rejection_error command input old bytes kind e r = absurd r
 
--- If the output lines were written, the command prints them for the known bytes of the reader.
+-- If the bytes of the reader are known and the output lines were written, the command has printed the output lines for
+-- these bytes.
 pub prints_known : (command : Command) (input old new : Option (List ℕ)) (bytes line : List ℕ)
     → IfSome input (λ all. bytes ≡ all) → IsUtf8 bytes → Shows command (chars bytes) (chars line) → IsUtf8 line
     → Appends old new line → IfSome input (λ b. Prints command b old new)

@@ -120,7 +120,7 @@ pub no_minus_at : (trees following rest : List Tree) (m : Mark) (l : SpannedText
 no_minus_at trees following rest m l t first second text none = λ n k other e minus (kind, (v, x, r)).
     let same : t ≡ k.text = cc in none kind v x (subst (λ z. Reads (45 ∷ chars z) kind v x) (sym same) r)
 
--- An allocation failure whose span is replaced is an allocation failure at the new span.
+-- If the span of an allocation failure is replaced, the result is an allocation failure at the new span.
 pub memory_moved : {A : Type 0} (e f : Error A) (at to from : Span) → e ≡ record { span = at; kind = f.kind } → at ≡ to
     → f ≡ memory_at from → e ≡ memory_at to
 memory_moved {A} e f at to from made there is = made ∙ ap₂ (λ (s : Span) (k : ErrorKind A). record

@@ -124,7 +124,7 @@ not_bare text value e u not other is =
     let same : chars value ≡ other = (same_from_push (chars value) other 34 34 (ap (drop 1) (sym e ∙ is.0))).0 in
     false≢true (sym not ∙ bare_bytes value other u same is.1)
 
--- The output line of a string literal whose value can be copied has this value.
+-- The output line of a string literal whose value can be copied contains the copied value.
 pub bare_reads : (text value : List ℕ) → IsBareString text value → IsLineOf text (bare_line value)
 bare_reads text value is =
     let reads : Reads (34 ∷ (value ++ 34 ∷ [])) Str (Characters value) [] = subst

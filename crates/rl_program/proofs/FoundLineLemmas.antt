@@ -12,8 +12,8 @@ use Rattle.rl_program.specs.FoundLines.{IsShownOf}
 use Rattle.rl_program.specs.Lines.{line, kind_label, payload, literal_line, IsLineOfKind, Appends}
 use Rattle.rl_program.proofs.PrintLemmas.{prints_kind}
 
--- If a line with the value to show of a literal and with its suffix is appended to the output, the literal's output
--- line is appended.
+-- If a line with a literal's kind, its shown value and its suffix is appended to the output, the literal's output line
+-- is appended.
 pub shows_line : (kind : Kind) (text old new shown suffix : List ℕ) → IsShownOf kind text shown
     → HasSuffix kind text suffix → new ≡ old ++ line (kind_label kind) shown suffix
     → Appends (IsLineOfKind kind text) old new

@@ -31,7 +31,7 @@ unfolding chars
 no_chars = refl
 
 -- A text has at most one parse result. If a line with the decoded value and the suffix of a parse result is appended to
--- the output, it is the output line of the text.
+-- the output, the line is the output line of the text.
 pub prints_kind : (kind : Kind) (text old new shown suffix : List ℕ) (contents : Contents)
     → HasContents kind text contents → HasSuffix kind text suffix → shown ≡ payload kind contents → new ≡ old
     ++ line (kind_label kind) shown suffix → Appends (IsLineOfKind kind text) old new

@@ -10,8 +10,8 @@ use Rattle.rl_lexer.proofs.Comments.{same_Some}
 use Rattle.rl_lexer.proofs.Pieces.{one_rest}
 use Rattle.rl_lexer.proofs.LexemeFronts.{lexeme_at-past, one_front}
 
--- If the groups `groups` are open, no token can follow at the start of the text `r`: none begins there, or it is a
--- delimiter that can't be added.
+-- A condition on the open groups `groups` and a text `r`: no token can follow. The text begins with no token, or with a
+-- delimiter that can't be added to the open groups.
 abbrev pub IsStuck : List OpenGroup → List ℕ → Type 0
 IsStuck groups r = (l : Lexeme) (after : List ℕ) (at : ℕ) → IsLexeme l after → r ≡ lexeme_text l ++ after
     → after_lexeme groups l at ≡ None

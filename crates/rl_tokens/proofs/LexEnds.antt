@@ -43,7 +43,7 @@ leaves_here text rest file nest place is is_rest has here begins = record {
   rest_place = rest_place text rest place is is_rest here;
 }
 
--- If no text remains and no group is open, the whole text is lexed into the builder's token trees.
+-- If no text remains and no group is open, the whole text is lexed into the token trees of the builder.
 pub all_cut : {A : Type 0} (text rest : List ℕ) (file : ℕ) (nest : TreeBuilder A) (trees : List Tree)
     → HasCut text rest file nest → rest ≡ [] → groups_of nest ≡ [] → flat_trees trees ≡ flat_builder nest
     → Lexes (chars text) file trees

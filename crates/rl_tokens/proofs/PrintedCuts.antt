@@ -17,8 +17,8 @@ use Rattle.rl_lexer.proofs.LexemeFronts.{lexeme_at-past, stray_class, class47, a
 use Rattle.rl_tokens.proofs.LexemeGaps.{and_false, digit_solid}
 use Rattle.rl_lexer.proofs.CutLemmas.{byte_len-append}
 
--- A list of characters without white space doesn't contain a white space character. So no lexeme begins with white space or a
--- comment (`trivia_none`).
+-- If no character of a list is white space, a white space character isn't in the list. So no lexeme begins with white
+-- space or a comment (`trivia_none`).
 not_white_among : (codes : List ℕ) (c : ℕ) → list_all (λ k. not (is_white k)) codes ≡ true → is_white c ≡ true
     → is_among codes c ≡ false
 not_white_among codes c all w = false_unless (is_among codes c)

@@ -10,7 +10,7 @@ use Rattle.std.specs.Option.{option_or}
 use Rattle.std.specs.Cmp.{IsEquivalence}
 use Rattle.rl_uses.specs.Counts.{some_times}
 
--- A count is stored as an option, in which `None` represents zero. The option gives back the count.
+-- A count is stored as an option, in which `None` represents zero. The number in the option, or else 0, is the count.
 pub some_times_value : (n : ℕ) → unwrap_or (some_times n) 0 ≡ n
 some_times_value zero = refl
 some_times_value (suc n) = refl

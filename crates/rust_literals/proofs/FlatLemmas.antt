@@ -148,8 +148,8 @@ pub read_negative : {A : Type 0} (file : ℕ) (old between new : CursorState) (m
 read_negative file old between new m l lit span t u m_is l_is span_is together read =
     negative_next file old between new m l lit span t u m_is l_is (same_file file m l span span_is) together read
 
--- If the next token isn't a literal token, or isn't a literal together with a minus, no number follows a minus before
--- that token.
+-- A minus precedes the next token. If the next token isn't a literal token, or isn't a literal together with the minus,
+-- the minus doesn't begin a number.
 pub none_number : (old new : CursorState) (l : BorrowedLexeme) → TakesNext old l new → (form_view l.form ≢ LiteralForm)
     ⊎ HasNoReading (45 ∷ chars l.text.now) → HasNoNumber old
 none_number old new l t h = inr (l, new, t, h)

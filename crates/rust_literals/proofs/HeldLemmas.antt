@@ -25,7 +25,7 @@ IsOfKind Int text found = IsFound text found
 IsOfKind Float text found = IsFoundFloat text found
 IsOfKind _ text found = ⊥
 
--- A parse result of the kind of integers or floats is that of a number.
+-- A parse result whose kind is integers or floats is the parse result of a number.
 pub is_found_number : (kind : Kind) (text : List ℕ) (found : Found) → (kind ≡ Int) ⊎ (kind ≡ Float) → found.kind ≡ kind
     → IsFound text found → IsFoundNumber text found
 is_found_number kind text found (inl i) e h = inl (h, inl (e ∙ i))

@@ -57,7 +57,7 @@ same_lit a b k t = lit_is a ∙ ap (λ o. lit_of o (token_of a)) k ∙ ap (λ x.
 
 -- ---- lemmas about the parse result of a token
 
--- If a text is parsed as two kinds, or as none and a kind, the two are equal.
+-- If a text is parsed as two kinds, each of which may be `None`, the two kinds are equal.
 pub one_kind : (text : List ℕ) (k l : Option Kind) → IsReadAs k text → IsReadAs l text → k ≡ l
 one_kind text None None n m = refl
 one_kind text None (Some l) n (w, y, s) = absurd (n l w y s)

@@ -39,7 +39,8 @@ lex_memory text file trees UnclosedGroup at e never lexes is r = absurd (never t
 lex_memory text file trees TooDeep at e never lexes is r = absurd (never text file trees TooDeep at lexes r)
 lex_memory text file trees Memory at e never lexes is r = ap (λ x. x.kind) is
 
--- The parser's error after the literals `list` at the start of all token trees is an error of all token trees.
+-- If token trees begin with the literals `list`, and the parser fails after these literals, its error is an error of
+-- the whole list of token trees.
 pub rejected_next : {A : Type 0} (all trees rest : List Tree) (scope : Span) (list : List (Lit A)) (e : Error A)
     → ReadsLiterals all list trees → trees ≢ [] → RunsLit trees scope (Err e) rest → RejectsNextLiteral all scope e
     ⊎ LacksMemory all scope e
