@@ -180,7 +180,7 @@ impl<A: Allocator> Attrs<A> {
         ensures bare_texts { OnOk result (HaveBareTexts (list_of self.now)) }
         ensures exactly { AreNamedOf (setting_names settings.now) (list_of self.now)
             → HaveBareTexts (list_of self.now) → IsOk result }
-        // The returned error is that of the first attribute that isn't accepted.
+        // The returned error is the error for the first attribute that isn't accepted.
         ensures first { IfErr result (RejectsFirst settings.now (entries_of self.now)) }
     {
         for entry in self.entries() {

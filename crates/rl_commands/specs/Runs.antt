@@ -17,7 +17,7 @@ use Rattle.rl_program.specs.Streams.{AppendsBeginning}
 use Rattle.rl_attributes.specs.Attributes.{Attribute, AreAttributesOf, RejectsAttributeText}
 use Rattle.rl_commands.specs.EntryLines.{ShowsAttributes}
 
--- The output lines of a command for a text.
+-- The text `shown` consists of the output lines that a command writes for a text.
 abbrev pub Shows : Command → List ℕ → List ℕ → Type 0
 Shows Text text shown = IsLineOf text shown
 Shows ReadCommand text shown = AreLinesOfText text shown

@@ -27,7 +27,7 @@ use Rattle.rl_restyle.specs.Held.{value_at, AreOf, NamesSet}
 
 -- ---- lemmas about the values of rules
 
--- After one more rule is set, the stored values are those of the earlier entries and of the new one.
+-- After one more rule is set, the stored values are the values of the earlier entries and the value of the new entry.
 pub set_more : (before : List Setting) (old new : Values) (rule : Rule) (value : Value) → AreOf before old
     → ((other : Rule) → value_at new other ≡ (if rule_number rule == rule_number other then Some value else value_at old other))
     → AreOf (setting rule value ∷ before) new
@@ -81,7 +81,7 @@ entry_same old new entry t =
     separator_same entry.value.token.hi s.following new s.separator ∙ literal_same s.at_literal s.following entry.value s.literal
     ∙ mark_same 61 t.following s.at_literal s.equals ∙ name_same old t.following entry.name t.named
 
--- The parse result of a literal that the cursor consumed is that of the literal's text.
+-- The parse result of a literal that the cursor consumed is the parse result of the literal's text.
 token_found : (form : LexemeForm) (text : List ℕ) (o : Option Found) → IsLiteralToken form text o
     → IfSome o (λ f. IsFound text f)
 token_found LiteralForm text None h = tt

@@ -139,7 +139,7 @@ pub record SaysStyle (text : List ℕ) (style : Style) : Type 0 where
 
 -- ---- errors of a configuration
 
--- The error has the kind `kind`, and its name and range are those of the entry's name.
+-- The error has the kind `kind`. The error's name and range are the text and the range of the entry's name.
 abbrev pub IsAtName : StyleErrorKind → DottedName → StyleError → Type 0
 IsAtName kind name e = (e.kind ≡ kind) × (e.name ≡ Some name.text) × (e.lo ≡ name.lo) × (e.hi ≡ name.hi)
 

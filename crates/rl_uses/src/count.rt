@@ -48,7 +48,7 @@ pub fn count_literals<A: Allocator + Copy>(
     // of times that it occurs.
     ensures counts { IfOk result (λ counts. (list : List (Lit A))
         × AreRead (chars text.now) file list × AreCounts list counts) }
-    // The returned error is that of `read_all`, or an allocation failure at one of the literals.
+    // The returned error is the error of `read_all` for the text, or an allocation failure at one of the literals.
     ensures rejected { IfErr result (RejectsTextOrMemory text.now file) }
 {
     let literals = read_all(alloc, text, file)?;

@@ -78,7 +78,7 @@ pub fn control_strings<A: Allocator + Copy>(
     // decoded value contains a control character.
     ensures found { IfOk result (λ spans. (list : List (Lit A))
         × AreRead (chars text.now) file list × AreErrors list spans.items) }
-    // The returned error is that of `read_all`, or an allocation failure at one of the literals.
+    // The returned error is the error of `read_all` for the text, or an allocation failure at one of the literals.
     ensures rejected { IfErr result (RejectsTextOrMemory text.now file) }
 {
     let literals = read_all(alloc, text, file)?;

@@ -76,7 +76,7 @@ pub fn bad_literals<A: Allocator + Copy>(
     // have no value in Rust.
     ensures found { IfOk result (λ reasons. (list : List (Lit A))
         × AreRead (chars text.now) file list × AreReasons list reasons.items) }
-    // The returned error is that of `read_all`, or an allocation failure at one of the literals.
+    // The returned error is the error of `read_all` for the text, or an allocation failure at one of the literals.
     ensures rejected { IfErr result (RejectsTextOrMemory text.now file) }
 {
     let literals = read_all(alloc, text, file)?;

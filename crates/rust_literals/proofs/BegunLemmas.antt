@@ -35,7 +35,8 @@ front_trees (LiteralTree i ∷ front) (LiteralTree j ∷ trees) more (_, h) e =
     (further.0, ap (λ x. LiteralTree x ∷ trees) same ∙ ap (λ xs. LiteralTree i ∷ xs) further.1)
 front_trees (tree ∷ front) trees more h e = absurd (cc)
 
--- If a text begins with the literals `list`, its token trees are those of these literals, followed by others.
+-- If a text begins with the literals `list`, its token trees are the token trees of these literals, followed by other
+-- token trees.
 pub goes_on : {A : Type 0} (text : List ℕ) (file : ℕ) (list : List (Lit A)) (trees : List Tree)
     → AreBegun text file list → Lexes text file trees → (following : List Tree) × ReadsLiterals trees list following
 goes_on text file list trees begun lexes =

@@ -70,7 +70,8 @@ found_digits Float text digits found e h d =
     (n, x, h.reads, d n x h.reads)
 found_digits kind text digits found e h d = absurd h
 
--- The digits and the byte offset of the suffix that a number stores are those of its text.
+-- The digits that a number stores are the digits of the number's text. The byte offset that it stores for the suffix is
+-- where the text's suffix begins.
 pub holds_number : (kind : Kind) (text digits : List ℕ) (found : Found) → IsUtf8 text → IsFoundNumber text found
     → found.kind ≡ kind → AreDigits found.kind (chars text) (chars digits)
     → HoldsNumber kind text digits found.body.suffix_at
