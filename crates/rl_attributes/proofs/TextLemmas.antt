@@ -111,7 +111,7 @@ truth_reads (Float l) b h = absurd h
 truth_reads (BoolLit l) b h = subst (λ (y : Bool). Reads (chars (truth_text l.value)) BoolKind (Truth y) []) h (word_reads l.value)
 truth_reads (Verbatim l) b h = absurd h
 
--- ---- lemmas about the kind and the suffix of a literal, which are those of its text
+-- ---- lemmas: the kind and the suffix of a literal are the kind and the suffix of the literal's text
 
 kind_by : (o : Option Kind) (t : List ℕ) → IsReadAs o t → (k : Kind) (v : Contents) (x : List ℕ)
     → Reads t k v x → o ≡ Some k

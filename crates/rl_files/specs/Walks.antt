@@ -145,8 +145,8 @@ waypoints_in selection from directory names =
 abbrev pub IsOrderOf : List (List ℕ) → List (List ℕ) → Type 0
 IsOrderOf names sorted = IsPermutation names sorted × IsSorted (slice_cmp nat_cmp) sorted
 
--- The results of a walk with a list of entries to visit, in order. The results in a directory are in the order of its names, and
--- before those of the next entry.
+-- The results of a walk with a list of entries to visit. The results come in the order of the entries. The results of a
+-- directory come in the order of its names, before the results of the next entry.
 pub data Visits (selection : Selection) (w : World) : List Waypoint → List Visited → Type 0 where
   VisitsNothing : Visits selection w [] []
   VisitsFile : {path : List ℕ} {rest : List Waypoint} {visits : List Visited} → Visits selection w rest visits

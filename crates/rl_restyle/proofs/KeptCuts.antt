@@ -10,8 +10,8 @@ use Rattle.rl_style.proofs.EditedCuts.{keeps_the_edited_source}
 use Rattle.rl_restyle.specs.Edits.{AreEdits, KeepsTheWholeSource, Seen, nothing_seen, seen_after}
 use Rattle.rl_restyle.specs.declared.edit.Macros.{Macros}
 
--- If a literal of a source without errors is rewritten in a style, the new text is an edit of a literal token in that
--- style.
+-- If a literal of a source without errors is rewritten in a style, the literal is one literal token, and the new text
+-- is the token's text in the style.
 literal_in_style : (style : Style) (t : List ℕ) (token : SourceLexeme) (at : ℕ) (written front rest : List ℕ)
     → IsSoundToken token → IsLiteralText (source_kind token) (source_text token)
     → t ≡ front ++ (source_text token ++ rest) → at ≡ byte_len front → Rewrites style front (source_text token) written

@@ -66,8 +66,8 @@ base_solid = or_solid (λ c. c == 120 || c == 111) (λ c. c == 98)
 letter_solid : Solid (λ c. c == 101 || c == 69)
 letter_solid = or_solid (λ c. c == 101) (λ c. c == 69) (code_solid 101 refl refl) (code_solid 69 refl refl)
 
--- If a test that no separator passes fails for the first character of two joined texts, it still fails if a separator
--- replaces the second text.
+-- Suppose that a test fails for the first character of each separator. If the test fails for the first character of two
+-- joined texts, it still fails if a separator replaces the second text.
 passes_gap : (test : ℕ → Bool) (s after gap : List ℕ) → Solid test → BeginsGap gap → first_passes test (s ++ after)
     ≡ false → first_passes test (s ++ gap) ≡ false
 passes_gap test [] after gap solid is h = gap_fails test gap solid is
