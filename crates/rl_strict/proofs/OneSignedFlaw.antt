@@ -27,7 +27,7 @@ unsigned_stops t rest n s = record {
 
 -- ---- after a minus
 
--- The minus is before the flaw.
+-- If a text begins with a minus, the longest prefix that can be completed contains the minus.
 number_cut : (t number rest : List ℕ) → t ≡ 45 ∷ number → StopsBefore IsSignedToken t rest
     → (front : List ℕ) × (number ≡ front ++ rest)
 number_cut t number rest e s = go s.front (sym e ∙ s.text_is) s.stuck
@@ -37,7 +37,7 @@ number_cut t number rest e s = go s.front (sym e ∙ s.text_is) s.stuck
     go [] h stuck = absurd (stuck 45 number (49 ∷ []) (sym h) (inr (49 ∷ [], refl, refl, one_digit 49 refl)))
     go (c ∷ cs) h stuck = let same : 45 ∷ number ≡ c ∷ (cs ++ rest) = h in (cs, cc)
 
--- The kind of flaw if no digit follows the minus, by the rest of the text.
+-- The kind of flaw if no digit follows a minus, by the text after the minus.
 lack_of : List ℕ → FlawKind
 lack_of [] = UnexpectedEnd
 lack_of (c ∷ cs) = NoNumber

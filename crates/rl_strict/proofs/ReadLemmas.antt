@@ -5,21 +5,21 @@ use Rattle.rl_strict.specs.declared.read_numbers.Number.TheVariants.{Integer, Fl
 use Rattle.rl_strict.proofs.SignedFlaws.{no_digit, number_of, number_stops}
 use Rattle.rl_strict.proofs.StrictTokens.{stops_token, strict_quoted_has}
 
--- A quote at the beginning of a text identifies the form.
+-- If a text begins with `"`, its opening delimiter is that of a string with escapes.
 pub string_opens : (t inside : List ℕ) → t ≡ 34 ∷ inside → opener_at t ≡ found_opener CookedForm Str inside
 string_opens t inside e = ap opener_at e ∙ front_complete CookedForm Str inside refl
 
 pub character_opens : (t inside : List ℕ) → t ≡ 39 ∷ inside → opener_at t ≡ found_opener SingleForm Char inside
 character_opens t inside e = ap opener_at e ∙ front_complete SingleForm Char inside refl
 
--- A text is a literal token if its part after the opening delimiter ends the literal.
+-- A text is a literal token if the text after its opening delimiter closes the literal.
 pub form_token : (t : List ℕ) (form : QuotedForm) (kind : Kind) (inside : List ℕ) → opener_at t
     ≡ found_opener form kind inside → ClosesForm form kind inside → IsToken t
 form_token t form kind inside h c =
     let told = front_sound t (form, kind, inside) h in
     close_token form kind t inside told.has told.text_is c
 
--- A text isn't a literal token if its part after the opening delimiter doesn't end the literal.
+-- A flaw in the text after an opening delimiter is a flaw of the whole text.
 pub form_flaw : (t : List ℕ) (form : QuotedForm) (kind : Kind) (inside : List ℕ) (k : FlawKind) (piece rest : List ℕ)
     → opener_at t ≡ found_opener form kind inside → StopsIn form kind k inside piece rest → IsFlawAt t k piece rest
 form_flaw t form kind inside k piece rest h s =
@@ -31,7 +31,7 @@ form_flaw t form kind inside k piece rest h s =
       says = inl (strict_quoted_has t form kind inside k piece rest h s.has);
     }
 
--- The parse result of a string.
+-- The parse result of a string, which is the byte offsets of its parts, is the result of `find`.
 pub text_found : (t : List ℕ) (kind : Kind) (body : Body) → is_string kind ≡ true → IsUtf8 t → IsQuotedAt kind t body
     → IsFound t (OfUnit kind body 0)
 text_found t kind body s u q = quoted_found t kind body 0 (OfUnit kind body 0) u q (no_unit kind q.value s) refl

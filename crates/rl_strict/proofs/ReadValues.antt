@@ -11,7 +11,7 @@ signed_read : (signed : Bool) (t : List ℕ) (r : Reading) → ReadsOf signed t 
 signed_read false t r h = inl h
 signed_read true t r h = h
 
--- ---- an integer above 128 bits is read as written
+-- ---- an integer above 128 bits contains no CR LF
 
 pub past_read : (how : LineEnds) (signed : Bool) (t : List ℕ) (r : Reading) (at : ℕ) → IsReadingOf how signed t r
     → oversized_suffix_at r ≡ Some at → (read_of how (chars t) ≡ chars t) × IsSignedRead t r

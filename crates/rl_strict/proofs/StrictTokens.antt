@@ -17,7 +17,7 @@ number_digit t (v, x, inr s) =
     ap (first_passes is_ascii_digit) f.text_is
     ∙ passes_more is_ascii_digit (f.whole ++ more) x (passes_more is_ascii_digit f.whole more f.first)
 
--- Only a number begins with a digit.
+-- A text that begins with a digit begins as a number.
 pub digit_front : (t : List ℕ) → first_passes is_ascii_digit t ≡ true → first_passes is_number_front t ≡ true
 digit_front [] h = absurd (cc)
 digit_front (c ∷ cs) h = or_right (c == 45) (is_ascii_digit c) h

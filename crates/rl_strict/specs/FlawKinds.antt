@@ -36,7 +36,7 @@ pub record BeginsNoEscape (kind : Kind) (rest : List ℕ) : Type 0 where
   pub no_u : first ≢ code "u"
   pub no_line_end : IsFalse (is_string kind && is_line_end first)
 
--- The text is `\u{`, the digits and underscores `digits`, and the rest.
+-- The text is `\u{`, then `digits`, which are hexadecimal digits and underscores, and then the rest.
 pub record IsBraced (digits text rest : List ℕ) : Type 0 where
   pub begins : Begins is_hex_digit digits
   pub each : IsTrue (list_all (λ c. is_underscore c || is_hex_digit c) digits)
@@ -48,7 +48,8 @@ digit_count digits = length (without_underscores digits)
 abbrev pub number_of : List ℕ → ℕ
 number_of digits = place_value 16 (without_underscores digits)
 
--- A hexadecimal digit is missing after \x or after the opening brace of `\u{..}`.
+-- A hexadecimal digit is missing after `\x`, after the opening brace of `\u{..}`, or after its digits. `text` begins at the
+-- escape, and `rest` where a digit is missing.
 pub data MissesDigit (text rest : List ℕ) : Type 0 where
   FirstDigit : text ≡ codes "\\x" ++ rest → Begins (λ c. not (is_hex_digit c)) rest
       → MissesDigit text rest
@@ -60,7 +61,7 @@ pub data MissesDigit (text rest : List ℕ) : Type 0 where
       → Begins (λ c. not (is_hex_digit c || is_brace c || is_underscore c)) rest
       → MissesDigit text rest
 
--- The reason why a literal of the kind can't contain the character with this number.
+-- The kind of flaw is the reason why a literal of the kind `Kind` can't contain the character with this number.
 abbrev pub IsNoCode : Kind → FlawKind → ℕ → Type 0
 IsNoCode kind UnicodeEscapeOutOfRange number = 0x10FFFF < number
 IsNoCode kind Surrogate number = (0xD800 ≤ number) × (number ≤ 0xDFFF)

@@ -16,8 +16,9 @@ abbrev pub oversized_suffix_at : Reading → Option ℕ
 oversized_suffix_at (Integer None suffix_at) = Some suffix_at
 oversized_suffix_at _ = None
 
--- The text is an integer above 128 bits, and the flaw is of this kind. `lo` is the byte offset where the suffix begins, and
--- `hi` the one after the suffix's first character. Without a suffix, both are the text's end.
+-- The text is an integer above 128 bits, and the flaw is of the kind `TooLarge`. The byte offset `lo` is where the suffix
+-- begins, and `hi` is the byte offset after the suffix's first character. Without a suffix, `lo` and `hi` are the text's
+-- end.
 pub record IsLimitFlaw (text : List ℕ) (flaw : Flaw) : Type 0 where
   pub past : IsPast text
   pub number : List ℕ

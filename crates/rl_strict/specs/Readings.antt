@@ -58,22 +58,22 @@ abbrev pub IsReadingOf : LineEnds → Bool → List ℕ → Reading → Type 0
 IsReadingOf InText signed text reading = ReadsOf signed text reading
 IsReadingOf InFile signed text reading = IsReadingInFile signed text reading
 
--- Whether the body is known to be the literal's value. In a file it isn't.
+-- Whether the body is known to be the literal's value. In a file, this is never known.
 abbrev pub plain_of : LineEnds → Bool → Bool
 plain_of InText plain = plain
 plain_of InFile plain = false
 
 -- ---- flaws of a text
 
--- The flaw's kind describes the error in the text, whose piece and rest are given. If the flag is true, a minus and a number
--- is allowed too.
+-- The flaw's kind describes the error in a text with a piece and a rest. If the flag is true, the text may also be a minus
+-- and a number.
 abbrev pub SaysOf : Bool → FlawKind → List ℕ → List ℕ → List ℕ → Type 0
 SaysOf false kind text piece rest = IsStrictFlawOf kind text piece rest
 SaysOf true kind text piece rest = IsSignedFlawOf kind text piece rest
 
--- The text as it is read isn't a literal token (nor a minus and a number, if the flag is true). Its longest prefix that can be
--- completed ends before the rest, and the flaw's kind describes the error in the text from the piece on. The piece and the
--- rest are ends of the text as written.
+-- The text as it is read isn't a literal token (nor a minus and a number, if the flag is true). In a file, CR LF is read as
+-- LF. The text's longest prefix that can be completed ends before the rest, and the flaw's kind describes the error in the
+-- text from the piece on. The piece and the rest are ends of the text as written.
 pub record IsFlawOf (ends : LineEnds) (signed : Bool) (text : List ℕ) (kind : FlawKind) (piece rest : List ℕ) : Type 0 where
   pub none : IsTokenIf signed (read_of ends text) → ⊥
   pub stops : StopsBefore (IsTokenIf signed) (read_of ends text) (read_of ends rest)
@@ -86,7 +86,7 @@ pub record IsRestPlace (ends : LineEnds) (text rest : List ℕ) (at : ℕ) : Typ
   pub is_rest : IsRestOf ends text rest
   pub at_is : at ≡ byte_len is_rest.front
 
--- The byte offset `at` is after the first character of the rest as it is read, or is the text's end.
+-- The byte offset `at` is after the first character of the rest, or is the text's end. In a file, a CR LF is one character.
 pub record IsPlaceAfter (ends : LineEnds) (text rest : List ℕ) (at : ℕ) : Type 0 where
   pub after : List ℕ
   pub place : IsRestPlace ends text after at
@@ -101,7 +101,7 @@ ExplainsOf InFile true text flaw = ExplainsSignedInFile text flaw
 
 -- ---- texts with a value
 
--- The text as it is read, in a file or not, has a value in Rust.
+-- The text has a value in Rust. In a file, CR LF is read as LF.
 abbrev pub HasValueOf : LineEnds → List ℕ → Type 0
 HasValueOf ends text = HasReading (read_of ends text) ⊎ IsFloatBySuffix (read_of ends text)
 

@@ -17,7 +17,8 @@ IsSignedToken text =
     IsToken text
     ⊎ ((number : List ℕ) × (text ≡ codes "-" ++ number) × IsTrue (first_passes is_ascii_digit number) × IsToken number)
 
--- A minus isn't followed by a digit: the text ends there, or another character follows.
+-- No digit follows a minus. The kind of flaw is `UnexpectedEnd` if the text ends there, and `NoNumber` if another character
+-- follows.
 abbrev pub LacksNumber : FlawKind → List ℕ → Type 0
 LacksNumber NoNumber rest = rest ≢ []
 LacksNumber UnexpectedEnd rest = rest ≡ []

@@ -52,8 +52,8 @@ goes_on_with_suffix (c ∷ cs) rest = first_passes is_continue rest
 abbrev pub IsExtraHash : QuotedForm → List ℕ → List ℕ → Type 0
 IsExtraHash form front rest = IsTrue (is_raw_form form) × (front ≡ []) × Begins is_hash rest
 
--- The text after the closing delimiter has a flaw before the rest. In the order of the equations: one more hash; the quote once
--- more; the suffix `_` alone; a character that no suffix contains.
+-- The text after the closing delimiter has a flaw before the rest. In the order of the equations, the flaws are: one more
+-- hash, the quote once more, the suffix `_` alone, and a character that no suffix contains.
 abbrev pub SuffixFlaw : QuotedForm → FlawKind → List ℕ → List ℕ → Type 0
 SuffixFlaw form ExtraHash front rest = IsExtraHash form front rest
 SuffixFlaw form TextAfterQuote front rest = IsTrue (is_suffix_front front) × Begins (λ c. c == form_quote form) rest
@@ -71,8 +71,8 @@ suffix_piece _ closing suffix = suffix
 
 -- ---- flaws of raw strings
 
--- The raw string isn't closed before the rest. Each character between its opening quote and the rest is allowed in a raw string
--- of the kind.
+-- The raw string isn't closed before the rest. Each character between its opening quote and the rest is allowed in a raw
+-- string of the kind. The text begins at the hashes.
 pub record IsOpen (kind : Kind) (hashes : ℕ) (text rest : List ℕ) : Type 0 where
   pub few : hashes < 256
   pub body : List ℕ
@@ -81,7 +81,7 @@ pub record IsOpen (kind : Kind) (hashes : ℕ) (text rest : List ℕ) : Type 0 w
   pub no_closer : (front after : List ℕ) → body ≢ front ++ (code "\"" ∷ (replicate hashes (code "#") ++ after))
   pub text_is : text ≡ replicate hashes (code "#") ++ (code "\"" ∷ (body ++ rest))
 
--- The raw string isn't closed before the rest, and the rest begins with a character that passes the test.
+-- The raw string isn't closed before the rest. The rest begins with a character that passes the test.
 abbrev pub IsSpoiledBy : Kind → (ℕ → Bool) → List ℕ → List ℕ → Type 0
 IsSpoiledBy kind test text rest = (hashes : ℕ) × IsOpen kind hashes text rest × Begins test rest
 
