@@ -16,7 +16,7 @@ digits_flaw_at kind v n (c ∷ cs) =
     (cond (eqb c 125) (found_flaw (code_flaw_of v) (c ∷ cs))
     (cond (eqb c 95) (digits_flaw_at kind v n cs) (found_flaw NoHexDigit (c ∷ cs))))
 
--- If six digits represent a number that isn't allowed, the flaw is at the sixth digit.
+-- If six digits of a `\u{..}` escape represent a number that isn't allowed, the flaw is at the sixth digit.
 no_code_six : (kind : Kind) (v : ℕ) (last t : List ℕ) → is_code kind v ≡ false
     → code_flaw_at kind (code_digits_at v 6 last t) ≡ found_flaw (code_flaw_of v) last
 unfolding code_digits_at

@@ -42,7 +42,7 @@ inner_none (Some p) f h = absurd (cc)
 
 -- ---- the kinds of literals, and the numbers that they allow
 
--- The only number that a kind of literal may reject is 0.
+-- If a kind of literal doesn't allow the number of a character, the number is 0.
 pub only_zero : (kind : Kind) (v : ℕ) → allows_code kind v ≡ false → v ≡ 0
 only_zero CStr v h = elim (cases_Bool (eqb v 0)) [
   | inl a ↦ eqb-true v 0 a
@@ -85,7 +85,8 @@ hex_second kind c h low =
     ends_by (second kind c) (v * 16 + 1) 49 refl (λ r. hex_read kind c 49 r h refl
     ∙ ap (λ b. number_if b (v * 16 + 1) r) allowed)
 
--- A number that isn't allowed is rejected, whatever text follows it.
+-- If a parser rejects the number of an escape because the kind of literal doesn't allow it, the parser rejects it whatever
+-- text follows.
 pub never : (b : Bool) (n : ℕ) (r s : List ℕ) → number_if b n r ≡ None → number_if b n s ≡ None
 never true n r s h = absurd (cc)
 never false n r s h = refl

@@ -6,7 +6,8 @@ use Rattle.rl_strict.proofs.SignedFlaws.{unsigned}
 
 -- ---- without a minus
 
--- If a text without a minus can be completed to a literal token or to a minus and a number, it can be completed to a token.
+-- If a text without a minus can be completed to a literal token or to a minus and a number, it can be completed to a literal
+-- token.
 completed : (front : List ℕ) → first_passes (λ c. c == 45) front ≡ false → IsCompletable IsSignedToken front
     → IsCompletable IsToken front
 completed [] n b = record { ending = 49 ∷ []; are_characters = (refl, tt); is_taken = one_digit 49 refl }

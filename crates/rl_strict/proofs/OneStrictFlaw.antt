@@ -248,7 +248,7 @@ pub record Explained (takes : List ℕ → Type 0) (says : FlawKind → List ℕ
   pub from_is : flaw.from ≡ byte_len before
   pub kind : says flaw.kind piece place.rest
 
--- If at most one kind and one piece are possible at each position, at most one flaw explains the text.
+-- If at most one kind and one piece of a flaw are possible at each position of a text, at most one flaw explains the text.
 pub explained_once : (takes : List ℕ → Type 0) (says : FlawKind → List ℕ → List ℕ → Type 0) (text : List ℕ)
     → ((k l : FlawKind) (pa pb rest : List ℕ) → StopsBefore takes text rest → says k pa rest → says l pb rest
     → (k ≡ l) × (pa ≡ pb)) → (a b : Flaw) → Explained takes says text a → Explained takes says text b → a ≡ b

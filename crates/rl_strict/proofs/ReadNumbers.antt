@@ -104,7 +104,7 @@ number_stop t k rest d code f = record {
     digit : first_passes is_ascii_digit s.front ≡ true
     digit = goes_on t s.front rest s.text_is stuck d
 
--- ---- the results of the code's functions are those of the mirror
+-- ---- the parse result or the flaw of a number, from the result of the mirror
 
 judged : (t : List ℕ) (r : NumberRead) → first_passes is_ascii_digit t ≡ true → r ≡ number_read_at t
     → ReadJudged t number_end_at [] t r

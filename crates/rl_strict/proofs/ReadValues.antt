@@ -1,4 +1,4 @@
--- The values of parsed texts, and integers above 128 bits.
+-- A parsed text has a value, unless it is an integer above 128 bits that isn't a float by its suffix.
 use Rattle.rl_strict.proofs.Names.{◌≡◌, ℕ, Bool, true, false, List, Option, Some, None, IfNone, IfSome, refl, sym, subst, inl, inr, IsUtf8, IsPast, chars, Flaw, LineEnds, Text, File, Reading, AText, Unit, Integer, AFloat, Truth, ExplainsLimit, IsFloatBySuffix, oversized_suffix_at, read_of, ExplainsOf, ExplainsValueOf, HasValueOf, IsReadingOf, IsTokenIf, ReadsOf, lf_bytes, IsSignedToken, IsSignedRead}
 use Rattle.rl_strict.proofs.FilePlaces.{lf_chars}
 use Rattle.rl_strict.proofs.LimitLemmas.{either, signed_within}

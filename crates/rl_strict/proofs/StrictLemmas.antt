@@ -11,12 +11,12 @@ IsStrictNumber text =
 
 -- ---- the opening delimiters are equal in both grammars
 
--- The opening quotes are equal in both grammars.
+-- The opening delimiter of each kind of literal is equal in both grammars, Rust's and `syn`'s.
 opener_is : (k : Kind) → opener k ≡ strict_opener k
 opener_is Str = refl
 opener_is other = refl
 
--- The prefixes of raw strings are equal in both grammars.
+-- The prefix of each kind of raw string is equal in both grammars, Rust's and `syn`'s.
 raw_opener_is : (k : Kind) → raw_opener k ≡ strict_raw_opener k
 raw_opener_is Str = refl
 raw_opener_is other = refl
@@ -54,7 +54,7 @@ units_token k t inside q text c =
       }));
     }
 
--- The parts of a raw string, concatenated from the right.
+-- The parts of a raw string are one text, concatenated from the left or from the right.
 raw_text : (o h i x : List ℕ) → ((((o ++ h) ++ (34 ∷ i)) ++ (34 ∷ h)) ++ x) ≡ o ++ (h ++ (34 ∷ (i ++ (34 ∷ (h ++ x)))))
 raw_text o h i x = simp append_assoc
 
@@ -156,7 +156,7 @@ raw_seen k t v x has s =
       };
     })
 
--- The words `true` and `false` are equal in both definitions.
+-- The texts of `true` and `false` are equal in the definitions of both grammars, Rust's and `syn`'s.
 pub truth_words : (b : Bool) → (if b then codes "true" else codes "false") ≡ truth_text b
 truth_words true = refl
 truth_words false = refl

@@ -660,7 +660,7 @@ pub number_judged : (t : List ℕ) → first_passes is_ascii_digit t ≡ true
 unfolding number_read_at
 number_judged t d = let b = based t in subst (ReadBy t) (sym b.at) (by_base b.base t b.rest d b.text_is b.front)
 
--- A text that is parsed to its end is a literal token.
+-- If a text begins with a digit and the parser of numbers reads it to its end, it is a literal token.
 pub number_is_token : (t : List ℕ) → first_passes is_ascii_digit t ≡ true → Passes number_end_at t → IsToken t
 number_is_token t d h = go (number_read_at t) (number_judged t d) h
   where

@@ -1,4 +1,5 @@
--- The position where the suffix of a quoted literal can't continue, and the ways to complete its beginning.
+-- The position where a text can't continue as the suffix of a quoted literal, and texts that complete the beginning of a
+-- suffix.
 use Rattle.rl_strict.proofs.Names.{Option, Some, None, ◌≡◌, ℕ, ◌||◌, ◌&&◌, Bool, true, false, not, ◌==◌, cond, List, [], ◌∷◌, ◌++◌, refl, sym, ap, subst, ◌∙◌, inl, inr, arith, append-nil, and_from, and_parts, both_ways, cases_Bool, eqb-true, list_all, list_all-append, AllByRecursion, is_xid_continue, is_xid_start, and_right, cond_both, after_run, first_passes, IsScalar, Kind, and_left, is_xid_start-ascii, is_xid_continue-ascii, is_continue, is_start, is_white, FlawKind, BadSuffix, TextAfterQuote, ExtraHash, UnderscoreSuffix, QuotedForm, StopsBefore, IsClosed, StrictQuotedFlaw, SuffixFlaw, form_quote, goes_on_with_suffix, is_raw_form, is_suffix_front, suffix_piece, ClosesForm, run, is_some_text, is_strict_suffix, begins_hash, suffix_rest, FoundFlaw, found_flaw, is_lone_underscore, suffix_end_read, suffix_read_at, run_all, run_ends, run_join, all_breaks}
 use Rattle.rl_strict.proofs.Stops.{Flawed, Stops, lifted, stops_before}
 
@@ -27,7 +28,7 @@ suffix_cut (c ∷ cs) = go (is_start c) refl
     }
     go false e = record { front = []; text_is = refl; is_front = refl; ends = e }
 
--- Whether the rest continues the suffix depends only on its first character.
+-- Whether the rest of a text continues a suffix depends only on the rest's first character.
 pub goes_on_first : (x cs e : List ℕ) (c : ℕ) → goes_on_with_suffix x (c ∷ cs) ≡ false → goes_on_with_suffix x (c ∷ e)
     ≡ false
 goes_on_first [] cs e c h = h

@@ -1,5 +1,5 @@
--- If a text begins with no valid character or escape of Rust's grammar, it can't continue at the position that the code finds,
--- and has the flaw of the code's kind.
+-- If a text begins with no valid character or escape of Rust's grammar, it has the flaw that the code returns: the kind and
+-- the position are right.
 use Rattle.rl_strict.proofs.Names.{◌≡◌, ◌≢◌, ℕ, ◌||◌, ◌&&◌, Bool, true, false, not, ◌==◌, cond, ltb, List, [], ◌∷◌, ◌++◌, Option, Some, None, refl, sym, ap, subst, ◌∙◌, inl, inr, and_parts, both_ways, cases_Bool, eqb-true, cond_both, Kind, Str, ByteStr, CStr, Byte, Char, first_passes, Letter, Named, LowerN, letter_text, is_string, is_line_end, Itself, is_dropped_blank, is_strict_unit, after_run, and_left, FlawKind, UnknownEscape, Nul, NotAscii, MustEscape, NoCharacter, CarriageReturn, UnitFlaw, StrictUnitFlaw, escape_at, unit_at, escape_rest, unit_rest, FoundFlaw, found_flaw, character_flaw_of, escape_flaw_at, strict_escape_flaw_at, strict_unit_flaw_at, plain_is_bare, holds_more, unit_complete, goes_on, IsCompletable}
 use Rattle.std.proofs.Common.{option_map}
 use Rattle.rl_strict.proofs.EscapeLemmas.{Closes, Fails, IsQuotedKind, by_escape}

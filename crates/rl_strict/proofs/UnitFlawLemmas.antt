@@ -1,5 +1,5 @@
--- If a text begins with no valid character or escape of a quoted literal, it can't continue at the position that the code
--- finds, and has the flaw of the code's kind.
+-- If a text begins with no valid character or escape of a quoted literal in `syn`'s grammar, it has the flaw that the code
+-- returns: the kind and the position are right.
 use Rattle.rl_strict.proofs.Names.{◌≡◌, ◌≢◌, ℕ, suc, ◌+◌, ◌*◌, ◌<◌, ◌≤◌, ◌||◌, ◌&&◌, Bool, true, false, not, cond, eqb, ltb, List, [], ◌∷◌, ◌++◌, length, Option, Some, None, refl, sym, ap, subst, ◌∙◌, inl, inr, arith, append_assoc, option_and_then, list_all, digit_value, scalar, and_from, and_parts, both_ways, cases_Bool, eqb-true, ltb-true, ltb-false, lt-ltb, not-true, not_from_false, list_all-append, pow-suc, cond_both, Kind, Str, ByteStr, CStr, Byte, first_passes, is_underscore, Letter, Named, LowerN, LowerR, LowerT, Backslash, Apostrophe, Quote, letter_text, letter_value, hex_value, content_of, place_value, without_underscores, is_hex_digit, holds_characters, is_string, is_plain, is_line_end, allows_code, may_be_hex, allows_unicode_escapes, apart, FlawKind, Unclosed, UnknownEscape, NoUnicode, NoHexDigit, NoBrace, EmptyBraces, TooManyDigits, HexEscapeOutOfRange, UnicodeEscapeOutOfRange, Surrogate, Nul, NotAscii, MustEscape, NoCharacter, IsBraced, digit_count, number_of, FirstDigit, SecondDigit, AfterBrace, AfterDigits, IsNoCode, HasNoCode, AtBrace, AtSixth, AsItIs, ByLetter, ByDigits, ByNumber, UnitFlaw, found, number_if, hex_at, unicode_at, after_blanks, named_at, escape_at, FoundFlaw, found_flaw, low_digit_flaw_at, hex_flaw_at, is_code, code_flaw_of, first_digit_flaw_at, unicode_flaw_at, escape_flaw_at, character_flaw_of, holds_more, two_digits, unit_complete, digit_apart, passes_more}
 use Rattle.rl_lenient.proofs.Names.{Zero}
 use Rattle.std.proofs.Common.{length-append}
