@@ -26,7 +26,7 @@ is_brace c = c == code "}"
 
 -- ---- flaws of escapes and characters
 
--- The rest begins with a character that begins no escape after a backslash.
+-- The rest follows a backslash, and begins with a character that begins no escape.
 pub record BeginsNoEscape (kind : Kind) (rest : List ℕ) : Type 0 where
   pub first : ℕ
   pub after : List ℕ
@@ -68,8 +68,8 @@ IsNoCode kind Surrogate number = (0xD800 ≤ number) × (number ≤ 0xDFFF)
 IsNoCode kind Nul number = (kind ≡ CStr) × (number ≡ 0)
 IsNoCode kind _ number = ⊥
 
--- The number of a `\u{..}` escape isn't allowed in a literal of the kind. The flaw is at the closing brace after up to five
--- digits, or at the sixth digit.
+-- The number that the digits of a `\u{..}` escape represent isn't allowed in a literal of the kind. The flaw is at the
+-- closing brace after up to five digits, or at the sixth digit.
 pub data HasNoCode (kind : Kind) (flaw : FlawKind) (text rest : List ℕ) : Type 0 where
   AtBrace : (digits : List ℕ) → IsBraced digits text rest → digit_count digits ≤ 5
       → Begins is_brace rest → IsNoCode kind flaw (number_of digits) → HasNoCode kind flaw text rest
@@ -77,7 +77,8 @@ pub data HasNoCode (kind : Kind) (flaw : FlawKind) (text rest : List ℕ) : Type
       → digit_count digits ≡ 5 → rest ≡ sixth ∷ after → IsTrue (is_hex_digit sixth)
       → IsNoCode kind flaw (number_of (digits ++ (sixth ∷ []))) → HasNoCode kind flaw text rest
 
--- The escape or character is a NUL: unescaped, `\0`, `\x00`, or `\u{0}`.
+-- The escape or character is a NUL: unescaped, `\0`, `\x00`, or `\u{0}`. `text` begins at the escape or character, and
+-- `rest` at the flaw.
 pub data IsNul (kind : Kind) (text rest : List ℕ) : Type 0 where
   AsItIs : text ≡ rest → Begins (λ c. c == 0) rest → IsNul kind text rest
   ByLetter : text ≡ codes "\\" ++ rest → Begins (λ c. c == code "0") rest → IsNul kind text rest

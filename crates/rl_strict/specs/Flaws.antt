@@ -24,8 +24,8 @@ abbrev pub first_len : List ℕ → ℕ
 first_len [] = 0
 first_len (c ∷ cs) = length (encode_utf8 c)
 
--- The byte offset `lo` is the end of the longest prefix of the text that can be completed. The byte offset `hi` is after the
--- character at `lo`, or both are the text's end.
+-- The byte offset `lo` is the end of the text's longest prefix that can be completed to a text that satisfies `takes`. The
+-- byte offset `hi` is after the character at `lo`. If no character follows, `lo` and `hi` are the text's end.
 pub record IsPlaced (takes : List ℕ → Type 0) (text : List ℕ) (lo hi : ℕ) : Type 0 where
   pub rest : List ℕ
   pub stops : StopsBefore takes text rest

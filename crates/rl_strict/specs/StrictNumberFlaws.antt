@@ -1,5 +1,5 @@
--- The meaning of each kind of flaw in a text that begins as a number or as a word of Rust's grammar. `front` is the text before
--- the flaw, and `rest` the text that begins at the flaw.
+-- The meaning of each kind of flaw in a text that begins as a number of Rust's grammar, or as neither a number nor a quoted
+-- literal. `front` is the text before the flaw, and `rest` the text that begins at the flaw.
 use Rattle.std.specs.Prelude.{◌≡◌, ◌≢◌, ◌⊎◌, ℕ, ◌==◌, ◌||◌, Bool, IsTrue, IsFalse, List, [], ◌∷◌, ◌++◌, codes}
 use Rattle.std.specs.Char.{is_ascii_digit}
 use Rattle.std.specs.List.{list_all, list_any}
@@ -62,8 +62,8 @@ IsDigitFlaw NoExponentDigit front rest =
     × (power.sign ++ power.underscores ≡ [] → IsFalse (first_passes (λ c. is_power_sign (c ∷ [])) rest))
 IsDigitFlaw kind front rest = ⊥
 
--- The flaw of a number. Either its digits are missing or invalid (`IsDigitFlaw`), or the front is a number with an optional
--- suffix, and the character after the front can't continue it.
+-- The flaw of a number. Either the number's digits are missing or invalid (`IsDigitFlaw`), or the front is a number with an
+-- optional suffix, and the character after the front can't continue it.
 abbrev pub IsStrictNumberFlaw : FlawKind → List ℕ → List ℕ → Type 0
 IsStrictNumberFlaw BadSuffix front rest =
     IsToken front × (rest ≢ []) × ((kind : FlawKind) → IsDigitFlaw kind front rest → ⊥)

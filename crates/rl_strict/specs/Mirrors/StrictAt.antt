@@ -53,7 +53,7 @@ is_raw_character _ c = false
 abbrev pub is_inside : Kind → ℕ → Bool
 is_inside kind c = not (c == code "\"") && is_raw_character kind c
 
--- The text is a raw string's content, its closing delimiter with these hashes, and a suffix.
+-- The text is the content of a raw string, its closing delimiter with the hashes `hashes`, and a suffix.
 unfoldable pub ends_raw : Kind → List ℕ → List ℕ → Bool
 ends_raw kind hashes [] = false
 ends_raw kind hashes (c ∷ cs) =
