@@ -76,7 +76,8 @@ one_byte_proper c after n =
 
 -- ---- identifiers between quotes
 
--- After the opening single quote, an identifier of more than one character isn't one character and a closing quote.
+-- An identifier of more than one character, with a closing single quote after it, doesn't begin with one character and a
+-- closing quote.
 word_bare : (c : ℕ) (more : List ℕ) → list_all is_continue more ≡ true → (more ≡ [] → ⊥)
     → HasNoBare Char (c ∷ (more ++ (39 ∷ [])))
 word_bare c [] each some d x plain e = some refl

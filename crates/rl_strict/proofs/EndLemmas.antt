@@ -7,7 +7,8 @@ use Rattle.rl_strict.proofs.FileUnits.{closer_read, single_in, single_read, stuc
 
 -- ---- ends of texts, which don't begin between a CR and an LF in a file
 
--- If the rest of a text doesn't begin between a CR and an LF, it is an end of the text outside files too.
+-- An end of a text that doesn't begin between a CR and an LF is also an end of the text outside files, where CR LF isn't
+-- read as LF.
 pub loose : (t rest : List ℕ) → IsFileRest t rest → IsRestOf Text t rest
 loose t rest r = record { front = r.front; text_is = r.text_is; seam = refl }
 

@@ -19,22 +19,22 @@ Closes {V} reader t = (value : V) × ((r : List ℕ) → reader (t ++ r) ≡ giv
 abbrev pub Fails : {V : Type 0} → Reader V → List ℕ → Type 0
 Fails reader t = reader t ≡ None
 
--- Some text is consumed whole by the parser, whatever text follows.
+-- There is a text that the parser consumes whole, whatever text follows.
 abbrev pub Completes : {V : Type 0} → Reader V → Type 0
 Completes reader = IsCompletable (Closes reader) []
 
--- If a parser consumes the one character `c`, whatever text follows, some text is consumed whole by the parser.
+-- If a parser consumes the one character `c`, whatever text follows, there is a text that the parser consumes whole.
 ends_by : {V : Type 0} (reader : Reader V) (value : V) (c : ℕ) → IsScalar c
     → ((r : List ℕ) → reader (c ∷ r) ≡ given value r) → Completes reader
 ends_by reader value c is h = record { ending = c ∷ []; are_characters = (is, tt); is_taken = (value, h) }
 
--- If a parser consumes the characters `c` and `d`, whatever text follows, some text is consumed whole by the parser.
+-- If a parser consumes the characters `c` and `d`, whatever text follows, there is a text that the parser consumes whole.
 ends_by_two : {V : Type 0} (reader : Reader V) (value : V) (c d : ℕ) → IsScalar c → IsScalar d
     → ((r : List ℕ) → reader (c ∷ d ∷ r) ≡ given value r) → Completes reader
 ends_by_two reader value c d is js h = record { ending = c ∷ d ∷ []; are_characters = (is, (js, tt)); is_taken = (value, h) }
 
--- An outer parser calls an inner parser, and only converts its value. If the outer parser fails, the inner parser has
--- failed.
+-- An outer parser calls an inner parser, and only converts the inner parser's value. If the outer parser fails, the inner
+-- parser has failed.
 pub inner_none : {V W : Type 0} (o : Option (V × List ℕ)) (f : V → W) → option_and_then (λ p. given (f p.0) p.1) o
     ≡ None → o ≡ None
 inner_none None f h = refl
@@ -210,8 +210,8 @@ grown v n few small bad =
     rw low (and_from (leb 57344 (v * 16 + 1)) (ltb (v * 16 + 1) 1114112) (le-leb 57344 (v * 16 + 1) (omega arith))
     (lt-ltb (v * 16 + 1) 1114112 (omega arith)))
 
--- A `\u{..}` escape has had `n` digits so far, at most six, and they represent the number `v`. The number is allowed if
--- there are six digits.
+-- The `n` digits of a `\u{..}` escape so far, at most six, represent the number `v`. If there are six digits, the number is
+-- allowed.
 pub record Spelled (kind : Kind) (v n : ℕ) : Type 0 where
   pub unicode : allows_unicode_escapes kind ≡ true
   pub few : n ≤ 6

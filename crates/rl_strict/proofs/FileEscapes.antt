@@ -94,8 +94,8 @@ unicode_read k t =
     ap (option_and_then coded) (closed_read d)
     ∙ then_read lf_pair lf_pair (closed_at d) coded coded (λ w. if_read (allows_unicode_escapes k && allows_code k w.0) w.0 w.1)))
 
--- An escape that isn't an escaped line end has one value in the text as written and in the text with CR LF read as LF. It
--- ends at one position in both texts.
+-- An escape that isn't an escaped line end has the same value in the text as written and in the text with CR LF read as LF.
+-- The escape ends at the same position in both texts.
 pub escape_read : (k : Kind) (c : ℕ) (cs : List ℕ) → is_line_end c ≡ false → escape_at k (c ∷ lf_text cs)
     ≡ option_map lf_pair (escape_at k (c ∷ cs))
 unfolding escape_at

@@ -36,8 +36,8 @@ pub rest_length : (how : LineEnds) (t rest : List ℕ) → IsUtf8 t → IsUtf8 r
     → length t ≡ byte_len r.front + length rest
 rest_length how t rest ut ur r = cut_bytes t rest r.front ut ur r.text_is
 
--- The text with CR LF read as LF can be split at each position that isn't between a CR and an LF: CR LF is then read as LF
--- before the position and after it.
+-- If a text is split at a position that isn't between a CR and an LF, reading CR LF as LF in the two parts gives the whole
+-- text with CR LF read as LF.
 lf_cut : (t rest : List ℕ) → IsUtf8 t → IsUtf8 rest → (r : IsFileRest (chars t) (chars rest)) → chars (lf_bytes t)
     ≡ lf_text r.front ++ chars (lf_bytes rest)
 lf_cut t rest ut ur r = lf_chars t ut ∙ rest_text (chars t) (chars rest) r
@@ -83,8 +83,8 @@ after_at t rest front at p e = go rest refl
     go (c ∷ cs) is = front_at t p.after (front ++ (c ∷ [])) at p.place (e ∙ ap (λ z. front ++ z) (is ∙ ap (λ z. c ∷ z)
         (sym (p.after_is ∙ ap (drop 1) is))) ∙ sym (append_assoc front (c ∷ []) p.after)) ∙ longer front c
 
--- In a file, the byte offset where an end of a text begins is the position where that end begins in the text with CR LF read
--- as LF.
+-- In a file, the byte offset where an end of the text as written begins corresponds to the byte offset where that end begins
+-- in the text with CR LF read as LF.
 place_in : (t rest front : List ℕ) (at : ℕ) → IsRestPlace File t rest at → lf_text t ≡ front ++ lf_text rest
     → IsPlaceInFile t (byte_len front) at
 place_in t rest front at p e =
@@ -99,8 +99,8 @@ place_in t rest front at p e =
       at_is = p.at_is;
     }
 
--- In a file, the byte offset after the first character of an end of a text is the position after that character in the text
--- with CR LF read as LF.
+-- In a file, the byte offset after the first character of an end of the text as written corresponds to the byte offset after
+-- that character in the text with CR LF read as LF.
 after_place : (t rest front : List ℕ) (at : ℕ) → IsPlaceAfter File t rest at → lf_text t ≡ front ++ lf_text rest
     → IsPlaceInFile t (byte_len front + first_len (lf_text rest)) at
 after_place t rest front at p e = go (lf_text rest) refl

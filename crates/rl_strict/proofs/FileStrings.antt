@@ -53,7 +53,7 @@ pub signed_of : (how : LineEnds) (t : List ℕ) → IsSignedToken t → IsSigned
 signed_of Text t y = y
 signed_of File t y = subst IsSignedToken (sym (signed_same t y)) y
 
--- A parse result of a literal token is also one where a minus before a number is allowed.
+-- A parse result of a literal token is also a parse result where a minus before a number is allowed.
 pub reads_signed : (how : LineEnds) (signed : Bool) (t : List ℕ) (r : Reading) → IsReadingOf how false t r
     → IsReadingOf how signed t r
 reads_signed how false t r h = h

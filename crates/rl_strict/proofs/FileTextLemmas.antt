@@ -24,8 +24,8 @@ line_of c (d ∷ ds) h =
 pub other_kept : (c : ℕ) (cs : List ℕ) → (c == 13) ≡ false → is_dropped c cs ≡ false
 other_kept c cs h = and_left (c == 13) (first_passes (λ d. d == 10) cs) h
 
--- A statement about a text and the text with CR LF read as LF needs three cases: the text is empty, begins with CR LF, or
--- begins with a character that is kept.
+-- To prove a statement about a text and the text with CR LF read as LF, three cases suffice: the text is empty, begins with
+-- CR LF, or begins with a character that is kept.
 pub by_first : (P : List ℕ → List ℕ → Type 0) → P [] [] → ((cs : List ℕ) → P (13 ∷ 10 ∷ cs) (10 ∷ lf_text cs)) → ((c :
     ℕ) (cs : List ℕ) → lf_text (c ∷ cs) ≡ c ∷ lf_text cs → P (c ∷ cs) (c ∷ lf_text cs)) → (t : List ℕ) → P t (lf_text t)
 by_first P end line kept [] = end
@@ -72,8 +72,7 @@ back_free a b h = (and_parts (lacks_cr a) (lacks_cr b) (sym (list_all-append (λ
 
 -- ---- borders between two texts that aren't between a CR and an LF
 
--- If the border between two texts isn't between a CR and an LF, reading CR LF as LF changes each of the two texts
--- separately.
+-- If the border between two texts isn't between a CR and an LF, CR LF can be read as LF in each of the two texts separately.
 pub seam_text : (a b : List ℕ) → is_seam a b ≡ true → lf_text (a ++ b) ≡ lf_text a ++ lf_text b
 seam_text [] b h = refl
 seam_text (c ∷ []) b h = when_kept c b (not-true (is_dropped c b) h)
@@ -116,7 +115,7 @@ rest_line t rest e = record { front = 13 ∷ 10 ∷ []; text_is = e; seam = refl
 pub rest_kept : (t rest : List ℕ) (c : ℕ) → t ≡ c ∷ rest → is_dropped c rest ≡ false → IsFileRest t rest
 rest_kept t rest c e h = record { front = c ∷ []; text_is = e; seam = ap not h }
 
--- If the rest of a text doesn't begin between a CR and an LF, reading CR LF as LF changes the text before the rest and the
+-- If the rest of a text doesn't begin between a CR and an LF, CR LF can be read as LF in the text before the rest and in the
 -- rest separately.
 pub rest_text : (t rest : List ℕ) (r : IsFileRest t rest) → lf_text t ≡ lf_text r.front ++ lf_text rest
 rest_text t rest r = ap lf_text r.text_is ∙ seam_text r.front rest r.seam

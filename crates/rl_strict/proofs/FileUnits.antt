@@ -82,8 +82,8 @@ map_map : (o : Option (List ℕ × List ℕ)) → option_map (λ (p : List ℕ �
 map_map None = refl
 map_map (Some p) = refl
 
--- An escape other than an escaped line end ends at one position in the text as written and in the text with CR LF read as
--- LF.
+-- An escape other than an escaped line end ends at the same position in the text as written and in the text with CR LF read
+-- as LF.
 pub other_read : (k : Kind) (c : ℕ) (cs : List ℕ) → (c == 10) ≡ false → (c == 13) ≡ false
     → escape_rest k (c ∷ lf_text cs) ≡ option_map (λ (p : List ℕ × List ℕ). lf_text p.1) (escape_at k (c ∷ cs))
 unfolding unit_at
@@ -234,8 +234,8 @@ single_escape k t s = by_first (λ z r. escape_rest k r ≡ option_map lf_text (
         go false n false m = ap (option_map (λ (p : List ℕ × List ℕ). p.1)) (escape_read k c cs (or_from (c == 10) (c ==
             13) n m)) ∙ map_map (escape_at k (c ∷ cs)) ∙ same (escape_at k (c ∷ cs))
 
--- The one character or escape of a character or byte literal ends at one position in the text as written and in the text
--- with CR LF read as LF.
+-- The one character or escape of a character or byte literal ends at the same position in the text as written and in the
+-- text with CR LF read as LF.
 pub single_read : (k : Kind) (t : List ℕ) → is_single k ≡ true → unit_rest k (lf_text t)
     ≡ option_map lf_text (unit_rest k t)
 unfolding unit_rest

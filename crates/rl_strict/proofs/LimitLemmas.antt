@@ -11,7 +11,8 @@ use Rattle.rl_strict.proofs.StrictTokens.{token_number, token_reads, truth_no_di
 
 -- ---- the byte offset of the suffix
 
--- A text is a prefix and an end of the text. The text's number of bytes is the sum of theirs.
+-- A text is a prefix followed by an end of the text. The number of bytes of the text is the sum of those of the prefix and
+-- the end.
 pub front_of : (t rest : List ℕ) → IsUtf8 t → IsTail t rest → (front : List ℕ) × (chars t ≡ front ++ chars rest)
     × (length t ≡ byte_len front + length rest)
 front_of t rest u tail =
@@ -133,7 +134,7 @@ within_of t x s n m r h =
     let w = within_reads t x n (record { sign = s; reads = r; within = under n m h }) in
     (Int, (w.0, x, w.1))
 
--- If the parse result of a text is an integer without magnitude, the text is an integer above 128 bits, and its suffix
+-- If the parse result of a text is an integer whose magnitude is `None`, the text is an integer above 128 bits. Its suffix
 -- begins at the byte offset in the parse result.
 pub signed_past : (t : List ℕ) (r : Reading) (at : ℕ) → IsSignedRead t r → oversized_suffix_at r ≡ Some at → IsCharBoundary t at
     × ((past : IsPast (chars t)) × (past.suffix ≡ chars (drop at t)))
@@ -152,7 +153,7 @@ signed_past t (Integer None k) at y e =
     ])
 signed_past t r at y e = absurd (cc)
 
--- If the parse result of a text isn't an integer without magnitude, the text isn't an integer above 128 bits.
+-- If the parse result of a text isn't an integer whose magnitude is `None`, the text isn't an integer above 128 bits.
 pub signed_within : (t : List ℕ) (r : Reading) → IsSignedRead t r → oversized_suffix_at r ≡ None → IsPast (chars t) → ⊥
 signed_within t r y e p = read_within (chars t) (reading t r y e) p
   where

@@ -8,7 +8,7 @@ use Rattle.rl_strict.proofs.OneStrictFlaw.{After, Before, Meets, Same, flaw_same
 
 -- ---- borders between two texts
 
--- If reading CR LF as LF changes two texts separately, the border between them isn't between a CR and an LF.
+-- If CR LF can be read as LF in two adjacent texts separately, the border between the texts isn't between a CR and an LF.
 pub whole_seam : (a b : List ℕ) → lf_text (a ++ b) ≡ lf_text a ++ lf_text b → is_seam a b ≡ true
 whole_seam [] b e = refl
 whole_seam (c ∷ []) b e = go (is_dropped c b) refl

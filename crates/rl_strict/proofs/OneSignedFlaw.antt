@@ -110,7 +110,8 @@ limit_once t a b p q =
     let hi = p.hi_is ∙ ap (λ z. z + first_len x.suffix) lo ∙ ap (λ z. b.lo + first_len z) suffix ∙ sym q.hi_is in
     flaw_same a b (p.kind_is ∙ sym q.kind_is) (p.from_is ∙ sym q.from_is) lo hi
 
--- At most one flaw explains why a text has no value, since a text that isn't a token isn't an integer above 128 bits.
+-- At most one flaw explains why a text has no value, since a text that isn't a literal token isn't an integer above 128
+-- bits.
 pub value_once : (t : List ℕ) → IsExplainedOnce ExplainsValue t
 value_once t a b p q = go p q
   where

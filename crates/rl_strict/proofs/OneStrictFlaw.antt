@@ -65,12 +65,12 @@ opener_same t f g k l x y a b =
 
 -- ---- prefixes of words
 
--- A prefix of a word (`true`, `false`, `b` or `c`) begins neither a number nor a quoted literal.
+-- A prefix of a word (`true`, `false`, `b` or `c`) doesn't begin as a number or as a quoted literal.
 pub record IsFront (front : List ℕ) : Type 0 where
   pub no_opener : opener_at front ≡ None
   pub no_number : first_passes is_number_front front ≡ false
 
--- A prefix of `true` or `false` begins neither a number nor a quoted literal.
+-- A prefix of `true` or `false` doesn't begin as a number or as a quoted literal.
 pub truth_front : (b : Bool) (front more : List ℕ) → truth_text b ≡ front ++ more → IsFront front
 unfolding opener_at
 truth_front b [] more e = record { no_opener = refl; no_number = refl }
@@ -81,17 +81,17 @@ truth_front false (c ∷ cs) more e =
     let same : 102 ≡ c = cc in
     subst (λ z. IsFront (z ∷ cs)) same (record { no_opener = refl; no_number = refl })
 
--- The text `b` begins neither a number nor a quoted literal by itself.
+-- The text `b` doesn't begin as a number or as a quoted literal.
 letter_front : IsFront (98 ∷ [])
 unfolding opener_at
 letter_front = record { no_opener = refl; no_number = refl }
 
--- The text `c` begins neither a number nor a quoted literal by itself.
+-- The text `c` doesn't begin as a number or as a quoted literal.
 other_front : IsFront (99 ∷ [])
 unfolding opener_at
 other_front = record { no_opener = refl; no_number = refl }
 
--- A text that is `b`, `c`, or a prefix of `true` or `false` begins neither a number nor a quoted literal by itself.
+-- A text that is `b`, `c`, or a prefix of `true` or `false` doesn't begin as a number or as a quoted literal.
 pub begins_front : (front : List ℕ) → BeginsWord front → IsFront front
 begins_front front (inl e) = subst IsFront (sym e) letter_front
 begins_front front (inr (inl e)) = subst IsFront (sym e) other_front
@@ -181,7 +181,7 @@ word_is Minus [] (d ∷ ds) (e, h) = sym (ap (λ b. cond b Minus NotALiteral) h)
 word_is Minus (c ∷ cs) (d ∷ ds) (e, h) = absurd (cc)
 word_is k front rest h = absurd h
 
--- If a text begins neither with a digit nor as a quoted literal, the text before its flaw begins neither a number nor a
+-- If a text begins neither with a digit nor as a quoted literal, the text before its flaw doesn't begin as a number or as a
 -- quoted literal.
 word_front : (k : FlawKind) (front rest : List ℕ) → IsStrictWordFlaw k front rest → IsFront front
 word_front Empty front rest (e, h) = subst IsFront (sym e)

@@ -1,4 +1,4 @@
--- A raw string has at most one kind of flaw and one piece at each position.
+-- At each position, a raw string has at most one kind of flaw. The piece of text that the flaw shows is determined too.
 use Rattle.rl_strict.proofs.Names.{◌≡◌, ◌≢◌, ℕ, ◌&&◌, Bool, true, false, not, ◌==◌, cond, List, [], ◌∷◌, ◌++◌, replicate, refl, sym, ap, ◌∙◌, inl, inr, arith, append_assoc, append_cancel_right, nat_lt, and_parts, both_ways, eqb-true, or_from, list_all, zero, suc, append_cancel_left, Kind, first_passes, after_run, is_hash, or_left, begins, apart, hashes_past, begins_front, FlawKind, UnexpectedEnd, NoQuote, Unclosed, Nul, NotAscii, TooManyHashes, CarriageReturn, RawForm, IsUnopened, is_quote, IsOpen, StrictQuotedFlaw, StrictRawFlaw, is_raw_character, raw_stop, raw_character_flaw_of, spoiled_flaw_of}
 use Rattle.rl_strict.proofs.OneStrictUnit.{suffix_once}
 use Rattle.rl_strict.proofs.StrictRawFlaws.{ends_at, many_hashes, walk_halt}

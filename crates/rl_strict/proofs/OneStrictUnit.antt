@@ -1,4 +1,5 @@
--- A string with escapes has at most one kind of flaw and one piece at each position. So has a character or byte literal.
+-- At each position, a string with escapes has at most one kind of flaw, and so has a character or byte literal. The piece of
+-- text that the flaw shows is determined too.
 use Rattle.rl_strict.proofs.Names.{◌≡◌, ℕ, ◌⊎◌, ◌&&◌, Bool, true, false, ◌==◌, cond, List, [], ◌∷◌, ◌++◌, Option, Some, None, refl, sym, ap, subst, ◌∙◌, inl, inr, append_assoc, append-nil, append_cancel_right, and_from, and_parts, both_ways, eqb-true, flat_map, list_all, Kind, first_passes, is_single, is_string, is_line_end, StrictUnit, strict_text, is_strict_unit, and_right, FlawKind, Unclosed, UnknownEscape, NoUnicode, Nul, MustEscape, NoCharacter, TwoCharacters, BadSuffix, CarriageReturn, TextAfterQuote, ExtraHash, UnderscoreSuffix, QuotedForm, CookedForm, SingleForm, BeginsStrictUnit, BeginsStrictUnits, BreaksEnd, HasNoStrictUnit, StrictCloserFlaw, StrictQuotedFlaw, StrictUnitFlaw, SuffixFlaw, form_quote, is_raw_form, suffix_piece, unit_rest, character_flaw_of, HasStrictUnits, not_both}
 use Rattle.rl_strict.proofs.OneUnitFlaw.{at_end, flaw_of, must_escape, spoils}
 use Rattle.rl_strict.proofs.StrictRowLemmas.{quote_stops, quoted_string}
@@ -24,7 +25,7 @@ record Told (kind : Kind) (k : FlawKind) (t : List ℕ) (c : ℕ) (cs : List ℕ
   text_is : t ≡ front ++ (c ∷ cs)
   kind_is : k ≡ strict_flaw_of kind front c
 
--- In a character or byte literal, the flaw of a CR isn't the flaw that a CR has in a string.
+-- The test for a CR that a string can't contain fails in a character or byte literal.
 single_return : (kind : Kind) (c : ℕ) → is_single kind ≡ true → is_bad_return kind c ≡ false
 single_return kind c o = and_right (c == 13) (is_string kind) (not_string kind o)
 
@@ -54,8 +55,8 @@ no_unknown kind k t a c cs h bad e =
         both_ways (is_string kind && is_line_end b.first) b.no_line_end (and_from (is_string kind)
         (is_line_end b.first) p.1 (ap is_line_end (sym same ∙ eqb-true c 13 p.0)))
 
--- If the kind of flaw is the one that both grammars have for the text before the flaw and the character at the flaw, Rust's
--- grammar has no other kind there.
+-- If the kind of flaw is the one that `flaw_of` returns, it is also the one that `strict_flaw_of` returns. The function
+-- `strict_flaw_of` adds the flaws of CRs in strings.
 shared_told : (kind : Kind) (k : FlawKind) (t : List ℕ) (c : ℕ) (cs : List ℕ) (front : List ℕ)
     → StrictUnitFlaw kind k t (c ∷ cs) → t ≡ front ++ (c ∷ cs) → k ≡ flaw_of front c → Told kind k t c cs
 shared_told kind k t c cs [] h text e = record { front = []; text_is = text; kind_is = go (is_bad_return kind c) refl }
@@ -264,7 +265,7 @@ cooked_once kind k l t pa pb rest s (inr a) (inr b) =
 
 -- ---- character and byte literals
 
--- If a text begins with a character or escape, only one text can follow this character or escape.
+-- If a text begins with a character or escape, the text after this character or escape is determined.
 left_once : (k : Kind) (t r s : List ℕ) → BeginsStrictUnit k t r → BeginsStrictUnit k t s → r ≡ s
 left_once k t r s a b =
     let both : Some r ≡ Some s = sym (unit_left k t r a) ∙ unit_left k t s b in

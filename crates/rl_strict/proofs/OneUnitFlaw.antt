@@ -57,7 +57,7 @@ no_digit kind = refl
 abbrev is_part : ℕ → Bool
 is_part c = is_underscore c || is_hex_digit c
 
--- After `\u{`, digits without the closing brace aren't the number of an escape.
+-- After `\u{`, digits without a closing brace aren't accepted as the number of an escape.
 not_closed : (v n : ℕ) (ds : List ℕ) → list_all is_part ds ≡ true → unicode_digits_at v n ds ≡ None
 unfolding unicode_digits_at
 not_closed v n [] h = refl
@@ -94,8 +94,8 @@ code_of kind Surrogate n h = rw (
 code_of kind Nul n h = ap code_flaw_of (sym h.1)
 code_of kind k n h = absurd h
 
--- If a flaw follows digits of an unclosed `\u{..}` escape, and the digits and the character at the flaw determine its kind,
--- the escape is incomplete before the flaw.
+-- If the digits of an unclosed `\u{..}` escape and the character at the flaw determine the kind of flaw, the escape is
+-- incomplete before the flaw.
 after_digits_spoils : (kind : Kind) (k : FlawKind) (t ds : List ℕ) (c : ℕ) (cs : List ℕ) → IsBraced ds t (c ∷ cs) → k
     ≡ digits_flaw ds c → Spoils kind k t c cs
 after_digits_spoils kind k t [] c cs b is = let h = b.begins in absurd (cc)

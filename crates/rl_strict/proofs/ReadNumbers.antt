@@ -49,7 +49,8 @@ goes_on t [] [] e stuck h = absurd (both_ways false refl (sym (ap (first_passes 
 goes_on t [] (c ∷ cs) e stuck h = absurd
     (stuck c cs [] refl (one_digit c (sym (ap (first_passes is_ascii_digit) e) ∙ h)))
 
--- If the first character of a text passes a test, it also does if the text after any position is replaced.
+-- If the first character of a text passes a test, it still passes if the text after any character is replaced by another
+-- text.
 starts : (test : ℕ → Bool) (front rest t : List ℕ) (c : ℕ) (cs e : List ℕ) → t ≡ front ++ rest → rest ≡ c ∷ cs
     → first_passes test t ≡ true → first_passes test (front ++ (c ∷ e)) ≡ true
 starts test [] rest t c cs e a b k = sym (ap (first_passes test) (a ∙ b)) ∙ k

@@ -113,8 +113,8 @@ cooked_at kind t inside closing suffix body front s r quote cut suffix_is stands
 
 -- ---- a character or byte literal
 
--- If the content of a character or byte literal begins with a character that must be escaped, it begins with no valid
--- character.
+-- If the content of a character or byte literal begins with a character that must be escaped, the content begins with no
+-- valid character.
 pub bad_front : (k : Kind) (c : ℕ) (cs : List ℕ) → is_single k ≡ true → (c == 92) ≡ false → is_allowed_in_single_quotes c ≡ false
     → unit_rest k (c ∷ cs) ≡ None
 unfolding unit_rest
@@ -131,7 +131,7 @@ not_string Byte s = refl
 not_string Char s = refl
 not_string kind s = absurd (cc)
 
--- An escape of a character or byte literal ends at one position in both grammars, Rust's and `syn`'s.
+-- An escape of a character or byte literal ends at the same position in both grammars, Rust's and `syn`'s.
 escape_same : (k : Kind) (cs : List ℕ) → is_single k ≡ true → option_map (λ p. p.1) (escape_at k cs) ≡ escape_rest k cs
 unfolding unit_at escape_at
 escape_same k [] s = refl
@@ -156,8 +156,8 @@ escape_same k (d ∷ ds) s = go (d == 10) refl (d == 13) refl
         subst At (sym (eqb-true d 13 f)) (ends 13 refl refl refl)
     go false e false f = refl
 
--- The content of a character or byte literal ends at one position in both grammars, Rust's and `syn`'s. The content begins
--- with a backslash or with a character that is allowed unescaped.
+-- If the content of a character or byte literal begins with a backslash, or with a character that is allowed unescaped, the
+-- content ends at the same position in both grammars, Rust's and `syn`'s.
 pub good_front : (k : Kind) (c : ℕ) (cs : List ℕ) → is_single k ≡ true → (c == 92) ≡ true ⊎ is_allowed_in_single_quotes c ≡ true
     → option_map (λ p. p.1) (unit_at k (c ∷ cs)) ≡ unit_rest k (c ∷ cs)
 unfolding unit_rest unit_at

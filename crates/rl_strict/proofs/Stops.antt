@@ -1,4 +1,4 @@
--- The position where a text can't continue, in the form that all lemmas of this crate share.
+-- The end of the longest prefix of a text that can be completed, as a record for all lemmas of this crate.
 use Rattle.rl_strict.proofs.Names.{◌≡◌, ℕ, List, ◌∷◌, ◌++◌, sym, ap, subst, ◌∙◌, append_assoc, IsCompletable, StopsBefore}
 
 -- The text before the rest can be completed to a text that satisfies `closes`. With the rest's first character, every longer
@@ -15,8 +15,7 @@ pub record Flawed (takes : List ℕ → Type 0) (text rest : List ℕ) (says : T
   pub stops : StopsBefore takes text rest
   pub has : says
 
--- If a text is put before another one, the position where the longest completable prefix ends stays the position before the
--- rest.
+-- If the text `pre` is put before a text, the longest prefix that can be completed still ends before `rest`.
 unfoldable pub lifted : {closes fails more less : List ℕ → Type 0} (pre t rest : List ℕ) (s : Stops closes fails t rest)
     → (closes (s.front ++ s.begins.ending) → more (pre ++ (s.front ++ s.begins.ending))) → ((c : ℕ) (cs e : List ℕ) →
     rest ≡ c ∷ cs → fails (s.front ++ (c ∷ e)) → less (pre ++ (s.front ++ (c ∷ e)))) → Stops more less (pre ++ t) rest
@@ -36,8 +35,8 @@ unfoldable pub stops_before : (takes : List ℕ → Type 0) (t rest : List ℕ) 
     → StopsBefore takes t rest
 stops_before takes t rest s = record { front = s.front; text_is = s.text_is; begins = s.begins; stuck = s.stuck }
 
--- If a text is put before another one, and the grammar `takes` becomes `more`, the position where the longest completable
--- prefix ends stays the position before the rest.
+-- If the text `pre` is put before a text, and completed texts satisfy `more` in place of `takes`, the longest prefix that
+-- can be completed still ends before `rest`.
 unfoldable pub raised : (takes more : List ℕ → Type 0) (pre t rest : List ℕ) (s : StopsBefore takes t rest) → (takes
     (s.front ++ s.begins.ending) → more (pre ++ (s.front ++ s.begins.ending))) → ((c : ℕ) (cs e : List ℕ) → rest ≡ c ∷
     cs → more (pre ++ (s.front ++ (c ∷ e))) → takes (s.front ++ (c ∷ e))) → StopsBefore more (pre ++ t) rest

@@ -143,7 +143,7 @@ string_open k f t piece rest s r none unquoted same =
 
 -- ---- a character or byte literal
 
--- In a character or byte literal, a character or escape ends independently of the text after it.
+-- In a character or byte literal, the end of a character or escape doesn't depend on the text after it.
 single_ends : (k : Kind) (u : StrictUnit) (r : List ℕ) → is_single k ≡ true → is_strict_unit k u ≡ true → BreakEnds u r
 single_ends Byte (LineBreak blanks) r s h = absurd (cc)
 single_ends Char (LineBreak blanks) r s h = absurd (cc)

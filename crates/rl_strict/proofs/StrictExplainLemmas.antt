@@ -2,7 +2,7 @@
 use Rattle.rl_strict.proofs.Names.{◌≡◌, ℕ, List, [], ◌∷◌, ◌+◌, ◌++◌, length, replicate, refl, sym, ap, ◌∙◌, inl, inr, append_assoc, flat_map, IsUtf8, encode_utf8_all, encodes-append, encodes-chars, byte_len, Kind, strict_text, chars, FlawKind, UnexpectedEnd, NoQuote, Unclosed, Nul, NotAscii, TwoCharacters, TooManyHashes, CarriageReturn, TextAfterQuote, ExtraHash, QuotedForm, CookedForm, RawForm, SingleForm, StopsBefore, form_opener, ClosedFlaw, IsClosed, IsOpen, OpenFlaw, StrictCloserFlaw, StrictQuotedFlaw, StrictRawFlaw, suffix_piece, IsStrictFlawOf, IsToken, length-append}
 use Rattle.rl_strict.proofs.OneStrictUnit.{strict_unit_cut}
 
--- The number of bytes of a text is that of a prefix and that of the text after the prefix.
+-- The number of bytes of a text is the sum of those of a prefix and of the text after the prefix.
 pub cut_bytes : (t rest front : List ℕ) → IsUtf8 t → IsUtf8 rest → chars t ≡ front ++ chars rest → length t
     ≡ byte_len front + length rest
 cut_bytes t rest front ut ur cut =
@@ -12,7 +12,7 @@ cut_bytes t rest front ut ur cut =
     ∙ length-append (encode_utf8_all front) (encode_utf8_all (chars rest))
     ∙ ap (λ z. byte_len front + length z) (encodes-chars rest ur)
 
--- The number of bytes of a text is that of its longest completable prefix and that of the rest.
+-- The number of bytes of a text is the sum of those of its longest completable prefix and of the rest.
 pub front_bytes : (t rest : List ℕ) → IsUtf8 t → IsUtf8 rest → (s : StopsBefore IsToken (chars t) (chars rest)) → length
     t ≡ byte_len s.front + length rest
 front_bytes t rest ut ur s = cut_bytes t rest s.front ut ur s.text_is

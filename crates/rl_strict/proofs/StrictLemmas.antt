@@ -54,7 +54,7 @@ units_token k t inside q text c =
       }));
     }
 
--- The parts of a raw string are one text, concatenated from the left or from the right.
+-- Concatenating the parts of a raw string from the left gives the text that concatenating them from the right gives.
 raw_text : (o h i x : List ℕ) → ((((o ++ h) ++ (34 ∷ i)) ++ (34 ∷ h)) ++ x) ≡ o ++ (h ++ (34 ∷ (i ++ (34 ∷ (h ++ x)))))
 raw_text o h i x = simp append_assoc
 

@@ -53,8 +53,8 @@ unfolding ends_raw
 raw_on k hashes c cs h = ap (λ b. cond b (is_strict_suffix (drop (length hashes) cs))
     (is_raw_character k c && ends_raw k hashes cs)) h
 
--- A helper for characters other than `"` and CR, which a raw string may contain. The argument `a` is true for `"`, and `b`
--- for CR.
+-- The code's test of a raw string's character passes for a character other than `"` and CR. The argument `a` tells whether
+-- the character is `"`, and `b` whether it is CR.
 str_inside : (a b : Bool) → not (a || b || b || b) ≡ true → (not a && not b) ≡ true
 str_inside true b h = absurd (cc)
 str_inside false true h = absurd (cc)

@@ -58,13 +58,14 @@ pub passes_seam : (test : ℕ → Bool) (a b : List ℕ) → first_passes test a
 passes_seam test [] b h k = k
 passes_seam test (c ∷ cs) b h k = h
 
--- If an escaped line end may end before a text, it may also end before each prefix of the text.
+-- An escaped line end skips white space. If a text may follow an escaped line end, each prefix of the text may follow it
+-- too.
 may_end_front : (u : StrictUnit) (a b : List ℕ) → MayEnd u (a ++ b) → MayEnd u a
 may_end_front (LineBreak blanks) a b m = passes_front is_dropped_blank a b m
 may_end_front other a b m = tt
 
--- If an escaped line end may end before characters and escapes, it may also end before these characters and escapes followed
--- by a text that doesn't begin with white space.
+-- An escaped line end skips white space. If characters and escapes may follow an escaped line end, they may also follow it
+-- with a text after them that doesn't begin with white space.
 may_end_seam : (u : StrictUnit) (us : List StrictUnit) (b : List ℕ) → first_passes is_dropped_blank b ≡ false
     → BlanksEnd (u ∷ us) → MayEnd u (flat_map strict_text us ++ b)
 may_end_seam (LineBreak blanks) us b n m = passes_seam is_dropped_blank (flat_map strict_text us) b m.0 n
@@ -156,7 +157,7 @@ units_step k t r s h e same = (
 abbrev pub is_bare : Kind → ℕ → Bool
 is_bare k c = is_strict_unit k (Itself c)
 
--- The kind of a string isn't the kind of a character literal.
+-- A kind of string isn't `Char`, the kind of character literals.
 pub no_char : (k : Kind) → is_string k ≡ true → k ≡ Char → ⊥
 no_char k h e = both_ways (is_string k) (ap is_string e) h
 
@@ -175,8 +176,8 @@ stuck_down k t x [] s h each b i e = ap (ends_quoted 34) e ∙ quote_complete 34
 stuck_down k t x (u ∷ us) s h each b i e = absurd (let n : None ≡ Some (flat_map strict_text us ++ (34 ∷ x)) = sym h
     ∙ row_after k u us 34 x t each b refl e in (cc))
 
--- If no further character or escape of a string follows, the code's test whether a quote and a suffix follow tells whether
--- the whole text ends a string.
+-- If no further character or escape of a string follows, the whole text ends a string if and only if a quote and a suffix
+-- follow.
 pub units_end : (k : Kind) (b : Bool) (t s : List ℕ) → is_string k ≡ true → unit_rest k t ≡ None
     → (ClosesUnits k t ↔ ClosesUnits k s) → b ≡ ends_quoted 34 t → IsTrue b ↔ ClosesUnits k s
 units_end k b t s h e same is = (

@@ -232,8 +232,8 @@ pub same_flaw : (form : QuotedForm) (kind : Kind) (k l : FlawKind) (inside p q r
 same_flaw form kind k l inside p q r z is piece place h = subst (λ y. FlawInside form kind y inside q z) (sym is) (subst
     (λ y. FlawInside form kind l inside y z) (sym piece) (subst (FlawInside form kind l inside p) (sym place) h))
 
--- A text after an opening delimiter that ends with a closing delimiter: with a suffix after it the literal is closed, and
--- without a suffix it isn't.
+-- The text from the end of an opening delimiter to the end of the closing delimiter. With a suffix after this text the
+-- literal is closed, and with any other text it isn't.
 pub record Closer (form : QuotedForm) (kind : Kind) : Type 0 where
   pub before : List ℕ
   pub good : (x : List ℕ) → is_strict_suffix x ≡ true → ClosesForm form kind (before ++ x)

@@ -66,7 +66,7 @@ none_bare k c e a h = go (is_strict_unit k (Itself c)) refl
     go true y = let n : None ≡ Some e = sym h ∙ itself_past k c e y in absurd (cc)
     go false y = y
 
--- An escape other than an escaped line end ends at one position in both grammars, Rust's and `syn`'s.
+-- An escape other than an escaped line end ends at the same position in both grammars, Rust's and `syn`'s.
 escape_same : (k : Kind) (t : List ℕ) → first_passes (λ c. c == 10) t ≡ false → first_passes (λ c. c == 13) t ≡ false
     → unit_rest k (92 ∷ t) ≡ option_map (λ p. p.1) (escape_at k t)
 unfolding unit_rest escape_at

@@ -107,7 +107,8 @@ pub return_of : (how : LineEnds) (k : Kind) (t line : List ℕ) → t ≡ 13 ∷
     → None ≡ escape_rest k (read_of how t)
 return_of how k t line e h = sym (ap (escape_rest k) (kept_read how t line 13 e h))
 
--- After a backslash, an escape other than an escaped line end ends at one position in both grammars, Rust's and `syn`'s.
+-- After a backslash, an escape other than an escaped line end ends at the same position in both grammars, Rust's and
+-- `syn`'s.
 left_of : (k : Kind) (c : ℕ) (cs : List ℕ) → (c == 10) ≡ false → (c == 13) ≡ false → escape_rest k (c ∷ cs)
     ≡ option_map (λ (p : List ℕ × List ℕ). p.1) (escape_at k (c ∷ cs))
 unfolding unit_at
