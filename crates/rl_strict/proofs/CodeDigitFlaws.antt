@@ -2,7 +2,7 @@
 -- returns.
 use Rattle.rl_strict.proofs.Names.{◌≡◌, ℕ, ◌+◌, ◌*◌, ◌≤◌, ◌&&◌, false, not, cond, eqb, List, [], ◌∷◌, Option, Some, None, refl, sym, ap, subst, ◌∙◌, inl, inr, arith, option_and_then, digit_value, and_parts, both_ways, cases_Bool, eq-eqb, eqb-true, ne_eqb, not-true, Kind, is_hex_digit, Unclosed, NoHexDigit, TooManyDigits, CodeDigits, code_digits_at, first_code_digits_at, FoundFlaw, code_flaw_at, code_flaw_of, first_digit_flaw_at, found_flaw, is_code, digit_apart, below_six}
 
--- ---- the flaw of the digits
+-- ---- the flaw of the digits of a `\u{..}` escape
 
 -- The flaw of a `\u{..}` escape, by the text after its first `n` digits. These digits represent the number `v`.
 unfoldable pub digits_flaw_at : Kind → ℕ → ℕ → List ℕ → FoundFlaw

@@ -42,7 +42,7 @@ pub nil_of : (how : LineEnds) (t : List ℕ) → t ≡ [] → read_of how t ≡ 
 nil_of Text t e = e
 nil_of File t e = ap (read_of File) e
 
--- ---- tests of characters
+-- ---- tests of characters of texts as they are read
 
 -- If a test of characters has equal results for CR and LF, its result for a text's first character doesn't change if CR LF
 -- is read as LF.
@@ -90,7 +90,7 @@ pub unit_flaw_of : (how : LineEnds) (k : Kind) (t : List ℕ) → (is_string k �
 unit_flaw_of Text k t none = same_flaw (strict_unit_flaw_at k t)
 unit_flaw_of File k t none = unit_flaw_read k t none
 
--- ---- characters, escapes and closing delimiters
+-- ---- characters, escapes and closing delimiters of texts as they are read
 
 pub stuck_of : (how : LineEnds) (k : Kind) (t : List ℕ) → is_string k ≡ true → unit_rest k (read_of how t) ≡ None
     → unit_rest k t ≡ None

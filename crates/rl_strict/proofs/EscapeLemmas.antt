@@ -53,7 +53,7 @@ only_zero kind v h = absurd (cc)
 not_zero : (n : ℕ) → eqb (n + 1) 0 ≡ false
 not_zero n = ne_eqb (n + 1) 0 (λ e. omega (arith, e))
 
--- ---- the two digits of \x
+-- ---- the two digits of a `\x` escape
 
 pub hex_read : (kind : Kind) (c d : ℕ) (r : List ℕ) → is_hex_digit c ≡ true → is_hex_digit d ≡ true → hex_at kind (c ∷ d
     ∷ r) ≡ number_if (may_be_hex kind (digit_value c * 16 + digit_value d)) (digit_value c * 16 + digit_value d) r
@@ -119,7 +119,7 @@ past_hex kind c (d ∷ ds) h high =
     go true e bad = hex_read kind c d ds h e ∙ ap (λ b. number_if b (digit_value c * 16 + digit_value d) ds) bad
     go false e bad = no_low kind c d ds h e
 
--- ---- the digits between braces
+-- ---- the digits between the braces of a `\u{..}` escape
 
 -- The number of a `\u{..}` escape and the text after the escape, if the kind allows the number.
 abbrev pub allowed : Kind → ℕ × List ℕ → Option (ℕ × List ℕ)
@@ -269,7 +269,7 @@ spelled_on kind v n c s h short good =
     fifth true h = refl
     fifth false h = absurd (cc)
 
--- ---- a numeric escape
+-- ---- `\x` and `\u{..}` escapes
 
 -- The parser of the text after the opening brace of a `\u{..}` escape.
 abbrev pub braced : Kind → Reader ℕ
@@ -313,7 +313,7 @@ unicode_never kind t h = go (unicode_at kind t) refl
     go None e = e
     go (Some p) e = let at = unicode_sound kind t p e in absurd (both_ways (allows_unicode_escapes kind) h at.allowed.0)
 
--- ---- an escape
+-- ---- any escape
 
 escaped_n : (kind : Kind) (r : List ℕ) → escape_at kind (110 ∷ r) ≡ found (10 ∷ []) r
 unfolding escape_at

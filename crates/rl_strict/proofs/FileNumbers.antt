@@ -80,7 +80,7 @@ fraction_read t = by_first (λ z r. fraction_end_at r ≡ lf_ending (fraction_en
     digits_end_at (after_digits 10 z)) (sym e) ∙ ap digits_end_at (after_read 10 ten (c ∷ cs)) ∙ digits_end_read
     (after_digits 10 (c ∷ cs))) (ap (stopped NoFractionDigit) (sym e))) t
 
--- ---- numbers
+-- ---- the parse result of a number in a file
 
 float_read : (e : Ending) → as_float (lf_ending e) ≡ lf_number (as_float e)
 float_read (None, x) = refl

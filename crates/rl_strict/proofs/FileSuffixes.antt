@@ -3,7 +3,7 @@
 use Rattle.rl_strict.proofs.Names.{◌≡◌, ℕ, Bool, true, false, not, ◌==◌, ◌&&◌, ◌||◌, cond, List, [], ◌∷◌, Option, Some, None, refl, sym, ap, subst, ◌∙◌, arith, and_parts, not-true, is_xid_continue, is_xid_continue-ascii, is_xid_start, is_xid_start-ascii, list_all, option_map, ByteStr, CStr, Kind, Str, after_run, first_passes, truth_text, and_left, is_continue, is_start, is_white, all_weaker, apart, run, FoundOpener, byte_opener_at, opener_at, string_opener_at, is_some_text, QuotedForm, CookedForm, RawForm, SingleForm, run_all, run_join, and_from, FlawKind, BadSuffix, TextAfterQuote, ExtraHash, NotALiteral, UnderscoreSuffix, UnexpectedEnd, is_dropped, lf_text, IsFileRest, form_quote, is_raw_form, begins_hash, suffix_end_flaw_at, suffix_rest, is_lone_underscore, suffix_end_read, suffix_read_at, FoundFlaw, found_flaw, after_letters, end_flaw_at, word_flaw_at}
 use Rattle.rl_strict.proofs.FileTextLemmas.{by_first, lacks_cr, line_of, rest_free, rest_self, when_kept}
 
--- ---- a function of a conditional value
+-- ---- a function applied to both cases of a condition
 
 pub both : {A B : Type 0} (f : A → B) (b : Bool) (x y : A) (u v : B) → u ≡ f x → v ≡ f y → cond b u v ≡ f (cond b x y)
 both f true x y u v p q = p
@@ -13,7 +13,7 @@ both f false x y u v p q = q
 abbrev pub lf_flaw : FoundFlaw → FoundFlaw
 lf_flaw flaw = (flaw.0, lf_text flaw.1)
 
--- ---- tests of characters, and sequences
+-- ---- tests of characters, and sequences of characters that pass a test
 
 -- If a test of characters has equal results for CR and LF, its result for a text's first character doesn't change if CR LF
 -- is read as LF.
@@ -68,7 +68,7 @@ pub run_rest : (test : ℕ → Bool) → test 13 ≡ false → (t : List ℕ) �
 run_rest test r t = rest_free t (run test t) (after_run test t) (run_join test t)
     (all_weaker test (λ c. not (c == 13)) (λ c h. ap not (apart test c 13 h r)) (run test t) (run_all test t))
 
--- ---- suffixes
+-- ---- suffixes in a file
 
 cr_start : is_start 13 ≡ false
 cr_start = and_left (13 == 95 || is_xid_start 13) (not (is_white 13)) (is_xid_start-ascii 13 (omega arith))
@@ -184,7 +184,7 @@ suffix_place form t f h = go (begins_hash form t) (sym h)
         subst (IsFileRest t) (ap (λ z. z.1) same) (rest_self t)
     go false e = subst (IsFileRest t) (sym (end_place form t (suffix_rest t) f e)) (suffix_in t)
 
--- ---- words
+-- ---- texts in a file that begin as the words `true` and `false`
 
 pub end_flaw_read : (a b : FlawKind) (t : List ℕ) → end_flaw_at a b (lf_text t) ≡ lf_flaw (end_flaw_at a b t)
 end_flaw_read a b t = by_first (λ z r. end_flaw_at a b r ≡ lf_flaw (end_flaw_at a b z)) refl (λ cs. refl)

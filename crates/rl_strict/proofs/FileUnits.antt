@@ -8,7 +8,7 @@ use Rattle.rl_strict.proofs.FileSuffixes.{both, run_rest}
 use Rattle.rl_strict.proofs.FileEscapes.{escape_read, lf_pair}
 use Rattle.rl_strict.proofs.ReadQuoted.{plain_row, single_closes, not_string}
 
--- ---- a CR LF
+-- ---- a CR LF that is read as LF
 
 pub line_read : (t rest : List ℕ) → t ≡ 13 ∷ 10 ∷ rest → lf_text t ≡ 10 ∷ lf_text rest
 line_read t rest e = ap lf_text e

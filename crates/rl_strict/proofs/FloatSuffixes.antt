@@ -5,7 +5,7 @@ use Rattle.rl_lenient.proofs.Names.{Minus}
 use Rattle.rl_lexer.proofs.LexemeRows.{run_past}
 use Rattle.rl_strict.proofs.NumberEnds.{in_row, part_row, row_part}
 
--- ---- the suffix
+-- ---- the suffixes `f32` and `f64`
 
 -- The bytes of the text `f32` are its characters.
 f32_chars : chars (codes "f32") ≡ codes "f32"
@@ -96,7 +96,7 @@ parts_of t f =
       is_float = subst IsFloatSuffix (sym (ap (after_digits 10) same ∙ rest)) f.is_float;
     }
 
--- ---- the tests of the code
+-- ---- the code's test for a float by its suffix
 
 pub float_decides : (t number rest : List ℕ) (b : Bool) → number ≡ after_minus t → rest ≡ after_digits 10 number
     → first_passes is_ascii_digit number ≡ true → IsTrue b ↔ IsFloatSuffix rest → IsTrue b ↔ IsFloatBySuffix t

@@ -4,7 +4,7 @@ use Rattle.rl_strict.proofs.OneStrictFlaw.{Explained, explained_once, flaw_same,
 use Rattle.rl_strict.proofs.ReadNumbers.{one_digit}
 use Rattle.rl_strict.proofs.SignedFlaws.{unsigned}
 
--- ---- without a minus
+-- ---- texts without a minus
 
 -- If a text without a minus can be completed to a literal token or to a minus and a number, it can be completed to a literal
 -- token.
@@ -26,7 +26,7 @@ unsigned_stops t rest n s = record {
   stuck = λ c cs e h y. s.stuck c cs e h (inl y);
 }
 
--- ---- after a minus
+-- ---- texts that begin with a minus
 
 -- If a text begins with a minus, the longest prefix that can be completed contains the minus.
 number_cut : (t number rest : List ℕ) → t ≡ 45 ∷ number → StopsBefore IsSignedToken t rest

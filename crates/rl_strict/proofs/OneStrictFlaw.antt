@@ -63,7 +63,7 @@ opener_same t f g k l x y a b =
     let e : Some p ≡ Some q = sym a ∙ b in
     cc
 
--- ---- prefixes of words
+-- ---- prefixes of the words `true`, `false`, `b` and `c`
 
 -- A prefix of a word (`true`, `false`, `b` or `c`) doesn't begin as a number or as a quoted literal.
 pub record IsFront (front : List ℕ) : Type 0 where
@@ -97,7 +97,7 @@ begins_front front (inl e) = subst IsFront (sym e) letter_front
 begins_front front (inr (inl e)) = subst IsFront (sym e) other_front
 begins_front front (inr (inr w)) = truth_front w.truth front w.more w.word_is
 
--- ---- flaws
+-- ---- the fields of a flaw
 
 -- Creates a flaw from its kind and its three byte offsets.
 make : FlawKind → ℕ → ℕ → ℕ → Flaw
@@ -112,7 +112,7 @@ flaw_same a b kind from lo hi =
     ∙ ap (λ z. make b.kind b.from z a.hi) lo
     ∙ ap (λ z. make b.kind b.from b.lo z) hi
 
--- ---- quoted literals
+-- ---- the flaw of a quoted literal
 
 form_once : (form : QuotedForm) (kind : Kind) (k l : FlawKind) (inside pa pb rest : List ℕ) → has_form form kind ≡ true
     → StrictQuotedFlaw form kind k inside pa rest → StrictQuotedFlaw form kind l inside pb rest → (k ≡ l) × (pa ≡ pb)
@@ -143,7 +143,7 @@ front_opened k t front piece rest e q none =
     let h = sym none ∙ ap opener_at is ∙ front_complete q.form q.kind m q.is_form in
     absurd (cc)
 
--- ---- numbers
+-- ---- the flaw of a number
 
 pub number_once : (k l : FlawKind) (front rest : List ℕ) → IsStrictNumberFlaw k front rest → IsStrictNumberFlaw l front
     rest → k ≡ l
@@ -155,7 +155,7 @@ number_once k l front rest p q =
     in
     cc
 
--- ---- words
+-- ---- the flaw of a text that begins neither as a number nor as a quoted literal
 
 -- The kind of flaw of a text that begins neither as a number nor as a quoted literal. The arguments are the text before the
 -- flaw and the text from the flaw on.

@@ -178,7 +178,7 @@ not_both k f m t piece rest closing front (Hashes u a p) o e = unopened_open k m
 not_both k f m t piece rest closing front (Contents n x a p) o e = not_closed k n m t rest closing front x o e
 not_both k f m t piece rest closing front (Many x h a p) o e = many_open k m t rest closing x h o
 
--- ---- any flaw
+-- ---- at most one flaw of a raw string at each position
 
 -- If two closing delimiters of a raw string have equal hashes and begin at one position, the texts after them are equal.
 suffix_same : (n m : ℕ) (ca cb sa sb : List ℕ) → hashes n ≡ hashes m → ca ≡ cb → ca

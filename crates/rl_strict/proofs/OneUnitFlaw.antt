@@ -81,7 +81,7 @@ no_end kind (c ∷ cs) first each =
     let p = and_parts (is_part c) (list_all is_part cs) each in
     rw (unicode_is kind (123 ∷ c ∷ cs), first, not_closed (digit_value c) 1 cs p.1) refl
 
--- ---- the kinds of flaws
+-- ---- the flaws of a character or escape, kind by kind
 
 -- If a kind of literal can't contain the character with a number, the reason is the one that the code returns.
 code_of : (kind : Kind) (k : FlawKind) (n : ℕ) → IsNoCode kind k n → k ≡ code_flaw_of n

@@ -11,7 +11,7 @@ use Rattle.rl_strict.proofs.StrictWordLemmas.{strict_suffix_sound}
 use Rattle.rl_lenient.proofs.RawLemmas.{opens, raw_found}
 use Rattle.rl_strict.proofs.StrictCookedFlaws.{cooked_unclosed, no_front, single_closed, single_open, single_unclosed, string_closed, string_open, unquoted_ends}
 
--- ---- the suffix
+-- ---- the suffix of a quoted literal
 
 pub judged_by : (form : QuotedForm) (t : List ℕ) (o : Option FoundFlaw) → o ≡ suffix_read_at form t → Judges form t o
 judged_by form t o e = subst (Judges form t) (sym e) (suffix_judged form t)
@@ -186,7 +186,7 @@ good_front k c cs s (inr g) = go k s (c == 92) refl
         byte false false t = refl
     go kind s false e = absurd (cc)
 
--- ---- results of function calls
+-- ---- results of the code's functions for a character or escape
 
 pub rest_is : {I : Type 0} (value rest : I → List ℕ) (r : Option I) (u : Option (List ℕ × List ℕ))
     → option_map (λ i. (value i, rest i)) r ≡ u → option_map rest r ≡ option_map (λ (p : List ℕ × List ℕ). p.1) u

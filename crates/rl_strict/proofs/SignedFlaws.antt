@@ -14,7 +14,7 @@ number_of t (inr (n, e, d, c)) =
     let same : n ≡ t = cc in
     (subst (λ z. first_passes is_ascii_digit z ≡ true) same d, subst IsToken same c)
 
--- ---- the position where the number stops
+-- ---- the position where the number after a minus stops
 
 pub number_stops : (t rest : List ℕ) → first_passes is_ascii_digit t ≡ true → StopsBefore IsToken t rest
     → StopsBefore IsSignedToken (45 ∷ t) rest
@@ -57,7 +57,7 @@ unsigned t n (inl c) = c
 unsigned t n (inr (m, e, d, c)) = absurd (both_ways (first_passes (λ c. c == 45) t) n
     (ap (first_passes (λ c. c == 45)) e))
 
--- ---- bytes
+-- ---- the number of bytes of a text with a minus, before and after the flaw
 
 pub signed_bytes : (t number rest : List ℕ) → chars t ≡ 45 ∷ chars number → IsUtf8 t → IsUtf8 rest
     → (s : StopsBefore IsSignedToken (45 ∷ chars number) (chars rest)) → length t ≡ byte_len s.front + length rest

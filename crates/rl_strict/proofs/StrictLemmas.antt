@@ -177,7 +177,7 @@ seen t Int v x s = inr (inl (v, x, inl s))
 seen t Float v x s = inr (inl (v, x, inr s))
 seen t BoolKind v x s = inr (inr (s.truth, s.text ∙ truth_words s.truth))
 
--- ---- the beginning of a text identifies the case
+-- ---- the beginning of a literal token identifies its form
 
 -- A text that begins as a number has no opening delimiter.
 number_front : (t : List ℕ) → begins_number t ≡ true → opener_at t ≡ None

@@ -75,7 +75,7 @@ judged_more : (good more : List ℕ → Type 0) (read : List ℕ → Ending) (be
 judged_more good more read before t (None, x) says h = says x h
 judged_more good more read before t (Some k, rest) says h = h
 
--- ---- a suffix
+-- ---- the suffix of a number
 
 abbrev SuffixOf : List ℕ → List ℕ → Type 0
 SuffixOf t x = IsNumberSuffix x × (t ≡ x)
@@ -123,7 +123,7 @@ no_mark : (test : ℕ → Bool) (t : List ℕ) → first_passes (λ c. test c ||
     → first_passes is_underscore t ≡ false
 no_mark test t h = (each_fails test is_underscore t h).1
 
--- ---- an exponent
+-- ---- the exponent of a float
 
 -- The text is a whole part with an optional fraction, so an exponent may follow.
 record BeforePower (before : List ℕ) : Type 0 where

@@ -52,7 +52,7 @@ raw_halts k hashes (d ∷ ds) cs c e = go (raw_halts k hashes ds cs c) (ends_at 
     go rec true h e = sym (ap (ends_at k hashes) e) ∙ h
     go rec false h e = rec e
 
--- ---- iterations of the loop
+-- ---- iterations of the loop over a raw string's content
 
 pub walk_halt : (k : Kind) (hashes t cs : List ℕ) (c : ℕ) → t ≡ c ∷ cs → ends_at k hashes (c ∷ cs) ≡ true → t
     ≡ raw_stop k hashes t

@@ -199,7 +199,7 @@ raw_sound k hashes t s h =
     let a = inside_sound k r.inside s r.each in
     record { inside = r.inside; suffix = r.suffix; allowed = a.0; no_carriage_return = a.1; first_close = r.none; is_suffix = r.is_suffix; text_is = r.text_is }
 
--- ---- iterations of the loop
+-- ---- iterations of the loop over a raw string's content
 
 -- A quote without the raw string's hashes after it isn't a closing delimiter.
 pub quote_without_hashes : (hashes : List ℕ) (c : ℕ) (cs : List ℕ) → ((x : List ℕ) → cs ≢ hashes ++ x)
@@ -207,7 +207,7 @@ pub quote_without_hashes : (hashes : List ℕ) (c : ℕ) (cs : List ℕ) → ((x
 quote_without_hashes hashes c cs none = false_from_ne_true (c == 34 && begins hashes cs)
     (λ h. let b = begins_is hashes cs (and_parts (c == 34) (begins hashes cs) h).1 in none b.0 b.1)
 
--- ---- the hashes
+-- ---- the hashes of a raw string
 
 -- If no quote follows the hashes at the beginning of a text, the text isn't a raw string after its prefix.
 pub raw_unquoted : (k : Kind) (t r : List ℕ) → r ≡ (after_run is_hash) t → ((y : List ℕ) → r ≢ 34 ∷ y)

@@ -219,7 +219,7 @@ suffix_judged form t = go (begins_hash form t) refl
     go true h = (hash_no_suffix form t h, hash_spoils form t h)
     go false h = judged_end form t (suffix_rest t) (suffix_cut t) h
 
--- ---- the flaw in the literal
+-- ---- the flaw of a suffix is a flaw of the whole literal
 
 -- The text after an opening delimiter isn't the end of a literal, and has the flaw with this kind, piece and rest.
 abbrev pub FlawInside : QuotedForm → Kind → FlawKind → List ℕ → List ℕ → List ℕ → Type 0

@@ -8,7 +8,7 @@ use Rattle.rl_strict.proofs.UnitFlawLemmas.{HasUnitFlaw, IsOpen, byte_has, escap
 use Rattle.rl_strict.proofs.Stops.{Stops}
 use Rattle.rl_strict.proofs.StrictRowLemmas.{no_char}
 
--- ---- the character or escape at the beginning
+-- ---- a character or escape at the beginning of a text
 
 -- The text is a complete character or escape, whatever text follows.
 abbrev pub IsUnitText : Kind → List ℕ → Type 0
@@ -84,7 +84,7 @@ shared : (k : Kind) (f : FlawKind) (t rest : List ℕ) → UnitFlaw k f t rest �
 shared k CarriageReturn t rest u = absurd u
 shared k f t rest u = u
 
--- ---- an escape
+-- ---- the flaw of an escape
 
 -- If no line end follows a backslash, the flaw of the escape in `syn`'s grammar is its flaw in Rust's grammar.
 escape_flaw : (k : Kind) (t : List ℕ) (flaw : FoundFlaw) → first_passes (λ c. c == 10) t ≡ false → first_passes (λ c. c
@@ -280,7 +280,7 @@ bare_return ByteStr s = refl
 bare_return CStr s = refl
 bare_return kind s = absurd (cc)
 
--- ---- a character or escape
+-- ---- the flaw of a character or escape
 
 -- If no valid character or escape begins with a character, the flaw is at this character.
 at_front : (k : Kind) (c : ℕ) (cs : List ℕ) (flaw : FlawKind) → IsQuotedKind k → ((e : List ℕ) → unit_rest k (c ∷ e)

@@ -22,7 +22,7 @@ pub breaks_to : (us : List StrictUnit) (a b : List ℕ) → (first_passes is_dro
 breaks_to [] a b f h = tt
 breaks_to (u ∷ us) a b f h = (break_to u (flat_map strict_text us) a b f h.0, breaks_to us a b f h.1)
 
--- ---- sequences made longer
+-- ---- two sequences of characters and escapes, one after the other
 
 breaks_join : (us vs : List StrictUnit) (b c : List ℕ) → b ≡ flat_map strict_text vs ++ c → BreaksEnd us b
     → BreaksEnd vs c → BreaksEnd (us ++ vs) c

@@ -18,13 +18,13 @@ pub moved : (says : FlawKind → List ℕ → List ℕ → Type 0) (t : List ℕ
 moved says t flaw k rest kind place f = subst (λ z. IsStrictFlaw says t (z, rest)) (sym kind)
     (subst (λ z. IsStrictFlaw says t (flaw.0, z)) (sym place) f)
 
--- ---- the completion of a word
+-- ---- the completion of the words `true` and `false`
 
 by_truth : (b : Bool) (front more : List ℕ) → truth_text b ≡ front ++ more → AllByRecursion IsScalar more
     → IsCompletable IsToken front
 by_truth b front more e all = record { ending = more; are_characters = all; is_taken = truth_token (front ++ more) b (sym e) }
 
--- If a word consists of valid characters, so does the part of it after any prefix.
+-- If a word consists of valid characters, the part of the word after any prefix does too.
 left_characters : (front more : List ℕ) → AllByRecursion IsScalar (front ++ more) → AllByRecursion IsScalar more
 left_characters [] more a = a
 left_characters (c ∷ cs) more a = left_characters cs more a.1

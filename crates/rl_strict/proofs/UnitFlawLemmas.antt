@@ -76,7 +76,7 @@ pub left_false : (a b : Bool) → b ≡ true → (a && b) ≡ false → a ≡ fa
 left_false true b h e = absurd (both_ways b e h)
 left_false false b h e = refl
 
--- ---- the two digits of \x
+-- ---- the two digits of a `\x` escape
 
 rejected : (b : Bool) (n : ℕ) (r : List ℕ) → number_if b n r ≡ None → b ≡ false
 rejected true n r h = absurd (cc)
@@ -131,7 +131,7 @@ hex_spoils kind (c ∷ cs) none =
     (λ e. here c cs NoHexDigit (hex_one kind) (λ r. no_high kind c r e)
     (FirstDigit refl (not_from_false (is_hex_digit c) e)))
 
--- ---- the number that the digits represent
+-- ---- the number that the digits of a `\u{..}` escape represent
 
 place_more : (xs : List ℕ) (c : ℕ) → place_value 16 (xs ++ (c ∷ [])) ≡ place_value 16 xs * 16 + digit_value c
 place_more [] c = omega arith
@@ -348,7 +348,7 @@ unicode_spoils kind (c ∷ cs) u none = cond_both (eqb c 123) _ _
     (λ e. here c cs NoBrace (unicode_one kind u) (λ r. no_unicode_brace kind c r e)
     (refl, not_from_false (eqb c 123) e))
 
--- ---- an escape
+-- ---- the flaw of an escape
 
 -- If an escape is invalid, the character after its backslash isn't the letter of an escape whose value the kind allows.
 not_letter : (kind : Kind) (c : ℕ) (cs : List ℕ) (letter : Letter) → escape_at kind (c ∷ cs) ≡ None
@@ -492,8 +492,8 @@ byte_has c cs p b = zero (eqb c 0) refl
     zero true e = let h : true ≡ false = ap (is_plain Byte) (sym (eqb-true c 0 e)) ∙ p in absurd (cc)
     zero false e = apostrophe (eqb c 39) refl
 
--- ---- a character or escape
+-- ---- the flaw of a character or escape
 
--- The text doesn't begin with the closing quote of a string.
+-- If the kind is a kind of string, the text doesn't begin with the closing quote `"`.
 abbrev pub IsOpen : Kind → List ℕ → Type 0
 IsOpen kind t = is_string kind ≡ true → first_passes (λ c. eqb c 34) t ≡ false

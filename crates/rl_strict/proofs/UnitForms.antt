@@ -8,7 +8,7 @@ use Rattle.rl_strict.proofs.EndLemmas.{first_of, free_in, loose, nil_of, step_in
 use Rattle.rl_strict.proofs.WalkForms.{quote_read}
 use Rattle.rl_strict.proofs.FileUnits as file
 
--- ---- the first character
+-- ---- the first character of a text, which may be the CR of a CR LF
 
 pub line_of : (how : LineEnds) (t rest : List ℕ) → how ≡ File → t ≡ 13 ∷ 10 ∷ rest → read_of how t
     ≡ 10 ∷ read_of how rest

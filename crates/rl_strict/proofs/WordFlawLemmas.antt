@@ -147,7 +147,7 @@ unfolding opener_at common
 false_flaw cs = letters_flaw false (102 ∷ cs) (common (truth_text false) (102 ∷ cs))
     (record { no_opener = λ e. refl; no_number = λ e. refl; only = λ e d h. false_first _ d h }) (λ n. absurd (cc))
 
--- ---- texts that begin otherwise
+-- ---- texts that begin with neither `t` nor `f`
 
 -- The form and the kind of a quoted literal, and the text after its opening delimiter.
 abbrev Opened : Type 0
@@ -160,7 +160,7 @@ picks false true r x y z u v w h = absurd (cc)
 picks false false true x y z u v w h = absurd (cc)
 picks false false false x y z u v w h = refl
 
--- A character that begins a prefix (`b` or `c`).
+-- The character `b` or `c`, which may begin the opening delimiter of a quoted literal.
 record IsPrefix (c : ℕ) : Type 0 where
   reads : HasReading (c ∷ 34 ∷ 34 ∷ [])
   no_number : is_number_front c ≡ false

@@ -205,8 +205,8 @@ fn read_rare(ends: LineEnds, text: &str) -> Result<Reading, FlawAt<'_>>
     }
 }
 
-/// Parses the text as a literal token. The error is the flaw with texts that begin at its piece and at its position. They are
-/// converted to byte offsets later.
+/// Parses the text as a literal token. The error is the flaw, with the text that begins at the flaw and the text that begins at
+/// the flaw's piece. The caller converts these texts to byte offsets.
 #[inline(always)]
 fn read_at(ends: LineEnds, text: &str) -> Result<Reading, FlawAt<'_>>
     ensures reads { IfOk result (IsReadingOf ends false text.now) }
@@ -249,8 +249,8 @@ fn after_minus(signed: bool, text: &str) -> Option<&str>
     if signed { strip_byte(text, b'-') } else { None }
 }
 
-/// Parses the text as a literal token, or as a minus and a number if `signed` is true. The error is the flaw with
-/// texts that begin at its piece and at its position. They are converted to byte offsets later.
+/// Parses the text as a literal token, or as a minus and a number if `signed` is true. The error is the flaw, with
+/// the text that begins at the flaw and the text that begins at the flaw's piece. The caller converts these texts to byte offsets.
 #[inline(always)]
 fn signed_at(text: &str, ends: LineEnds, signed: bool) -> Result<Reading, FlawAt<'_>>
     ensures reads { IfOk result (IsReadingOf ends signed text.now) }

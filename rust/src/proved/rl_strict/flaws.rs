@@ -252,7 +252,7 @@ pub fn end_flaw(at_end: FlawKind, before: FlawKind, text: &str) -> FlawAt<'_> {
     }
 }
 
-/// Returns `text` without the letters at its beginning that `word` begins with.
+/// Returns the part of `text` after the longest common prefix of `word` and `text`.
 fn skip_letters<'t>(word: &str, text: &'t str) -> &'t str {
     let mut left = word;
     let mut rest = text;
