@@ -191,7 +191,8 @@ fn after_minus(signed: bool, text: &str) -> Option<&str> {
 }
 
 /// Parses the text as a literal token, or as a minus and a number if `signed` is true. The error is the flaw, with
-/// the text that begins at the flaw and the text that begins at the flaw's piece. The caller converts these texts to byte offsets.
+/// the text that begins at the flaw and the text that begins at the flaw's piece. The caller converts these texts to byte
+/// offsets.
 #[cfg_attr(debug_assertions, inline)]
 #[cfg_attr(not(debug_assertions), inline(always))]
 fn signed_at(text: &str, ends: LineEnds, signed: bool) -> Result<Reading, FlawAt<'_>> {
