@@ -54,8 +54,8 @@ row_goes_on c d (k ∷ more) x each e = both_ways (k == 39) (not_among k 39 is_c
 
 -- ---- one character between quotes
 
--- One character between single quotes begins a valid token, whatever text follows the closing quote. The character isn't a
--- backslash.
+-- Any character other than a backslash, between single quotes, begins a valid token, whatever text follows the closing
+-- quote.
 one_proper : (c : ℕ) (after : List ℕ) → (c == 92) ≡ false → BeginsProper (39 ∷ c ∷ 39 ∷ after)
 one_proper c after n =
     let found = suffix_found after in (
