@@ -190,7 +190,7 @@ spoils kind MustEscape t c cs (k, e, b) = record { front = []; text_is = e; no_u
 spoils kind NoCharacter t c cs (k, e, b) = record { front = []; text_is = e; no_unit = unit_nil kind; kind_is = ap character_flaw_of (sym (eqb-true c 39 b)) }
 spoils kind k t c cs h = absurd h
 
--- If a character or escape ends at the end of the text, the kind of flaw is the missing closing quote, `Unclosed`.
+-- If the text ends before a character or escape is complete, the kind of flaw is the missing closing quote, `Unclosed`.
 pub at_end : (kind : Kind) (k : FlawKind) (t : List ℕ) → UnitFlaw kind k t [] → k ≡ Unclosed
 at_end kind Unclosed t h = refl
 at_end kind UnknownEscape t (e, b) = let r = b.rest_is in absurd (cc)

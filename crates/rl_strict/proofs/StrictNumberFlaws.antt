@@ -382,8 +382,8 @@ first_some : (d : List ℕ) → first_passes is_ascii_digit d ≡ true → list_
 first_some [] h = absurd (both_ways false refl h)
 first_some (c ∷ cs) h = or_left (has_value 10 c) (list_any (has_value 10) cs) (sym (digit_is_ten c) ∙ h)
 
--- Decimal digits and a suffix are a decimal integer. Its magnitude is the number that the digits represent, or `None` above
--- 128 bits.
+-- Decimal digits and a suffix that begins with neither `e` nor `E` are a decimal integer. Its magnitude is the number that
+-- the digits represent, or `None` above 128 bits.
 int_of : (t d x : List ℕ) (m : Option ℕ) → IsDigits d → IsDecimalText t → IsNumberSuffix x → first_passes
     is_exponent_letter x ≡ false → t ≡ d ++ x → m ≡ capped (place_value 10 (without_underscores d)) → IntOf t m x
 int_of t d x m h n s p text is = (

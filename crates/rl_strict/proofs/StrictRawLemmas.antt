@@ -99,7 +99,8 @@ raw_close k hashes x =
 abbrev pub NoCloser : List ℕ → List ℕ → Type 0
 NoCloser hashes inside = (front rest : List ℕ) → inside ≢ front ++ (34 ∷ (hashes ++ rest))
 
--- No closing delimiter begins inside a raw string's content, also if more text follows the content.
+-- No closing delimiter begins inside a raw string's content, also if a text that doesn't begin with a hash follows the
+-- content.
 pub no_closer_at : (n : ℕ) (c : ℕ) (cs z : List ℕ) → first_passes is_hash z ≡ false → NoCloser (replicate n 35) (c ∷ cs)
     → (c == 34 && begins (replicate n 35) (cs ++ z)) ≡ false
 no_closer_at n c cs z no_hash none = false_from_ne_true (c == 34 && begins (replicate n 35) (cs ++ z)) (λ h.
@@ -107,7 +108,8 @@ no_closer_at n c cs z no_hash none = false_from_ne_true (c == 34 && begins (repl
     let b = begins_is (replicate n 35) cs (hashes_in_front n cs z no_hash p.1) in
     none [] b.0 (ap (λ q. q ∷ cs) (eqb-true c 34 p.0) ∙ ap (λ q. 34 ∷ q) b.1))
 
--- The code's test of a raw string's end skips content that has only allowed characters and no closing delimiter.
+-- The code's test of a raw string's end skips content that has only allowed characters and no closing delimiter, if no hash
+-- follows the content.
 pub past_body : (k : Kind) (n : ℕ) (body z : List ℕ) → list_all (is_raw_character k) body ≡ true → NoCloser (replicate n
     35) body → first_passes is_hash z ≡ false → ends_raw k (replicate n 35) (body ++ z) ≡ ends_raw k (replicate n 35) z
 past_body k n [] z each none no_hash = refl

@@ -98,8 +98,8 @@ record WordFront (b : Bool) (t : List ℕ) (k : Common (truth_text b) t) : Type 
   no_number : (e : List ℕ) → first_passes is_number_front (k.front ++ e) ≡ false
   only : (e : List ℕ) (d : Bool) → k.front ++ e ≡ truth_text d → d ≡ b
 
--- If a text begins as a word (`true`, `false`, `b` or `c`), its flaw is `UnexpectedEnd` at the text's end, or `NotALiteral`
--- at a character.
+-- Suppose that the longest prefix of a nonempty text that can be completed to a literal is a prefix of a word (`true`,
+-- `false`, `b` or `c`). Then the flaw is `UnexpectedEnd` at the text's end, or `NotALiteral` at a character.
 ends : (t front rest : List ℕ) → StopsBefore HasReading t rest → t ≡ front ++ rest → t ≢ [] → BeginsWord front
     → IsFlaw IsWordFlaw t (end_flaw_at UnexpectedEnd NotALiteral rest)
 ends t front [] stops cut some begins = record {
