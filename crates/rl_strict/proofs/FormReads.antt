@@ -65,7 +65,7 @@ opened_flaw how t form k inside f piece rest e h =
       rest_in = step_in how t inside rest cut h.rest_in;
     }
 
--- ---- words
+-- ---- the words `true` and `false`, and texts that begin otherwise
 
 -- A text without LF contains no CR LF, so it doesn't change if CR LF is read as LF.
 pub unread_same : (t : List ℕ) → list_all (λ c. not (c == 10)) (lf_text t) ≡ true → lf_text t ≡ t

@@ -1,4 +1,5 @@
--- A text has at most one flaw where a minus before a number is allowed, and at most one flaw as an integer above 128 bits.
+-- At most one flaw explains why a text is neither a literal token nor a minus and a number. At most one flaw explains why a
+-- text is an integer above 128 bits.
 use Rattle.rl_strict.proofs.Names.{◌≡◌, ℕ, ◌+◌, ◌==◌, false, List, [], ◌∷◌, ◌++◌, refl, sym, ap, subst, ◌∙◌, inl, inr, append_cancel_right, both_ways, is_ascii_digit, byte_len, first_passes, front_passes, int_once, IsToken, Flaw, FlawKind, NoNumber, UnexpectedEnd, IsCompletable, StopsBefore, first_len, ExplainsValue, IsLimitFlaw, IsExplainedOnce, ExplainsSigned, IsMinusFlawOf, IsSignedFlawOf, IsSignedToken, LacksNumber}
 use Rattle.rl_strict.proofs.OneStrictFlaw.{Explained, explained_once, flaw_same, kinds_once, number_once}
 use Rattle.rl_strict.proofs.ReadNumbers.{one_digit}

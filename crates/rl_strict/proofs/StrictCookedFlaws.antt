@@ -17,7 +17,7 @@ no_unit k t none r u =
     let n : None ≡ Some r = sym none ∙ ap (unit_rest k) u.text_is ∙ unit_rest_complete k u.unit r u.is_unit u.ends in
     absurd (cc)
 
--- A text that isn't a quote with text after it doesn't begin with a quote.
+-- If a text isn't the character `q` followed by another text, it doesn't begin with `q`.
 pub no_front : (q : ℕ) (t : List ℕ) → ((x : List ℕ) → t ≢ q ∷ x) → first_passes (λ c. c == q) t ≡ false
 no_front q [] n = refl
 no_front q (c ∷ cs) n = false_from_ne_true (c == q) (λ h. n cs (ap (λ z. z ∷ cs) (eqb-true c q h)))
