@@ -15,7 +15,7 @@ use Rattle.rl_lenient.proofs.HeadLemmas.{no_head_int, no_head_float}
 use Rattle.rl_lenient.proofs.IntegerLemmas.{no_int}
 use Rattle.rl_lenient.proofs.NumberLemmas.{no_number}
 
--- A text that is neither quoted nor a number nor a `bool` isn't a literal.
+-- A text that is neither a quoted literal nor a number nor a `bool` isn't a literal.
 pub no_reading : (t : List ℕ) → HasNoQuoted t → ReadsNoNumber t → HasNoTruth t → HasNoReading t
 no_reading t q n b Int c x r = n Int c x r
 no_reading t q n b Float c x r = n Float c x r

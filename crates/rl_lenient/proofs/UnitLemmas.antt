@@ -1,4 +1,4 @@
--- A text begins with a unit exactly where `unit_at` returns it.
+-- A text begins with a unit (a plain character or an escape) exactly where `unit_at` returns it.
 use Rattle.rl_syntax.proofs.Common.{◌≡◌, ℕ, suc, ◌+◌, ◌*◌, ◌^◌, ◌<◌, ◌≤◌, ◌||◌, ◌&&◌, Bool, true, false, cond, eqb, ltb, List, [], ◌∷◌, ◌++◌, length, Option, Some, None, refl, sym, ap, subst, ◌∙◌, ◌⊎◌, inl, inr, arith, append_assoc, option_and_then, list_all, digit_value, scalar, and_from, and_parts, both_ways, cases_Bool, eqb-true, ltb-true, lt-ltb, ne_eqb, or_cases, or_right}
 use Rattle.rl_lenient.proofs.Names.{IsScalar, pow-suc, Kind, Str, ByteStr, CStr, Byte, Char, Int, Float, BoolKind, first_passes, is_underscore, QuotedUnit, Letter, Plain, CrLf, Named, Hex, Unicode, Continuation, LowerN, LowerR, LowerT, Backslash, Apostrophe, Quote, Zero, letter_value, letter_text, unit_text, unit_value, unicode_value, without_underscores, place_value, content_of, hex_value, is_hex_digit, is_blank, is_line_end, is_string, is_plain, allows_code, may_be_hex, allows_unicode_escapes, IsUnit, EndsBefore}
 use Rattle.std.proofs.lemmas.Bool.Decides.{eqb_tells}
@@ -15,7 +15,7 @@ allowed_some : {A : Type 0} (b : Bool) (x y : A) → cond b (Some x) None ≡ So
 allowed_some true x y h = (refl, h)
 allowed_some false x y h = absurd (cc)
 
--- If a function of an option's value returned a value, the option has one.
+-- If `option_and_then` returns a value, the option has a value, and the function returns the result for it.
 bind_some : {A B : Type 0} (o : Option A) (f : A → Option B) (y : B) → option_and_then f o ≡ Some y → (x : A)
     × (o ≡ Some x) × (f x ≡ Some y)
 bind_some None f y h = absurd (cc)
@@ -344,7 +344,7 @@ letter_sound c n h =
 
 -- ---- a character or escape
 
--- The text begins with a character or escape that has this value, and `r` is the text after it.
+-- The text begins with a character or escape of a literal of the kind. The record has its value, and the text after it.
 pub record Begins (kind : Kind) (t v r : List ℕ) : Type 0 where
   pub unit : QuotedUnit
   pub allowed : IsUnit kind unit
@@ -544,7 +544,7 @@ unit_complete kind (Unicode first more) r allowed ends = rw (
 ) refl
 unit_complete kind (Continuation c run) r allowed ends = continuation_complete kind c run r allowed ends
 
--- No character or escape of a string begins with its quote, and an empty text begins with none.
+-- No character or escape of a string begins with a quote.
 pub unit_quote : (kind : Kind) (x : List ℕ) → is_string kind ≡ true → unit_at kind (34 ∷ x) ≡ None
 unfolding unit_at
 unit_quote kind x h = rw (quote_and_return kind h).0 refl
