@@ -1,10 +1,10 @@
--- Offsets before which neither a literal nor a comment begins.
+-- Byte offsets before which neither a literal nor a comment begins.
 use Rattle.rl_syntax.proofs.Common.{◌≡◌, ℕ, zero, suc, ◌+◌, ◌≤◌, ◌≢◌, Bool, true, false, not, cond, List, [], ◌∷◌, map, length, drop, refl, sym, ap, ◌∙◌, arith, prefix_len, mask_l, chunk, count_trailing_zeros}
 use Rattle.rl_syntax.proofs.LaneLemmas.{run_stops, run_through}
 use Rattle.rl_syntax.proofs.UnlikelyLanes.{around-length}
 use Rattle.rl_syntax.specs.Mirrors.UnlikelyAt.{around, begins_none, first_or, may_begin, may_begin_at, unlikely_after, skippable_len}
 
--- Neither a literal nor a comment begins at the second byte of a pair, where the first precedes it.
+-- Whether neither a literal nor a comment begins at the second byte of a pair, if the first byte of the pair precedes it.
 abbrev pub is_past : ℕ × ℕ → Bool
 is_past x = not (may_begin x)
 
@@ -23,7 +23,8 @@ unlikely_run p (c ∷ cs) = ap (λ n. cond (begins_none p c (first_or 0 cs)) (su
     more true n = omega arith
     more false n = refl
 
--- A sequence of elements that pass a test continues after a part of the sequence.
+-- If a part of a leading sequence of elements that pass a test is dropped, the sequence after the part is shorter by the part's
+-- length.
 on_from : {X : Type 0} (q : X → Bool) (n : ℕ) (xs : List X) → n ≤ prefix_len q xs → prefix_len q xs
     ≡ n + prefix_len q (drop n xs)
 on_from q zero xs h = omega arith
