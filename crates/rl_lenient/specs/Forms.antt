@@ -19,7 +19,7 @@ form_opener CookedForm kind = opener kind
 form_opener RawForm kind = raw_opener kind
 form_opener SingleForm kind = opener kind
 
--- The text is a literal of the form and the kind, with this value, body and suffix.
+-- The text is a literal of the form and the kind, with the given value, body and suffix.
 abbrev pub PartsAre : QuotedForm → Kind → List ℕ → List ℕ → List ℕ → List ℕ → Type 0
 PartsAre CookedForm kind text value body suffix =
     (c : Cooked kind text value suffix) × (body ≡ texts c.units)

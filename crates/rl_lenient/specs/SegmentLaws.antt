@@ -25,7 +25,7 @@ AreOneSegment kind units =
     (value other : SegmentValue) → IsSegmentOf kind value units → IsSegmentOf kind other units
     → IsSameValue value other
 
--- The cursor over a literal's segments returns these segments, one after another, between the two states.
+-- The cursor over a literal's segments returns the given segments, one after another, between the two states.
 abbrev pub Passes : SegmentsState → List Segment → SegmentsState → Type 0
 Passes old [] new = new ≡ old
 Passes old (s ∷ ss) new = (next : SegmentsState) × TakesSegment old s next × Passes next ss new

@@ -208,7 +208,7 @@ exponent_step (c ∷ t) true h =
 pub exponent_found : (t : List ℕ) → Powered t (after_lexed_exponent t)
 exponent_found t = exponent_step t (begins_exponent t) refl
 
--- A lexeme of this form begins the text, and the second part of the pair is the text after the lexeme.
+-- A lexeme of the given form begins the text, and the second part of the pair is the text after the lexeme.
 abbrev pub Found : List ℕ → LexemeForm × List ℕ → Type 0
 Found t p = (l : Lexeme) × IsLexeme l p.1 × (t ≡ lexeme_text l ++ p.1) × (form_of l ≡ p.0)
 

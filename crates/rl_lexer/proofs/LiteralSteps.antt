@@ -83,16 +83,16 @@ reach_end t r skipped = record { start = r; skipped = skipped; holds = holds_sta
 pub reach_white : (c : ℕ) (t r : List ℕ) → is_white c ≡ true → Reaches t r → Reaches (c ∷ t) r
 reach_white c t r white h = record { start = h.start; skipped = skipped_after (c ∷ t) t h.start (after_piece-past (White c) t white) h.skipped; holds = h.holds }
 
--- If white space or a plain comment begins a text, and only tokens other than literals follow it up to the text `r`, no literal
--- precedes `r` in the whole text.
+-- If white space or a plain comment begins a text, and only tokens other than literals follow it up to the text `r`, there are
+-- only such tokens before `r` in the whole text.
 pub reach_piece : (t u r : List ℕ) → after_piece t ≡ Some u → Reaches u r → Reaches t r
 reach_piece t u r piece h = record { start = h.start; skipped = skipped_after t u h.start piece h.skipped; holds = h.holds }
 
 pub reach_run : (t u r : List ℕ) → u ≡ after_run is_white t → Reaches u r → Reaches t r
 reach_run t u r run h = record { start = h.start; skipped = skipped_run t u h.start run h.skipped; holds = h.holds }
 
--- If a token other than a literal begins a text, and only tokens other than literals follow it up to the text `r`, no literal
--- precedes `r` in the whole text. The text begins with neither white space nor a comment.
+-- If a token other than a literal begins a text, and only tokens other than literals follow it up to the text `r`, there are only
+-- such tokens before `r` in the whole text. The text begins with neither white space nor a comment.
 pub reach_first : (t after r : List ℕ) (kind : SourceKind) → after_piece t ≡ None
     → (token : SourceBefore t kind after) → (IsLiteralText kind (source_text token.token) → ⊥) → Reaches after r
     → Reaches t r

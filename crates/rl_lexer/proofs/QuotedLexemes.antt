@@ -200,7 +200,7 @@ quoted_text NoPrefix b x = refl
 quoted_text BytePrefix b x = refl
 quoted_text CPrefix b x = refl
 
--- The text is a string literal with escapes, with this prefix and this suffix.
+-- The text is a string literal with escapes, with the given prefix and suffix.
 pub record StringParts (p : LiteralPrefix) (t x : List ℕ) : Type 0 where
   pub parts : List BodyPart
   pub is_body : IsBody parts
@@ -250,7 +250,7 @@ single_text : (b : Bool) (w x : List ℕ) → ((if b then 98 ∷ [] else []) ++ 
 single_text true w x = refl
 single_text false w x = refl
 
--- The text is a character or byte literal with this suffix.
+-- The text is a character or byte literal with the given suffix.
 pub record SingleParts (b : Bool) (t x : List ℕ) : Type 0 where
   pub inside : CharacterBody
   pub is_body : IsCharacterBody inside

@@ -201,8 +201,8 @@ slash_of false true s b h = absurd (cc)
 slash_of false false true b h = absurd (cc)
 slash_of false false false b h = refl
 
--- If a text begins with a character that begins neither an identifier nor a literal nor a comment, and no literal precedes the
--- text `r` in the text after the character, no literal precedes `r` in the whole text.
+-- If a text begins with a character that begins neither an identifier nor a literal nor a comment, and only tokens other than
+-- literals follow the character up to the text `r`, there are only such tokens before `r` in the whole text.
 reach_other : (c : ℕ) (u r : List ℕ) → c < 128 → is_word_byte c ≡ false → not (is_likely_mark c) ≡ true → Reaches u r
     → Reaches (c ∷ u) r
 reach_other c u r low plain unlikely more = go (is_white c) (is_always_token c) refl refl
@@ -316,7 +316,8 @@ passes p c next u r agrees none = go (goes_on_likely c next) refl none
 
 -- ---- sequences of bytes at which neither a literal nor a comment begins
 
--- Neither a literal nor a comment begins at any of the bytes, where `next` is the byte after them.
+-- Whether neither a literal nor a comment begins at any byte of a list. The byte before the list and the byte after it, `next`,
+-- are given.
 abbrev none_in : ℕ → List ℕ → ℕ → Bool
 none_in p [] next = true
 none_in p (c ∷ cs) next = begins_none p c (first_or next cs) && none_in c cs next
@@ -440,7 +441,8 @@ unlikely-boundary bs (suc m) u e =
     let next : m + 1 ≡ suc m = omega arith in
     subst (IsCharBoundary bs) next (IsCharBoundary-after_ascii bs m u (omega arith) (omega (arith, low, same)))
 
--- The code skips bytes of a text, and the rest of an identifier that they end in. No literal begins there.
+-- The code skips bytes of a text, and the rest of an identifier in which they end. The skipped text contains only tokens that
+-- aren't literals.
 pub unlikely-reaches : (bs rest : List ℕ) (n : ℕ) (r : List ℕ) → IsUtf8 bs → IsUtf8 rest → n ≤ skippable_len bs
     → rest ≡ drop n bs → Reaches (past_word (byte_before bs n) (chars rest)) r → Reaches (chars bs) r
 unlikely-reaches bs rest n r u v e cut reaches =
@@ -456,8 +458,8 @@ unlikely-reaches bs rest n r u v e cut reaches =
     (agrees_bytes rest v) in
     subst (λ (z : List ℕ). Reaches z r) (sym whole) (reach_front 0 next front (chars rest) r agrees all reaches)
 
--- The lemma `unlikely-reaches` as the contract states it: no literal begins in the bytes that the code skips. `before` is the
--- last byte that was skipped.
+-- The lemma `unlikely-reaches` as the contract states it: the bytes that the code skips contain only tokens that aren't literals.
+-- `before` is the last byte that was skipped.
 pub unlikely-holds : (bs rest past next : List ℕ) (n before : ℕ) → IsUtf8 bs → IsUtf8 rest → n ≤ skippable_len bs
     → rest ≡ drop n bs → before ≡ byte_before bs n → past ≡ past_word before (chars rest) → Reaches past next
     → HasOnlyOtherTokens (chars bs) next

@@ -12,7 +12,7 @@ use Prim.Native.Char.{code}
 use Rattle.rl_syntax.specs.Texts.{is_among, first_passes, begins, is_run_part}
 use Rattle.rl_syntax.specs.Numbers.{is_exponent_letter}
 
--- The character names a base after a zero: x, o or b.
+-- Whether a character names a base after a zero: x, o or b.
 abbrev pub is_base_letter : ℕ → Bool
 is_base_letter c = c == code "x" || c == code "o" || c == code "b"
 
@@ -177,12 +177,13 @@ lexeme_text (IdentifierLexeme c more) = c ∷ more
 lexeme_text (DelimiterLexeme c) = c ∷ []
 lexeme_text (MarkLexeme c) = c ∷ []
 
--- The text `run` consists of characters that pass the test, and the text `after` it doesn't begin with another one.
+-- The text `run` consists of characters that pass the test, and the text `after`, which follows it, doesn't begin with such a
+-- character.
 pub record IsRun (test : ℕ → Bool) (run after : List ℕ) : Type 0 where
   pub each : IsTrue (list_all test run)
   pub ends : first_passes test after ≡ false
 
--- The suffix of a lexeme: an identifier, or nothing if no identifier follows.
+-- The suffix of a lexeme: an identifier, or an empty text if no identifier follows.
 abbrev pub IsLexedSuffix : List ℕ → List ℕ → Type 0
 IsLexedSuffix [] after = first_passes is_start after ≡ false
 IsLexedSuffix (c ∷ more) after = IsTrue (is_start c) × IsRun is_continue more after

@@ -274,7 +274,7 @@ float_once t n m x y a b =
       e.1,
     )
 
--- The text is an integer literal with this value and suffix. Its magnitude may be above 128 bits.
+-- The text is an integer literal with the given value and suffix. Its magnitude may be above 128 bits.
 pub record AnyInt (t : List ℕ) (v : Contents) (x : List ℕ) : Type 0 where
   pub sign : Sign
   pub magnitude : ℕ

@@ -71,7 +71,7 @@ unfolding front_at
 truth_front true = refl
 truth_front false = refl
 
--- The text has this kind, value and suffix, and a class that a text of this kind may have.
+-- The text has the given kind, value and suffix, and a class that texts of the kind may have.
 abbrev Shown : List ℕ → Kind → Contents → List ℕ → Front → Type 0
 Shown t k v x (CookedFront j) = (k ≡ j) × (w : List ℕ) × Cooked j t w x × (v ≡ quoted_contents j w)
 Shown t k v x (RawFront j) = (k ≡ j) × (w : List ℕ) × Raw j t w x × (v ≡ quoted_contents j w)

@@ -38,7 +38,7 @@ begins_char k t = first_passes (λ c. c == k) t
 abbrev pub is_among : List ℕ → ℕ → Bool
 is_among codes c = list_any (λ k. c == k) codes
 
--- The text begins with these characters.
+-- The text begins with the given characters.
 abbrev pub begins : List ℕ → List ℕ → Bool
 begins [] t = true
 begins (p ∷ ps) [] = false

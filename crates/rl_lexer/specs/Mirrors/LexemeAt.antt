@@ -156,24 +156,24 @@ other_class c =
 abbrev pub head_class : ℕ → HeadClass
 head_class c = cond (is_start c) (start_class c) (other_class c)
 
--- The character begins a literal's prefix: `b`, `c` or `r`.
+-- Whether a character begins a literal's prefix: `b`, `c` or `r`.
 abbrev pub is_prefix_letter : ℕ → Bool
 is_prefix_letter c = c == code "b" || c == code "c" || c == code "r"
 
--- The character begins an identifier, whatever follows it.
+-- Whether a character begins an identifier, whatever text follows it.
 abbrev pub begins_word : ℕ → Bool
 begins_word c = not (is_prefix_letter c) && is_start c
 
--- After `b`, `c` or `r`, this character shows that the letter isn't a literal's prefix: it is at least `@`, and isn't
--- `r`. Quotes and hashes are below `@`.
+-- Whether a character after `b`, `c` or `r` shows that the letter isn't a literal's prefix: it is at least `@`, and isn't `r`.
+-- Quotes and hashes are below `@`.
 abbrev pub continues_word : ℕ → Bool
 continues_word c = nat_le 64 c && not (c == code "r")
 
--- The character is a delimiter or a punctuation character, whatever follows it.
+-- Whether a character is a delimiter or a punctuation character, whatever text follows it.
 abbrev pub is_always_token : ℕ → Bool
 is_always_token c = is_among delimiters c || is_among marks c
 
--- The character makes a comment together with a slash before it: it is `/` or `*`.
+-- Whether a character after a slash begins a comment: it is `/` or `*`.
 abbrev pub makes_comment : ℕ → Bool
 makes_comment c = c == code "/" || c == code "*"
 
@@ -215,7 +215,7 @@ abbrev pub lexeme_at : List ℕ → Option (LexemeForm × List ℕ)
 lexeme_at [] = None
 lexeme_at (c ∷ t) = by_class (head_class c) c t
 
--- A lexeme of this form begins the text `t`, and the text `rest` follows it.
+-- A lexeme of the given form begins the text `t`, and the text `rest` follows it.
 pub record FormBefore (t : List ℕ) (form : LexemeForm) (rest : List ℕ) : Type 0 where
   pub lexeme : Lexeme
   pub is_lexeme : IsLexeme lexeme rest
