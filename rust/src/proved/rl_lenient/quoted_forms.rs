@@ -55,7 +55,7 @@ pub fn split_opener(text: &str) -> Option<(QuotedForm, Kind, &str)> {
     if first == first_of(Kind::Char) {
         Some((QuotedForm::Single, Kind::Char, rest))
     } else if first == first_of(Kind::Byte) {
-        // A byte string begins with the letter of a byte literal too.
+        // Byte literals and byte strings begin with the same letter, `b`.
         split_byte_opener(rest)
     } else if first == first_of(Kind::CStr) {
         split_string_opener(Kind::CStr, rest)
@@ -135,9 +135,11 @@ fn quoted(kind: Kind, body: Body, unit: u32) -> Found {
 
 /// Parses `text` as a string literal of the kind, with escapes, where `inside` is the text after its opening quote.
 /// Returns `None` if it isn't one.
-#[inline(always)]
+#[cfg_attr(debug_assertions, inline)]
+#[cfg_attr(not(debug_assertions), inline(always))]
 pub(crate) fn find_cooked(kind: Kind, text: &str, inside: &str) -> Option<Found> {
-    // All string literals end with one quote. Naming the kind `Str` makes it a constant for the compiler.
+    // Each string literal ends with the quote of the kind `Str`. Naming this kind makes it a constant for the
+    // compiler.
     let (_, following) = split_plain(kind, inside);
     if let Some(suffix) = after_quote(Kind::Str, following) {
         return Some(quoted(kind, places(text, inside, following, suffix, true), 0));
@@ -167,7 +169,8 @@ fn raw_places(kind: Kind, text: &str, inside: &str) -> Option<Body> {
 /// isn't one.
 #[inline(always)]
 pub(crate) fn find_raw(kind: Kind, text: &str, inside: &str) -> Option<Found> {
-    // The called function returns only byte offsets. A parse result that it returned would be copied once more.
+    // The function `raw_places` returns only byte offsets. If it returned a parse result, this would be copied once
+    // more.
     let body = raw_places(kind, text, inside)?;
     Some(quoted(kind, body, 0))
 }
