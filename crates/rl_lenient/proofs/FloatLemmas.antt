@@ -157,7 +157,7 @@ all_continue_run (c ∷ cs) h = go (all_continue_run cs (and_parts (is_xid_conti
     go ih true = ih
     go ih false = h
 
--- An identifier contains no sign.
+-- An identifier contains neither `+` nor `-`.
 no_sign : (t : List ℕ) → list_all is_xid_continue t ≡ true → after_power_sign t ≡ t
 no_sign [] h = refl
 no_sign (c ∷ cs) h =

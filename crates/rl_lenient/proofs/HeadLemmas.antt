@@ -6,7 +6,7 @@ use Rattle.rl_lenient.specs.Mirrors.NumberAt.{after_digits, after_fraction, afte
 abbrev ten : List ℕ → ℕ × List ℕ
 ten u = (10, u)
 
--- Returns a base and the text after its prefix on a condition, and else base ten and the whole text.
+-- Returns a base and the text after its prefix, if a condition holds. Otherwise, returns the base ten and the whole text.
 abbrev chosen : Bool → ℕ → List ℕ → List ℕ → ℕ × List ℕ
 chosen b r cs u = cond b (r, cs) (ten u)
 
@@ -49,7 +49,7 @@ ten_whole (z ∷ c ∷ cs) h = go (z == 48 && not (radix_of c == 10)) refl h
         absurd (cc)
     go false e h = refl
 
--- If an integer is parsed only on a condition, its magnitude is limited to 128 bits only on that condition too.
+-- Limiting the magnitude of a parsed integer to 128 bits doesn't change the condition on which the integer is parsed.
 capped_cond : (s : Sign) (b : Bool) (n : ℕ) (x : List ℕ) → capped_int (with_sign s (cond b (Some (n, x)) None))
     ≡ cond b (Some (capped n, x)) None
 capped_cond s true n x = refl

@@ -61,7 +61,7 @@ minus_past NoSign (c ∷ cs) h =
     let e : (c == 45) ≡ false = grind (arith, nat_tests) in
     (ap (λ b. cond b cs (c ∷ cs)) e, ap (λ b. cond b Minus NoSign) e)
 
--- A text without another base's prefix is in base ten.
+-- For a text that doesn't begin with the prefix of another base, `radix_at` returns the base ten, and the text itself.
 pub not_based : (t : List ℕ) → begins_base t ≡ false → radix_at t ≡ (10, t)
 unfolding radix_at
 not_based [] h = refl
@@ -197,7 +197,7 @@ sign_join (c ∷ cs) = go (c == 45) refl
     go true h = ap (λ z. z ∷ cs) (eqb-true c 45 h)
     go false h = refl
 
--- After a sequence of hexadecimal digits, no hexadecimal digit follows.
+-- A text that begins with neither a hexadecimal digit nor an underscore doesn't begin with a hexadecimal digit.
 pub hex_stops : (x : List ℕ) → first_passes (is_run_part (has_value 16)) x ≡ false → first_passes (has_value 16) x
     ≡ false
 hex_stops [] h = refl
@@ -241,7 +241,7 @@ int_built t b front some ends =
       magnitude_is = refl;
     }
 
--- If a choice returns a value, its condition is true.
+-- If a choice between a value and `None` returns the value, its condition is true.
 pub chosen_some : {A : Type 0} (b : Bool) (q p : A) → cond b (Some q) None ≡ Some p → (b ≡ true) × (q ≡ p)
 chosen_some true q p h = (refl, cc)
 chosen_some false q p h = absurd (cc)

@@ -22,7 +22,7 @@ same_whether true c P h k = sym (k.1 (h.0 refl))
 same_whether false true P h k = h.1 (k.0 refl)
 same_whether false false P h k = refl
 
--- A number's body is plain with a minus before it exactly if it is plain without.
+-- The body of an integer without a sign passes the test `is_plain_integer` exactly if it passes the test with a minus before it.
 minus_plain : (b x : List ℕ) → sign_at (b ++ x) ≡ NoSign → is_plain_integer (45 ∷ b) ≡ is_plain_integer b
 minus_plain [] x h = refl
 minus_plain (c ∷ cs) x h = go (c == 45) refl h

@@ -28,7 +28,7 @@ pub no_number : (old between : CursorState) (m : Lexeme) → TakesNext old m bet
 no_number old between m takes is none =
     inr (m, between, takes, subst (λ (f : LexemeForm). BeginsNone f m.text.now between) (sym is) (inr none))
 
--- If the rest of a list isn't empty, and no token begins it, the rest is neither the end of the list nor a token.
+-- If the rest of a list isn't empty, and no token begins it, the list neither ends there nor continues with a token.
 pub nothing_else : (t ahead : CursorState) → t.rest ≢ [] → ahead ≡ t → BeginsNoLexeme (chars ahead.rest)
     → ((t.rest ≡ []) ⊎ BeginsLexeme (chars t.rest)) → ⊥
 nothing_else t ahead some is none (inl nothing) = some nothing

@@ -201,7 +201,7 @@ written_one k v h =
     ap (λ b. cond b (glyph v ∷ []) (digits_onto k 10 false (v / 10) (glyph v ∷ []))) e
     ∙ ap (λ g. g ∷ []) (glyph_is v ∙ ap (λ n. 48 + n) r)
 
--- Plain digits, which don't have a leading zero or an underscore, are the digits that std writes for their value.
+-- Plain digits, which have neither an underscore nor a needless leading zero, are the digits that std writes for their value.
 plain_written : (ds : List ℕ) → is_plain_digits ds ≡ true → place_value 10 ds < 10 ^ 64 → decimal (place_value 10 ds)
     ≡ ds
 unfolding digits
@@ -246,7 +246,8 @@ all_plain [] p = refl
 all_plain (d ∷ ds) p = (and_parts (list_all is_ascii_digit (d ∷ ds)) (not (d == 48) || not (first_passes is_any ds))
     p).0
 
--- A plain body of an integer is in base ten, and is the digits that std writes for its magnitude.
+-- An integer's body without underscores and needless leading zeros is in base ten, and is the digits that std writes for its
+-- magnitude.
 plain_based : (b : Base) (ds : List ℕ) (m : ℕ) → is_plain_digits (prefix b ++ ds) ≡ true → m
     ≡ place_value (radix b) (without_underscores ds) → m ≤ limit → decimal m ≡ prefix b ++ ds
 plain_based Binary ds m p e h = let a : false ≡ true = all_plain (48 ∷ 98 ∷ ds) p in absurd (cc)
@@ -267,7 +268,7 @@ plain_body t body x s m r h cut p =
     (ap after_minus is ∙ (minus_past s u (begins_at r.base r.digits x r.front r.some)).0)) ∙ p in
     is ∙ ap (λ z. sign_text s ++ z) (sym (plain_based r.base r.digits m plain r.magnitude_is h))
 
--- If a text's characters are split in two, its bytes are split there too.
+-- If the characters of a text are those of a body and then some more, its bytes are the body and then the encoding of the others.
 bytes_cut : (t b x : List ℕ) → IsUtf8 t → IsUtf8 b → chars t ≡ chars b ++ x → t ≡ b ++ encode_utf8_all x
 bytes_cut t b x ut ub e =
     sym (encodes-chars t ut) ∙ ap encode_utf8_all e ∙ encodes-append (chars b) x

@@ -108,7 +108,8 @@ held_more kind c cs = go (holds_characters kind)
     go true = refl
     go false = ap (λ z. z ++ encode_utf8_all cs) (append-nil (encode_utf8 c))
 
--- A plain character of a string continues a sequence of characters and escapes.
+-- If plain characters follow a sequence of characters and escapes, they are part of the sequence, and their values are appended
+-- to its value.
 pub row_run : (kind : Kind) (a v run b : List ℕ) → list_all (is_plain kind) run ≡ true → BeginsRun kind a v (run ++ b)
     → BeginsRun kind a (v ++ content_of kind run) b
 row_run kind a v [] b plain row = subst (λ w. BeginsRun kind a w b)

@@ -57,7 +57,7 @@ text_bytes : (xs cs bs : List ℕ) → IsUtf8 xs → encode_utf8_all cs ≡ bs �
 text_bytes xs cs bs u e = encodes-append (chars xs) cs ∙ ap (λ z. z ++ encode_utf8_all cs) (encodes-chars xs u)
     ∙ ap (λ z. xs ++ z) e
 
--- If the bytes of a text's characters are given, they are the text.
+-- A UTF-8 text is the encoding of its characters.
 whole : (t cs bs : List ℕ) → IsUtf8 t → chars t ≡ cs → encode_utf8_all cs ≡ bs → t ≡ bs
 whole t cs bs u e b = sym (encodes-chars t u) ∙ ap encode_utf8_all e ∙ b
 

@@ -64,7 +64,8 @@ record Same (k : Kind) (u : QuotedUnit) : Type 0 where
   value_is : unit_value k u ≡ strict_contents (strict_content_of k) unit
   may_end : (t : List ℕ) → EndsBefore u t → MayEnd unit t
 
--- An equal escape of Rust's grammar may be followed by each text that may follow the escape of `syn`'s grammar.
+-- If an escape of `syn`'s grammar has an equal one in Rust's grammar, each text that may follow the first one may follow the
+-- second one.
 escape_same : (k : Kind) (u : QuotedUnit) → Back k u → Same k u
 escape_same k u b = record { unit = b.unit; is_unit = b.is_unit; text_is = b.text_is; value_is = b.value_is; may_end = λ t e. no_break_ends b.unit t b.no_break }
 

@@ -4,8 +4,8 @@ use Rattle.std.proofs.Math.Nat.{mul-le-mul_left}
 use Rattle.rl_lenient.specs.Mirrors.NumberAt.{append_digit, capped}
 use Rattle.rl_lenient.proofs.DigitRowLemmas.{append_capped, capped_within}
 
--- Arithmetic: the number with the last digits v gets one more digit d, and the sum of products is equal to that of the shorter
--- numbers.
+-- Arithmetic: if the digits of a number are its first digits w and its last digits v, a digit d that is appended to the last
+-- digits is appended to the number.
 spread : (w s r v d : ℕ) → w * (s * r) + (v * r + d) ≡ (w * s + v) * r + d
 spread w s r v d = omega arith
 

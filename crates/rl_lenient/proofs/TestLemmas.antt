@@ -15,7 +15,7 @@ pub goes_on : (test : ℕ → Bool) (front rest t : List ℕ) (c : ℕ) (cs e : 
 goes_on test [] rest t c cs e a b k = sym (ap (first_passes test) (a ∙ b)) ∙ k
 goes_on test (x ∷ xs) rest t c cs e a b k = sym (ap (first_passes test) a) ∙ k
 
--- If the first character of a text doesn't pass a test, the first character of its start `front` doesn't either.
+-- If a text doesn't begin with a character that passes a test, no prefix `front` of the text begins with one.
 pub front_passes : (test : ℕ → Bool) (front rest t : List ℕ) → t ≡ front ++ rest → first_passes test t ≡ false
     → first_passes test front ≡ false
 front_passes test [] rest t e h = refl

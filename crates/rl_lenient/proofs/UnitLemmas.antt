@@ -10,7 +10,7 @@ chosen : {A : Type 0} (b : Bool) (x y z : A) → cond b x y ≡ z → ((b ≡ tr
 chosen true x y z h = inl (refl, h)
 chosen false x y z h = inr (refl, h)
 
--- If a choice returns a value, its condition is true.
+-- If a choice between a value and `None` returns the value, its condition is true.
 allowed_some : {A : Type 0} (b : Bool) (x y : A) → cond b (Some x) None ≡ Some y → (b ≡ true) × (Some x ≡ Some y)
 allowed_some true x y h = (refl, h)
 allowed_some false x y h = absurd (cc)
@@ -476,7 +476,7 @@ unit_sound kind (c ∷ cs) p h =
       ]
     ]
 
--- A backslash isn't plain in literals of any kind.
+-- No literal may contain a backslash as a plain character, which is its own value.
 pub backslash_not_plain : (kind : Kind) → is_plain kind 92 ≡ false
 backslash_not_plain Str = refl
 backslash_not_plain ByteStr = refl
@@ -487,7 +487,7 @@ backslash_not_plain Int = refl
 backslash_not_plain Float = refl
 backslash_not_plain BoolKind = refl
 
--- Neither the quote nor a CR is plain in a string.
+-- A string may contain neither its quote nor a CR as a plain character, which is its own value.
 pub quote_and_return : (kind : Kind) → is_string kind ≡ true → (is_plain kind 34 ≡ false) × (is_plain kind 13 ≡ false)
 quote_and_return Str h = (refl, refl)
 quote_and_return ByteStr h = (refl, refl)

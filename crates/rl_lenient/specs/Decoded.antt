@@ -6,13 +6,13 @@ use Rattle.rl_syntax.specs.Reading.{Contents, ReadsQuoted}
 use Rattle.rl_lenient.specs.declared.units.Piece.{Piece}
 use Rattle.rl_lenient.specs.declared.units.Piece.TheVariants.{Character, Byte, Nothing}
 
--- The bytes of the value of one character or escape. A character is its UTF-8 bytes.
+-- The bytes of the value of one character or escape. A character is encoded in UTF-8.
 abbrev pub piece_bytes : Piece → List ℕ
 piece_bytes (Character c) = encode_utf8 c
 piece_bytes (Byte b) = b ∷ []
 piece_bytes Nothing = []
 
--- The bytes of a literal's value. Characters are their UTF-8 bytes.
+-- The bytes of a literal's value. Characters are encoded in UTF-8.
 abbrev pub in_bytes : Kind → List ℕ → List ℕ
 in_bytes kind v = if holds_characters kind then encode_utf8_all v else v
 

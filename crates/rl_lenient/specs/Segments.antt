@@ -14,7 +14,7 @@ use Rattle.rl_lenient.specs.declared.segments.Segment.{Segment}
 use Rattle.rl_lenient.specs.declared.segments.SegmentValue.{SegmentValue}
 use Rattle.rl_lenient.specs.declared.segments.SegmentValue.TheVariants.{Text, Char, Byte, Nothing}
 
--- The bytes of the value of a character or escape in a literal of the kind. Characters are their UTF-8 bytes.
+-- The bytes of the value of a character or escape in a literal of the kind. Characters are encoded in UTF-8.
 abbrev pub unit_bytes : Kind → QuotedUnit → List ℕ
 unit_bytes kind unit = in_bytes kind (unit_value kind unit)
 
@@ -81,7 +81,7 @@ pub record SegmentsState : Type 0 where
   pub at : ℕ
   pub rest : List ℕ
 
--- The text is this sequence of characters and escapes, each of which a literal of the kind allows.
+-- The text consists of the given characters and escapes, each of which a literal of the kind allows.
 pub record IsUnitRun (kind : Kind) (text : List ℕ) (units : List QuotedUnit) : Type 0 where
   pub each : AllByRecursion (IsUnit kind) units
   pub ends : ContinuationsEnd units
@@ -98,7 +98,7 @@ AreLeft s units = AreUnitsIn s.kind s.plain (chars s.rest) units
 abbrev pub HasUnitsLeft : SegmentsState → Type 0
 HasUnitsLeft s = (units : List QuotedUnit) × AreLeft s units
 
--- The bytes of a segment's value. Characters are their UTF-8 bytes.
+-- The bytes of a segment's value. Characters are encoded in UTF-8.
 abbrev pub value_bytes : SegmentValue → List ℕ
 value_bytes (Text run) = run.now
 value_bytes (Char c) = encode_utf8 c

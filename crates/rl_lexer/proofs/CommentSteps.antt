@@ -77,7 +77,7 @@ block_goes s i d l p q =
     (λ h. let k : (get_or s i 0 ≡ 47) × (get_or s (i + 1) 0 ≡ 42) = both (get_or s i 0) 47 (get_or s (i + 1) 0) 42 h
     in q k.0 k.1))
 
--- After a closing delimiter inside another block comment, the depth is one less.
+-- After the closing delimiter of a nested block comment, one block comment fewer is open.
 pub closed-down : (d : ℕ) (t : List ℕ) → 0 < d → closed d t ≡ after_block (d - 1) t
 closed-down zero t l = absurd (omega arith)
 closed-down (suc d) t l = ap (λ n. after_block n t) (let e : d ≡ suc d - 1 = omega arith in e)
@@ -157,7 +157,8 @@ line_open m s is h = chars_nil ∙ sym (after_line-open s (one_line m s (ap (λ 
 pub nothing_tail : (t : List ℕ) → IsTail t []
 nothing_tail t = record { front = t; text_is = sym (append-nil t); is_text = IsUtf8-nil }
 
--- The rest that the code returns is the text after the line. It follows the first LF, or is empty if there is no LF.
+-- The code returns the text after the first LF, or an empty text if there is no LF. This is the text after the line by the
+-- definitions.
 pub line_rest : (s : List ℕ) (found : Option (Bor (List ℕ))) (none rest : Bor (List ℕ))
     → IfSome found (λ r. IsNextMark line_ends (chars s) 10 (chars r.now))
     → IfNone found (list_all (is_other line_ends) (chars s) ≡ true) → IfSome found (λ r. IsTail s r.now)

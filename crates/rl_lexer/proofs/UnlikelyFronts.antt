@@ -363,7 +363,7 @@ reach_front p next (c ∷ cs) t r agrees all h = go (reach_front c next cs t r a
 
 -- ---- the bytes before the first one at which a literal or a comment may begin
 
--- The byte after the first n bytes of a list is the next byte of the list, and it is also found if n is 0.
+-- The first byte of a list is the first one of its first n bytes. If n is 0, it is the first one of the other bytes.
 first_same : (n : ℕ) (bs : List ℕ) → first_or (first_or 0 (drop n bs)) (take n bs) ≡ first_or 0 bs
 first_same zero bs = refl
 first_same (suc n) [] = refl

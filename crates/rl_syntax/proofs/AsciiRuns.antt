@@ -17,7 +17,7 @@ pub record RunCut (q : ℕ → Bool) (bs : List ℕ) : Type 0 where
   pub stops : first_passes q (chars (drop (prefix_len q bs) bs)) ≡ false
   pub behind : IsTail bs (drop (prefix_len q bs) bs)
 
--- Only ASCII characters pass the test.
+-- Whether only ASCII characters pass a test.
 abbrev pub PassesLow : (ℕ → Bool) → Type 0
 PassesLow q = (c : ℕ) → q c ≡ true → c < 128
 
@@ -78,7 +78,8 @@ held_low : (word : Bool) → PassesLow (is_run_byte word)
 held_low true = word_low
 held_low false = blank_low
 
--- For an ASCII character, `is_run_byte` agrees with the test of the character's class.
+-- For an ASCII character, the test `is_run_byte` agrees with the test of the class: that of identifier characters, or that of
+-- white space.
 pub held_agrees : (word : Bool) (c : ℕ) → c < 128 → class_test (run_class word) c ≡ is_run_byte word c
 held_agrees true c low = continue_is_plain c low ∙ ascii_xid_continue c low
 held_agrees false c low = agree_below_at is_white is_blank_byte 128 c refl low

@@ -61,7 +61,7 @@ masked p v few e = ap (λ l. mask_l l % 2 ^ 64) (ap (map (top 7)) e ∙ tops p v
 past_low : (c : ℕ) → not (nat_lt c 128) ≡ nat_le 128 c
 past_low c = grind (arith, nat_tests)
 
--- Two ways to say that a sequence ends are equal, as `bool`s.
+-- A sequence that continues where `a` is true and `d` is false ends exactly where `a` is false or `d` is true.
 ends_either : (a b d : Bool) → not a ≡ b → not (a && not d) ≡ b || d
 ends_either true true d h = absurd (cc)
 ends_either true false true h = refl

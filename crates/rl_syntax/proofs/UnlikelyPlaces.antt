@@ -39,7 +39,7 @@ on_from q (suc n) (x ∷ xs) h = go (q x) refl h (on_from q n xs)
         omega (arith, here, more (omega arith))
     go false e h more = absurd (omega arith)
 
--- The lowest bit of the mask is the first offset at which a literal or a comment may begin.
+-- The lowest bit of the mask of sixteen bytes is at the first of these bytes at which a literal or a comment may begin.
 pub first_place : (bs : List ℕ) (at m : ℕ) → at ≤ skippable_len bs → at + 16 ≤ length bs
     → m ≡ mask_l (map may_begin_at (chunk at 16 (around 0 bs))) → m ≢ 0 → at + count_trailing_zeros 64 m
     ≡ skippable_len bs
@@ -52,7 +52,7 @@ first_place bs at m front room bits some =
     let same = ap (count_trailing_zeros 64) bits in
     omega (arith, whole, on, run, same)
 
--- If no bit of the mask is set, neither a literal nor a comment begins at these bytes.
+-- If no bit of the mask of sixteen bytes is set, neither a literal nor a comment begins at any of these bytes.
 pub none_among : (bs : List ℕ) (at m : ℕ) → at ≤ skippable_len bs → at + 16 ≤ length bs
     → m ≡ mask_l (map may_begin_at (chunk at 16 (around 0 bs))) → m ≡ 0 → at + 16 ≤ skippable_len bs
 none_among bs at m front room bits none =

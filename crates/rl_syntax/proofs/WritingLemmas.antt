@@ -25,7 +25,7 @@ one_character c bytes u e = chars_past_char bytes [] c u (e ∙ sym (append-nil 
 abbrev pub begun : Kind → List ℕ → List ℕ
 begun k xs = encode_utf8_all (opener k ++ texts (map (written_unit k) xs))
 
--- If only the opening delimiter of a literal is written, the writer has written the literal's beginning with no characters.
+-- The opening delimiter of a literal is the start of the written literal before any character is written.
 pub begun_start : (k : Kind) (s : List ℕ) → s ≡ opener k → s ≡ begun k []
 unfolding lib.Utf8.encode
 begun_start Str s h = h
@@ -43,8 +43,8 @@ texts_more k [] c = append-nil (unit_text (written_unit k c))
 texts_more k (x ∷ xs) c = ap (λ z. unit_text (written_unit k x) ++ z) (texts_more k xs c)
     ∙ sym (append_assoc (unit_text (written_unit k x)) (texts (map (written_unit k) xs)) (unit_text (written_unit k c)))
 
--- If the bytes of a literal's start are written, and the written form of one more character is appended, the bytes are those of
--- the start with this character.
+-- If the written bytes are the start of a literal up to some character, and the written form of the next character is appended,
+-- they are the start of the literal up to the next character.
 pub begun_more : (k : Kind) (a b xs : List ℕ) (c : ℕ) → a ≡ begun k xs → b ≡ a
     ++ encode_utf8_all (unit_text (written_unit k c)) → b ≡ begun k (xs ++ (c ∷ []))
 begun_more k a b xs c e h =
@@ -55,8 +55,8 @@ begun_more k a b xs c e h =
     h ∙ ap (λ z. z ++ encode_utf8_all (unit_text (written_unit k c))) e
     ∙ sym (encodes-append (opener k ++ inner) (unit_text (written_unit k c))) ∙ ap encode_utf8_all all
 
--- If the bytes of a literal's start are written after the text `p`, and the written form of one more character is appended, the
--- bytes after `p` are those of the start with this character.
+-- If the bytes written after a text `p` are the start of a literal up to some character, and the written form of the next
+-- character is appended, they are the start of the literal up to the next character.
 pub begun_more_after : (k : Kind) (p a b xs : List ℕ) (c : ℕ) → a ≡ p ++ begun k xs → b ≡ a
     ++ encode_utf8_all (unit_text (written_unit k c)) → b ≡ p ++ begun k (xs ++ (c ∷ []))
 begun_more_after k p a b xs c e h =
