@@ -476,7 +476,7 @@ unit_sound kind (c ∷ cs) p h =
       ]
     ]
 
--- No literal may contain a backslash as a plain character, which is its own value.
+-- A backslash isn't a plain character, which is its own value, in literals of any kind.
 pub backslash_not_plain : (kind : Kind) → is_plain kind 92 ≡ false
 backslash_not_plain Str = refl
 backslash_not_plain ByteStr = refl
