@@ -73,8 +73,8 @@ IsBytePlace = IsGivenAt begins_in
 abbrev pub IsByteEnd : Kind → List ℕ → ℕ → ℕ → Type 0
 IsByteEnd = IsGivenAt ends_in
 
--- The state of a cursor over a literal's segments: its byte offset in the literal's text, and the bytes from there up
--- to the closing quote. If `plain` is true, each of these characters represents itself.
+-- The state of a cursor over a literal's segments: its byte offset in the literal's text, and the bytes from there up to the
+-- closing quote. If `plain` is true, each character of these bytes represents itself.
 pub record SegmentsState : Type 0 where
   pub kind : Kind
   pub plain : Bool
@@ -225,7 +225,7 @@ pub record GivesByte (s : SegmentsState) (at : ℕ) (segment : Segment) (within 
   pub at_is : at ≡ length (units_bytes s.kind before) + within
   pub inside : within < length (value_bytes segment.value)
 
--- The value of the rest of a segment cursor ends before the byte `at`.
+-- The value of the rest of a segment cursor has no byte `at`: it ends before this offset.
 pub record IsPastLeft (s : SegmentsState) (at : ℕ) : Type 0 where
   pub units : List QuotedUnit
   pub are_left : AreLeft s units

@@ -17,7 +17,7 @@ IsSplit Float text body suffix = text ≡ body ++ suffix
 IsSplit BoolKind text body suffix = (body ≡ text) × (suffix ≡ [])
 IsSplit kind text body suffix = IsQuotedSplit kind text body suffix
 
--- The character begins a number, and no other literal begins with it: it is a minus or a decimal digit.
+-- Whether a character begins a number, and no other literal begins with it: it is a minus or a decimal digit.
 abbrev pub is_number_front : ℕ → Bool
 is_number_front c = c == code "-" || is_ascii_digit c
 

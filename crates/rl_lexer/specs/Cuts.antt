@@ -24,7 +24,7 @@ LexesUpTo at t (w ∷ ws) r =
     × (w.at + byte_len (lexeme_text w.lexeme ++ after) ≡ at + byte_len t)
     × LexesUpTo (end_of w) after ws r
 
--- The two characters are the opening and the closing delimiter of a group.
+-- Whether two characters are the opening and the closing delimiter of a group.
 abbrev pub is_pair : ℕ → ℕ → Bool
 is_pair opener closer =
     (opener == code "(" && closer == code ")") || (opener == code "[" && closer == code "]")
@@ -71,8 +71,8 @@ open_groups groups [] = Some groups
 open_groups groups (w ∷ ws) =
     option_and_then (λ g. open_groups g ws) (after_lexeme groups w.lexeme w.at)
 
--- The text begins like a doc comment: with `///` but not `////`, with `//!`, with `/**` but neither `/**/` nor `/***`,
--- or with `/*!`.
+-- Whether a text begins like a doc comment: with `///` but not `////`, with `//!`, with `/**` but neither `/**/` nor `/***`, or
+-- with `/*!`.
 abbrev pub begins_doc_comment : List ℕ → Bool
 begins_doc_comment r =
     (begins (codes "///") r && not (begins (codes "////") r)) || begins (codes "//!") r

@@ -37,7 +37,7 @@ abbrev pub sign_text : Sign → List ℕ
 sign_text NoSign = []
 sign_text Minus = codes "-"
 
--- The text begins with the prefix of a base other than ten: `0b`, `0o` or `0x`.
+-- Whether a text begins with the prefix of a base other than ten: `0b`, `0o` or `0x`.
 abbrev pub begins_base : List ℕ → Bool
 begins_base t = begins (prefix Binary) t || begins (prefix Octal) t || begins (prefix Hexadecimal) t
 

@@ -84,7 +84,7 @@ is_unicode_escape digits =
     nat_le 1 (length digits) && nat_le (length digits) 6
     && list_all (λ d. is_ascii_hexdigit d.0) digits && all_scalars (spaced_value digits ∷ [])
 
--- A character or byte literal may contain the character unescaped.
+-- Whether a character or byte literal may contain the character unescaped.
 abbrev pub is_allowed_in_single_quotes : ℕ → Bool
 is_allowed_in_single_quotes c =
     not (c == code "'" || c == code "\\" || c == code "\n" || c == code "\r" || c == code "\t")

@@ -47,12 +47,12 @@ magnitude_at radix t = place_value radix (without_underscores (digit_run_at radi
 abbrev pub after_digits : ℕ → List ℕ → List ℕ
 after_digits radix t = after_run (is_run_part (has_value radix)) t
 
--- The text may be the suffix of a number: it is empty, or an identifier that doesn't begin with `_`.
+-- Whether a text may be the suffix of a number: it is empty, or an identifier that doesn't begin with `_`.
 abbrev pub is_suffix : List ℕ → Bool
 is_suffix [] = true
 is_suffix (c ∷ cs) = not (is_underscore c) && xid_ok (c ∷ cs)
 
--- The text after a decimal integer's digits is an exponent, so that the number is a float.
+-- Whether a text after a decimal integer's digits is an exponent, so that the number is a float.
 unfoldable pub is_exponent_suffix : List ℕ → Bool
 is_exponent_suffix [] = false
 is_exponent_suffix (c ∷ cs) =
