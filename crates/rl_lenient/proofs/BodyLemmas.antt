@@ -212,8 +212,8 @@ not_false : (z : Bool) → (z ≡ false → ⊥) → z ≡ true
 not_false true n = refl
 not_false false n = absurd (n refl)
 
--- If the body of a string literal is its value byte for byte (`IsPlain`), the body passes the test `is_plain_body`, and the parts
--- have the literal's kind.
+-- If the body of a string literal is its value byte for byte (`IsPlain`), each split of the text into parts has the literal's
+-- kind, and a body that passes the test `is_plain_body`.
 pub parts_plain : (form : QuotedForm) (kind k : Kind) (t w b x : List ℕ) → is_string k ≡ true → IsUtf8 t → IsUtf8 b
     → IsUtf8 x → PartsAre form kind (chars t) w (chars b) (chars x) → IsPlain k t → (kind ≡ k)
     × (is_plain_body form kind (chars b) ≡ true)

@@ -107,8 +107,8 @@ pub run_no : (test : ℕ → Bool) (c : ℕ) (cs : List ℕ) → test c ≡ fals
 unfolding run
 run_no test c cs h = (ap (λ b. cond b (c ∷ run test cs) []) h, ap (λ b. cond b (after_run test cs) (c ∷ cs)) h)
 
--- If digits and the text after them are those that `digit_run_at` and `after_digits` return, their parse result `At` is that of
--- the returned texts.
+-- The parse result `At` of digits and the text after them is unchanged if they are replaced by equal texts, those that
+-- `digit_run_at` and `after_digits` return.
 at_parts : (r : ℕ) (some : Bool) (v : ℕ) (t ds x : List ℕ) → digit_run_at r t ≡ ds → after_digits r t ≡ x
     → At r some v ds x ≡ At r some v (digit_run_at r t) (after_digits r t)
 at_parts r some v t ds x d a = ap (λ u. At r some v u x) (sym d) ∙ ap (λ y. At r some v (digit_run_at r t) y) (sym a)

@@ -18,7 +18,7 @@ letter_no_dot c h = go (c == 101) refl
     go true e = ap (λ z. z == 46) (eqb-true c 101 e)
     go false e = ap (λ z. z == 46) (eqb-true c 69 (sym (ap (λ b. b || (c == 69)) e) ∙ h))
 
--- If all characters of `row` pass a test, the text after the leading characters of `row ++ t` that pass it is that of `t`.
+-- If all characters of `row` pass a test, `after_run` skips them: for `row ++ t` it returns what it returns for `t`.
 pub run_off : (test : ℕ → Bool) (row t : List ℕ) → list_all test row ≡ true → after_run test (row ++ t)
     ≡ after_run test t
 run_off test [] t h = refl

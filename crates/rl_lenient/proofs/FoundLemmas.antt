@@ -232,7 +232,7 @@ float_found t b x numeral n plain body body_is ut ub reads following e n_is plai
     (λ z. IsFoundFloat t (Of Float z 0)) (sym body_is) (float_body t b x numeral n plain ut ub reads following e n_is
     plain_is)
 
--- If a text isn't an integer, its parse result as a float is its parse result.
+-- If a text is a float literal and not an integer, its parse result as a float is its parse result as a literal.
 pub float_alone : (t : List ℕ) (f : Found) → HasNoInteger (chars t) → IsFoundFloat t f → IsFound t f
 float_alone t f none h =
     let back = sym h.kind in

@@ -52,7 +52,7 @@ exponent_suffix_sound (c ∷ cs) h =
       text_is = ap (λ z. c ∷ z) (run_join (is_run_part (has_value 10)) cs);
     }
 
--- If a text begins with a digit, a sign before the text is split off.
+-- The functions `after_minus` and `sign_at` split off a sign before a text that begins with a digit.
 pub minus_past : (s : Sign) (u : List ℕ) → first_passes is_ascii_digit u ≡ true → (after_minus (sign_text s ++ u) ≡ u)
     × (sign_at (sign_text s ++ u) ≡ s)
 minus_past Minus u h = (refl, refl)

@@ -29,7 +29,7 @@ ends_off (Named l) t r h e = e
 ends_off (Hex high low) t r h e = e
 ends_off (Unicode first more) t r h e = e
 
--- If a text doesn't begin with white space, each character or escape can end before the text.
+-- A text that doesn't begin with white space may follow any character or escape.
 pub ends_before : (u : QuotedUnit) (r : List ℕ) → first_passes is_blank r ≡ false → EndsBefore u r
 ends_before (Continuation c run) r h = h
 ends_before (Plain c) r h = tt

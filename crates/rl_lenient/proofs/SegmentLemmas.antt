@@ -236,7 +236,7 @@ other_longest kind Nothing rest none = tt
 
 -- ---- offsets
 
--- A property that holds for each of two values holds for the one that the test of an offset against a length chooses.
+-- If a property holds for each of two values, it holds for the one that a comparison of two numbers chooses.
 pub tested : {A : Type 0} (P : A → Type 0) (a n : ℕ) (x y : A) → (a < n → P x) → (n ≤ a → P y) → P (cond (ltb a n) x y)
 tested P a n x y f g = go (ltb a n) refl
   where
@@ -263,7 +263,8 @@ place_past inside kind (u ∷ done) us at left e =
     (λ small. absurd (omega (arith, total, small)))
     (λ large. omega (arith, more, byte_len_append (unit_text u) (texts done)))
 
--- The offset of a byte in a sequence of plain characters is its position in the sequence, plus `d`.
+-- The offset of a byte in a sequence of plain characters is the byte's position in the sequence, plus `d`. For the offset where
+-- the byte begins, `d` is 0, and for the offset where it ends, `d` is 1.
 pub place_in_run : (inside : QuotedUnit → ℕ → ℕ) (d : ℕ) (kind : Kind) (cs : List ℕ) (us : List QuotedUnit) (at : ℕ)
     → ((c i : ℕ) → inside (Plain c) i ≡ i + d) → at < length (encode_utf8_all cs)
     → unit_place inside kind (map Plain cs ++ us) at ≡ at + d

@@ -3,7 +3,7 @@ use Rattle.rl_syntax.proofs.Common.{◌≡◌, ◌∙◌, ℕ, Bool, true, false
 use Rattle.rl_lenient.proofs.Names.{first_passes}
 use Rattle.std.proofs.lemmas.Bool.{and_left, and_right}
 
--- If the first character of a text passes a test, this doesn't depend on the text that follows.
+-- If a text begins with a character that passes a test, it does so too if any other text is appended.
 pub passes_more : (test : ℕ → Bool) (a b : List ℕ) → first_passes test a ≡ true → first_passes test (a ++ b) ≡ true
 passes_more test [] b h = absurd (cc)
 passes_more test (c ∷ cs) b h = h

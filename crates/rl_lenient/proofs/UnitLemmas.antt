@@ -30,7 +30,7 @@ some_pair p q h = let e : p ≡ q = cc in (ap (λ x. x.0) e, ap (λ x. x.1) e)
 abbrev is_more : ℕ → Bool
 is_more c = is_underscore c || is_hex_digit c
 
--- The number that digits represent after digits with the value v.
+-- Returns the number that digits represent, if digits with the value v precede them.
 abbrev value_on : ℕ → List ℕ → ℕ
 value_on v cs = v * 16 ^ length (without_underscores cs) + place_value 16 (without_underscores cs)
 

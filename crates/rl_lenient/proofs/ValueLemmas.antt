@@ -182,7 +182,7 @@ some_suffix true (c ∷ cs) u e = absurd (let z = eqb-true (length (c ∷ cs)) 0
 some_suffix false s u e = λ n. both_ways (eqb (length s) 0) e (ap (λ z. eqb (length z) 0)
     (sym (encodes-chars s u) ∙ ap encode_utf8_all n))
 
--- The suffix of a text's parse result is the suffix of each literal that the text is.
+-- The suffix in the code's parse result of a text is the suffix of the text by the definitions.
 found_suffix : (t : List ℕ) (f : Found) → IsFound t f → (k : Kind) (v : Contents) (x : List ℕ) → Reads (chars t) k v x
     → x ≡ chars (suffix_in t f.body)
 found_suffix t f h k v x r = (one_reading (chars t) k f.kind v h.reads.0 x _ r h.reads.1).2

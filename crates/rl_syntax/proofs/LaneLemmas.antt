@@ -1,4 +1,4 @@
--- A search over sixteen bytes gives a mask. The mask gives the sequence of bytes that pass a test.
+-- A search over sixteen bytes computes a mask, from which the leading bytes that pass a test are counted.
 use Rattle.rl_syntax.proofs.Common.{◌≡◌, ℕ, ◌+◌, ◌*◌, ◌%◌, ◌^◌, ◌<◌, ◌≤◌, ◌||◌, ◌&&◌, nat_le, Bool, true, false, not, cond, eqb, List, [], ◌∷◌, map, length, drop, refl, sym, ap, ap₂, ◌∙◌, arith, length-chunk, mask_l-mod, length-map, prefix_len-le-length, eq-eqb, ne_eqb, nat_tests, prefix_len, bit_or, chunk, mask_l, zip2, top, count_trailing_zeros}
 use Rattle.std.proofs.Common.{bit_and, nat_eq, nat_lt}
 use Rattle.std.proofs.lemmas.Simd.{chunk-drop, leading_from_mask_l, trailing_mask_l}

@@ -11,7 +11,7 @@ use Rattle.rl_syntax.proofs.StrictNumbers.{no_part, suffix_no_part, digit_front,
 
 -- ---- signs
 
--- If a text is a sign and a text that begins with a digit, it has only one such sign.
+-- A text can be split into a sign, perhaps none, and a text that begins with a digit in at most one way.
 pub same_sign : (s z : Sign) (a b : List ℕ) → first_passes is_ascii_digit a ≡ true → first_passes is_ascii_digit b
     ≡ true → sign_text s ++ a ≡ sign_text z ++ b → (s ≡ z) × (a ≡ b)
 same_sign NoSign NoSign a b ha hb e = (refl, e)
@@ -166,7 +166,7 @@ same_power us s run vs z sow x y hu hs hr hv hz hw sx sy e =
       ]
     ]
 
--- A suffix that doesn't begin like an exponent isn't the text of an exponent with a text after it.
+-- A suffix that doesn't begin like an exponent isn't an exponent that is followed by another text.
 no_power : (letter : ℕ) (us s run x y : List ℕ) → IsExponent (Power letter us s run) x → IsSuffix y
     → (BeginsExponent y → ⊥) → y ≡ (letter ∷ (us ++ (s ++ run))) ++ x → ⊥
 no_power letter us s run x y p sy none e =

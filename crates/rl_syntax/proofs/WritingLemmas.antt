@@ -73,7 +73,7 @@ appended : (p b w : List ℕ) → IsUtf8 p → IsUtf8 b → b ≡ p ++ encode_ut
 appended p b w u v e = sym (chars_from_encodes (chars p ++ w) b v
     (encodes-append (chars p) w ∙ ap (λ z. z ++ encode_utf8_all w) (encodes-chars p u) ∙ sym e))
 
--- After the closing delimiter is written, the written bytes are the text that was there before, and the whole literal.
+-- If a literal is written after a text, the bytes with the closing delimiter are the text and then the whole literal.
 pub begun_whole_after : (k : Kind) (p a b xs ys : List ℕ) → a ≡ p ++ begun k xs → b ≡ a ++ encode_utf8 (closer k) → xs
     ≡ ys → IsUtf8 p → IsUtf8 b → chars b ≡ chars p ++ written_text k ys
 begun_whole_after k p a b xs ys e h same u v =
