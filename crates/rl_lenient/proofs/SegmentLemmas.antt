@@ -503,7 +503,7 @@ place_before inside kind (u ∷ done) more at h =
     go true e ih = refl
     go false e ih = ap (λ z. byte_len (unit_text u) + z) (ih (ltb-false at (length (unit_bytes kind u)) e))
 
--- Returns the range of the literal that a byte of the value comes from.
+-- Returns the span of the part of a literal that a byte of the literal's value comes from.
 abbrev pub unit_span : SegmentsState → Span → List QuotedUnit → ℕ → Span
 unit_span s base units at = span_from base (s.at + unit_place begins_in s.kind units at)
     (s.at + unit_place ends_in s.kind units at)

@@ -215,8 +215,7 @@ fn find_number(text: &str) -> Option<Found>
     ensures found { IfSome result (IsFound text.now) }
     ensures number { IfSome result (λ f. (f.kind ≡ Int) ⊎ (f.kind ≡ Float)) }
 {
-    // Each arm of the `match` returns by itself. A value that both arms make would be copied once more, padding
-    // included.
+    // Each arm of the `match` returns by itself. A value that both arms make would be copied, padding included.
     match read_number(text)? {
         Number::Integer(magnitude, suffix) => {
             return Some(integer_found(text, suffix, magnitude));

@@ -3,9 +3,9 @@
 ghost use Rattle.rl_lenient.specs.Laws.{BytesWithoutReturnsAreStrict, SegmentsMakeTheLiteral, ASegmentHasOneValue, ThePlacesOfBytesAreInOrder, TheOffsetsOfBytesAreInTheBody, DecodingKeepsALeadingMinus, ATakenLiteralIsRead, AFoundLiteralReads};
 ghost use Rattle.rl_lenient.specs.PartLaws.{AnIntegerHasOneBase, AFloatHasOneOfEachPart};
 
-/// By `syn`'s grammar, a text without CR is a byte literal with an empty suffix or an identifier as its suffix,
-/// exactly if it is a byte literal by Rust's grammar. This is also so for byte string literals that aren't raw. The
-/// value is equal by both grammars.
+/// By `syn`'s grammar, a text without CR is a byte literal, or a byte string literal that isn't raw, with an empty
+/// suffix or an identifier as its suffix, exactly if it is one by Rust's grammar. The value is equal by both
+/// grammars.
 pub fn bytes_are_strict()
     ensures { BytesWithoutReturnsAreStrict }
 {}

@@ -201,8 +201,7 @@ pub(crate) fn find_cooked(kind: Kind, text: &str, inside: &str) -> Option<Found>
     ensures none { IfNone result (HasNoReading (chars text.now)) }
     ensures found { IfSome result (IsFound text.now) }
 {
-    // Each string literal ends with the quote of the kind `Str`. Naming this kind makes it a constant for the
-    // compiler.
+    // Each string literal ends with `"`. Naming the kind `Str` makes this quote a constant for the compiler.
     let (_, following) = split_plain(kind, inside);
     if let Some(suffix) = after_quote(Kind::Str, following) {
         return Some(quoted(kind, places(text, inside, following, suffix, true), 0));
@@ -241,8 +240,7 @@ pub(crate) fn find_raw(kind: Kind, text: &str, inside: &str) -> Option<Found>
     ensures none { IfNone result (HasNoReading (chars text.now)) }
     ensures found { IfSome result (IsFound text.now) }
 {
-    // The function `raw_places` returns only byte offsets. If it returned a parse result, this would be copied once
-    // more.
+    // `raw_places` returns only byte offsets. A parse result that it returned would be copied once more.
     let body = raw_places(kind, text, inside)?;
     Some(quoted(kind, body, 0))
 }

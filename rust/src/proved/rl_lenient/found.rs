@@ -155,8 +155,7 @@ pub fn find_float(text: &str) -> Option<Found> {
 /// it is neither, or an integer above 128 bits.
 #[inline]
 fn find_number(text: &str) -> Option<Found> {
-    // Each arm of the `match` returns by itself. A value that both arms make would be copied once more, padding
-    // included.
+    // Each arm of the `match` returns by itself. A value that both arms make would be copied, padding included.
     match read_number(text)? {
         Number::Integer(magnitude, suffix) => {
             return Some(integer_found(text, suffix, magnitude));

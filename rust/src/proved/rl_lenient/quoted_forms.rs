@@ -135,11 +135,9 @@ fn quoted(kind: Kind, body: Body, unit: u32) -> Found {
 
 /// Parses `text` as a string literal of the kind, with escapes, where `inside` is the text after its opening quote.
 /// Returns `None` if it isn't one.
-#[cfg_attr(debug_assertions, inline)]
-#[cfg_attr(not(debug_assertions), inline(always))]
+#[inline(always)]
 pub(crate) fn find_cooked(kind: Kind, text: &str, inside: &str) -> Option<Found> {
-    // Each string literal ends with the quote of the kind `Str`. Naming this kind makes it a constant for the
-    // compiler.
+    // Each string literal ends with `"`. Naming the kind `Str` makes this quote a constant for the compiler.
     let (_, following) = split_plain(kind, inside);
     if let Some(suffix) = after_quote(Kind::Str, following) {
         return Some(quoted(kind, places(text, inside, following, suffix, true), 0));
@@ -169,8 +167,7 @@ fn raw_places(kind: Kind, text: &str, inside: &str) -> Option<Body> {
 /// isn't one.
 #[inline(always)]
 pub(crate) fn find_raw(kind: Kind, text: &str, inside: &str) -> Option<Found> {
-    // The function `raw_places` returns only byte offsets. If it returned a parse result, this would be copied once
-    // more.
+    // `raw_places` returns only byte offsets. A parse result that it returned would be copied once more.
     let body = raw_places(kind, text, inside)?;
     Some(quoted(kind, body, 0))
 }
