@@ -221,8 +221,8 @@ suffix_of Decimal x h k = λ e. both_ways (is_exponent_suffix x)
 end_suffix : (r : ℕ) (x : List ℕ) → may_end r x ≡ true → is_suffix x ≡ true
 end_suffix r x h = (and_parts (is_suffix x) _ h).0
 
--- If the code's three tests of a text are true, the text is an integer with the sign, magnitude and suffix that the models
--- return.
+-- If the text after a sign and the prefix of a base may begin a number, has a digit, and has a suffix that may end a number, the
+-- whole text is an integer with the sign, magnitude and suffix that the models return.
 int_built : (t : List ℕ) (b : Based (after_minus t)) → may_begin_number (radix b.base) b.rest ≡ true
     → has_digit_at (radix b.base) b.rest ≡ true → may_end (radix b.base) (after_digits (radix b.base) b.rest) ≡ true
     → IntReads t (sign_at t) (magnitude_at (radix b.base) b.rest) (after_digits (radix b.base) b.rest)

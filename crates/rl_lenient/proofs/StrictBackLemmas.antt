@@ -114,7 +114,8 @@ underscore_more : (n : ℕ) (cs : List ℕ) → replicate (suc n) 95 ++ cs ≡ r
 underscore_more zero cs = refl
 underscore_more (suc n) cs = ap (λ z. 95 ∷ z) (underscore_more n cs)
 
--- The digits of a list that `group` makes, each followed by its underscores, are the text from which the list was made.
+-- The list `group` of an escape's digits, written with the underscores after each digit, is the text from which the list was
+-- made.
 group_text : (first n : ℕ) (cs : List ℕ) → flat_map spaced_digit (group first n cs) ≡ first ∷ (replicate n 95 ++ cs)
 group_text first n [] = refl
 group_text first n (c ∷ cs) =
@@ -126,7 +127,7 @@ group_text first n (c ∷ cs) =
           ∙ ap (λ z. first ∷ (replicate n 95 ++ z)) (group_text c 0 cs)
     ]
 
--- Each digit in a list that `group` makes is hexadecimal.
+-- Each digit in the list `group` of an escape's digits is hexadecimal.
 group_hex : (first n : ℕ) (cs : List ℕ) → is_hex_digit first ≡ true
     → list_all (λ c. is_underscore c || is_hex_digit c) cs ≡ true → list_all hex_first (group first n cs) ≡ true
 group_hex first n [] h each = and_from _ _ (hex_digit_back first h) refl
@@ -139,7 +140,7 @@ group_hex first n (c ∷ cs) h each =
           ∙ and_from _ _ (hex_digit_back first h) (group_hex c 0 cs (ap (λ b. b || is_hex_digit c) (sym a) ∙ p.0) p.1)
     ]
 
--- A list that `group` makes isn't empty.
+-- The list `group` of an escape's digits isn't empty.
 group_some : (first n : ℕ) (cs : List ℕ) → nat_le 1 (length (group first n cs)) ≡ true
 group_some first n [] = refl
 group_some first n (c ∷ cs) =
@@ -150,7 +151,7 @@ group_some first n (c ∷ cs) =
           ∙ le-leb 1 _ (omega arith)
     ]
 
--- The digits in a list that `group` makes represent the number of an escape `\u{..}`.
+-- The digits in the list `group` of an escape `\u{..}` represent the number of the escape.
 unicode_number : (first : ℕ) (more : List ℕ) → list_all hex_first (group first 0 more) ≡ true
     → place_value 16 (map (λ d. d.0) (group first 0 more)) ≡ unicode_value first more
 unicode_number first more h =

@@ -96,14 +96,14 @@ module _ (q : ℕ → Bool) (high : PassesHigh q) where
       low : (b : ℕ) → q b ≡ false → b < 128
       low b fails = elim (cases128 b) [ inl is ↦ is | inr past ↦ absurd (both_ways (q b) fails (high b past)) ]
 
-  -- If all non-ASCII bytes pass a test, all characters of the leading bytes that pass it pass it too.
+  -- If all non-ASCII bytes pass a test, the leading bytes that pass it encode only characters that pass it.
   pub run_plain : (bs : List ℕ) → IsUtf8 bs → list_all q (chars (take (prefix_len q bs) bs)) ≡ true
   run_plain bs u =
       let front = take (prefix_len q bs) bs in
       all_encoded (chars front) (ap (list_all q) (encodes-chars front
       (IsUtf8-take bs (prefix_len q bs) u (run_boundary bs))) ∙ prefix_passes q bs)
 
-  -- If all non-ASCII bytes pass a test, the character after the leading bytes that pass it fails it.
+  -- If all non-ASCII bytes pass a test, the next character after the leading bytes that pass the test fails it.
   pub run_stop : (bs : List ℕ) → IsUtf8 bs → first_passes q (chars (drop (prefix_len q bs) bs)) ≡ false
   run_stop bs u =
       let rest = drop (prefix_len q bs) bs in
