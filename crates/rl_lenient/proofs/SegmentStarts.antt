@@ -61,8 +61,8 @@ append_nothing : (a b : List ℕ) → a ++ b ≡ [] → a ≡ []
 append_nothing [] b e = refl
 append_nothing (c ∷ a) b e = absurd (cc)
 
--- If the text of a sequence of characters and escapes is the body of a character or byte literal, the sequence has only one of
--- them.
+-- If the text of a sequence of characters and escapes is the body of a character or byte literal, it is the literal's sequence,
+-- which has only one element.
 single_units : (kind : Kind) (t v body x : List ℕ) (units : List QuotedUnit) (lo : ℕ)
     → PartsAre SingleForm kind t v body x → IsUnitRun kind body units → lo ≡ length (opener kind)
     → AreUnitsOf kind t units lo

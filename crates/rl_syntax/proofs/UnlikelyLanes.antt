@@ -200,7 +200,7 @@ likely_mask at bs room fits lanes =
 
 -- ---- masks for the test of one byte
 
--- In a mask, the bits of the bytes below 64 at which a literal or a comment may begin are set.
+-- In a mask, a bit is set for exactly those bytes below 64 at which a literal or a comment may begin.
 pub likely_low : (c : ℕ) → c < 64 → has_bit 288090205599039488 c ≡ (is_likely_mark c || is_likely_head c)
 likely_low c low = agree_below_at (has_bit 288090205599039488) (λ k. is_likely_mark k || is_likely_head k) 64 c refl low
 
