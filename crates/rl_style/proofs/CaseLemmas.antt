@@ -23,7 +23,7 @@ cased_past None c h = refl
 cased_past (Some Upper) c h = ap (λ b. cond b (c - 32) c) (outside 97 102 c (omega arith))
 cased_past (Some Lower) c h = ap (λ b. cond b (c + 32) c) (outside 65 70 c (omega arith))
 
--- ---- a letter has an equal value in each case
+-- ---- a hexadecimal digit has one value in lower and upper case
 
 pub cased_value : (case : Option Case) (c : ℕ) → digit_value (cased case c) ≡ digit_value c
 cased_value case c =
@@ -74,7 +74,7 @@ some_cased case base (c ∷ cs) =
     ap (λ v. nat_lt v base || list_any (λ c. nat_lt (digit_value c) base) (map (cased case) cs)) (cased_value case c)
     ∙ ap (λ b. nat_lt (digit_value c) base || b) (some_cased case base cs)
 
--- ---- numbers
+-- ---- the characters of numbers
 
 bare_cased : (case : Option Case) (cs : List ℕ) → without_underscores (map (cased case) cs)
     ≡ map (cased case) (without_underscores cs)
@@ -123,7 +123,7 @@ twice_row case [] = refl
 twice_row case (c ∷ cs) = ap (λ z. z ∷ map (cased case) (map (cased case) cs)) (twice_cased case c)
     ∙ ap (λ z. cased case c ∷ z) (twice_row case cs)
 
--- ---- the written text
+-- ---- the text that the code has written
 
 pub cased_scalar : (case : Option Case) (c : ℕ) → scalar c ≡ true → scalar (cased case c) ≡ true
 cased_scalar case c h =
@@ -144,7 +144,8 @@ scalars_cased case (c ∷ cs) h =
     and_from (scalar (cased case c)) (scalars (map (cased case) cs)) (cased_scalar case c p.0)
     (scalars_cased case cs p.1)
 
--- One more character is written in the given case.
+-- If the code appends one more character in the given case, the written text is the longer sequence of characters in this
+-- case.
 pub cased_more : (case : Option Case) (p a b xs : List ℕ) (c : ℕ) → a ≡ p ++ encode_utf8_all (map (cased case) xs) → b
     ≡ a ++ encode_utf8 (cased case c) → b ≡ p ++ encode_utf8_all (map (cased case) (xs ++ (c ∷ [])))
 cased_more case p a b xs c e h =

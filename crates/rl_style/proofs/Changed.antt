@@ -10,7 +10,7 @@ use Rattle.rl_style.proofs.OneAnswer.{one_answer}
 same_bytes : (x y : List ℕ) → IsUtf8 x → IsUtf8 y → chars x ≡ chars y → x ≡ y
 same_bytes x y u v e = sym (encodes-chars x u) ∙ ap encode_utf8_all e ∙ encodes-chars y v
 
--- A style changes a literal if and only if the new text has other bytes.
+-- A style changes a literal if and only if the new text has other bytes than the old text.
 pub changed : (style : Style) (front written text : List ℕ) (same : Bool)
     → Rewrites style front (chars text) (chars written) → IsUtf8 written → IsUtf8 text
     → (IsTrue same ↔ (written ≡ text)) → IsTrue (not same) ↔ Changes style front (chars text)

@@ -1,4 +1,5 @@
--- A decimal number with the parts of the old number is a token where the old number is one.
+-- A new decimal number has the first digit and the suffix of the old one, and a fraction and an exponent if the old one has
+-- them. It is a token before each text before which the old number is a token.
 use Rattle.rl_syntax.proofs.Common.{◌≡◌, ℕ, ◌<◌, inl, inr, Bool, true, false, not, ◌&&◌, ◌||◌, ◌==◌, List, [], ◌∷◌, ◌++◌, replicate, refl, sym, ◌∙◌, ap, subst, arith, nat_tests, lit<, append_assoc, and_parts, list_all, is_ascii_alphabetic, is_ascii_digit}
 use Rattle.rl_syntax.proofs.Basics.{false_unless}
 use Rattle.rl_syntax.specs.Texts.{is_white, first_passes, is_run_part, is_start}
@@ -32,7 +33,7 @@ no_start_no_base [] h = refl
 no_start_no_base (c ∷ t) h = false_unless (is_base_letter c) (λ is. let q : true ≡ false = sym (base_start c is) ∙ h in
     absurd (cc))
 
--- The text after the number's last sequence of digits doesn't continue it.
+-- The text after the last sequence of digits of a number begins with neither a digit nor an underscore.
 tail_ends : (f : LexedFraction) (e : LexedExponent) (more u : List ℕ)
     → IsRun is_part more (lexed_fraction_text f ++ (lexed_exponent_text e ++ u))
     → IsLexedFraction f (lexed_exponent_text e ++ u) → IsLexedExponent e u → first_passes is_part u ≡ false

@@ -1,4 +1,4 @@
--- The forms of floats, with rewritten characters and with their digits in groups.
+-- The forms of floats after their characters are rewritten, and after their digits are divided into groups.
 use Rattle.rl_syntax.proofs.Common.{◌≡◌, ℕ, ◌⊎◌, ◌||◌, Bool, true, false, ◌==◌, cond, List, [], ◌∷◌, ◌++◌, refl, sym, ap, subst, ◌∙◌, inl, inr, append_assoc, append-nil, and_parts, list_all, or_from, or_cases, eqb-true, is_ascii_digit, flat_map, Some, None}
 use Rattle.std.specs.Prelude.{Option}
 use Rattle.rl_syntax.specs.Texts.{first_passes, is_run_part}
@@ -23,7 +23,7 @@ digits_are drops plus digits letter d h = digits_stay (becomes drops false plus 
 
 -- ---- exponents
 
--- A rewritten letter of an exponent is the letter of an exponent.
+-- The letter `c` of an exponent is rewritten as one character, which is again `e` or `E`.
 pub record Letter (drops plus : Bool) (digits letter : Option Case) (c : ℕ) : Type 0 where
   pub new : ℕ
   pub is : becomes drops false plus digits letter c ≡ new ∷ []
@@ -161,7 +161,8 @@ shape_of numeral x (inr (inr a)) = PowerShape
 abbrev pub Groups : ℕ → ℕ → Bool → List ℕ → List ℕ
 Groups size least from_first run = regrouped from_first size least run
 
--- If a text is digits and underscores, and then a text that begins with neither, these are the digits at its start.
+-- A text consists of digits and underscores, and of a rest that begins with neither. Then the digits at its start are all of
+-- these digits and underscores, and the text after them is the rest.
 digits_past : (run x : List ℕ) → list_all (is_run_part is_ascii_digit) run ≡ true
     → first_passes (is_run_part is_ascii_digit) x ≡ false
     → (digit_run (run ++ x) ≡ run) × (after_run (is_run_part is_ascii_digit) (run ++ x) ≡ x)
@@ -177,7 +178,8 @@ digits_past (d ∷ run) x h n =
       ap (λ b. cond b (after_run (is_run_part is_ascii_digit) (run ++ x)) (d ∷ (run ++ x))) p.0 ∙ more.1,
     )
 
--- The digits of a float in groups are the whole part in groups, and then the rewritten text after it.
+-- If the digits of a float are divided into groups, the result is the whole part in groups, and then the rewritten text after
+-- the whole part.
 numeral_at : (f : ℕ → List ℕ) (closes : Bool) (size least : ℕ) (numeral d z : List ℕ) → IsDigits d
     → first_passes (is_run_part is_ascii_digit) z ≡ false → numeral ≡ d ++ z
     → float_in_groups closes f (Groups size least) numeral
@@ -264,7 +266,8 @@ closed_shape DotShape false = DotShape
 closed_shape PointShape closes = PointShape
 closed_shape PowerShape closes = PowerShape
 
--- A float's text before its suffix, by its whole part and the text after it.
+-- The text of a float before its suffix: a whole part of digits, and the text after it, which doesn't begin with the letter of
+-- a base. The float has the form `shape`.
 pub record Numeral (numeral x : List ℕ) (shape : FloatShape) : Type 0 where
   pub whole : List ℕ
   pub new : List ℕ

@@ -81,7 +81,7 @@ new_is_head h k (inr (a, b)) is = ap (λ z. is_among (codes "\"'rbc") k || z) b 
     or_true true = refl
     or_true false = refl
 
--- If two texts begin alike, they still do with the same text before both.
+-- If two texts begin alike, they also begin alike after one text is put before both.
 pub front_more : (s a b : List ℕ) → SameFront a b → SameFront (s ++ a) (s ++ b)
 front_more s a b f = record {
   front = s ++ f.front;
@@ -96,14 +96,15 @@ front_more s a b f = record {
   new_is = ap (λ z. s ++ z) f.new_is ∙ sym (append_assoc s f.front (f.new_head ∷ f.new_rest));
 }
 
--- The first character of the old and of the new literal, and the text after each.
+-- The first characters `h` and `k` of the old and the new literal, and the texts `x` and `y` after them. A literal may begin
+-- with each of the two characters.
 record Heads (h k : ℕ) (x y : List ℕ) : Type 0 where
   same : SameHead h k
   old_is : is_head h ≡ true
   new_is : is_head k ≡ true
   raw : (h == 114) ≡ true → begins_hashed_quote x ≡ begins_hashed_quote y
 
--- A character that can't begin a literal is the first character of neither literal.
+-- A character that can't begin a literal is neither the first character of the old literal nor that of the new one.
 other_heads : (h k n : ℕ) (x y : List ℕ) → Heads h k x y → is_head n ≡ false → ((h == n) ≡ false) × ((k == n) ≡ false)
 other_heads h k n x y s other = (other_head h n s.old_is other, other_head k n s.new_is other)
 

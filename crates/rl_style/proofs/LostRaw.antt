@@ -20,7 +20,8 @@ use Rattle.rl_syntax.specs.Texts.{first_passes}
 abbrev unit_by : Bool → Bool → ℕ → StrictUnit
 unit_by a b c = cond a (QuoteEscape c) (cond b (PlainEscape c) (Itself c))
 
--- A property holds for the new form of a character if it holds for each of the three forms that this may be.
+-- A character of a raw string becomes an escaped quote, an escaped backslash or the character itself. If a property holds for
+-- each of these three forms, it holds for the new form of the character.
 raw_any : (P : StrictUnit → Type 0) (c : ℕ) → ((c == 34) ≡ true → P (QuoteEscape c))
     → ((c == 92) ≡ true → P (PlainEscape c)) → ((c == 34) ≡ false → (c == 92) ≡ false → P (Itself c)) → P (raw_unit c)
 raw_any P c quote backslash other = go (c == 34) (c == 92) refl refl
@@ -187,7 +188,7 @@ one_text style k z c s = go (c == 34) (c == 92) refl refl
     go false true e f = refl
     go false false e f = itself_restyled style k z z c refl
 
--- The value of a character begins with a digit if and only if the character is one.
+-- The value of a character begins with an ASCII digit if and only if the character is an ASCII digit.
 digit_content : (k : Kind) (c : ℕ) → first_passes is_ascii_digit (strict_content_of k (c ∷ [])) ≡ is_ascii_digit c
 digit_content CStr c = digit_ascii (encode_utf8_all (c ∷ [])) ∙ sym (digit_bytes c)
 digit_content Str c = refl

@@ -12,8 +12,8 @@ use Rattle.rl_style.specs.declared.style.Case.TheVariants.{Lower, Upper}
 use Rattle.rl_style.specs.Cases.{cased, exponent_letter}
 use Rattle.rl_style.proofs.CaseLemmas.{cased_underscore, cased_value, none_right, twice_cased}
 
--- The new characters for a character. The flags are true if underscores are dropped, if the number is hexadecimal, and if a
--- plus is dropped. The case of the digits and that of an exponent's letter are the next arguments.
+-- The new characters for a character of a number. The three flags are true if underscores are dropped, if the number is
+-- hexadecimal, and if a plus is dropped. The next arguments are the case of the digits and the case of an exponent's letter.
 abbrev pub becomes : Bool → Bool → Bool → Option Case → Option Case → ℕ → List ℕ
 becomes drops hex plus digits letter c =
     cond ((drops && c == 95) || ((not hex && plus) && c == 43)) []
@@ -62,7 +62,7 @@ stays drops plus digits letter c n p l u = other_kept (drops && c == 95) plus di
 
 -- ---- sequences of characters
 
--- A character becomes one with an equal value, or is an underscore that is dropped.
+-- The function `f` replaces the character `c` by a character with an equal value, or drops an underscore.
 abbrev pub Keeps : (ℕ → List ℕ) → ℕ → Type 0
 Keeps f c =
     ((f c ≡ []) × ((c == 95) ≡ true))
@@ -90,7 +90,7 @@ hex_keeps drops plus digits letter (c ∷ cs) = (
       cased_underscore digits c,
     )
 
--- A character is unchanged, or is an underscore that is dropped.
+-- The function `f` doesn't change the character `c`, or drops an underscore.
 abbrev pub Stays : (ℕ → List ℕ) → ℕ → Type 0
 Stays f c = ((f c ≡ []) × ((c == 95) ≡ true)) ⊎ (f c ≡ c ∷ [])
 
@@ -151,7 +151,7 @@ some_kept f base (c ∷ cs) k n =
           ∙ ap₂ (λ v b. nat_lt v base || b) a.2 more
     ]
 
--- Two sequences of digits with equal values, one by one.
+-- Two sequences of digits have equally many digits, and the digits at each position have equal values.
 abbrev Alike : List ℕ → List ℕ → Type 0
 Alike [] [] = ⊤
 Alike (x ∷ xs) (y ∷ ys) = (digit_value x ≡ digit_value y) × Alike xs ys
@@ -232,7 +232,7 @@ digits_stay f (c ∷ cs) k h = (first k.0, digits_each f (c ∷ cs) k h.1)
     first (inl a) = absurd (let e : false ≡ true = sym (ap is_ascii_digit (eqb-true c 95 a.1)) ∙ h.0 in cc)
     first (inr a) = ap (λ z. first_passes is_ascii_digit (z ++ flat_map f cs)) a ∙ h.0
 
--- If no underscore is dropped, all characters are unchanged.
+-- If no underscore is dropped, rewriting a sequence of decimal digits changes no character.
 pub row_kept : (test : ℕ → Bool) (plus : Bool) (digits letter : Option Case) (run : List ℕ) → test 43 ≡ false
     → test 69 ≡ false → test 101 ≡ false → list_all test run ≡ true
     → flat_map (becomes false false plus digits letter) run ≡ run
@@ -300,7 +300,8 @@ again_hex drops plus digits letter c = go (cases_Bool (drops && c == 95))
         ∙ ap (λ z. z ∷ []) (twice_cased digits c))
         ∙ sym e
 
--- A property holds for each character if it holds for an underscore, a plus, `e`, `E`, and each other character.
+-- A property holds for each character if it holds for an underscore, for a plus, for `e`, for `E`, and for each other
+-- character.
 pub by_character : (P : ℕ → Type 0) (c : ℕ) → P 95 → P 43 → P 69 → P 101
     → ((c == 95) ≡ false → (c == 43) ≡ false → (c == 69) ≡ false → (c == 101) ≡ false → P c) → P c
 by_character P c under plus upper lower other =

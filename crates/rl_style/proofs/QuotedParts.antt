@@ -1,4 +1,4 @@
--- The parts of a quoted literal token are those of its parse result.
+-- A quoted literal token has the parts that its parse result has.
 use Rattle.rl_syntax.proofs.Common.{◌≡◌, ◌≢◌, ℕ, ◌<◌, ◌||◌, Bool, true, false, not, ◌==◌, List, [], ◌∷◌, ◌++◌, length, replicate, Some, None, refl, sym, ap, subst, ◌∙◌, inl, inr, append_assoc, append_cancel_right, both_ways, or_left, or_right, is_ascii_digit, flat_map, list_all}
 use Rattle.std.specs.Str.{chars}
 use Rattle.rl_syntax.proofs.Basics.{apart, hashes_all}
@@ -29,7 +29,7 @@ use Rattle.rl_style.specs.Mirrors.{OpensAs, CookedParts, RawParts}
 use Rattle.rl_style.specs.Rewriting.{KeepsTruth}
 use Rattle.rl_style.proofs.SameRaw.{length_hashes, raw_joined}
 
--- ---- a token has the form that its opening delimiter identifies
+-- ---- the opening delimiter identifies the form of a token
 
 number_front : (t : List ℕ) → begins_number t ≡ true → opener_at t ≡ None
 unfolding opener_at
@@ -289,7 +289,7 @@ raw_by RawForm kind t v b x token p is =
     (as_reads t kind (quoted_contents kind v) x (or_left (is_string kind) (is_single kind) o.has)
     (parts_read RawForm kind t v b x p))
 
--- The parts of a literal determine how its text begins.
+-- If a text has the parts of a quoted literal, it begins with the opening delimiter of this literal's kind and form.
 parts_begin : (form : QuotedForm) (kind : Kind) (t v b x : List ℕ) → PartsAre form kind t v b x → OpensAs form kind t
 parts_begin CookedForm kind t v b x p = (_, told_front CookedForm kind t _ (cooked_told kind t v b x p))
 parts_begin SingleForm kind t v b x p = (_, told_front SingleForm kind t _ (single_told kind t v b x p))

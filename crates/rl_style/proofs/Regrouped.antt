@@ -22,7 +22,7 @@ pub ends_none : (from_first : Bool) (size count : ℕ) → ends from_first size 
 ends_none false size count = ap (λ b. b && 0 % size == 0) (none_right (nat_lt 0 size))
 ends_none true size count = refl
 
--- The test whether an underscore follows a digit, by the number of digits after it.
+-- Whether an underscore follows a digit, according to the number of digits after it.
 abbrev pub tests : Bool → ℕ → ℕ → ℕ → ℕ → Bool
 tests from_first size least count = ends from_first (group_size size least count) count
 
@@ -50,7 +50,7 @@ pub grouped_some : (p : ℕ → Bool) (from_first : Bool) (size least : ℕ) (ru
 grouped_some p from_first size least run n h = either (λ z. list_any p z ≡ true) from_first size least run h
     (row_some p (tests from_first size least (length (without_underscores run))) run n h)
 
--- Whether a sequence contains a character that passes a test, by the characters that pass.
+-- A sequence contains a character that passes a test if and only if the list of the characters that pass isn't empty.
 any_passing : (p : ℕ → Bool) (cs : List ℕ) → list_any p cs ≡ first_passes (λ c. true) (passing_chars p cs)
 any_passing p [] = refl
 any_passing p (c ∷ cs) = go (p c) (any_passing p cs)
@@ -302,7 +302,7 @@ again_grouped drops hex plus digits letter from_first size least run same plain 
         ap (λ z. in_groups from_first size least z ++ ending (flat_map f new)) bare
         ∙ ap (λ z. in_groups from_first size least (without_underscores run) ++ z) (last drops same p)
 
--- ---- the digits as the code writes them
+-- ---- the digits that the code writes
 
 count_same : (f : ℕ → List ℕ) (run : List ℕ) → RowPlain f run
     → length (without_underscores (flat_map f run)) ≡ length (without_underscores run)
@@ -322,7 +322,7 @@ count_same f (c ∷ cs) k =
     go true d e = e
     go false d e = omega (arith, e)
 
--- A sequence of underscores only has no digits.
+-- A sequence that consists of underscores has no digits.
 only_bare : (cs : List ℕ) → only cs ≡ true → without_underscores cs ≡ []
 only_bare cs h = none_of other cs refl h
 

@@ -1,4 +1,5 @@
--- A rewritten literal is one token if the old literal is one, and no token before it can distinguish the two.
+-- A rewritten literal is one token if the old literal is one. Each token before the old literal is also lexed before the new
+-- one.
 use Rattle.rl_syntax.proofs.Common.{◌≡◌, ℕ, ◌≤◌, ◌⊎◌, nat_lt, digit_value, ◌||◌, inl, inr, Bool, true, false, not, ◌==◌, cond, length, lit<, List, [], ◌∷◌, ◌++◌, Some, refl, sym, ◌∙◌, ap, subst, arith, append_assoc, and_from, and_parts, codes, list_all, list_all-append, is_ascii_digit}
 use Rattle.rl_syntax.specs.Texts.{first_passes, is_among, is_continue, is_run_part, is_start}
 use Rattle.rl_syntax.specs.Classes.{after_run}
@@ -25,14 +26,15 @@ use Rattle.rl_style.proofs.SameIntegers as integers
 use Rattle.rl_style.proofs.SameRaw as raws
 use Rattle.rl_style.proofs.SameUnits as units
 
--- If the old text is a token, the new text is one too. Both texts begin so that no token before can distinguish them.
+-- If the old text `t` is a token before the text `y`, the new text `u` is one too. The old and the new text begin alike.
 pub record Replaces (t u y : List ℕ) : Type 0 where
   pub goes : (f : LexemeForm) → lexeme_at (t ++ y) ≡ Some (f, y) → lexeme_at (u ++ y) ≡ Some (f, y)
   pub front : (z : List ℕ) → SameFront (t ++ y) (u ++ z)
 
 -- ---- quoted literals
 
--- The old and the new literal are strings with one prefix.
+-- If the old and the new literal are strings with escapes, and have one kind and one suffix, the new literal may replace the
+-- old one.
 strings_replace : (k : Kind) (t u x y : List ℕ) (v w : Contents) → StringKind k → StrictCooked t k v x
     → StrictCooked u k w x → Replaces t u y
 strings_replace k t u x y v w f a b =
@@ -100,7 +102,7 @@ raw_replace BoolKind t u x y v w a b = absurd a.allowed
 
 -- ---- numbers
 
--- The old and the new number begin with a digit.
+-- If the old and the new text begin with a decimal digit, they begin alike.
 digits_front : (t u y z : List ℕ) (c d : ℕ) (m n : List ℕ) → t ≡ c ∷ m → u ≡ d ∷ n → is_ascii_digit c ≡ true
     → is_ascii_digit d ≡ true → SameFront (t ++ y) (u ++ z)
 digits_front t u y z c d m n e g a b = record {
@@ -128,7 +130,7 @@ decimals_replace t u y s r same = record {
   front = λ z. digits_front t u y z s.digit r.digit s.more r.more s.text_is r.text_is s.is_digit r.is_digit;
 }
 
--- A sequence of digits, and the text after it.
+-- The text `t` begins with the sequence of digits `run`, and continues with the text `z`.
 record DigitsThen (run z t : List ℕ) : Type 0 where
   form : DecimalForm t
   rest : List ℕ
@@ -210,7 +212,8 @@ integers_replace t u x y v w a b same = go a.is_front b.is_front
     go (inl f) (inr g) = absurd (not_ten b.prefix b.base g (same ∙ f.1))
     go (inr f) (inl g) = absurd (not_ten a.prefix a.base f (sym same ∙ g.1))
 
--- The text after a float, as the lexer splits it, by the form of the float.
+-- The text that the lexer leaves after the end of a float with the form `shape`. The text `z` follows the dot, the digits or
+-- the exponent with which the float ends.
 abbrev shape_end : FloatShape → List ℕ → List ℕ
 shape_end DotShape z = after_decimal (46 ∷ z)
 shape_end PointShape z = after_suffix (after_lexed_exponent (after_run (is_run_part is_ascii_digit) z))
@@ -292,7 +295,8 @@ floats_replace closes t u x y v w a b same =
 
 -- ---- raw strings that become strings with escapes
 
--- No token before can distinguish the old and the new text if both follow the text `lead`.
+-- If the old text `t` is a token before the text `y`, the new text `u` is one too. Each token of the text `lead` that is lexed
+-- before the old text is also lexed before the new one.
 pub record ReplacesAfter (lead t u y : List ℕ) : Type 0 where
   pub goes : (f : LexemeForm) → lexeme_at (t ++ y) ≡ Some (f, y) → lexeme_at (u ++ y) ≡ Some (f, y)
   pub front : (z : List ℕ) → Begun lead (t ++ y) (u ++ z)

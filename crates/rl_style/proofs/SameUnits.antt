@@ -114,7 +114,7 @@ itself_at : (k : Kind) (c d : ℕ) → (c == d) ≡ true → is_strict_unit k (I
     ≡ true
 itself_at k c d e h = ap (λ z. is_strict_unit k (Itself z)) (eqb-true c d e) ∙ h
 
--- A quote that doesn't close the literal may be in it unescaped.
+-- If an escaped quote doesn't close the literal, the literal may contain it without a backslash.
 quote_allowed : (k : Kind) (us : List StrictUnit) (c : ℕ) → HasUnits k us → (c == 39 || c == 34) ≡ true
     → (c == closer k) ≡ false → is_strict_unit k (Itself c) ≡ true
 quote_allowed Str us c q h n = itself_at Str c 39 (first_of (c == 39) (c == 34) h n) refl
@@ -217,7 +217,7 @@ follows : (a b : Bool) → a ≡ true → (not a || b) ≡ true → b ≡ true
 follows true b h k = k
 follows false b h k = absurd (cc)
 
--- A test that passes for each visible ASCII character, tried one by one, passes for `n`.
+-- If each visible ASCII character passes a test when it is tried, the visible character `n` passes it.
 visible_test : (test : ℕ → Bool) (n : ℕ) → is_visible n ≡ true
     → ((n < 128) → (not (is_visible n) || test n) ≡ true) → test n ≡ true
 visible_test test n v all = follows (is_visible n) (test n) v (all (visible_low n v))
@@ -241,7 +241,8 @@ visible_allowed Char us n q v = visible_test (λ n. is_strict_unit Char (visible
     low)
 visible_allowed kind us n q v = absurd q
 
--- A property that holds for LF, CR and TAB, and for NUL if it is the character, holds for each character with a letter escape.
+-- A property holds for each character that may have an escape with a letter if it holds for LF, CR and TAB, and for NUL in
+-- case the character is NUL.
 named_any : (P : ℕ → Type 0) (z : Bool) (n : ℕ) → gets_letter z n ≡ true → P 10 → P 13 → P 9
     → ((n == 0) ≡ true → P 0) → P n
 named_any P z n h a b c d =
@@ -282,7 +283,7 @@ respelled_allowed : (style : Style) (k : Kind) (z : Bool) (us : List StrictUnit)
 respelled_allowed style k z us n escape q m h = respelled_any (λ u. is_strict_unit k u ≡ true) style k z n escape
     (visible_allowed k us n q) (named_allowed k us z n q m) h
 
--- The number that an escape of a C string represents isn't 0, so `MayBeZero` holds for it.
+-- In a C string, the number that an escape represents isn't 0.
 no_zero : (b : Bool) (n : ℕ) → (b && not (n == 0)) ≡ true → (n == 0) ≡ true → ⊥
 no_zero b n h e = both_ways (n == 0) (not-true (n == 0) (and_parts b (not (n == 0)) h).1) e
 
@@ -328,7 +329,7 @@ respelled_ends style k z n escape us b h =
     respelled_any (λ u. BlanksEnd (u ∷ us)) style k z n escape
     (λ v. visible_any (λ u. BlanksEnd (u ∷ us)) k n (λ e. b) (λ e. b) b) (λ e. b) h
 
--- The new form of a numeric escape has the old value.
+-- A visible character that replaces a numeric escape, perhaps after a backslash, has itself as its value.
 visible_contents : (k : Kind) (n : ℕ) → is_visible n ≡ true → strict_contents (strict_content_of k) (visible_unit k n)
     ≡ n ∷ []
 visible_contents k n v =

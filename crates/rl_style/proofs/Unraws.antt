@@ -13,7 +13,7 @@ use Rattle.rl_style.specs.Around.{may_precede_quote, StaysBeforeQuote}
 use Rattle.rl_syntax.proofs.Basics.{false_unless}
 use Rattle.rl_lexer.proofs.Pieces.{is_equal}
 
--- The old text: the text before the raw string, `r`, and the text after it.
+-- The old text: the text `f` before the raw string, the letter `r`, and the text `x` after it.
 abbrev old : List ℕ → List ℕ → List ℕ
 old f x = f ++ (114 ∷ x)
 
@@ -72,7 +72,7 @@ after_dot (LexedPower letter sign n d more) s f x y may suffix (il, id, row) h =
 assoc3 : (d e s t : List ℕ) → (d ++ (e ++ s)) ++ t ≡ d ++ (e ++ (s ++ t))
 assoc3 d e s t = simp append_assoc
 
--- A test of a first character that fails for the old text also fails for the new text, with the parts `d`, `e` and `s` before
+-- If the first character of the old text fails a test, that of the new text fails it too. The texts `d`, `e` and `s` precede
 -- both.
 behind : (test : ℕ → Bool) (d e s f x y : List ℕ) → test 34 ≡ false → first_passes test (d ++ (e ++ (s ++ old f x)))
     ≡ false

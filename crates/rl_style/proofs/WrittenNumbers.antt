@@ -76,8 +76,8 @@ digits_found t v x i =
 
 -- ---- the bytes that the code writes
 
--- If Unicode scalar values are written before a UTF-8 text, the result is UTF-8, and its characters are these and those of the
--- text.
+-- If Unicode scalar values are written before a UTF-8 text, the result is UTF-8. Its characters are these values and then the
+-- characters of the text.
 followed : (m s b : List ℕ) → IsUtf8 s → scalars m ≡ true → b ≡ encode_utf8_all m ++ s → IsUtf8 b
     × (chars b ≡ m ++ chars s)
 followed m s b v h e = text_of b (m ++ chars s) (scalars_join m (chars s) h (scalars-chars s v))
@@ -120,7 +120,7 @@ separator_scalars (Some Nothing) x = refl
 separator_scalars (Some Underscore) [] = refl
 separator_scalars (Some Underscore) (c ∷ cs) = refl
 
--- The bytes of the suffix, and of the separator before it.
+-- The bytes of the separator before the suffix, and of the suffix.
 abbrev pub ended : Style → List ℕ → List ℕ
 ended style suffix = encode_utf8_all (separator style (chars suffix)) ++ suffix
 
@@ -337,7 +337,7 @@ pub float_unchanged : (t new x : List ℕ) (v : Contents) → StrictFloat t v x 
 float_unchanged t new x v f mistyped e =
     record { contents = v; suffix = x; float = f; mistyped = mistyped; new_is = e }
 
--- ---- parts that are written into a slice one after the other
+-- ---- parts of a number that are written one after the other
 
 -- If one more part is written, the whole text is still the text written so far and the text that is still to be written.
 pub one_more : (whole taken new one rest : List ℕ) → whole ≡ taken ++ encode_utf8_all (one ++ rest)
@@ -380,7 +380,7 @@ undotted closes f g (c ∷ cs) prefix is none =
       | inr a ↦ ap (λ b. cond b (c ∷ after_dot closes f g cs) (flat_map f (c ∷ cs))) a
     ]
 
--- The bytes that are written after a float's dot: a zero or nothing if the text after the dot is empty.
+-- If nothing follows the dot of a float, the code writes a zero or nothing after the dot, as the definition states.
 pub none_put : (closes : Bool) (f : ℕ → List ℕ) (g : List ℕ → List ℕ) (old new cs : List ℕ)
     → new ≡ old ++ encode_utf8_all (cond closes (48 ∷ []) []) → cs ≡ []
     → new ≡ old ++ encode_utf8_all (after_dot closes f g cs)

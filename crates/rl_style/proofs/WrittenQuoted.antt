@@ -114,7 +114,7 @@ closer_scalars Int = refl
 closer_scalars Float = refl
 closer_scalars BoolKind = refl
 
--- Texts that are written one after another are joined in that order.
+-- If the code writes parts one after another, the written text consists of the parts in this order.
 pub joined : (a b c d o mid x : List ℕ) (q r : ℕ) → d ≡ c ++ x → c ≡ b ++ encode_utf8 q → q ≡ r → b ≡ a ++ mid → a ≡ o
     → d
     ≡ ((o ++ mid) ++ encode_utf8 r) ++ x
@@ -237,7 +237,7 @@ pub regrouped : (o h i x : List ℕ) → o ++ (h ++ (34 ∷ (i ++ (34 ∷ (h ++ 
     ≡ (o ++ (h ++ (34 ∷ []))) ++ (i ++ ((34 ∷ h) ++ x))
 regrouped o h i x = simp append_assoc
 
--- A raw string with the fewest hashes has at most one byte more than the old text.
+-- If a raw string gets the fewest hashes, the new text has at most one byte more than the old text.
 pub raw_room : (k : Kind) (t i s : List ℕ) (n : ℕ) → IsUtf8 t → IsUtf8 i → IsUtf8 s
     → RawParts k (chars t) (chars i) (chars s) → HasFewestHashes k (chars i) n
     → (length i + 2 * n + 4) + length s ≤ length t + 1

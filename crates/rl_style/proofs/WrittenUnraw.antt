@@ -23,7 +23,8 @@ opener_is ByteStr h = (refl, refl, refl, refl)
 opener_is CStr h = (refl, refl, refl, refl)
 opener_is kind h = absurd (cc)
 
--- The new text has at most four bytes for each byte of the content, and no hashes.
+-- If a raw string becomes a string with escapes, four bytes for each byte of its content, its other characters and its suffix
+-- take at most four times the bytes of the raw string.
 pub unraw_room : (k : Kind) (t i s : List ℕ) → IsUtf8 t → IsUtf8 i → IsUtf8 s
     → RawParts k (chars t) (chars i) (chars s) → length (opener k) + 4 * length i + 1 + length s ≤ 4 * length t
 unraw_room k t i s ut ui us p =
@@ -77,7 +78,7 @@ unraw_written style k t inside suffix new ui us p w =
 
 -- ---- writing one character after another
 
--- The new text of the first characters of a raw string, where other characters follow.
+-- The new text of the first characters of a raw string. The characters `left` follow them.
 abbrev pub raw_before : Style → List ℕ → List ℕ → List ℕ
 raw_before style [] left = []
 raw_before style (c ∷ cs) left =
