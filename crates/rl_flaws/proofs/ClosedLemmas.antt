@@ -9,7 +9,8 @@ pub begins_quote : (t : List ℕ) → first_passes is_apostrophe t ≡ true → 
 begins_quote [] h = absurd (both_ways false refl h)
 begins_quote (c ∷ cs) h = ap (λ z. z ∷ cs) (is_equal c 39 h)
 
--- A text with the valid character `x` (code 120) in front begins with a character of a character or byte literal.
+-- If the character `x` (code 120) precedes a text, it is a valid character of a character or byte literal, and the text
+-- remains after it.
 good_unit : (k : Kind) (closing : List ℕ) → is_single k ≡ true → unit_rest k (120 ∷ closing) ≡ Some closing
 good_unit k closing s = unit_rest_complete k (Itself 120) closing (good k s) tt
   where
@@ -41,7 +42,7 @@ closed_token how k closing suffix s quote none =
     (after_opener how k closing)
     (single_good how k (120 ∷ closing) closing suffix s (good_unit k closing s) quote none)
 
--- ---- the piece and the flaw are in the unchecked text
+-- ---- the piece and the flaw are ends of the unchecked text
 
 pub closed_piece : (how : LineEnds) (closing suffix piece : List ℕ) (k : FlawKind) → closing ≡ 39 ∷ suffix
     → piece ≡ suffix_piece k closing suffix → IsRestOf how closing piece

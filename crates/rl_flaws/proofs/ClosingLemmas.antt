@@ -47,7 +47,7 @@ three_false false true d h = absurd (cc)
 three_false false false true h = absurd (cc)
 three_false false false false h = (refl, refl, refl)
 
--- The first part of a text that doesn't begin with a quote.
+-- Before its closing quote, the text begins with the character `c`, or with an escape of two characters.
 abbrev Parted : ℕ → List ℕ → List ℕ → Type 0
 Parted c t closing =
     ((parts : List BodyPart) × IsQuoteBody (PlainPart c ∷ parts) × (t ≡ body_text parts ++ closing))
@@ -185,7 +185,8 @@ search_passes how c t closing quote escape on = go (c == 47) (c == 10) (begins_c
     go false true false x y z h = absurd (both_ways true h refl)
     go false false d x y z h = passes x (λ e. absurd (both_ways (c == 10) y (ap (λ w. w == 10) e)))
 
--- The search skips one more part of the text, after the parts that it skipped before.
+-- After some parts of the text were skipped, the closing quote of the rest is the closing quote of the whole text. If one more
+-- part is skipped, this still holds.
 pub passes_on : (t s f r closing : List ℕ) (c : ℕ) → ReachesQuote t closing ↔ ReachesQuote s closing → s ≡ c ∷ f
     → ReachesQuote (c ∷ f) closing ↔ ReachesQuote r closing → ReachesQuote t closing ↔ ReachesQuote r closing
 passes_on t s f r closing c before e part = (
@@ -197,7 +198,7 @@ pub quote_begins : (how : LineEnds) (t closing : List ℕ) → ReachesQuote t (r
     → first_passes is_apostrophe closing ≡ true
 quote_begins how t closing r = sym (first_of how is_apostrophe refl closing) ∙ r.is_quote
 
--- ---- a text that begins with two quotes
+-- ---- a text that begins with two single quotes
 
 two_quotes : (t cs : List ℕ) → t ≡ 39 ∷ cs → begins_two_quotes t ≡ begins_char 39 cs
 two_quotes t cs e = ap begins_two_quotes e

@@ -29,7 +29,7 @@ open_left how o rest len piece (Inside p after) r f = record {
   some_left = refl;
 }
 
--- ---- the unchecked text after a flaw, by the two tests
+-- ---- the unchecked text after a flaw, as two tests of the code determine it
 
 pub after_single : (how : LineEnds) (o : Opened) (inside piece : List ℕ) (left : Left) (b d : Bool) → b ≡ false
     → d ≡ true → FollowsCharacter how o.kind inside left → IsLeftAfter b d how o inside piece left
@@ -43,7 +43,7 @@ after_other how o inside piece left b d e h f = subst (λ z. IsLeftAfter z d how
 
 -- ---- a character or byte literal
 
--- The opening delimiter of a character or byte literal.
+-- For a character or byte literal, the text before the content is only the opening delimiter, without hashes.
 single_front : (form : QuotedForm) (k : Kind) (h : List ℕ) → is_single k ≡ true → HasForm form k h
     → front_of form k h ≡ opener k
 single_front CookedForm k h s has = refl

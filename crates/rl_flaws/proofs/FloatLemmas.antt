@@ -115,7 +115,7 @@ length_zeros (suc n) = ap suc (length_zeros n)
 padded : (ds : List ℕ) (n : ℕ) → length (ds ++ zeros n) ≡ length ds + n
 padded ds n = length-append ds (zeros n) ∙ ap (λ k. length ds + k) (length_zeros n)
 
--- Digits represent a number that is at least the number represented by zeros.
+-- If digits and zeros are appended to a number, the result is at least the number with as many zeros appended.
 past_zeros : (x : ℕ) (ds : List ℕ) (up down : ℕ) → length ds + up ≡ down → onto x (zeros down) ≤ onto x (ds ++ zeros up)
 past_zeros x ds up down e =
     subst (λ n. onto x (zeros n) ≤ onto x (ds ++ zeros up)) (padded ds up ∙ e)
@@ -134,7 +134,7 @@ all_padded : (ds : List ℕ) (n : ℕ) → list_all is_ascii_digit ds ≡ true �
 all_padded ds n h = list_all-append is_ascii_digit ds (zeros n) ∙ and_from (list_all is_ascii_digit ds)
     (list_all is_ascii_digit (zeros n)) h (all_zeros n)
 
--- The comparison of two numbers continues with their next digits.
+-- If two lists of digits begin with one digit, the comparison of their numbers continues with the next digits.
 same_front : (r : Bool) (x d : ℕ) (ours least : List ℕ) → Ordered r (x * 10 + digit_value d) ours least
     → Ordered r x (d ∷ ours) (d ∷ least)
 unfolding onto
@@ -236,7 +236,7 @@ place_more (d ∷ ds) c =
     let long : length (ds ++ (c ∷ [])) ≡ suc (length ds) = length-append ds (c ∷ []) ∙ omega arith in
     rw (long, place_more ds c, pow-suc 10 (length ds)) (omega arith)
 
--- The value of an exponent. It is exact if it is below 2^100.
+-- The number `capped` is the value of an exponent, or both are at least 2^100.
 abbrev pub IsCapped : ℕ → ℕ → Type 0
 IsCapped capped value = (capped ≡ value) ⊎ ((2 ^ 100 ≤ capped) × (2 ^ 100 ≤ value))
 
@@ -290,7 +290,7 @@ first_digits : (ds : List ℕ) → IsFirst ds → list_all is_ascii_digit ds ≡
 first_digits [] h = absurd h
 first_digits (d ∷ ds) h = h.0
 
--- The digits of a numeral without leading zeros.
+-- The digits of a numeral before its exponent, without leading zeros.
 abbrev pub ours_of : List ℕ → List ℕ
 ours_of numeral = without_zeros (digits_only (decimal_part numeral))
 

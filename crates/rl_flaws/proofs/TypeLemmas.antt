@@ -1,4 +1,4 @@
--- The type of a literal by its parse result.
+-- The type of a literal according to its parse result.
 use Rattle.rl_syntax.proofs.Common.{◌≡◌, ℕ, ◌^◌, ◌-◌, ◌<◌, ◌≢◌, ◌++◌, ◌∙◌, Bool, List, Option, Some, None, IfNone, refl, sym, ap, arith, rules, subst, inl, inr, length, take, chars, chars-IsAscii, chars-append, chars-nil, IsUtf8, AllByRecursion, length-append, take-append_seam}
 use Rattle.rl_lenient.proofs.Names.{Kind, Float}
 use Rattle.std.proofs.ByRecursion.{IsAscii-from_all}

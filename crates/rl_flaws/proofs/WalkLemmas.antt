@@ -94,7 +94,7 @@ pub single_told : (t : List ℕ) (k : Kind) → OpensSingle k t → (inside : Li
     ≡ found_opener SingleForm k inside)
 single_told t k (s, (inside, text)) = (inside, ap opener_at text ∙ front_complete SingleForm k inside s)
 
--- The form that the beginning of a text identifies, and the text after the opening delimiter.
+-- The number of the form that an opening delimiter has. Different forms have different numbers.
 tag : QuotedForm → ℕ
 tag CookedForm = 1
 tag RawForm = 2

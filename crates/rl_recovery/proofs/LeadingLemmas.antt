@@ -31,7 +31,7 @@ other_begins text literal rest kind begins are other l h =
     let both : ◌≡◌ {A = SourceKind × List ℕ} (h.kind, chars l.text.now) (kind, literal) = cc in
     other (subst (λ (z : SourceKind × List ℕ). IsLiteralText z.0 z.1) both h.is_literal)
 
--- At most one literal begins a text.
+-- If two literals begin one text, they have one text.
 one_leads : (text : List ℕ) (k l : LeadingLiteral) → Leads text k → Leads text l → chars k.text.now ≡ chars l.text.now
 one_leads text k l p q =
     let same = one_token p.begins.token q.begins.token (chars k.following.now) (chars l.following.now)
@@ -98,7 +98,7 @@ token_leads (DocBlockToken inside) after literal is lit same = absurd lit
 token_leads (BadQuoteToken q) after literal is lit same = bad_quote_leads q after
 token_leads (StrayToken c) after literal is lit same = absurd lit
 
--- If the first characters of a text can't begin a literal, the first token isn't one.
+-- If the first characters of a text can't begin a literal, the text's first token isn't a literal.
 pub no_lead : (text : List ℕ) → may_lead (chars text) ≡ false → LeadsNone text
 no_lead text none l h =
     let after = chars l.following.now in

@@ -26,7 +26,7 @@ lexeme_stuck t none = go (lexeme_at t) refl
     go None e = e
     go (Some p) e = absurd (none (PlainKind p.0) p.1 (plain_before t p.1 p.0 (form_before t p e)))
 
--- The literal with its suffix if its closing delimiter is found, and `None` otherwise.
+-- If the closing delimiter of a literal is found, the literal with its suffix is returned. Otherwise the result is `None`.
 abbrev ended : Option (List ℕ) → Option (LexemeForm × List ℕ)
 ended o = literal_at (option_map after_suffix o)
 

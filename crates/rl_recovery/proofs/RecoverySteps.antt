@@ -1,4 +1,4 @@
--- Single steps of a cursor over a source, which resumes after errors.
+-- Single steps of a cursor that reads a source, and resumes after errors.
 use Rattle.rl_syntax.proofs.Common.{◌≡◌, ℕ, ◌+◌, ◌-◌, ◌≤◌, Bool, true, false, ◌==◌, List, [], length, take, drop, Some, None, refl, sym, subst, arith, inr, append-nil, codes, chars, IsUtf8, IsUtf8-nil, IsUtf8-take, chars-nil, if◌then◌else◌, none-some}
 use Rattle.rl_syntax.specs.Texts.{IsTail, begins}
 use Rattle.rl_syntax.proofs.TailLemmas.{tail_self, tail_step, cut_boundary, cut_chars}
@@ -83,7 +83,8 @@ begins_state text rest known cursor all = record {
   unclosed = all (chars rest);
 }
 
--- If the cursor reads more of the part in which lexing resumed last, its state is still valid.
+-- A cursor's part of the text is the text from the position at which lexing last resumed. If the cursor reads more of this
+-- part, its state is still valid.
 pub further : (whole part left rest : List ℕ) (known : Unclosed) → IsRecoveryState whole part left known
     → IsTail left rest → IsRecoveryState whole part rest known
 further whole part left rest known is tail = record {
@@ -119,7 +120,7 @@ nothing_left whole part left known is = record {
   unclosed = subst (AreUnclosed known) (sym chars-nil) (unclosed_nil known);
 }
 
--- A position in a part of the text is also a position in the whole text.
+-- A position in the part of a text that the cursor reads is also a position in the whole text.
 pub in_whole_len : (whole part left rest : List ℕ) (known : Unclosed) → IsRecoveryState whole part left known
     → IsTail left rest → length rest ≤ length whole
 in_whole_len whole part left rest known is tail = omega (

@@ -17,11 +17,11 @@ other_name found.Identifier h e = h refl
 other_name (found.Delimiter c) h e = absurd (cc)
 other_name (found.Mark c) h e = absurd (cc)
 
--- An error of a text isn't an allocation failure.
+-- If an error follows from a text, it isn't an allocation failure.
 pub no_memory : (kind : LexKind) (r : List ℕ) → ((groups : List OpenGroup) → ErrorAt kind groups r) → kind ≡ Memory → ⊥
 no_memory kind r h e = subst (λ (k : LexKind). ErrorAt k [] r) e (h [])
 
--- If the test of a rest for the length 0 is `false`, the rest isn't empty.
+-- If the code's test for an empty rest returns `false`, the rest isn't empty.
 pub some_rest : (rest now : List ℕ) (empty : Bool) → now ≡ rest → empty ≡ (length now == 0) → empty ≡ false → rest ≡ []
     → ⊥
 some_rest rest now empty same is none e =
@@ -46,19 +46,19 @@ abbrev pub Leads : ℕ → ℕ → CursorState → ℕ → ℕ → CursorState �
 Leads depth end t first_depth first_end first =
     (hi : ℕ) → EndsInside depth end t hi → EndsInside first_depth first_end first hi
 
--- The loop's invariant holds after one more token.
+-- If the loop over the tokens of a token tree reads one more token, its invariant still holds.
 pub leads_more : (depth end first_depth first_end : ℕ) (t new first : CursorState) (l : Lexeme) → depth ≢ 0
     → TakesNext t l new → Leads depth end t first_depth first_end first
     → Leads (depth_after (form_view l.form) depth) l.hi new first_depth first_end first
 leads_more depth end first_depth first_end t new first l some takes leads hi (inside, are) =
     leads hi (l ∷ inside, (some, (new, takes, are)))
 
--- If no group is open, the token tree ends at the end of the last token.
+-- If no group is open after a token, the token tree ends at the end of this token.
 pub ends_closed : (depth end first_depth first_end : ℕ) (t first : CursorState) → depth ≡ 0
     → Leads depth end t first_depth first_end first → EndsInside first_depth first_end first end
 ends_closed depth end first_depth first_end t first none leads = leads end ([], (inl none, refl))
 
--- If no token begins the rest, the token tree ends at the end of the last token.
+-- If no token begins the rest of a text, the token tree ends at the end of the last token.
 pub ends_stuck : (depth end first_depth first_end : ℕ) (t first : CursorState) → BeginsNoLexeme (chars t.rest)
     → Leads depth end t first_depth first_end first → EndsInside first_depth first_end first end
 ends_stuck depth end first_depth first_end t first none leads = leads end ([], (inr none, refl))

@@ -65,7 +65,7 @@ no_surrogate c low high = grind (arith, nat_tests)
 none_past : (c : ℕ) → 0x110000 ≤ c → needs_escape c ≡ false
 none_past c low = grind (arith, nat_tests)
 
--- Each invisible, bidirectional or control character is a Unicode scalar value.
+-- Each invisible, bidirectional or control character other than LF, CR and TAB is a Unicode scalar value.
 pub hidden_scalar : (c : ℕ) → needs_number c ≡ true → IsScalar c
 hidden_scalar c h =
     let e = hidden_escaped c h in

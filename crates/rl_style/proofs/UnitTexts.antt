@@ -93,8 +93,8 @@ held_of Int n = alone_of n
 held_of Float n = alone_of n
 held_of BoolKind n = alone_of n
 
--- For a character that represents itself, the code computes its number: the character if it is ASCII, and 128 otherwise. The
--- definition computes this number from the character's value.
+-- The code computes a number from a character: the character if it is ASCII, and 128 otherwise. The definition computes an
+-- equal number from the character's value.
 pub content_ascii : (k : Kind) (n m : ℕ) → m ≡ cond (nat_lt n 128) n 128 → m ≡ ascii_in (content_of k (n ∷ []))
 content_ascii k n m e = go (holds_characters k)
   where

@@ -1,4 +1,4 @@
--- The ASCII literal of a text is a literal of both grammars, with that text as its value.
+-- The ASCII literal of a text is a literal of both grammars. Its value is the text.
 use Rattle.rl_syntax.proofs.Common.{◌≡◌, ℕ, suc, ◌*◌, ◌/◌, ◌%◌, ◌<◌, ◌≤◌, ◌==◌, ◌&&◌, Bool, true, false, not, eqb, List, [], ◌∷◌, ◌++◌, length, refl, sym, ap, subst, ◌∙◌, inl, inr, arith, append_assoc, append-nil, nat_le, list_all, flat_map, scalar, and_parts, and_from, cases_lt, lt-ltb, eqb-true, not-true, agree_below_at, encode_utf8, chars, IsUtf8, length-encode, len_utf8_bounds, if◌then◌else◌}
 use Rattle.std.proofs.lemmas.Bool.{le-ltb, leb-true}
 use Rattle.std.proofs.lemmas.Grind.{flat_map-append}
@@ -70,7 +70,8 @@ is_short k c = list_all is_low (unit_text (written_unit k c)) && nat_le (length 
 abbrev low_test : Kind → ℕ → Bool
 low_test k c = is_unit_of k c && is_short k c
 
--- The property is tested for each of the 128 ASCII characters.
+-- A test of all 128 ASCII characters proves that the written form of each is a character or escape of Rust's grammar, in at
+-- most four ASCII characters.
 str_tests : (c : ℕ) → c < 128 → low_test Str c ≡ true
 unfolding written_unit
 str_tests c h = agree_below_at (low_test Str) (λ c. true) 128 c refl h
@@ -231,7 +232,8 @@ low_bytes k c bytes h s small e =
     let text = text_low k c small in
     e ∙ ap encode_utf8_all (sym text) ∙ encoded_low (ascii_text k c) f.low
 
--- The opening delimiter, the written forms and the closing delimiter, joined, are the literal.
+-- If the code writes the opening delimiter, the written forms of the characters and the closing delimiter, the result is the
+-- ASCII literal.
 pub literal_pieces : (k : Kind) (v b whole : List ℕ) → b ≡ opener k ++ flat_map (ascii_text k) v
     → whole ≡ b ++ (closer k ∷ []) → whole ≡ ascii_literal k v
 literal_pieces k v b whole b_is whole_is = whole_is ∙ ap (λ z. z ++ (closer k ∷ [])) b_is
@@ -252,11 +254,11 @@ piece_more k xs a b c a_is b_is =
     b_is ∙ ap (λ z. z ++ ascii_text k c) a_is ∙ append_assoc (opener k) (flat_map (ascii_text k) xs) (ascii_text k c)
     ∙ ap (λ z. opener k ++ z) (sym all)
 
--- The first of a text's characters is a scalar value.
+-- The first character of a UTF-8 text is a Unicode scalar value.
 pub first_scalar : (text rest : List ℕ) (c : ℕ) → IsUtf8 text → chars text ≡ c ∷ rest → IsScalar c
 first_scalar text rest c u e = (and_parts (scalar c) (scalars rest) (ap scalars (sym e) ∙ scalars-chars text u)).0
 
--- If all characters were passed, the written forms are those of the whole text.
+-- If the code has passed all characters of a text, it has written the ASCII literal of the whole text.
 pub whole_pieces : (k : Kind) (xs rest v a whole : List ℕ) → v ≡ xs ++ rest → rest ≡ []
     → a ≡ opener k ++ flat_map (ascii_text k) xs → whole ≡ a ++ (closer k ∷ []) → whole ≡ ascii_literal k v
 whole_pieces k xs rest v a whole v_is none a_is whole_is =
