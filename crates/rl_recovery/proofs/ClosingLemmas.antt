@@ -93,7 +93,7 @@ unclosed_tail k front t h = record {
 pub unclosed_end : (k : Unclosed) (t r : List ℕ) → EndsWith t r → AreUnclosed k t → AreUnclosed k r
 unclosed_end k t r ends h = unclosed_tail k ends.0 r (subst (AreUnclosed k) ends.1 h)
 
--- No literal is closed in an empty text.
+-- In an empty text, each opening delimiter of a set is unclosed, since the text contains no opening delimiter.
 pub unclosed_nil : (k : Unclosed) → AreUnclosed k []
 unclosed_nil k = record { quoted = λ on front body e. absurd (no_quote front body e); raw = nothing k.raw }
   where

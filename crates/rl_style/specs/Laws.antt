@@ -33,7 +33,7 @@ abbrev pub NoRuleChangesNothing : Type 0
 NoRuleChangesNothing =
     (style : Style) (front t u : List ℕ) → HasNoRule style → Rewrites style front t u → u ≡ t
 
--- The new text has each parse result of the old text: its kind, its value and its suffix.
+-- If the old text has a parse result, the new text has the kind, the value and the suffix of this result.
 abbrev pub ReadsAlike : List ℕ → List ℕ → Type 0
 ReadsAlike t u =
     (kind : Kind) (contents : Contents) (suffix : List ℕ)

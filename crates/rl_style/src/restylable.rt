@@ -67,7 +67,7 @@ impl<'t> Model for Restylables<'t> {
     ghost view = { λ r. record { tokens = r.tokens; last = r.last; end = r.end; calls = calls_seen r.calls } };
 }
 
-/// Returns the state after one more dot. `is_joined` is true if the dot directly follows the token before it.
+/// Describes the last token after one more dot. `is_joined` is true if the dot directly follows the token before it.
 fn one_more(last: Last, is_joined: bool) -> Last
     ensures { result ≡ one_more last is_joined }
 {
@@ -77,7 +77,7 @@ fn one_more(last: Last, is_joined: bool) -> Last
     }
 }
 
-/// Returns the state after the token `token`, where `last` is the state before it. The token before it ends at `end`.
+/// Describes the last token after the token `token`, where `last` describes the token before it, which ends at `end`.
 fn last_after(last: Last, end: usize, token: SourceToken<'_>) -> Last
     ensures { result ≡ last_after last end (source_view token.entry.form) token.entry.lo }
 {
