@@ -65,7 +65,7 @@ pub fn raw_hashes(kind: Kind, text: &str) -> Option<usize>
 /// Returns the text between the quotes of the raw byte string or raw C string whose value is the bytes `value`, and the fewest
 /// hashes for it, as [`raw_hashes`] returns them.
 ///
-/// Returns `None` if no raw string has this value. Either the bytes aren't UTF-8, so no literal contains them, or
+/// Returns `None` if no raw string has this value. Either the bytes aren't UTF-8, and can't be in a literal, or
 /// `raw_hashes` returns `None` for them.
 pub fn raw_form(kind: Kind, value: &[u8]) -> Option<(&str, usize)>
     requires string { IsTrue (is_string kind) }

@@ -4,8 +4,7 @@
 use crate::rl_strict::walk_units::split;
 use crate::rl_strict::{FlawKind, LineEnds};
 
-/// Returns the text after its first character. If that character is a backslash or the quote `quote`, the result is all of the
-/// text.
+/// Returns the text without its first character, or all of the text if this character is a backslash or the quote `quote`.
 #[inline]
 fn after_one(ends: LineEnds, quote: char, text: &str) -> &str {
     match split(ends, text) {

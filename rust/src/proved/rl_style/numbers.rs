@@ -107,7 +107,7 @@ fn put_suffix(out: &mut [u8], at: usize, style: Style, suffix: &str) -> usize {
     put_text(out, at, suffix)
 }
 
-/// Returns the options by which a number of this base with this suffix is rewritten.
+/// Returns the options for rewriting a number with the given base and suffix.
 #[inline]
 fn number_style(style: Style, base: u32, suffix: &str) -> Manner {
     Manner {

@@ -49,7 +49,7 @@ pub struct Restylables<'t> {
     calls: Calls<'t>,
 }
 
-/// Returns the state after one more dot. `is_joined` is true if the dot directly follows the token before it.
+/// Describes the last token after one more dot. `is_joined` is true if the dot directly follows the token before it.
 #[inline]
 fn one_more(last: Last, is_joined: bool) -> Last {
     match last {
@@ -58,7 +58,7 @@ fn one_more(last: Last, is_joined: bool) -> Last {
     }
 }
 
-/// Returns the state after the token `token`, where `last` is the state before it. The token before it ends at `end`.
+/// Describes the last token after the token `token`, where `last` describes the token before it, which ends at `end`.
 #[inline]
 fn last_after(last: Last, end: usize, token: SourceToken<'_>) -> Last {
     match token.form {

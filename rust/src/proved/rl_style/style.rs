@@ -84,7 +84,7 @@ pub struct Style {
     pub raw: bool,
     /// Whether invisible and bidirectional characters are replaced by numeric escapes: a control character except LF, CR and
     /// TAB, as `\x1b`, and a character that changes the direction of text or has no width, as `\u{202e}`. A raw string that
-    /// contains one becomes a string with escapes, with the exception of `raw`.
+    /// contains one becomes a string with escapes. But after a hash or a dot, a raw string without `b` or `c` stays raw.
     pub hidden: bool,
 }
 
