@@ -10,7 +10,7 @@ no_empty test t e h = both_ways (first_passes test t) (ap (first_passes test) e)
 no_first : (test : ℕ → Bool) (t cs : List ℕ) (c : ℕ) → t ≡ c ∷ cs → test c ≡ false → first_passes test t ≡ true → ⊥
 no_first test t cs c e n h = both_ways (first_passes test t) (ap (first_passes test) e ∙ n) h
 
--- If the text doesn't begin with its closing quote, a first part of the text precedes the quote.
+-- If the text doesn't begin with its closing quote, the text before this quote begins with a plain character or an escape.
 first_part : (c : ℕ) (t closing : List ℕ) → (c == 39) ≡ false → (r : ReachesQuote (c ∷ t) closing)
     → (p : BodyPart) × (parts : List BodyPart) × (r.parts ≡ p ∷ parts)
 first_part c t closing other r = go r.parts refl
@@ -20,7 +20,7 @@ first_part c t closing other r = go r.parts refl
         (sym (r.inside_is ∙ ap (λ z. body_text z ++ closing) e)) other r.is_quote)
     go (p ∷ more) e = (p, more, e)
 
--- ---- the search at a quote, and at the text's end
+-- ---- the search for the closing quote at a quote, and at the text's end
 
 pub quote_here : (t cs : List ℕ) (c : ℕ) → t ≡ c ∷ cs → (c == 39) ≡ true → ReachesQuote t t
 quote_here t cs c e h =
@@ -39,7 +39,7 @@ none_at_end t closing e r = go r.parts refl
         ∙ ap (λ z. body_text z ++ closing) p in
         absurd (cc)
 
--- ---- the search after a part of the text
+-- ---- the search for the closing quote after a character or escape
 
 three_false : (a b d : Bool) → not (a || b || d) ≡ true → (a ≡ false) × (b ≡ false) × (d ≡ false)
 three_false true b d h = absurd (cc)
@@ -68,7 +68,7 @@ parted c t closing other r = go (first_part c t closing other r)
         let tail : t ≡ d ∷ (body_text parts ++ closing) = cc in
         inr (head, (d, parts, subst IsQuoteBody e r.is_body, tail))
 
--- If the text begins with the closing quote, no part of the text precedes the quote.
+-- If the text begins with the closing quote, nothing precedes the quote.
 no_parts : (t : List ℕ) (closing : List ℕ) (r : ReachesQuote t closing) → begins_char 39 t ≡ true → r.parts ≡ []
 no_parts t closing r quote = go r.parts refl
   where
@@ -123,7 +123,7 @@ escape_passes e t closing = (λ r. past r (parted 92 (e ∷ t) closing refl r), 
       is_quote = r.is_quote;
     }
 
--- ---- the positions where the search ends
+-- ---- the positions where the search for the closing quote ends
 
 pub escape_ends : (t closing : List ℕ) → t ≡ [] → ReachesQuote (92 ∷ t) closing → ⊥
 escape_ends t closing none r = go (parted 92 t closing refl r)
@@ -151,7 +151,7 @@ line_ends c t closing quote line none r = go (parted c t closing quote r)
         both_ways (begins_char 39 t) none (ap (begins_char 39) same ∙ r.is_quote)
     go (inr (same, more)) = both_ways (c == 10) (ap (λ z. z == 10) same) line
 
--- ---- the steps of the search as tests in the code
+-- ---- the search for the closing quote, as tests in the code
 
 pub escape_part : (c e : ℕ) (t r closing : List ℕ) → c ≡ 92 → t ≡ e ∷ r
     → ReachesQuote (c ∷ t) closing ↔ ReachesQuote r closing
@@ -185,8 +185,8 @@ search_passes how c t closing quote escape on = go (c == 47) (c == 10) (begins_c
     go false true false x y z h = absurd (both_ways true h refl)
     go false false d x y z h = passes x (λ e. absurd (both_ways (c == 10) y (ap (λ w. w == 10) e)))
 
--- After some parts of the text were skipped, the closing quote of the rest is the closing quote of the whole text. If one more
--- part is skipped, this still holds.
+-- The search has skipped the first characters of the text, and the closing quote of the rest is that of the whole text. If the
+-- search skips one more character or escape, this still holds.
 pub passes_on : (t s f r closing : List ℕ) (c : ℕ) → ReachesQuote t closing ↔ ReachesQuote s closing → s ≡ c ∷ f
     → ReachesQuote (c ∷ f) closing ↔ ReachesQuote r closing → ReachesQuote t closing ↔ ReachesQuote r closing
 passes_on t s f r closing c before e part = (

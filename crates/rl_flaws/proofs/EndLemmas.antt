@@ -1,4 +1,4 @@
--- The end of an invalid character or escape, step by step. The invalid piece isn't empty.
+-- The code finds the end of an invalid character or escape step by step. The invalid piece isn't empty.
 use Rattle.rl_flaws.proofs.Names.{◌≡◌, ◌≢◌, ◌≤◌, ◌<◌, ◌==◌, ◌||◌, ℕ, Bool, true, false, List, [], ◌∷◌, ◌++◌, length, length-append, refl, sym, ap, ◌∙◌, arith, cond, both_ways, chars, is_hex_digit, IsTail, is_underscore, is_some_text, read_of, LineEnds, some_text_of, after_bad_piece, after_brace, after_code_digits, after_escape, after_hex, after_one, after_unicode}
 
 -- ---- the digits of an invalid escape

@@ -14,7 +14,7 @@ use Rattle.rl_syntax.specs.declared.integer_type.IntegerType.TheVariants.{U8, U1
 use Rattle.rl_flaws.specs.declared.number_types.NumberType.{NumberType}
 use Rattle.rl_flaws.specs.declared.number_types.NumberType.TheVariants.{Integer, F32, F64}
 
--- Each name of a number type is mapped to another number. So a suffix is the name of at most one number type.
+-- Each name of a number type has another number. So a suffix is the name of at most one number type.
 number_of : List ℕ → ℕ
 number_of [] = 0
 number_of (b ∷ bs) = b + 256 * number_of bs
@@ -81,7 +81,7 @@ integers_only t n l some infinite = go (greatest_of t n) refl
     go None h = some h
     go (Some g) h = one_kind t n g l h infinite
 
--- ---- the kinds of literals
+-- ---- a literal has only one kind
 
 no_quoted : (k : Kind) → is_quoted k ≡ true → (k ≡ BoolKind) ⊎ ((k ≡ Int) ⊎ (k ≡ Float)) → ⊥
 no_quoted k q (inl e) = both_ways false refl (sym (ap is_quoted e) ∙ q)

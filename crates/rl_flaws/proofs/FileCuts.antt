@@ -3,7 +3,7 @@ use Rattle.rl_flaws.proofs.Names.{◌≡◌, ◌≤◌, ◌<◌, ◌+◌, ◌-�
 use Rattle.rl_strict.proofs.OneFileFlaw.{more_read, place_once, whole_seam}
 use Rattle.rl_strict.proofs.OneStrictFlaw.{meets}
 
--- ---- bytes
+-- ---- the number of bytes of a text
 
 pub first_bytes : (c : ℕ) (cs : List ℕ) → byte_len (c ∷ cs) ≡ length (encode_utf8 c) + byte_len cs
 first_bytes c cs = length-append (encode_utf8 c) (encode_utf8_all cs)

@@ -8,7 +8,7 @@ use native.Mathlib.Numerals.{unary_clauses}
 use Rattle.rl_flaws.specs.FloatRange.{IsAtLeast, after_point, power_part, decimal_part, digits_only, exponent, has_minus, lowered, raised, significand}
 use Rattle.rl_flaws.specs.Mirrors.Floats.{IsBound, not_below, without_zeros}
 
--- ---- digits
+-- ---- the values of decimal digits
 
 digit_code : (c : ℕ) → is_ascii_digit c ≡ true → (48 + digit_value c ≡ c) × (digit_value c < 10)
 digit_code c h =
@@ -90,7 +90,7 @@ unfolding onto zeros
 zeros_least x y [] h = h
 zeros_least x y (a ∷ us) h = zeros_least (x * 10 + 0) (y * 10 + digit_value a) us (omega (arith, h))
 
--- ---- numbers whose first digits have the same power of ten
+-- ---- numbers whose first digits have one power of ten
 
 same_digit : (d b : ℕ) → (d == b) ≡ true → d ≡ b
 same_digit d b h = eqb-true d b h
@@ -228,7 +228,7 @@ same_digits ds bs up down hd hb e = go (not_below ds bs) (ordered 0 ds bs up dow
     go true h = omega (arith, h, scaled ds up, scaled bs down)
     go false h = omega (arith, h, scaled ds up, scaled bs down)
 
--- ---- a number with one more digit
+-- ---- the number that digits represent, with one more digit
 
 pub place_more : (ds : List ℕ) (c : ℕ) → place_value 10 (ds ++ (c ∷ [])) ≡ place_value 10 ds * 10 + digit_value c
 place_more [] c = omega arith
@@ -251,7 +251,7 @@ pub same_capped : (front : List ℕ) (c v : ℕ) → 2 ^ 100 ≤ v → IsCapped 
 same_capped front c v more (inl e) = inr (more, omega (arith, more, e, place_more front c))
 same_capped front c v more (inr p) = inr (more, omega (arith, p.1, place_more front c))
 
--- ---- numerals
+-- ---- the digits of a numeral before and after its exponent's letter
 
 digits_all : (cs : List ℕ) → list_all is_ascii_digit (digits_only cs) ≡ true
 digits_all [] = refl
@@ -325,7 +325,7 @@ none_reach n bs count bound is none reaches =
     long [] g = absurd g
     long (d ∷ ds) g = omega arith
 
--- ---- the powers of ten of the first digits, if an exponent above the limit isn't exact
+-- ---- if an exponent above the limit isn't exact, the powers of ten of the first digits still decide the comparison
 
 exactly : (m : Bool) (count places bound power value : ℕ) → IsCapped power value → count < 2 ^ 64 → places < 2 ^ 64
     → bound ≤ 309
@@ -352,7 +352,8 @@ exactly false count places bound power value (inr q) c p b = (
   (λ h. absurd (omega (arith, q.0, p, b, h)), λ h. absurd (omega (arith, q.0, p, b, h))),
 )
 
--- The parts of a numeral as the code computes them.
+-- The numbers that the code computes for a numeral are those of the definitions: the number of its digits without leading
+-- zeros, the number of digits after its dot, and its exponent.
 pub record IsMeasured (n bs : List ℕ) (count places power : ℕ) : Type 0 where
   pub bound : IsBound bs
   pub short : length bs ≤ 309
@@ -422,7 +423,7 @@ reach_same n bs count places power s h r is =
       λ x reaches. absurd (omega (arith, c, same, reaches)),
     )
 
--- ---- digits as texts
+-- ---- the digits of a numeral as texts
 
 digits_chars : (bs : List ℕ) → list_all is_ascii_digit bs ≡ true → chars bs ≡ bs
 digits_chars bs h = chars-IsAscii bs (IsAscii-from_all bs (low bs h))

@@ -58,7 +58,8 @@ based (z ∷ c ∷ cs) h e = go (z == 48) refl
         let radix : (radix_at (48 ∷ c ∷ cs)).0 ≡ 10 = subst (λ d. (radix_at (d ∷ c ∷ cs)).0 ≡ 10) is e in
         based_letter c cs first (named (radix_of c == 10) refl radix)
 
--- The kind of a number, by whether it has a base prefix and how the text after its digits begins.
+-- The kind of a number. The first flag is true if the number has a base prefix, and the second flag if a dot or the letter of
+-- an exponent follows its digits.
 abbrev pub by_row : Bool → Bool → Kind
 by_row base mark = cond base Int (cond mark Float Int)
 

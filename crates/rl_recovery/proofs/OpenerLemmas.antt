@@ -34,7 +34,7 @@ not_ended : (o : Option (List ℕ)) → ended o ≡ None → o ≡ None
 not_ended None h = refl
 not_ended (Some r) h = absurd (cc)
 
--- ---- quoted literals
+-- ---- a string with escapes begins a token if and only if it is closed
 
 quoted_lexeme : (p : LiteralPrefix) (body : List ℕ) → lexeme_at (prefix_text p ++ 34 ∷ body) ≡ ended (after_quote body)
 quoted_lexeme NoPrefix body = at_class 34 body QuoteHead class34
@@ -61,7 +61,7 @@ pub quoted_unclosed : (p : LiteralPrefix) (body : List ℕ) → BeginsNoSource (
 quoted_unclosed p body none = not_ended (after_quote body)
     (sym (quoted_lexeme p body) ∙ lexeme_stuck (prefix_text p ++ 34 ∷ body) none)
 
--- ---- raw strings
+-- ---- a raw string begins a token if and only if it is closed
 
 -- Hashes, a double quote and the text after it.
 abbrev pub hashed : ℕ → List ℕ → List ℕ
@@ -139,7 +139,7 @@ pub raw_unclosed : (p : LiteralPrefix) (n : ℕ) (body : List ℕ) → BeginsNoS
 raw_unclosed p n body none = not_ended (after_raw n body)
     (sym (raw_lexeme p n body) ∙ lexeme_stuck (prefix_text p ++ 114 ∷ hashed n body) none)
 
--- ---- the number of hashes
+-- ---- the number of hashes of a raw string
 
 hash_bytes : (n : ℕ) → length (encode_utf8_all (replicate n 35)) ≡ n
 hash_bytes zero = refl

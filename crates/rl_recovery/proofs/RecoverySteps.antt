@@ -28,7 +28,7 @@ pub unclosed_rest : (k : Unclosed) (a b : List ℕ) → IsUtf8 a → IsTail a b 
     → AreUnclosed k (chars b)
 unclosed_rest k a b u tail is = unclosed_end k (chars a) (chars b) (tail_chars a b u tail) is
 
--- ---- the tokens between two literals
+-- ---- the cursor reads the tokens between two literals
 
 pub stays : (s : CursorState) → IsUtf8 s.rest → PassesTo s s
 stays s u = record {
@@ -55,7 +55,7 @@ walks_on k old now new l w takes other = record {
   unclosed = unclosed_rest k now.rest new.rest w.passes.following.is_text takes.following w.unclosed;
 }
 
--- ---- errors of a source
+-- ---- the errors of a source
 
 pub error_of : (rest : List ℕ) (kind : LexKind) → IsUtf8 rest → (empty : Bool) → empty ≡ (length rest == 0)
     → empty ≡ false → BeginsNoSource (chars rest) → kind ≡ source_error_kind (chars rest) → SourceErrorAt kind (chars rest)

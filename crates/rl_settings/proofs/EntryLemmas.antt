@@ -13,7 +13,7 @@ use Rattle.rl_settings.specs.SettingSteps.{TakesName, TakesMark}
 use Rattle.rl_settings.specs.EntrySteps.{TakesDot, JoinsName, AreNameParts, dotted, BeginsDottedName, TakesDottedName}
 use Rattle.rl_settings.specs.declared.entries.DottedName.{DottedName}
 
--- ---- a token, and the text directly after it
+-- ---- the text of a token, and the text directly after it
 
 pub record TokenFront (old : CursorState) (l : Lexeme) : Type 0 where
   pub tail : List ℕ
@@ -172,7 +172,7 @@ name_goes_on start t new first part hi name joins =
           (tail_step t.rest at.rest new.rest takes_dot.following takes_part.following);
     }
 
--- ---- the name is a slice of the input text
+-- ---- a dotted name is a slice of the input text
 
 pub name_len : (start t : CursorState) (first : Lexeme) (hi : ℕ) (name : NameUpTo start first t hi)
     → length (dotted first name.parts) ≡ hi - first.lo
@@ -203,7 +203,7 @@ slice_front r s n e = ap (λ m. take m r) (let q : n - 0 ≡ n = omega arith in 
 pub mark_fits : (c : ℕ) (old new : CursorState) → TakesMark c old new → length old.rest ≤ length old.text
 mark_fits c old new (l, takes, is) = omega (arith, takes.place)
 
--- ---- each step leaves the input text unchanged
+-- ---- each step of reading a name leaves the input text unchanged
 
 parts_same : (end hi : ℕ) (t new : CursorState) (parts : List Lexeme) → AreNameParts end t parts new hi → new.text ≡ t.text
 parts_same end hi t new [] are = ap (λ (s : CursorState). s.text) are.0

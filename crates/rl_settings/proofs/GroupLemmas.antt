@@ -20,7 +20,7 @@ use Rattle.rl_settings.specs.declared.groups.Opened.{Opened}
 use Rattle.rl_settings.specs.Groups.{open_view, ClosesOther, OpensPast, StopsForm, EndsOpen}
 use Rattle.rl_settings.specs.WholeCuts.{IsCutWhole}
 
--- ---- the array
+-- ---- the array of open groups
 
 -- If an index is at or after the end of the array, no group is open from this index on.
 pub none_from : (xs : List Opened) (start : ℕ) → length xs ≤ start → map open_view (drop start xs) ≡ []

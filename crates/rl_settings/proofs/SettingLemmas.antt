@@ -1,4 +1,4 @@
--- The tokens at a position where a part of a setting was expected, and the end of a token tree.
+-- The token or the end where a part of a setting was expected, and the end of a token tree.
 use Rattle.rl_syntax.proofs.Common.{◌≡◌, ◌≢◌, ℕ, ◌+◌, ◌-◌, ◌≤◌, inl, inr, Bool, true, false, List, [], ◌∷◌, length, refl, ◌∙◌, ◌==◌, ap, subst, arith, chars, if◌then◌else◌}
 use Rattle.rl_lexer.specs.declared.cursor.Lexeme.{Lexeme}
 use Rattle.rl_lexer.specs.declared.lex_error.LexKind.{LexKind}

@@ -1,4 +1,4 @@
--- The test whether a style changes the text of a literal, by the bytes of the new text.
+-- The code compares the bytes of the old and the new text, and so tests whether a style changes a literal.
 use Rattle.rl_syntax.proofs.Common.{◌≡◌, ℕ, List, Bool, true, false, not, IsTrue, IsUtf8, refl, sym, ◌∙◌, ap, chars, encode_utf8_all, encodes-chars}
 use Rattle.std.specs.Prelude.{◌↔◌}
 use Rattle.rl_style.specs.Rewriting.{Rewrites}

@@ -18,7 +18,7 @@ use Rattle.rl_style.proofs.CaseLemmas.{cased_more, cased_past, twice_cased}
 abbrev pub hex_of : ℕ × ℕ → Bool
 hex_of d = is_ascii_hexdigit d.0
 
--- ---- the number that the digits represent
+-- ---- the number that the digits of an escape represent
 
 firsts_bare : (ds : List (ℕ × ℕ)) → map (λ d. d.0) (map bare_digit ds) ≡ map (λ d. d.0) ds
 firsts_bare [] = refl
@@ -41,7 +41,7 @@ fewest_value (d ∷ e ∷ ds) = go (d.0 == 48) refl (fewest_value (e ∷ ds))
         ∙ ap (λ c. place_value 16 (c ∷ run)) (sym (eqb-true d.0 48 z))
     go false z more = ap (place_value 16) (firsts_bare (d ∷ e ∷ ds))
 
--- ---- the number of digits that remain, and these digits
+-- ---- the digits of an escape that remain, and their number
 
 length_bare : (ds : List (ℕ × ℕ)) → length (map bare_digit ds) ≡ length ds
 length_bare [] = refl
@@ -100,7 +100,7 @@ fewest_unicode ds h =
     (and_from (nat_le 1 (length new)) (nat_le (length new) 6) (le-leb 1 (length new) some) (le-leb (length new) 6 few))
     (fewest_hex ds q.1)) (ap (λ n. all_scalars (n ∷ [])) (fewest_value ds) ∙ p.1)
 
--- ---- rewriting the digits again changes nothing
+-- ---- if the digits of an escape are rewritten again, nothing changes
 
 pub twice_digits : (case : Option Case) (ds : List (ℕ × ℕ)) → map (cased_digit case) (map (cased_digit case) ds)
     ≡ map (cased_digit case) ds
@@ -175,7 +175,7 @@ code_twice style ds = go style.code_digits
         ∙ twice_digits style.escape_digits (fewest_digits (fewest_digits ds)) ∙ ap to (fewest_twice ds)
     go false = twice_digits style.escape_digits ds
 
--- ---- the text of the digits
+-- ---- the text of an escape's digits
 
 under_gone : (n : ℕ) (t : List ℕ) → after_run is_padding (replicate n 95 ++ t) ≡ after_run is_padding t
 under_gone zero t = refl

@@ -16,7 +16,7 @@ use Rattle.rl_style.proofs.Recut.{Alike, alike_more, alike_stays, offset_of_rest
 use Rattle.rl_style.proofs.RestyledCuts.{NewToken, new_token}
 use Rattle.rl_style.proofs.WholeSource.{Preamble, preamble}
 
--- ---- rewriting one token after another
+-- ---- one token after another is rewritten
 
 -- The tokens of the new text, after the edits of the old text. Both texts follow the text `lead`. Each token of `lead` that is
 -- lexed before the old text is also lexed before the new one.
@@ -96,8 +96,8 @@ one_more lead e es at w ws front old new after new_after inner r old_is new_is p
           (alike_more lead front (source_text w.token ++ after) (s ++ new_after) p.alike));
     }
 
--- The text before a token is `front`. If the edit of the token is in the style by the token's offset in the whole text, it is
--- in the style by `front`.
+-- The text before a token is `front`. If the token's new text is in the style at the token's offset in the whole text, it is
+-- also in the style for a token that follows `front`.
 is_written : (style : Style) (from : ℕ) (whole front rest : List ℕ) (w : CutSource) (e : Option (List ℕ))
     → whole ≡ front ++ (source_text w.token ++ rest) → w.at ≡ from + byte_len front → IsInStyle style from whole w e
     → IsWritten style front w.token e
@@ -156,7 +156,7 @@ keeps_the_tokens_of_edits style at old cuts edits new r cut sound edited styled 
     sound edited styled in
     record { tokens = m.tokens; are_tokens = m.are_tokens; are_cuts = m.are_cuts }
 
--- ---- a whole source
+-- ---- the tokens of a whole source
 
 source_more : (style : Style) (old : List ℕ) (w : CutSource) (ws : List CutSource) (e : Option (List ℕ))
     (es : List (Option (List ℕ))) (new r : List ℕ) → (cut : IsCutUpTo old (w ∷ ws) r)

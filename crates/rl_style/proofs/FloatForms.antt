@@ -14,14 +14,14 @@ use Rattle.rl_style.proofs.Decimals.{letter_out}
 use Rattle.rl_style.proofs.Regrouped.{grouped_digits}
 use Rattle.rl_style.proofs.NumberCharacters.{becomes, digits_each, digits_some, digits_stay, row_stays, stays}
 
--- ---- sequences of digits
+-- ---- rewritten sequences of digits
 
 digits_are : (drops plus : Bool) (digits letter : Option Case) (d : List ℕ) → IsDigits d
     → IsDigits (flat_map (becomes drops false plus digits letter) d)
 digits_are drops plus digits letter d h = digits_stay (becomes drops false plus digits letter) d
     (row_stays (is_run_part is_ascii_digit) drops plus digits letter d refl refl refl h.1) h
 
--- ---- exponents
+-- ---- a rewritten exponent is an exponent
 
 -- The letter `c` of an exponent is rewritten as one character, which is again `e` or `E`.
 pub record Letter (drops plus : Bool) (digits letter : Option Case) (c : ℕ) : Type 0 where
@@ -140,7 +140,7 @@ letter_follows z x d ds e h =
     ∙ or_from (d == 120 || d == 111) (d == 98) (or_from (d == 120) (d == 111) (apart test d 120 h refl)
     (apart test d 111 h refl)) (apart test d 98 h refl)
 
--- ---- the forms of floats
+-- ---- the three forms of floats
 
 abbrev pub FloatForm : List ℕ → List ℕ → Type 0
 FloatForm numeral x = IsDotAlone numeral x ⊎ (IsPointed numeral x ⊎ IsScientific numeral x)
@@ -156,7 +156,7 @@ shape_of numeral x (inl a) = DotShape
 shape_of numeral x (inr (inl a)) = PointShape
 shape_of numeral x (inr (inr a)) = PowerShape
 
--- ---- digits in groups
+-- ---- floats with their digits in groups
 
 abbrev pub Groups : ℕ → ℕ → Bool → List ℕ → List ℕ
 Groups size least from_first run = regrouped from_first size least run

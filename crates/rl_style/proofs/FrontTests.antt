@@ -17,7 +17,7 @@ hashed_here t b = ap begins_hashed_quote b.text_is ∙ raw_opens_here b.hashes b
 other_head : (h k : ℕ) → is_head h ≡ true → is_head k ≡ false → (h == k) ≡ false
 other_head h k is other = not_among h k is_head is other
 
--- ---- tests with equal results for all digits
+-- ---- tests of characters that have one result for all decimal digits
 
 abbrev pub OnDigits : (ℕ → Bool) → Type 0
 OnDigits test = (h k : ℕ) → is_ascii_digit h ≡ true → is_ascii_digit k ≡ true → test h ≡ test k
@@ -67,7 +67,7 @@ digit_continues c h =
 pub continue_on : OnDigits is_continue
 continue_on h k a b = digit_continues h a ∙ sym (digit_continues k b)
 
--- ---- the first characters of two literals
+-- ---- the first characters of the old and the new literal
 
 head_agrees : (test : ℕ → Bool) → OnDigits test → (h k : ℕ) → SameHead h k → test h ≡ test k
 head_agrees test on h k (inl e) = ap test e
@@ -135,7 +135,7 @@ pub same_first : (test : ℕ → Bool) → OnDigits test → (a b : List ℕ) �
     → first_passes test a ≡ first_passes test b
 same_first test on a b s = both (first_passes test) (first_agrees test on) a b s
 
--- ---- the text after a sequence of characters
+-- ---- the test of the text after a sequence of characters
 
 run_agrees : (run test : ℕ → Bool) (front : List ℕ) (h k : ℕ) (x y : List ℕ) → run h ≡ false → run k ≡ false
     → test h ≡ test k
@@ -157,7 +157,7 @@ hashed_agrees f h k x y s =
     let n = other_heads h k 35 x y s refl in
     run_agrees is_hash (λ c. c == 34) f h k x y n.0 n.1 (head_agrees (λ c. c == 34) (code_on 34 refl) h k s.same)
 
--- ---- texts that begin with a dot
+-- ---- the test whether a text begins with a dot
 
 dot_agrees : Agrees begins_dot
 dot_agrees [] h k x y s =
@@ -170,7 +170,7 @@ dot_agrees (c ∷ f) h k x y s =
 pub same_dot : (a b : List ℕ) → SameFront a b → begins_dot a ≡ begins_dot b
 same_dot a b s = both begins_dot dot_agrees a b s
 
--- ---- texts that begin with an exponent
+-- ---- the test whether a text begins with an exponent
 
 abbrev powers : List ℕ → Bool
 powers t = first_passes is_ascii_digit (after_run is_underscore t)
@@ -210,7 +210,7 @@ exponent_agrees (c ∷ f) h k x y s = ap (λ b. (c == 101 || c == 69) && b) (sig
 pub same_exponent : (a b : List ℕ) → SameFront a b → begins_exponent a ≡ begins_exponent b
 same_exponent a b s = both begins_exponent exponent_agrees a b s
 
--- ---- texts that begin with an identifier or a prefix
+-- ---- the test whether a text begins with an identifier or a prefix
 
 abbrev raw_second : List ℕ → Bool
 raw_second t = begins_char 114 t && begins_hashed_quote (drop 1 t)
@@ -271,7 +271,7 @@ pub same_identifier : (c : ℕ) (a b : List ℕ) → SameFront a b → begins_ra
     ≡ begins_raw_identifier (c ∷ b)
 same_identifier c a b s = both (λ t. begins_raw_identifier (c ∷ t)) (identifier_agrees c) a b s
 
--- ---- the start of a whole source
+-- ---- the tests of the start of a whole source
 
 script_agrees : Agrees (begins (codes "#!"))
 script_agrees [] h k x y s =

@@ -1,4 +1,4 @@
--- Digits in groups, and the underscores at the end of a sequence.
+-- Digits that underscores divide into groups, and the underscores at the end of a sequence.
 use Rattle.rl_syntax.proofs.Common.{◌≡◌, ℕ, ◌||◌, ◌&&◌, Bool, true, false, not, ◌==◌, cond, List, [], ◌∷◌, ◌++◌, length, refl, sym, ap, ◌∙◌, append-nil, and_from, and_parts, eqb-true, is_ascii_digit, list_all, list_any, list_all-append}
 use Rattle.std.proofs.lemmas.List.Elements.{filter-append}
 use Rattle.rl_syntax.proofs.Basics.{apart}
@@ -29,7 +29,7 @@ plus_free test (c ∷ cs) n h =
     and_from (not (c == 43)) (list_all (λ c. not (c == 43)) cs) (ap not (apart test c 43 p.0 n))
     (plus_free test cs n p.1)
 
--- ---- digits without underscores
+-- ---- the digits of a sequence, without its underscores
 
 pub bare_other : (cs : List ℕ) → list_all other (without_underscores cs) ≡ true
 bare_other [] = refl

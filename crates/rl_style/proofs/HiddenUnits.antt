@@ -35,7 +35,7 @@ number_any P k c ascii byte unicode = go (nat_lt c 128)
     go true = two k (lower_digit (c / 16)) (lower_digit (c % 16))
     go false = unicode (digits_of c)
 
--- ---- the characters that are escaped
+-- ---- the characters that become numeric escapes
 
 hidden_escaped : (c : ℕ) → needs_number c ≡ true → needs_escape c ≡ true
 hidden_escaped c h = (and_parts (needs_escape c) (not (has_letter c)) h).0

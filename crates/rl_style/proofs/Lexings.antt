@@ -14,7 +14,7 @@ use Rattle.rl_lexer.proofs.LexemeOpeners.{raw_opens_here}
 use Rattle.rl_lexer.proofs.LexemeRows.{not_among, quote_past, raw_past, run_past, single_past}
 use Rattle.rl_lexer.proofs.Pieces.{is_equal}
 
--- ---- sequences of characters
+-- ---- the lexer consumes a sequence of characters
 
 pub run_through : (test : ℕ → Bool) (row y : List ℕ) → list_all test row ≡ true → after_run test (row ++ y)
     ≡ after_run test y
@@ -38,7 +38,7 @@ no_longer test c t e =
     let less = run_shorter test t in
     absurd (omega (arith, same, less))
 
--- ---- quoted literals
+-- ---- the end of a quoted literal in the lexer
 
 pub quoted_goes : (p : LiteralPrefix) (parts : List BodyPart) (x y : List ℕ) → IsBody parts
     → lexeme_at (lexeme_text (QuotedLexeme p parts x) ++ y) ≡ Some (LiteralForm, after_suffix (x ++ y))
@@ -96,7 +96,7 @@ raw_goes p n body x y is = go p
     go CPrefix = ap (λ s. lexeme_at (99 ∷ 114 ∷ s)) (raw_text n body x y) ∙ at_class 99 (114 ∷ u) LetterCHead class99
         ∙ raw_chosen u (word_at (114 ∷ u)) (after_suffix (x ++ y)) (raw_opens_here n v) at
 
--- ---- numbers with a base prefix
+-- ---- the end of a number with a base prefix in the lexer
 
 pub based_goes : (letter : ℕ) (digits y : List ℕ) → is_base_letter letter ≡ true → list_all is_continue digits ≡ true
     → lexeme_at (48 ∷ letter ∷ digits ++ y) ≡ Some (LiteralForm, after_run is_continue y)
@@ -106,7 +106,7 @@ based_goes letter digits y is each =
     is
     ∙ ap (λ s. Some (LiteralForm, s)) (run_through is_continue digits y each)
 
--- ---- decimal numbers
+-- ---- the end of a decimal number in the lexer
 
 -- The text is a decimal number: a digit, and more text.
 pub record DecimalForm (t : List ℕ) : Type 0 where
@@ -192,7 +192,7 @@ decimal_goes t y f s e h =
     ∙ ap (λ z. Some (LiteralForm, z)) (chosen s.digit (s.more ++ y) (no_turn_new s.digit s.more y s.is_decimal h) ∙ h)
     ∙ ap (λ z. Some (z, y)) (sym e)
 
--- ---- the parts of a decimal number
+-- ---- the lexer consumes the parts of a decimal number
 
 abbrev is_part : ℕ → Bool
 is_part c = is_run_part is_ascii_digit c
@@ -308,7 +308,7 @@ pointed_power_ends more f e w each digits s =
     (stands is_part (e ++ w) (exponent_stands is_part e w s refl refl))
     ∙ ap after_suffix (exponent_gone e w s)
 
--- ---- digits and suffixes continue as an identifier does
+-- ---- a sequence of digits and a suffix contain only characters of identifiers
 
 pub row_goes_on : (n : ℕ) (row : List ℕ) → n ≤ 16 → list_all (is_run_part (λ d. nat_lt (digit_value d) n)) row ≡ true
     → list_all is_continue row ≡ true

@@ -15,7 +15,7 @@ use Rattle.rl_style.proofs.UnitTexts.{itself_restyled}
 use Rattle.rl_style.proofs.UnitRows.{digit_ascii, digit_bytes}
 use Rattle.rl_syntax.specs.Texts.{first_passes}
 
--- ---- one character of a raw string
+-- ---- the new form of one character of a raw string
 
 abbrev unit_by : Bool → Bool → ℕ → StrictUnit
 unit_by a b c = cond a (QuoteEscape c) (cond b (PlainEscape c) (Itself c))
@@ -53,7 +53,7 @@ c_unit c some h = raw_any (λ u. is_strict_unit CStr u ≡ true) c (quote_is c)
     (λ e. ap (λ z. is_plain_letter z && not (z == 48)) (eqb-true c 92 e))
     (λ a b. and_from (is_bare_in_string c) (not (c == 0)) (bare_is c a b h) some)
 
--- ---- the content of a raw string
+-- ---- the content of a raw string, as characters and escapes
 
 no_return : (c : ℕ) (cs : List ℕ) → list_all (λ c. not (c == 13)) (c ∷ cs) ≡ true
     → (not (c == 13) ≡ true) × (list_all (λ c. not (c == 13)) cs ≡ true)
@@ -115,7 +115,7 @@ raw_contents k (c ∷ cs) =
     ap (λ z. z ++ flat_map (strict_contents (strict_content_of k)) (map raw_unit cs)) (one_content k c)
     ∙ ap (λ z. strict_content_of k (c ∷ []) ++ z) (raw_contents k cs) ∙ joined_content k c cs
 
--- ---- the string with escapes
+-- ---- the string with escapes that replaces a raw string
 
 abbrev pub escaped_text : Kind → List ℕ → List ℕ → List ℕ
 escaped_text k inside x = strict_opener k ++ (flat_map strict_text (map raw_unit inside) ++ (strict_closer k ++ x))
@@ -161,7 +161,7 @@ lost_stays style front t u c = cooked_stays style (escaped_text c.kind c.raw.ins
   new_is = c.new_is;
 })
 
--- ---- the text that the code writes
+-- ---- the text that the code writes for a raw string
 
 -- The quote that would close the string keeps its backslash.
 quote_kept : (style : Style) (k : Kind) (z : Bool) (c : ℕ) → is_string k ≡ true → (c == 34) ≡ true

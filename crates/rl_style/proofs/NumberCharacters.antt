@@ -19,7 +19,7 @@ becomes drops hex plus digits letter c =
     cond ((drops && c == 95) || ((not hex && plus) && c == 43)) []
     (cond hex (cased digits c) (exponent_letter letter c) ∷ [])
 
--- ---- hexadecimal numbers
+-- ---- the new characters of hexadecimal numbers
 
 hex_dropped : (b plus : Bool) (digits letter : Option Case) (c : ℕ) → b ≡ true
     → cond (b || ((not true && plus) && c == 43)) [] (cond true (cased digits c) (exponent_letter letter c) ∷ []) ≡ []
@@ -32,7 +32,7 @@ hex_kept : (b plus : Bool) (digits letter : Option Case) (c : ℕ) → b ≡ fal
 hex_kept true plus digits letter c h = absurd (cc)
 hex_kept false plus digits letter c h = refl
 
--- ---- numbers of another base
+-- ---- the new characters of numbers of other bases
 
 letter_stays : (letter : Option Case) (c : ℕ) → (c == 69) ≡ false → (c == 101) ≡ false → exponent_letter letter c ≡ c
 letter_stays None c a b = refl
@@ -60,9 +60,9 @@ pub stays : (drops plus : Bool) (digits letter : Option Case) (c : ℕ) → (c =
 stays drops plus digits letter c n p l u = other_kept (drops && c == 95) plus digits letter c
     (ap (λ z. drops && z) n ∙ none_right drops) p l u
 
--- ---- sequences of characters
+-- ---- the new characters of a sequence of digits
 
--- The function `f` replaces the character `c` by a character with an equal value, or drops an underscore.
+-- The function `f` replaces the character `c` by a character with an equal value, or `c` is an underscore that `f` drops.
 abbrev pub Keeps : (ℕ → List ℕ) → ℕ → Type 0
 Keeps f c =
     ((f c ≡ []) × ((c == 95) ≡ true))
@@ -90,7 +90,7 @@ hex_keeps drops plus digits letter (c ∷ cs) = (
       cased_underscore digits c,
     )
 
--- The function `f` doesn't change the character `c`, or drops an underscore.
+-- The function `f` doesn't change the character `c`, or `c` is an underscore that `f` drops.
 abbrev pub Stays : (ℕ → List ℕ) → ℕ → Type 0
 Stays f c = ((f c ≡ []) × ((c == 95) ≡ true)) ⊎ (f c ≡ c ∷ [])
 
@@ -195,7 +195,7 @@ pub number_kept : (f : ℕ → List ℕ) (base : ℕ) (run : List ℕ) → RowKe
     → place_value base (without_underscores (flat_map f run)) ≡ place_value base (without_underscores run)
 number_kept f base run k = (alike_value base _ _ (bare_alike f run k)).1
 
--- ---- decimal digits
+-- ---- the new characters of decimal digits
 
 pub digits_each : (f : ℕ → List ℕ) (run : List ℕ) → RowStays f run → list_all (is_run_part is_ascii_digit) run ≡ true
     → list_all (is_run_part is_ascii_digit) (flat_map f run) ≡ true
@@ -243,7 +243,7 @@ row_kept test plus digits letter (c ∷ cs) p l u h =
     (apart test c 43 q.0 p) (apart test c 69 q.0 l) (apart test c 101 q.0 u))
     ∙ ap (λ z. c ∷ z) (row_kept test plus digits letter cs p l u q.1)
 
--- ---- a decimal number doesn't begin with a base prefix
+-- ---- a rewritten decimal number doesn't begin with a base prefix
 
 second_off : (a b : Bool) → b ≡ false → (a && (b && true)) ≡ false
 second_off a b h = ap (λ z. a && (z && true)) h ∙ none_right a
@@ -275,7 +275,7 @@ decimal_by (c ∷ b ∷ ds) z h n =
     let q = and_parts (test b) (list_all test ds) p.1 in
     second_tells c b (ds ++ z) (apart test b 98 q.0 refl) (apart test b 111 q.0 refl) (apart test b 120 q.0 refl)
 
--- ---- rewriting characters again changes nothing
+-- ---- if the characters of a number are rewritten again, nothing changes
 
 again_hex : (drops plus : Bool) (digits letter : Option Case) (c : ℕ)
     → flat_map (becomes drops true plus digits letter) (becomes drops true plus digits letter c)

@@ -17,7 +17,7 @@ use Rattle.rl_style.proofs.SameUnits.{cooked_strict}
 use Rattle.rl_style.proofs.UnitRows.{texts_once}
 use Rattle.rl_style.proofs.WrittenNumbers.{base_found}
 
--- ---- numbers
+-- ---- a number has one new text in a style
 
 -- The prefix of a base, for example `0x`.
 abbrev prefix_of : ℕ → List ℕ
@@ -95,7 +95,7 @@ float_once style t u w (inl a) (inr b) = absurd (floats_apart style t u w a b)
 float_once style t u w (inr a) (inl b) = absurd (floats_apart style t w u b a)
 float_once style t u w (inr a) (inr b) = a.new_is ∙ sym b.new_is
 
--- ---- raw strings
+-- ---- a raw string has one new text in a style
 
 fewest_once : (k : Kind) (inside : List ℕ) (n m : ℕ) → HasFewestHashes k inside n → HasFewestHashes k inside m → n ≡ m
 fewest_once k inside n m a b =
@@ -203,7 +203,7 @@ was_raw : (style : Style) (front t u : List ℕ) → RewritesRaw style front t u
 was_raw style front t u (inl a) = record { kind = a.kind; contents = a.contents; suffix = a.suffix; raw = a.raw }
 was_raw style front t u (inr a) = record { kind = a.kind; contents = a.contents; suffix = a.suffix; raw = a.raw }
 
--- ---- quoted literals with escapes
+-- ---- a quoted literal with escapes has one new text in a style
 
 abbrev CookedAs : Style → List ℕ → List ℕ → Contents → Kind → List ℕ → Type 0
 CookedAs style t w v k x =
@@ -256,7 +256,7 @@ raw_quoted ByteStr h = (λ e. absurd (cc), λ e. absurd (cc), λ e. absurd (cc))
 raw_quoted CStr h = (λ e. absurd (cc), λ e. absurd (cc), λ e. absurd (cc))
 raw_quoted kind h = absurd (cc)
 
--- ---- a literal isn't both raw and one with escapes
+-- ---- a literal isn't both a raw string and a literal with escapes
 
 raw_not_cooked : (k : Kind) (y z : List ℕ) → is_string k ≡ true → strict_raw_opener k ++ y ≡ strict_opener k ++ z → ⊥
 raw_not_cooked Str y z s e = both_ways false refl (ap first_quote e)
@@ -279,7 +279,7 @@ raw_apart style t w a b =
     ∙ ap (λ k. strict_opener k ++ (flat_map strict_text b.cooked.units ++ (strict_closer b.kind ++ b.suffix)))
     (sym one.0))
 
--- ---- a literal has exactly one new text
+-- ---- a literal has exactly one new text in a style
 
 clash : (t : List ℕ) (k l : Kind) (v w : Contents) (x y : List ℕ) → Strict t k v x → Strict t l w y → (k ≡ l → ⊥) → ⊥
 clash t k l v w x y a b n = n (one_strict t k l v w x y a b).0

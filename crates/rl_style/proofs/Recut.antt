@@ -143,7 +143,7 @@ skips_to t u full (inl s) = (
 )
 skips_to t u full (inr s) = absurd (subst IsFull s.nothing full)
 
--- ---- the tokens after the literal
+-- ---- the tokens after the replaced literal
 
 -- The byte offset of a token is the offset of the text that contains it, plus the number of bytes of this text before the
 -- token.
@@ -172,9 +172,9 @@ shifted at from to t (w ∷ ws) r low (after, skipped, is, place, more) =
           (shifted (source_end w) from to after ws r end more),
     )
 
--- ---- the whole text
+-- ---- the tokens of the whole text
 
--- If a text doesn't end with a hash or a dot, its second part doesn't either.
+-- If a text ends with neither a hash nor a dot, its second part ends with neither.
 may_drop : (a b : List ℕ) → may_precede_quote (a ++ b) ≡ true → may_precede_quote b ≡ true
 may_drop [] b h = h
 may_drop (c ∷ []) [] h = refl
@@ -386,8 +386,8 @@ ends_follow : (lead : List ℕ) (at : ℕ) (t : List ℕ) (old new : Lexeme) (pl
 ends_follow lead at t old new place rest ends is =
     let (new_is, same) = keeps_its_ends old new rest ends is in (new_is, λ f e k. inr (inl same))
 
--- If a new literal has the form, the prefix and the suffix of the old one, and replaces it in a text, all other tokens are
--- lexed as before.
+-- If a new literal is well formed, and has the kind, the prefix and the suffix of the old one, as `SameEnds` states, it may
+-- replace the old one in a text: all other tokens are lexed as before.
 pub recut_ends : (lead : List ℕ) (at : ℕ) (t : List ℕ) (before after : List CutSource) (old new : Lexeme) (place : ℕ)
     (r : List ℕ)
     → SourcesUpTo at t (before ++ (placed_literal old place ∷ after)) r → AllByRecursion IsSound before

@@ -16,7 +16,7 @@ use Rattle.rl_style.proofs.GroupRows.{clear_ending, mark, not_false, only_ending
 use Rattle.rl_style.proofs.NumberCharacters.{Keeps, RowKeeps, becomes}
 use Rattle.rl_style.proofs.Trimmed.{IsTrim, passing_chars, none_of, only}
 
--- ---- a sequence in groups, or unchanged
+-- ---- a sequence of digits that is divided into groups, or unchanged
 
 pub ends_none : (from_first : Bool) (size count : ℕ) → ends from_first size count 0 ≡ false
 ends_none false size count = ap (λ b. b && 0 % size == 0) (none_right (nat_lt 0 size))
@@ -99,7 +99,7 @@ pub ungrouped : (from_first : Bool) (size least : ℕ) (run : List ℕ) → size
     → regrouped from_first size least run ≡ run
 ungrouped from_first size least run e = ap (λ z. regrouped from_first z least run) e
 
--- ---- characters that become one character, or underscores that are dropped
+-- ---- each character becomes one character, or is an underscore that is dropped
 
 abbrev pub Plain : (ℕ → List ℕ) → ℕ → Type 0
 Plain f c =
@@ -222,7 +222,7 @@ bare_flat drops hex plus digits letter (c ∷ cs) =
     go true = refl
     go false = refl
 
--- ---- the underscores at the end of a sequence
+-- ---- the underscores at the end of a rewritten sequence
 
 only_flat : (f : ℕ → List ℕ) (run : List ℕ) → f 95 ≡ 95 ∷ [] → RowPlain f run → only (flat_map f run) ≡ only run
 only_flat f [] u k = refl
@@ -257,7 +257,7 @@ ending_flat f (c ∷ cs) u k =
       ]
     ]
 
--- ---- rewriting a sequence again changes nothing
+-- ---- if a sequence is rewritten again, nothing changes
 
 pub again_grouped : (drops hex plus : Bool) (digits letter : Option Case) (from_first : Bool) (size least : ℕ)
     (run : List ℕ) → flat_map (becomes drops hex plus digits letter) run ≡ run
@@ -382,7 +382,7 @@ placed_is f test (c ∷ cs) u k =
         ∙ sym (row_first test a.0 (flat_map f cs) other)
         ∙ ap (λ z. row_spaced test (z ++ flat_map f cs)) (sym a.1)
 
--- ---- writing one character after another
+-- ---- the code writes one character after another
 
 pub counted : (c : ℕ) (cs : List ℕ) → (c == 95) ≡ false
     → length (without_underscores (c ∷ cs)) ≡ 1 + length (without_underscores cs)

@@ -31,7 +31,7 @@ pub record Replaces (t u y : List ℕ) : Type 0 where
   pub goes : (f : LexemeForm) → lexeme_at (t ++ y) ≡ Some (f, y) → lexeme_at (u ++ y) ≡ Some (f, y)
   pub front : (z : List ℕ) → SameFront (t ++ y) (u ++ z)
 
--- ---- quoted literals
+-- ---- a rewritten quoted literal is one token
 
 -- If the old and the new literal are strings with escapes, and have one kind and one suffix, the new literal may replace the
 -- old one.
@@ -100,7 +100,7 @@ raw_replace Int t u x y v w a b = absurd a.allowed
 raw_replace Float t u x y v w a b = absurd a.allowed
 raw_replace BoolKind t u x y v w a b = absurd a.allowed
 
--- ---- numbers
+-- ---- a rewritten number is one token
 
 -- If the old and the new text begin with a decimal digit, they begin alike.
 digits_front : (t u y z : List ℕ) (c d : ℕ) (m n : List ℕ) → t ≡ c ∷ m → u ≡ d ∷ n → is_ascii_digit c ≡ true
@@ -293,7 +293,7 @@ floats_replace closes t u x y v w a b same =
     decimals_replace t u y d.form e.form (λ h. e.ends y ∙ ap (λ z. shape_end z (x ++ y)) same
     ∙ float_closes closes a.numeral x y a.form (sym (d.ends y) ∙ h))
 
--- ---- raw strings that become strings with escapes
+-- ---- a raw string that becomes a string with escapes is one token
 
 -- If the old text `t` is a token before the text `y`, the new text `u` is one too. Each token of the text `lead` that is lexed
 -- before the old text is also lexed before the new one.
@@ -351,7 +351,7 @@ lost_replace lead Int t u x y v w a b may = absurd a.allowed
 lost_replace lead Float t u x y v w a b may = absurd a.allowed
 lost_replace lead BoolKind t u x y v w a b may = absurd a.allowed
 
--- ---- any literal except `true`, `false` and numbers that are kept
+-- ---- a rewritten literal is one token, unless it is `true` or `false`, or a number that is kept
 
 abbrev pub RewritesForm : Style → List ℕ → List ℕ → List ℕ → Type 0
 RewritesForm style front t u =

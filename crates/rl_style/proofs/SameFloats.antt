@@ -26,7 +26,7 @@ use Rattle.rl_style.proofs.NumberCharacters.{becomes, by_character, decimal_by, 
 use Rattle.rl_style.proofs.Trimmed.{IsTrim, any_left, digits_join, mapped_trim, only, only_join, row_again, separator_all, separator_gone, some_not_only, trimmed_again, trimmed_all, trimmed_digits, trimmed_filter, trimmed_join, trimmed_some}
 use Rattle.rl_style.proofs.FloatForms.{Letter, lower_e, upper_e, exponent_is, DotShape, PointShape, PowerShape, FloatForm, FloatShape, shape_of, closed_shape, Groups, at_dot, at_point, at_power, at_point_power, Numeral, row_is, form_is}
 
--- ---- a float without the underscores at its end, and with one before a suffix
+-- ---- a float without the underscores at its end is a float, also with an underscore before its suffix
 
 -- The text of a float before its suffix. The float has the form `shape`.
 pub record Shaped (numeral x : List ℕ) (shape : FloatShape) : Type 0 where
@@ -151,7 +151,7 @@ no_separator None x e = refl
 no_separator (Some Nothing) x e = refl
 no_separator (Some Underscore) x e = ap (separator_by (Some Underscore)) e
 
--- ---- the value of a float
+-- ---- the value of a rewritten float
 
 abbrev pub spelled : List ℕ → List ℕ
 spelled cs = map (λ c. cond (c == 69) 101 c) (filter (λ c. not (c == 95 || c == 43)) cs)
@@ -325,7 +325,7 @@ spelled_numeral drops plus digits letter closes size least numeral x (inr (inr (
     ∙ ap (λ y. spelled z ++ y) (spelled_same drops plus digits letter e) ∙ sym (spelled_join z e))
     ∙ sym (append-nil (spelled (46 ∷ (z ++ e)))))
 
--- ---- the rewritten literal
+-- ---- the rewritten float
 
 abbrev Size : Style → List ℕ → ℕ
 Size style x = size_by style.digit_groups 10 x
@@ -468,7 +468,7 @@ float_number style t u (inl c) = record {
   keeps = contents_kept style c.contents c.float.numeral c.suffix c.float.form c.float.contents;
 }
 
--- ---- rewriting a float again changes nothing
+-- ---- if a float is rewritten again, nothing changes
 
 -- If a text has no underscores at its end, its last part has none at its end either.
 tail_trims : (a b : List ℕ) → only b ≡ false → IsTrim (a ++ b) → IsTrim b

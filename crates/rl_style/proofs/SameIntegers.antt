@@ -21,7 +21,7 @@ use Rattle.rl_style.proofs.Regrouped.{again_grouped, grouped_all, grouped_any, g
 use Rattle.rl_style.proofs.Trimmed.{IsTrim, any_left, base_kept, digits_join, mapped_trim, row_again, separator_all, separator_gone, significant_trim, trimmed_again, trimmed_all, trimmed_digits, trimmed_filter, trimmed_some}
 use Rattle.rl_style.proofs.NumberCharacters.{RowKeeps, RowStays, decimal_by, digits_stay, each_kept, hex_keeps, keeps_of, number_kept, of_base, row_kept, row_stays, some_kept, some_stays, stays, twice}
 
--- ---- digits without leading zeros
+-- ---- the digits of an integer without leading zeros
 
 abbrev row_of : ℕ → List ℕ → Type 0
 row_of base run = list_all (is_run_part (of_base base)) run ≡ true
@@ -83,7 +83,7 @@ zero_facts style base x run h some = go (drops_zeros style base x && list_any ex
 abbrev pub kept_of_row : Style → ℕ → List ℕ → List ℕ → List ℕ
 kept_of_row style base x run = kept_digits style base x (kept_run style x run)
 
--- ---- the digits by the base of the number
+-- ---- the digits of an integer in each base
 
 pub record IntegerFacts (style : Style) (drops : Bool) (base : ℕ) (run : List ℕ) : Type 0 where
   pub keeps : RowKeeps (number_character style drops (base == 16)) run
@@ -151,7 +151,7 @@ integer_plus t v x run i each = go i.is_front
     go (inr (inr (inl b))) = of 8 b.1 refl
     go (inr (inr (inr b))) = of 16 b.1 refl
 
--- ---- digits in groups
+-- ---- the digits of an integer in groups
 
 -- If a sequence of digits is divided into groups, it still contains a digit and represents the old number.
 pub in_row_facts : (style : Style) (base : ℕ) (x run : List ℕ) → of_base base 95 ≡ false → row_of base run
@@ -176,7 +176,7 @@ no_groups : (groups : Option DigitGroups) (base : ℕ) (x : List ℕ) → first_
 no_groups None base x h = refl
 no_groups (Some groups) base x h = ap (λ b. cond b 0 (base_group groups base)) h
 
--- ---- decimal integers
+-- ---- a rewritten decimal integer doesn't begin with a base prefix
 
 -- If the suffix begins with the letter of a base, no underscore is dropped.
 kept_before : (style : Style) (x : List ℕ) → first_passes is_base_letter x ≡ true → drops_underscores style x ≡ false
@@ -228,7 +228,7 @@ decimal_front style t v x i e d h =
       ],
     )
 
--- ---- the rewritten literal
+-- ---- the rewritten integer
 
 pub regrouped_text : (p r s x : List ℕ) → p ++ (r ++ (s ++ x)) ≡ (p ++ (r ++ s)) ++ x
 regrouped_text p r s x = simp append_assoc
@@ -291,7 +291,7 @@ integer_same style t u (inr c) = record {
   is = kept_int t u c;
 }
 
--- ---- rewriting an integer again changes nothing
+-- ---- if an integer is rewritten again, nothing changes
 
 -- If the style drops leading zeros, a rewritten sequence of digits has none.
 zeros_again : (style : Style) (drops : Bool) (base : ℕ) (x run : List ℕ) → row_of base run

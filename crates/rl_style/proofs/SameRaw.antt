@@ -53,7 +53,7 @@ raw_followed k n inside x s =
     ∙ ap (λ z. z ++ (h ++ (34 ∷ (inside ++ (34 ∷ (h ++ x)))))) (sym (same_opener k s))
     ∙ sym (raw_joined (strict_raw_opener k) h inside x)
 
--- ---- a raw string with this number of hashes is closed at its end
+-- ---- a raw string with enough hashes ends at its closing delimiter
 
 pub record Suits (inside : List ℕ) (n : ℕ) : Type 0 where
   pub few : n < 256
@@ -124,7 +124,7 @@ pub hashes_suit : (fewest : Bool) (t : List ℕ) (k : Kind) (v : Contents) (x : 
 hashes_suit true t k v x s n h = fewest_suits k n s.inside (raw_string t k v x s) h
 hashes_suit false t k v x s n h = subst (Suits s.inside) (sym h) (record { few = s.few; first_close = s.first_close })
 
--- ---- the rewritten literal
+-- ---- the rewritten raw string
 
 abbrev pub written : (t u : List ℕ) (k : Kind) (v : Contents) (x : List ℕ) (s : StrictRaw t k v x) (n : ℕ)
     → Suits s.inside n → u ≡ raw_text k n s.inside ++ x → StrictRaw u k v x

@@ -78,7 +78,7 @@ trimmed_first (c ∷ cs) h = ap (first_passes is_ascii_digit) (digit_first c cs 
 pub trimmed_digits : (cs : List ℕ) → IsDigits cs → IsDigits (trimmed cs)
 trimmed_digits cs h = (trimmed_first cs h.0, trimmed_all (is_run_part is_ascii_digit) cs h.1)
 
--- ---- two sequences, one after the other
+-- ---- the underscores at the end of two joined sequences
 
 pub only_join : (a b : List ℕ) → only b ≡ false → only (a ++ b) ≡ false
 only_join [] b h = h
@@ -96,7 +96,7 @@ some_not_only test cs n h =
       | inr a ↦ a
     ]
 
--- ---- dropping the underscores at the end again changes nothing
+-- ---- if the underscores at the end are dropped again, nothing changes
 
 abbrev pub IsTrim : List ℕ → Type 0
 IsTrim cs = trimmed cs ≡ cs
@@ -208,7 +208,7 @@ other_trims a c h =
 pub under_only : (u : List ℕ) (c : ℕ) → only u ≡ true → (c == 95) ≡ true → only (u ++ (c ∷ [])) ≡ true
 under_only u c h k = list_all-append is_underscore u (c ∷ []) ∙ and_from (only u) _ h (and_from (c == 95) true k refl)
 
--- ---- the digits that remain
+-- ---- the digits that remain without the underscores at the end
 
 pub kept_first : (style : Style) (x run : List ℕ) → first_passes is_ascii_digit run ≡ true
     → first_passes is_ascii_digit (kept_run style x run) ≡ true

@@ -28,7 +28,7 @@ use Rattle.rl_style.proofs.HiddenUnits.{hidden_invisible, hidden_scalar, hidden_
 use Rattle.rl_style.proofs.SameUnits.{named_low, quote_of, visible_low}
 use Rattle.rl_style.proofs.WrittenTexts.{scalars_join}
 
--- ---- ends of a text
+-- ---- ends of a text, as characters and as bytes
 
 -- If the characters of a text are the end of another text's characters, its bytes are the end of the other text's bytes.
 pub tail_of : (t r front : List ℕ) → IsUtf8 t → IsUtf8 r → chars t ≡ front ++ chars r → IsTail t r
@@ -424,7 +424,7 @@ unit_restyled style k z (UnicodeEscape digits) h =
     (UnicodeEscape (styled_digits style digits)) (held_of k n) (code_text_is style digits (hexes k digits h))
 unit_restyled style k z (LineBreak blanks) h = refl
 
--- ---- the bytes that the code writes
+-- ---- the bytes that the code writes for a character or escape
 
 at_escape : (style : Style) (k : Kind) (n : ℕ) (t cs : List ℕ) → t ≡ 92 ∷ cs → restyled_text style k n t
     ≡ restyled_escape style k n cs
@@ -506,7 +506,7 @@ pub empty_bytes : (style : Style) (k : Kind) (n : ℕ) (unit : List ℕ) → cha
 unfolding restyled_text
 empty_bytes style k n unit e = ap (λ z. encode_utf8_all (restyled_text style k n z)) e
 
--- ---- a numeric escape, as the code writes it
+-- ---- the bytes that the code writes for a numeric escape
 
 opened : (t : List ℕ) → begins (92 ∷ 117 ∷ 123 ∷ []) t ≡ true → t ≡ 92 ∷ 117 ∷ 123 ∷ drop 3 t
 opened [] h = absurd (cc)

@@ -33,7 +33,7 @@ use Rattle.rl_style.proofs.WrittenTexts.{between_texts, scalars_join, text_of}
 use Rattle.rl_writing.proofs.AsciiLemmas.{encoded_low, low_chars}
 use Rattle.rl_style.specs.declared.characters.Manner.{Manner}
 
--- ---- the base of a number
+-- ---- the base that the code finds in a number
 
 abbrev radix_of : List ℕ → ℕ
 radix_of t = (radix_at t).0
@@ -74,7 +74,7 @@ digits_found t v x i =
       ]
     ]
 
--- ---- the bytes that the code writes
+-- ---- the bytes that the code writes for a number
 
 -- If Unicode scalar values are written before a UTF-8 text, the result is UTF-8. Its characters are these values and then the
 -- characters of the text.
@@ -325,7 +325,7 @@ float_written style text full numeral suffix new v un us cut kept e f exact =
     empty_utf8 : IsUtf8 []
     empty_utf8 = ([], (refl, refl))
 
--- ---- numbers that are written unchanged
+-- ---- numbers that the code writes unchanged
 
 pub integer_unchanged : (t new x : List ℕ) (v : Contents) → StrictInt t v x → is_mistyped x t ≡ true → new ≡ t
     → KeepsInt t new
@@ -337,7 +337,7 @@ pub float_unchanged : (t new x : List ℕ) (v : Contents) → StrictFloat t v x 
 float_unchanged t new x v f mistyped e =
     record { contents = v; suffix = x; float = f; mistyped = mistyped; new_is = e }
 
--- ---- parts of a number that are written one after the other
+-- ---- the code writes one part of a number after the other
 
 -- If one more part is written, the whole text is still the text written so far and the text that is still to be written.
 pub one_more : (whole taken new one rest : List ℕ) → whole ≡ taken ++ encode_utf8_all (one ++ rest)
@@ -417,7 +417,7 @@ fraction_put closes f g old first second text cs a b t =
     ∙ ap (λ z. old ++ z) (sym (encodes-append (46 ∷ []) more))
     ∙ ap (λ z. old ++ encode_utf8_all (fraction_in_groups closes f g z)) (sym t)
 
--- ---- a number rewritten with the options of a style
+-- ---- the number that the code writes in a style
 
 pub float_put : (style : Style) (manner : Manner) (cs run rest first second third suffix : List ℕ)
     → manner.style ≡ style → manner.drops ≡ drops_underscores style (chars suffix)

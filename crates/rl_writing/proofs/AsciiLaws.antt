@@ -17,7 +17,7 @@ use Rattle.rl_writing.specs.AsciiStrings.{ascii_literal, ascii_text, unicode_esc
 use Rattle.rl_writing.proofs.AsciiLemmas.{encoded_low, is_low, low_chars, low_join, low_utf8}
 use Rattle.rl_writing.proofs.UnicodeLemmas.{digits_of, escape_fits, escape_is, escape_low, escape_short, escape_text, escape_value}
 
--- ---- a character in ASCII
+-- ---- an ASCII character in an ASCII literal
 
 abbrev are_same : List ℕ → List ℕ → Bool
 are_same [] [] = true
@@ -80,7 +80,7 @@ char_tests : (c : ℕ) → c < 128 → low_test Char c ≡ true
 unfolding written_unit
 char_tests c h = agree_below_at (low_test Char) (λ c. true) 128 c refl h
 
--- ---- any character
+-- ---- any character in an ASCII literal
 
 pub record Fine (k : Kind) (c : ℕ) : Type 0 where
   pub unit : StrictUnit
@@ -151,7 +151,7 @@ fine Str c h s = str_fine c s
 fine Char c h s = char_fine c s
 fine kind c h s = absurd (cc)
 
--- ---- a sequence of characters
+-- ---- a sequence of characters in an ASCII literal
 
 pub record FineRow (k : Kind) (v : List ℕ) : Type 0 where
   pub units : List StrictUnit
@@ -179,7 +179,7 @@ row_of k (c ∷ v) h s =
       low = low_join (ascii_text k c) (flat_map (ascii_text k) v) f.low r.low;
     }
 
--- ---- the literal
+-- ---- the whole ASCII literal
 
 joined : (o b e : List ℕ) → o ++ (b ++ e) ≡ ((o ++ b) ++ e) ++ []
 joined o b e = sym (append_assoc o b e) ∙ sym (append-nil ((o ++ b) ++ e))
@@ -212,7 +212,7 @@ char_form v s one =
     inl (cooked Char v r (r.count ∙ one) refl refl) in
     record { text_is = refl; ascii = low_join (flat_map (ascii_text Char) v) (39 ∷ []) r.low refl; reads = strict_reads _ Char _ [] strict tt; strict = strict }
 
--- ---- the written bytes
+-- ---- the bytes that the code writes for an ASCII literal
 
 pub form_of : (k : Kind) (v whole : List ℕ) → IsAsciiForm k v (ascii_literal k v) → whole ≡ ascii_literal k v
     → IsAsciiForm k v (chars whole)

@@ -1,4 +1,4 @@
--- Texts in ASCII.
+-- Texts that contain only ASCII characters.
 use Rattle.rl_syntax.proofs.Common.{◌≡◌, ℕ, Bool, true, List, [], ◌∷◌, ◌++◌, refl, ap, ◌∙◌, nat_lt, list_all, list_all-append, and_parts, and_from, ltb-true, encode_ascii, chars, chars-append, chars-IsAscii, IsAscii, IsUtf8}
 use Rattle.std.specs.Prelude.{encode_utf8_all}
 use Rattle.std.proofs.lemmas.Str.{IsUtf8-append, IsUtf8-from_ascii}

@@ -71,7 +71,7 @@ pub ungrouped : (ds : List ℕ) → grouped 0 ds ≡ ds
 ungrouped [] = refl
 ungrouped (d ∷ ds) = ap (λ z. d ∷ z) (ungrouped ds)
 
--- ---- the least number of digits
+-- ---- the fewest digits that are divided into groups
 
 pub few_ungrouped : (group least : ℕ) (ds : List ℕ) → length ds < least
     → grouped (group_size group least (length ds)) ds ≡ ds

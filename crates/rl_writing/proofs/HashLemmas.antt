@@ -69,7 +69,7 @@ needed_closes n (c ∷ t) h =
           closes_after n c t (needed_closes n t (omega (arith, h, same)))
     ]
 
--- ---- counting hashes, one character after another
+-- ---- the code counts hashes, one character after another
 
 -- The number of hashes that a raw string needs for a quote and hashes at the end of the passed text, and for the hashes that
 -- follow. The first argument is this number for the passed text alone, or 0 if the passed text ends otherwise.

@@ -31,7 +31,7 @@ radix_high Octal = omega arith
 radix_high Decimal = omega arith
 radix_high Hexadecimal = omega arith
 
--- ---- the digits in groups
+-- ---- the written digits in groups
 
 abbrev has_value : ℕ → ℕ → Bool
 has_value base c = nat_lt (digit_value c) base
@@ -89,7 +89,7 @@ styled_run value style =
     let b = base_view style.base in
     row_is b style.upper (group_size style.group style.least (length (numeral (radix b) style.upper value))) value
 
--- ---- decimal digits
+-- ---- a written decimal integer doesn't begin with a base prefix
 
 decimal_part : (c : ℕ) → is_run_part (has_value 10) c ≡ is_run_part is_ascii_digit c
 decimal_part c = ap (λ b. b || is_underscore c) (sym (digit_is_ten c))
@@ -137,7 +137,7 @@ decimal_text value run x r n =
     let more = (and_parts (is_run_part (has_value 10) r.first) (list_all (is_run_part (has_value 10)) r.more) each).1 in
     ap (λ z. begins_base (z ++ x)) r.is ∙ no_base r.first (r.more ++ x) (rest_no_letter r.more x more n)
 
--- ---- the whole literal
+-- ---- the whole integer literal
 
 -- A decimal integer is written without a base prefix and begins with a digit. An integer of base `b` other than ten begins
 -- with the prefix of this base.
@@ -223,7 +223,7 @@ written_low value style suffix =
     low_join (prefix b) (run ++ x) (prefix_low b)
     (low_join run x (styled_run value style).ascii (suffix_is suffix).ascii)
 
--- ---- the bytes that are written
+-- ---- the bytes that the code writes for an integer
 
 pub written_bytes : (value : ℕ) (style : IntegerStyle) (suffix : Option IntegerType)
     (whole inner front digits x : List ℕ)

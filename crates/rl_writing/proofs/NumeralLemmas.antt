@@ -11,7 +11,7 @@ use Rattle.rl_syntax.proofs.Basics.{all_weaker}
 use Rattle.rl_syntax.specs.Spelling.{place_value}
 use Rattle.rl_writing.specs.Integers.{numeral}
 
--- ---- one digit
+-- ---- the digit for a value below the base
 
 -- The character is an ASCII digit of the base, and not an underscore.
 abbrev pub is_glyph : ℕ → ℕ → Bool
@@ -40,7 +40,7 @@ glyph_is base upper d high h =
     and_from _ _ (and_from _ _ (and_parts (nat_lt c 128) (eqb (digit_value c) d) p.0).0
     (lt-ltb (digit_value c) base (omega (arith, value, h)))) p.1
 
--- ---- all digits
+-- ---- all digits of a number
 
 -- If the divisor is at least 2, the quotient is at most half of the dividend.
 pub halved : (n base : ℕ) → 2 ≤ base → n / base * 2 ≤ n
@@ -154,7 +154,7 @@ numeral_value base upper n low high =
     let bare : n * base ^ 0 + 0 ≡ n = omega (arith, ap (λ p. n * p) (pow-zero base)) in
     value_onto base upper low high n n [] (omega arith) ∙ bare
 
--- ---- each character of a numeral is a digit
+-- ---- each character of a written number is a digit
 
 glyphs_onto : (base : ℕ) (upper : Bool) → 2 ≤ base → base ≤ 16 → (k n : ℕ) (acc : List ℕ)
     → list_all (is_glyph base) acc ≡ true → list_all (is_glyph base) (digits_onto k base upper n acc) ≡ true
@@ -205,7 +205,7 @@ numeral_digits base n upper low high =
     (and_parts (nat_lt c 128 && nat_lt (digit_value c) base) (not (eqb c 95)) h).0).1) (numeral base upper n)
     (numeral_glyphs base upper n low high)
 
--- ---- the first digit
+-- ---- the first digit of a number isn't zero, unless the number is 0
 
 glyph_no_zero : (upper : Bool) (d : ℕ) → d < 16 → 0 < d → eqb (digit_glyph upper d) 48 ≡ false
 glyph_no_zero upper d h some = ne_eqb (digit_glyph upper d) 48 (λ e.
@@ -235,7 +235,7 @@ pub numeral_no_zero : (base n : ℕ) (upper : Bool) → 2 ≤ base → base ≤ 
 unfolding numeral
 numeral_no_zero base n upper low high some = first_no_zero base upper low high n n [] (omega arith) some
 
--- ---- the number of digits
+-- ---- the number of digits of a number
 
 -- After some divisions by a base, a number fits in the bits of an integer type, less one bit for each division. The number
 -- after one more division fits too.

@@ -18,7 +18,7 @@ use Rattle.rl_writing.specs.RawStrings.{raw_contents, raw_text, HasFewestHashes,
 use Rattle.rl_writing.proofs.AsciiLemmas.{encoded_low, is_low, framed_chars, framed_utf8, low_join}
 use Rattle.rl_writing.proofs.HashLemmas.{closes_needed, needed_closes, needed_in}
 
--- ---- the allowed characters
+-- ---- the characters that a raw string may contain
 
 stands_bare : (k : Kind) (c : ℕ) → is_string k ≡ true → raw_may_contain k c ≡ true → not (eqb c 13) ≡ true
 stands_bare Str c s h = h
@@ -51,7 +51,7 @@ all_stand ByteStr inside s a h = both (λ c. not (eqb c 13)) (λ c. nat_lt c 128
 all_stand CStr inside s a h = both (λ c. not (eqb c 13)) (λ c. not (eqb c 0)) inside h a
 all_stand kind inside s a h = absurd (cc)
 
--- ---- the text
+-- ---- the text of a raw string
 
 same_opener : (k : Kind) → is_string k ≡ true → strict_raw_opener k ≡ raw_opener k
 same_opener Str s = refl
@@ -78,7 +78,7 @@ strict_text k n inside s =
     (sym (same_opener k s))
     ∙ sym (joined (strict_raw_opener k) inside [] n)
 
--- ---- the value of a raw literal
+-- ---- the value of a raw string
 
 raw_is : (k : Kind) (n : ℕ) (inside : List ℕ) → is_string k ≡ true → list_all (raw_may_contain k) inside ≡ true → n < 256
     → needed_in inside ≤ n → StrictRaw (raw_text k n inside) k (raw_contents k inside) []
@@ -107,7 +107,7 @@ raw_strict ByteStr n inside s r = (inr r, strict_reads _ ByteStr _ [] (inr r) tt
 raw_strict CStr n inside s r = (inr r, strict_reads _ CStr _ [] (inr r) tt)
 raw_strict kind n inside s r = absurd (cc)
 
--- ---- the number of hashes
+-- ---- the number of hashes of a raw string
 
 pub record Needs (k : Kind) (n : ℕ) (inside : List ℕ) : Type 0 where
   pub few : n < 256
@@ -187,7 +187,7 @@ strict_needs CStr n inside x v s (inl c) = absurd (not_quoted CStr n inside _ x 
 strict_needs CStr n inside x v s (inr r) = raw_needs CStr n inside x v s r
 strict_needs kind n inside x v s r = absurd (cc)
 
--- ---- the laws
+-- ---- the fewest hashes of a raw string, and its only content
 
 pub fewest_hashes : (k : Kind) (n : ℕ) (inside : List ℕ) → is_string k ≡ true → list_all (raw_may_contain k) inside ≡ true
     → needed_in inside ≡ n → n < 256 → HasFewestHashes k inside n
@@ -246,7 +246,7 @@ no_other k text value inside same u none e =
     let is : inside ≡ chars text = chars_from_encodes inside value u e ∙ ap chars (sym same) in
     subst (HasNoRaw k) (sym is) none
 
--- ---- the written bytes
+-- ---- the bytes that the code writes for a raw string
 
 -- The start of a raw string: its prefix, its hashes and its opening quote.
 abbrev front_of : List ℕ → ℕ → List ℕ

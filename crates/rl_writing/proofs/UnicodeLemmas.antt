@@ -15,7 +15,7 @@ use Rattle.rl_writing.proofs.AsciiLemmas.{is_low, low_join}
 use Rattle.rl_writing.proofs.GroupLemmas.{ungrouped}
 use Rattle.rl_writing.proofs.NumeralLemmas.{is_glyph, numeral_glyphs, numeral_some, numeral_value}
 
--- ---- the number of digits
+-- ---- the number of digits of an escape
 
 digits_short : (k base : ℕ) (upper : Bool) (i n : ℕ) (acc : List ℕ) → 0 < base → n < base ^ suc i
     → length (digits_onto k base upper n acc) ≤ length acc + suc i
@@ -139,7 +139,7 @@ escape_low c = low_join (numeral 16 false c) (125 ∷ [])
     (all_weaker (is_glyph 16) is_low glyph_low (numeral 16 false c)
     (numeral_glyphs 16 false c (omega arith) (omega arith))) refl
 
--- ---- the written bytes
+-- ---- the bytes that the code writes for an escape
 
 -- If the group size is 0, the digits of a character's number are written without underscores.
 digits_put : (c n : ℕ) (ds : List ℕ) → ds ≡ numeral 16 false n → n ≡ c → grouped 0 ds ≡ numeral 16 false c
