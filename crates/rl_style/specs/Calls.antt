@@ -20,7 +20,7 @@ pub data CallState : Type 0 where
   AfterBang : CallState
   -- The next token follows `#`, or `#!`.
   AfterHash : CallState
-  -- The next token is inside a macro call, nested in this number of brackets.
+  -- The next token is inside a macro call, nested in `depth` brackets.
   Inside : (depth : ℕ) → CallState
 
 -- The keywords of all editions of Rust. No macro has one of these names, so `!` after one is an operator or the never type.

@@ -65,8 +65,8 @@ abbrev pub digit_run : List ℕ → List ℕ
 digit_run [] = []
 digit_run (c ∷ cs) = if is_run_part is_ascii_digit c then c ∷ digit_run cs else []
 
--- The new form of the text after a float's dot. Its digits are in groups counted from the first digit, and an exponent
--- follows. If the text is empty, it becomes a zero if `closes` is true.
+-- The new form of the text after a float's dot. Its digits are in groups counted from the first digit, and an exponent may
+-- follow them. If the text is empty, it becomes a zero if `closes` is true.
 abbrev pub after_dot : Bool → (ℕ → List ℕ) → (List ℕ → List ℕ) → List ℕ → List ℕ
 after_dot closes character group [] = if closes then codes "0" else []
 after_dot closes character group (c ∷ cs) =

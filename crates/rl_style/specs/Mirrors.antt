@@ -114,7 +114,8 @@ abbrev pub code_text : ℕ → List ℕ
 code_text c =
     if nat_lt c 128 then code "\\" ∷ code "x" ∷ lower_digit (c / 16) ∷ lower_digit (c % 16) ∷ [] else unicode_escape c
 
--- The new form of an invisible or bidirectional character: `\0` for a NUL that may be written so, or a numeric escape.
+-- The new form of an invisible or bidirectional character. If the character is NUL and may be written as `\0`, it is the
+-- escape `\0`. Otherwise it is a numeric escape.
 abbrev pub hidden_text : Style → Bool → ℕ → List ℕ
 hidden_text style zero c =
     if style.named_escapes && (zero && c == 0) then code "\\" ∷ code "0" ∷ [] else digits_text style (code_text c)

@@ -21,7 +21,7 @@ use Rattle.rl_style.specs.Cases.{cased, drops_underscores, kept_digits, kept_run
 use Rattle.rl_style.specs.Groups.{float_in_groups, grouped_run}
 use Rattle.rl_style.specs.Mistyped.{is_mistyped, is_mistyped_float}
 
--- Both texts are literal tokens of one kind, with one value and one suffix. It is proved that two such texts have equal parse
+-- Both texts are literal tokens of one kind, with one value and one suffix. It is proved that the two texts have equal parse
 -- results.
 pub record SameLiteral (old new : List ℕ) : Type 0 where
   pub kind : Kind

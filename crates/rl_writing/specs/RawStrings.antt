@@ -6,7 +6,7 @@ use Rattle.rl_syntax.specs.Quoted.{raw_opener}
 use Rattle.rl_syntax.specs.Reading.{Contents, Reads, quoted_contents}
 use Rattle.rl_syntax.specs.Strict.{Strict, strict_content_of}
 
--- The raw string of the kind with this number of hashes, and with the characters `inside` between its quotes.
+-- The raw string of the kind with the given number of hashes, and with the characters `inside` between its quotes.
 abbrev pub raw_text : Kind → ℕ → List ℕ → List ℕ
 raw_text kind hashes inside =
     raw_opener kind
