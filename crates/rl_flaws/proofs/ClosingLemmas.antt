@@ -47,7 +47,8 @@ three_false false true d h = absurd (cc)
 three_false false false true h = absurd (cc)
 three_false false false false h = (refl, refl, refl)
 
--- Before its closing quote, the text begins with the character `c`, or with an escape of two characters.
+-- The text before the closing quote begins with `c`. Either `c` is a plain character, or it is a backslash that escapes the
+-- next character.
 abbrev Parted : ℕ → List ℕ → List ℕ → Type 0
 Parted c t closing =
     ((parts : List BodyPart) × IsQuoteBody (PlainPart c ∷ parts) × (t ≡ body_text parts ++ closing))

@@ -61,7 +61,7 @@ place_of_rest t read len at long p =
       at_is = omega (arith, long, p.at_is, ap byte_len p.rest_in.text_is, byte_len-append p.rest_in.front p.rest);
     }
 
--- ---- an end of a text that is read unchanged
+-- ---- byte offsets in a text in which CR LF isn't read as LF
 
 pub rest_in_text : (t before read : List ℕ) (at : ℕ) → t ≡ before ++ read → at ≡ byte_len before
     → ReadsFrom Text (byte_len t) t read at

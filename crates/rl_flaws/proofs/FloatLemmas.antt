@@ -251,7 +251,7 @@ pub same_capped : (front : List ℕ) (c v : ℕ) → 2 ^ 100 ≤ v → IsCapped 
 same_capped front c v more (inl e) = inr (more, omega (arith, more, e, place_more front c))
 same_capped front c v more (inr p) = inr (more, omega (arith, p.1, place_more front c))
 
--- ---- the digits of a numeral before and after its exponent's letter
+-- ---- the digits of a numeral without leading zeros
 
 digits_all : (cs : List ℕ) → list_all is_ascii_digit (digits_only cs) ≡ true
 digits_all [] = refl

@@ -7,7 +7,8 @@ pub place_at : (how : LineEnds) (len : ℕ) (text rest read : List ℕ) (at : �
 place_at how len text rest read at u r e is =
     record { rest = chars rest; rest_in = r; reads = e; at_is = omega (arith, is, ap length (encodes-chars rest u)) }
 
--- If the second text is an end of the first text, an offset of the second text's end is also one of the first text's end.
+-- The text `b` is an end of the text `a`. If `read` is the end of `b` from a byte offset on, `read` is also the end of `a`
+-- from this offset on.
 pub place_in : (how : LineEnds) (len : ℕ) (a b read : List ℕ) (at : ℕ) → IsRestOf how a b → ReadsFrom how len b read at
     → ReadsFrom how len a read at
 place_in how len a b read at r p =

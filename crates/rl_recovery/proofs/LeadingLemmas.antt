@@ -15,11 +15,11 @@ use Rattle.rl_lenient.specs.declared.found.Found.{Found}
 use Rattle.rl_recovery.specs.Leading.{Leads, LeadsNone, LeadsNegative, LeadsNoNegative, may_lead}
 use Rattle.rl_recovery.specs.declared.leading.LeadingLiteral.{LeadingLiteral}
 
--- If a text begins with no token, no first token of it is a literal.
+-- A text that begins with no token doesn't begin with a literal.
 pub none_begins : (text : List ℕ) → BeginsNoSource (chars text) → LeadsNone text
 none_begins text none l h = none h.kind (chars l.following.now) h.begins
 
--- If the text begins with a token that isn't a literal, its first token isn't a literal.
+-- A text that begins with a token other than a literal doesn't begin with a literal.
 pub other_begins : (text literal rest : List ℕ) (kind : SourceKind) → SourceBefore (chars text) kind rest
     → chars text ≡ literal ++ rest → (IsLiteralText kind literal → ⊥) → LeadsNone text
 other_begins text literal rest kind begins are other l h =

@@ -41,7 +41,7 @@ tail_ends NoLexedFraction NoLexedExponent more u run fraction power = run.ends
 tail_ends (LexedDot ds) NoLexedExponent more u run (begins, digits) power = digits.ends
 tail_ends f (LexedPower letter s n d ds) more u run fraction (il, id, digits) = digits.ends
 
--- A test that fails for `e` and `E`, and for the text after an exponent, fails for the text that begins with the exponent.
+-- If a test fails for `e`, for `E` and for the text after an exponent, it fails for the text that begins with the exponent.
 power_first : (test : ℕ → Bool) (e p : LexedExponent) (u : List ℕ) → SamePower e p → test 101 ≡ false → test 69 ≡ false
     → first_passes test u ≡ false → first_passes test (lexed_exponent_text p ++ u) ≡ false
 power_first test NoLexedExponent NoLexedExponent u same a b h = h

@@ -11,7 +11,8 @@ use Rattle.rl_style.specs.Restylable.{GivesLiteral, GivesNone, Here, Behind, Pas
 abbrev pub state : CursorState → Last → ℕ → CallState → RestylableState
 state tokens last end calls = record { tokens = tokens; last = last; end = end; calls = calls }
 
--- After a token, the code's values `last` and `calls` are those of the next state.
+-- The code's variables after a token are those of the cursor's next state: `last`, which describes the token, and `calls`, the
+-- position relative to macro calls.
 pub record Steps (s : RestylableState) (token : SourceToken) (last : Last) (calls : CallState) : Type 0 where
   pub last_is : last ≡ last_after s.last s.end (source_view token.form) token.lo
   pub calls_are : calls ≡ calls_after s.calls (source_view token.form) token.text.now

@@ -156,8 +156,7 @@ no_separator (Some Underscore) x e = ap (separator_by (Some Underscore)) e
 abbrev pub spelled : List ℕ → List ℕ
 spelled cs = map (λ c. cond (c == 69) 101 c) (filter (λ c. not (c == 95 || c == 43)) cs)
 
--- If the new text `a` and the old text `b` represent one value, the new characters of `c` before `a` represent the value of
--- `c` before `b`.
+-- The new characters of `c`, followed by the new text `a`, represent the value of `c`, followed by the old text `b`.
 abbrev More : Bool → Bool → Option Case → Option Case → List ℕ → List ℕ → ℕ → Type 0
 More drops plus digits letter a b c = spelled (becomes drops false plus digits letter c ++ a) ≡ spelled (c ∷ b)
 
@@ -281,7 +280,8 @@ added_none DotShape = refl
 added_none PointShape = refl
 added_none PowerShape = refl
 
--- If the whole part is rewritten and divided into groups, the value changes only as the text after the whole part does.
+-- If the text after a float's whole part gets further digits, for example an added zero, the value of the float gets these
+-- digits. Rewriting the whole part doesn't change the value.
 spelled_at : (drops plus : Bool) (digits letter : Option Case) (size least : ℕ) (numeral new d z w extra : List ℕ)
     → new ≡ Groups size least false (flat_map (becomes drops false plus digits letter) d) ++ w → numeral ≡ d ++ z
     → spelled w ≡ spelled z ++ extra → spelled new ≡ spelled numeral ++ extra

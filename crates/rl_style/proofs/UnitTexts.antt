@@ -373,8 +373,8 @@ itself_restyled style k y z c same = go (style.hidden && needs_number c) refl
         ∙ hidden_is style k z c (and_parts style.hidden (needs_number c) e).1
     go false e = refl
 
--- The code tests the number of a character's value, and the definition tests the character. Both have one result if they test
--- for a NUL that may be written as `\0`.
+-- The code and the definition test whether a character is a NUL that may be written as `\0`. The code tests the character's
+-- value, and the definition tests the character itself. The two tests have one result.
 zero_same : (k : Kind) (z : Bool) (c : ℕ)
     → ((lettered z (ascii_in (strict_content_of k (c ∷ []))) == 0) && c == 0) ≡ (z && c == 0)
 zero_same k z c = go (c == 0) refl

@@ -369,7 +369,8 @@ dotted text inside prefix ut ui is e =
     ∙ ap (λ z. 46 ∷ z) (encodes-chars inside ui) in
     (let n = ap length bytes in omega (arith, n), whole)
 
--- If the text after the whole part doesn't begin with a dot, only its characters are rewritten.
+-- If the text after a float's whole part doesn't begin with a dot, its characters are rewritten, and no digits are divided
+-- into groups.
 pub undotted : (closes : Bool) (f : ℕ → List ℕ) (g : List ℕ → List ℕ) (cs prefix : List ℕ) → prefix ≡ 46 ∷ []
     → ((x : List ℕ) → cs ≡ chars prefix ++ x → ⊥) → fraction_in_groups closes f g cs ≡ flat_map f cs
 undotted closes f g [] prefix is none = refl

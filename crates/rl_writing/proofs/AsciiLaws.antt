@@ -57,7 +57,8 @@ goes_on (AsciiEscape high low) us h b = b
 goes_on (ByteEscape high low) us h b = b
 goes_on (UnicodeEscape digits) us h b = b
 
--- The character or escape of Rust's grammar has the text and the value of the written form.
+-- The written form of a character is a valid character or escape of Rust's grammar, has its text, and has the character as its
+-- value.
 abbrev is_unit_of : Kind → ℕ → Bool
 is_unit_of k c =
     (is_strict_unit k (unit_of k c) && not (is_break (unit_of k c)))

@@ -237,8 +237,8 @@ numeral_no_zero base n upper low high some = first_no_zero base upper low high n
 
 -- ---- the number of digits of a number
 
--- After some divisions by a base, a number fits in the bits of an integer type, less one bit for each division. The number
--- after one more division fits too.
+-- Each division of a number by a base of at least 2 takes at least one bit from it. If this holds after some divisions, it
+-- holds after one more.
 pub fits_more : (n rest base count more bits : ℕ) → 2 ≤ base → rest ≡ n / base → more ≡ count + 1
     → n * 2 ^ count < 2 ^ bits → rest * 2 ^ more < 2 ^ bits
 fits_more n rest base count more bits low rest_is is h =
