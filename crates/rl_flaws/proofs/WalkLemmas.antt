@@ -7,8 +7,6 @@ use Rattle.rl_strict.proofs.ReadLemmas.{form_flaw}
 use Rattle.rl_flaws.proofs.RawLemmas.{raw_up_to}
 use Rattle.rl_strict.proofs.StrictCookedFlaws.{no_unit}
 
--- ---- a string with escapes
-
 -- ---- the content of a character or byte literal
 
 pub unit_at_front : (k : Kind) (t closing : List ℕ) → is_single k ≡ true → unit_rest k t ≡ Some closing

@@ -26,7 +26,7 @@ pub rest_ends : (joins escaped : Bool) (t r : List ℕ) → from_line_end joins 
 rest_ends joins escaped [] r h = absurd (none-some r h)
 rest_ends joins escaped (c ∷ t) r h = let (front, e) = line_ends joins escaped t r h in (c ∷ front, ap (λ z. c ∷ z) e)
 
--- ---- the text after an opening delimiter that contains neither an LF nor a backslash
+-- ---- an opening delimiter contains neither an LF nor a backslash, so the first line end of a text is after it
 
 and_false : (b : Bool) → (b && false) ≡ false
 and_false true = refl

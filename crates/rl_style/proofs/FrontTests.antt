@@ -135,7 +135,7 @@ pub same_first : (test : ℕ → Bool) → OnDigits test → (a b : List ℕ) �
     → first_passes test a ≡ first_passes test b
 same_first test on a b s = both (first_passes test) (first_agrees test on) a b s
 
--- ---- the test of the text after a sequence of characters
+-- ---- a test of the text after a sequence of characters has one result for the old and the new text
 
 run_agrees : (run test : ℕ → Bool) (front : List ℕ) (h k : ℕ) (x y : List ℕ) → run h ≡ false → run k ≡ false
     → test h ≡ test k
@@ -157,7 +157,7 @@ hashed_agrees f h k x y s =
     let n = other_heads h k 35 x y s refl in
     run_agrees is_hash (λ c. c == 34) f h k x y n.0 n.1 (head_agrees (λ c. c == 34) (code_on 34 refl) h k s.same)
 
--- ---- the test whether a text begins with a dot
+-- ---- the test for a dot has one result for the old and the new text
 
 dot_agrees : Agrees begins_dot
 dot_agrees [] h k x y s =
@@ -170,7 +170,7 @@ dot_agrees (c ∷ f) h k x y s =
 pub same_dot : (a b : List ℕ) → SameFront a b → begins_dot a ≡ begins_dot b
 same_dot a b s = both begins_dot dot_agrees a b s
 
--- ---- the test whether a text begins with an exponent
+-- ---- the test for an exponent has one result for the old and the new text
 
 abbrev powers : List ℕ → Bool
 powers t = first_passes is_ascii_digit (after_run is_underscore t)
@@ -210,7 +210,7 @@ exponent_agrees (c ∷ f) h k x y s = ap (λ b. (c == 101 || c == 69) && b) (sig
 pub same_exponent : (a b : List ℕ) → SameFront a b → begins_exponent a ≡ begins_exponent b
 same_exponent a b s = both begins_exponent exponent_agrees a b s
 
--- ---- the test whether a text begins with an identifier or a prefix
+-- ---- the test for an identifier or a prefix has one result for the old and the new text
 
 abbrev raw_second : List ℕ → Bool
 raw_second t = begins_char 114 t && begins_hashed_quote (drop 1 t)

@@ -190,7 +190,7 @@ drops_all hex plus digits letter (c ∷ cs) =
     one false true e = refl
     one false false e = ap (λ z. not z && true) (new_under hex digits letter c ∙ e)
 
--- ---- underscores are dropped before or after the other characters are rewritten
+-- ---- it makes no difference whether underscores are dropped before or after the other characters are rewritten
 
 bare_character : (drops hex plus : Bool) (digits letter : Option Case) (c : ℕ)
     → without_underscores (becomes drops hex plus digits letter c)

@@ -194,7 +194,7 @@ more_plus false false digits None a b s = s
 more_plus false false digits (Some Lower) a b s = s
 more_plus false false digits (Some Upper) a b s = s
 
--- If the letter of an exponent is rewritten in either case, the exponent keeps its value.
+-- If the letter of an exponent is rewritten in lower or upper case, the exponent keeps its value.
 more_letter : (drops plus : Bool) (digits letter : Option Case) (c : ℕ) (a b : List ℕ) → spelled (c ∷ b)
     ≡ 101 ∷ spelled b
     → (l : Letter drops plus digits letter c) → spelled a ≡ spelled b → More drops plus digits letter a b c

@@ -46,7 +46,7 @@ suffix_fits : (s f x y : List ℕ) → IsLexedSuffix s (old f x) → IsLexedSuff
 suffix_fits [] f x y h = first_fits is_start f x y start_34 h
 suffix_fits (c ∷ s) f x y (h, r) = (h, row_fits is_continue s f x y continue_34 r)
 
--- ---- the test whether a text begins with a dot
+-- ---- the test for a dot, before a raw string and before a string with escapes
 
 dot_fits : (f x y : List ℕ) → may_precede_quote f ≡ true → begins_dot (old f x) ≡ false → begins_dot (new f y) ≡ false
 dot_fits [] x y may h = refl
@@ -95,7 +95,7 @@ fraction_fits (LexedDot ds) e s f x y may suffix power (h, r) =
       record { each = r.each; ends = behind (is_run_part is_ascii_digit) [] t s f x y refl r.ends },
     )
 
--- ---- the test whether a text begins with an exponent
+-- ---- the test for an exponent, before a raw string and before a string with escapes
 
 run_agrees : (run test : ℕ → Bool) (f x y : List ℕ) → run 114 ≡ false → run 34 ≡ false → test 114 ≡ test 34
     → first_passes test (after_run run (old f x)) ≡ first_passes test (after_run run (new f y))
@@ -159,7 +159,7 @@ decimal_fits d more g e s f x y may (id, not_based, row, fraction, power, suffix
         (ap (first_passes is_base_letter) (at (old f x)) ∙ h)
     base false h = refl
 
--- ---- the test whether a text begins with an identifier or a prefix
+-- ---- the test for an identifier or a prefix, before a raw string and before a string with escapes
 
 hashed_agrees : (c : ℕ) (g x y : List ℕ) → may_precede_quote (c ∷ g) ≡ true → begins_hashed_quote (old (c ∷ g) x)
     ≡ begins_hashed_quote (new (c ∷ g) y)
