@@ -9,8 +9,8 @@ pub begins_quote : (t : List ℕ) → first_passes is_apostrophe t ≡ true → 
 begins_quote [] h = absurd (both_ways false refl h)
 begins_quote (c ∷ cs) h = ap (λ z. z ∷ cs) (is_equal c 39 h)
 
--- If the character `x` (code 120) precedes a text, it is a valid character of a character or byte literal, and the text
--- remains after it.
+-- A character or byte literal may contain the character `x` (code 120). So if `x` precedes a text, the parser consumes `x`,
+-- and the text remains.
 good_unit : (k : Kind) (closing : List ℕ) → is_single k ≡ true → unit_rest k (120 ∷ closing) ≡ Some closing
 good_unit k closing s = unit_rest_complete k (Itself 120) closing (good k s) tt
   where

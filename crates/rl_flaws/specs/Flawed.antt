@@ -1,7 +1,7 @@
--- All flaws of a text, in order. The first flaw is the one that explains why the text isn't a literal token. In a string, the
--- next flaw is that of the text after the faulty piece, read after the same opening delimiter. In a character or byte literal,
--- the next flaw is that of the text from the closing quote on, read after the opening quote and a valid character. In a file,
--- CR LF is read as LF, and offsets are in bytes of the file.
+-- All flaws of a text, in order. The first flaw explains why the text isn't a literal token. After a flaw in a string, the
+-- text after the faulty piece is parsed as if it followed the opening delimiter. After a flaw in a character or byte literal,
+-- the text from the closing quote on is parsed as if it followed the opening quote and a valid character. In a file, CR LF is
+-- read as LF, and offsets are in bytes of the file.
 use Rattle.std.specs.Prelude.{◌≡◌, ◌⊎◌, ◌+◌, ◌&&◌, ℕ, suc, Bool, true, false, not, List, [], ◌++◌, codes, drop, length, Option, None, Some, IsFalse, IsTrue, MatchOption, if◌then◌else◌}
 use Rattle.std.specs.Str.{chars, IsUtf8}
 use Prim.Native.Char.{code}
@@ -166,7 +166,7 @@ pub record AreFlawsOf (ends : LineEnds) (text : List ℕ) (s : FlawsState) : Typ
   pub len_is : s.len ≡ length text
   pub all_left : IsFalse s.over
 
--- ---- theorems
+-- ---- the theorems about flaws
 
 -- The first flaw that the cursor returns explains why the text isn't a literal token.
 abbrev pub FirstFlawExplains : LineEnds → List ℕ → Type 0

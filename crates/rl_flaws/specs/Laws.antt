@@ -15,8 +15,8 @@ ATextBeginsAsOneKind = (text : List ℕ) → LooksLikeOne text
 abbrev pub ATokenBeginsAsItsKind : Type 0
 ATokenBeginsAsItsKind = (text : List ℕ) → TokenLooks text
 
--- The first flaw that a `Flaws` cursor returns explains why the text isn't a literal token. `read` returns it as its error,
--- since a text has only one such flaw.
+-- The first flaw that a `Flaws` cursor returns explains why the text isn't a literal token. `read` returns this flaw as its
+-- error, since only one flaw explains a text.
 abbrev pub TheFirstFlawExplainsTheText : Type 0
 TheFirstFlawExplainsTheText = (ends : LineEnds) (text : List ℕ) → FirstFlawExplains ends text
 

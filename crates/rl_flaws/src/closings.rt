@@ -18,8 +18,8 @@ fn ends_search(c: char, following: &str) -> bool
     c == '/' || (c == '\n' && !begins_with_char(following, '\''))
 }
 
-/// Returns the text after the character `c`, or `None` if the search for a closing quote ends there. A backslash skips the
-/// character after it too.
+/// Returns the text after the character `c`, or `None` if the search for a closing quote ends at `c`. If `c` is a backslash,
+/// the character after it is skipped too.
 fn after_part(ends: LineEnds, c: char, following: &str) -> Option<&str>
     requires { c ≢ code "'" }
     ensures some { IfSome result (λ rest. (closing : List ℕ)

@@ -13,7 +13,7 @@ pub fn a_token_begins_as_its_kind()
 {}
 
 /// The first flaw that a [`Flaws`](crate::Flaws) cursor returns explains why the text isn't a literal token.
-/// [`read`](rl_strict::read) returns it as its error, since a text has only one such flaw.
+/// [`read`](rl_strict::read) returns this flaw as its error, since only one flaw explains a text.
 pub fn the_first_flaw_explains_the_text()
     ensures { TheFirstFlawExplainsTheText }
 {}

@@ -27,7 +27,7 @@ use rl_syntax::Kind;
 pub struct Opened<'t> {
     pub form: QuotedForm,
     pub kind: Kind,
-    /// The hashes of a raw string. For other forms, it is empty.
+    /// The hashes of a raw string, or an empty text for other forms.
     pub hashes: &'t str,
 }
 

@@ -14,7 +14,7 @@ use Rattle.rl_lexer.proofs.LexemeFronts.{at_class, class34, class98, class99, cl
 use Rattle.rl_lexer.proofs.LexemeOpeners.{quote_here, raw_opens_here}
 use Rattle.rl_lexer.proofs.SourceFronts.{plain_before, source_none}
 
--- ---- no token begins a text if and only if each of the three parsers finds none
+-- ---- no token begins a text if the parsers of plain tokens, of other tokens of sources and of stray characters find none
 
 stuck : (t : List ℕ) → lexeme_at t ≡ None → other_at t ≡ None → stray_at t ≡ None → BeginsNoSource t
 stuck t lexeme other stray = source_none t None (no_lexeme t lexeme) (sym (ap (λ o. or_stray o t) other ∙ stray))

@@ -98,7 +98,7 @@ pub literal_tail : (old : CursorState) (l : SourceToken) (new : CursorState) →
     → IsTail old.rest new.rest
 literal_tail old l new t = tail_step old.rest t.between.rest new.rest t.passes.following t.takes.following
 
--- If lexing resumes in the lines after an error, the cursor's state is valid there.
+-- If lexing resumes in the lines after an error, the cursor's state at the start of these lines is valid.
 pub taken_up : (whole part left rest lines following : List ℕ) (known now : Unclosed)
     → IsRecoveryState whole part left known → IsTail left rest → IsTail rest lines → IsCursorState lines following
     → AreUnclosed now (chars lines) → IsRecoveryState whole lines following now

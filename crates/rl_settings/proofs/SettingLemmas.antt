@@ -41,7 +41,8 @@ one_deeper (MarkForm c) depth = omega arith
 
 -- ---- the loop over the tokens of a token tree
 
--- The loop's invariant: if the rest of the token tree after `t` ends at an offset, the whole token tree after `first` ends there.
+-- The loop's invariant: if the rest of the token tree after `t` ends at an offset, the whole token tree after `first` ends at
+-- this offset.
 abbrev pub Leads : ℕ → ℕ → CursorState → ℕ → ℕ → CursorState → Type 0
 Leads depth end t first_depth first_end first =
     (hi : ℕ) → EndsInside depth end t hi → EndsInside first_depth first_end first hi

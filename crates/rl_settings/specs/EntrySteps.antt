@@ -88,7 +88,8 @@ has_line_end lo t = list_any (λ c. c == code "\n") (bytes_between lo t)
 abbrev pub MayLackComma : ℕ → CursorState → Type 0
 MayLackComma hi t = (t.rest ≡ []) ⊎ IsTrue (has_line_end hi t)
 
--- The separator after a value that ends at the byte offset `hi`: a comma, or no comma if the text or the line ends there.
+-- The separator after a value that ends at the byte offset `hi`: a comma, or no comma if the text or the line ends after the
+-- value.
 abbrev pub TakesSeparator : ℕ → CursorState → CursorState → Type 0
 TakesSeparator hi old new =
     TakesMark (code ",") old new ⊎ (MayLackComma hi old × HasNo IsCommaForm old × (new ≡ old))

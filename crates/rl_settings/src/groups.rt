@@ -94,7 +94,7 @@ impl Groups {
     }
 
     /// Updates the open groups for a token of the form `form` at the byte offset `at`. Returns the kind of error if the token
-    /// is a delimiter that isn't allowed there.
+    /// is a delimiter that the open groups don't allow.
     fn pass(&mut self, form: Form, at: usize) -> Option<LexKind>
         ensures passed { IfNone result
             (after_form (open_in self.old) (form_view form) at ≡ Some (open_in self.new)) }

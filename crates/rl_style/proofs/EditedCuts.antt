@@ -96,8 +96,8 @@ one_more lead e es at w ws front old new after new_after inner r old_is new_is p
           (alike_more lead front (source_text w.token ++ after) (s ++ new_after) p.alike));
     }
 
--- The text before a token is `front`. If the token's new text is in the style at the token's offset in the whole text, it is
--- also in the style for a token that follows `front`.
+-- Two definitions state that the new text of a token is in the style: one by the token's offset in the whole text, and one by
+-- the text before the token. If the new text satisfies the first definition, it satisfies the second one.
 is_written : (style : Style) (from : ℕ) (whole front rest : List ℕ) (w : CutSource) (e : Option (List ℕ))
     → whole ≡ front ++ (source_text w.token ++ rest) → w.at ≡ from + byte_len front → IsInStyle style from whole w e
     → IsWritten style front w.token e

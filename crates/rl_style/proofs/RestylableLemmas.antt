@@ -55,7 +55,8 @@ none_here was start s tokens same none stays on =
     subst (λ (z : RestylableState). GivesNone z (state tokens s.last s.end s.calls)) same
     (subst (λ (t : CursorState). GivesNone start (state t s.last s.end s.calls)) (sym stays) (on s (Stops none)))
 
--- If the next token isn't a literal, the next literal after it is the next literal before it too.
+-- If the next token isn't a literal, the next literal from the state before this token is the next literal from the state
+-- after the token.
 pub literal_behind : (s : RestylableState) (token : SourceToken) (tokens : CursorState) (last : Last)
     (calls : CallState)
     → Steps s token last calls → TakesSource s.tokens token tokens → (IsLiteralOfSource token → ⊥)

@@ -89,8 +89,8 @@ body_is : (t body : List ℕ) → is_code t ≡ true → IsWithoutLine t body �
 body_is t body h (inl is) = absurd (no_script t body h is)
 body_is t body h (inr is) = is.0
 
--- The text `mark` before the body of a source: its byte order mark, or nothing. It stays the text before the body if the text
--- `u` replaces the body, and begins alike.
+-- The text `mark` before the body of a source: its byte order mark, or nothing. It is also the text before each other body `u`
+-- that begins as the body does.
 pub record Preamble (t body : List ℕ) (at : ℕ) : Type 0 where
   pub mark : List ℕ
   pub text_is : t ≡ mark ++ body

@@ -39,7 +39,8 @@ ReadsAlike t u =
     (kind : Kind) (contents : Contents) (suffix : List ℕ)
     → Reads t kind contents suffix → Reads u kind contents suffix
 
--- If the old text is a literal token of Rust's grammar, the new text is one with the same kind, value and suffix.
+-- If the old text is a literal token of Rust's grammar, the new text is one too, and has the kind, the value and the suffix of
+-- the old text.
 abbrev pub StrictAlike : List ℕ → List ℕ → Type 0
 StrictAlike t u =
     (kind : Kind) (contents : Contents) (suffix : List ℕ)

@@ -76,8 +76,7 @@ fn count_digits(run: &str) -> usize
     count
 }
 
-/// Writes the new form of a digit. If the digit's group ends there, `ends` is true, and an underscore is written after the
-/// digit.
+/// Writes the new form of a digit. If `ends` is true, the digit's group ends, and an underscore is written after the digit.
 fn put_digit(out: &mut [u8], at: usize, manner: Manner, digit: char, ends: bool) -> usize
     requires { at + 2 * length (encode_utf8 digit) ≤ length out.old }
     ensures end { result ≤ at + 2 * length (encode_utf8 digit) }

@@ -36,14 +36,14 @@ pub struct Restylable<'t> {
     /// Whether the literal may be a field of a tuple. A field has only one name, so it isn't rewritten.
     ///
     /// A field is a number after one dot, as in `t.0`, or a number that a single `:` follows, after `{`, `,`, `]` or a doc
-    /// comment, as in `S { #[a] 0: x }`. White space and plain comments may be between these.
+    /// comment, as in `S { #[a] 0: x }`. White space and plain comments may be between these tokens.
     pub is_field: bool,
     /// Whether the literal is inside a macro call, a macro's definition or an attribute, where a macro may depend on the
     /// literal's text.
     ///
     /// Only tokens are considered. A call is an identifier, `!` and a bracket, with other identifiers between `!` and the
-    /// bracket allowed, as in `macro_rules! m {`. An attribute begins with `#[` or `#![`. Each extends to its closing bracket.
-    /// A keyword of all editions isn't a macro's name: `return !(1)`.
+    /// bracket allowed, as in `macro_rules! m {`. An attribute begins with `#[` or `#![`. Calls and attributes extend to their
+    /// closing brackets. A keyword of all editions isn't a macro's name: `return !(1)`.
     pub in_macro: bool,
 }
 

@@ -62,8 +62,7 @@ fn count_digits(run: &str) -> usize {
     count
 }
 
-/// Writes the new form of a digit. If the digit's group ends there, `ends` is true, and an underscore is written after the
-/// digit.
+/// Writes the new form of a digit. If `ends` is true, the digit's group ends, and an underscore is written after the digit.
 #[inline]
 fn put_digit(out: &mut [u8], at: usize, manner: Manner, digit: char, ends: bool) -> usize {
     let end = put_character(out, at, manner, digit);
