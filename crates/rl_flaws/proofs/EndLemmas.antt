@@ -19,7 +19,7 @@ pub digits_end : (q : ℕ) (t : List ℕ) → t ≡ [] → t ≡ after_code_digi
 unfolding after_code_digits
 digits_end q t e = e ∙ sym (ap (after_code_digits q) e)
 
--- ---- the text after an invalid piece is shorter than the text with it
+-- ---- the text after an invalid piece is shorter than the text that begins with this piece
 
 of_either : (b : Bool) (n : ℕ) (x y : List ℕ) → length x ≤ n → length y ≤ n → length (cond b x y) ≤ n
 of_either true n x y p q = p

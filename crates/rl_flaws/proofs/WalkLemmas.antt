@@ -38,7 +38,7 @@ pub raw_in_text : (how : LineEnds) (k : Kind) (h t r : List ℕ) → is_string k
     → read_of how r ≡ raw_stop k h (read_of how t) → how ≡ Text → IsInsideUpTo RawForm k h t r
 raw_in_text how k h t r s stop e = raw_up_to k h t r s (subst (λ z. read_of z r ≡ raw_stop k h (read_of z t)) e stop)
 
--- ---- the flaw after the content of a literal
+-- ---- the flaw that is found after the opening delimiter is a flaw of the whole text
 
 pub flaw_after : (how : LineEnds) (form : QuotedForm) (k : Kind) (f : FlawKind) (t inside text piece rest : List ℕ)
     → has_form form k ≡ true → t ≡ form_opener form k ++ inside → StopsAsRead how form k f inside text piece rest

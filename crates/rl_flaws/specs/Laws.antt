@@ -11,7 +11,7 @@ use Rattle.rl_flaws.specs.declared.type_errors.TypeError.{TypeError as AnyError}
 abbrev pub ATextBeginsAsOneKind : Type 0
 ATextBeginsAsOneKind = (text : List ℕ) → LooksLikeOne text
 
--- A valid literal token begins as its own kind, the one that `guess_kind` returns for its text.
+-- A valid literal token begins as a literal of its own kind, and `guess_kind` returns this kind for its text.
 abbrev pub ATokenBeginsAsItsKind : Type 0
 ATokenBeginsAsItsKind = (text : List ℕ) → TokenLooks text
 

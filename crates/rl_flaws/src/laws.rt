@@ -7,7 +7,8 @@ pub fn a_text_begins_as_one_kind()
     ensures { ATextBeginsAsOneKind }
 {}
 
-/// A valid literal token begins as its own kind, the one that [`guess_kind`](crate::guess_kind) returns for its text.
+/// A valid literal token begins as a literal of its own kind, and [`guess_kind`](crate::guess_kind) returns this kind for its
+/// text.
 pub fn a_token_begins_as_its_kind()
     ensures { ATokenBeginsAsItsKind }
 {}

@@ -50,7 +50,7 @@ cased_underscore case c =
     low (Some Upper) c a = agree_below_at (λ c. upper_case c == 95) (λ c. c == 95) 128 c refl a
     low (Some Lower) c a = agree_below_at (λ c. lower_case c == 95) (λ c. c == 95) 128 c refl a
 
--- ---- after a change of case, a sequence of digits is still one
+-- ---- after a change of case, a sequence of digits is still a sequence of digits
 
 part_same : (case : Option Case) (base c : ℕ) → is_run_part (λ c. nat_lt (digit_value c) base) (cased case c)
     ≡ is_run_part (λ c. nat_lt (digit_value c) base) c

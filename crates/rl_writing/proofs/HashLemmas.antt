@@ -14,7 +14,7 @@ abbrev pub needed_in : List ℕ → ℕ
 needed_in [] = 0
 needed_in (c ∷ t) = cond (eqb c 34) (max (suc (run t)) (needed_in t)) (needed_in t)
 
--- ---- the text contains a quote that this number of hashes follows
+-- ---- a raw string with a text needs more than `n` hashes if and only if the text contains a quote and `n` hashes
 
 run_more : (n : ℕ) (t : List ℕ) → n ≤ run (replicate n 35 ++ t)
 run_more zero t = omega arith

@@ -200,7 +200,7 @@ integer_written value style suffix h =
     let strict = integer_strict b value run x h (styled_run value style) (suffix_is suffix) in
     record { text_is = refl; strict = strict; reads = integer_reads (prefix b ++ (run ++ x)) x value h strict }
 
--- ---- a written integer is ASCII
+-- ---- a written integer contains only ASCII characters
 
 prefix_low : (b : Base) → list_all is_low (prefix b) ≡ true
 prefix_low Binary = refl
