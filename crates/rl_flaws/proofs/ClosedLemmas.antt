@@ -42,7 +42,7 @@ closed_token how k closing suffix s quote none =
     (after_opener how k closing)
     (single_good how k (120 ∷ closing) closing suffix s (good_unit k closing s) quote none)
 
--- ---- the piece and the flaw are ends of the unchecked text
+-- ---- the piece and the flaw of the suffix begin inside the unchecked text
 
 pub closed_piece : (how : LineEnds) (closing suffix piece : List ℕ) (k : FlawKind) → closing ≡ 39 ∷ suffix
     → piece ≡ suffix_piece k closing suffix → IsRestOf how closing piece

@@ -31,7 +31,7 @@ other_begins text literal rest kind begins are other l h =
     let both : ◌≡◌ {A = SourceKind × List ℕ} (h.kind, chars l.text.now) (kind, literal) = cc in
     other (subst (λ (z : SourceKind × List ℕ). IsLiteralText z.0 z.1) both h.is_literal)
 
--- If two literals begin one text, the two literals have one text.
+-- At most one literal begins a text: two literals that begin it have equal texts.
 one_leads : (text : List ℕ) (k l : LeadingLiteral) → Leads text k → Leads text l → chars k.text.now ≡ chars l.text.now
 one_leads text k l p q =
     let same = one_token p.begins.token q.begins.token (chars k.following.now) (chars l.following.now)

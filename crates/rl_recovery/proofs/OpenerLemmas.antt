@@ -145,7 +145,7 @@ hash_bytes : (n : ℕ) → length (encode_utf8_all (replicate n 35)) ≡ n
 hash_bytes zero = refl
 hash_bytes (suc n) = ap length (low_front 35 (replicate n 35) (lit< tt)) ∙ ap suc (hash_bytes n)
 
--- If a double quote follows the hashes at the start of a text, the number of these hashes is the number of their bytes.
+-- If a double quote follows the hashes at the start of a text, there are as many hashes as bytes before the quote.
 pub hashes_taken : (front : List ℕ) (t quote body : List ℕ) → IsUtf8 front → t ≡ chars front ++ quote
     → quote ≡ after_run is_hash t → quote ≡ 34 ∷ body → 114 ∷ t ≡ 114 ∷ hashed (length front) body
 hashes_taken front t quote body u cut past is =

@@ -123,7 +123,7 @@ twice_row case [] = refl
 twice_row case (c ∷ cs) = ap (λ z. z ∷ map (cased case) (map (cased case) cs)) (twice_cased case c)
     ∙ ap (λ z. cased case c ∷ z) (twice_row case cs)
 
--- ---- the text that the code writes in a case
+-- ---- the text that the code writes in lower or upper case
 
 pub cased_scalar : (case : Option Case) (c : ℕ) → scalar c ≡ true → scalar (cased case c) ≡ true
 cased_scalar case c h =

@@ -1,5 +1,5 @@
--- If a new literal is well formed, and has the kind, the prefix and the suffix of the old one, as `SameEnds` states, it is a
--- literal before each text before which the old one is a literal. Both literals begin alike.
+-- If a new literal is well formed, and has the kind, the prefix and the suffix of the old one, as `SameEnds` states, each text
+-- that may follow the old literal may also follow the new one. Both literals begin alike.
 use Rattle.rl_syntax.proofs.Common.{◌≡◌, ◌≢◌, ℕ, inl, inr, Bool, true, false, ◌||◌, ◌==◌, List, [], ◌∷◌, ◌++◌, refl, sym, ◌∙◌, ap, subst, replicate, codes, list_all, is_ascii_digit}
 use Rattle.rl_syntax.specs.Texts.{is_among, is_continue}
 use Rattle.rl_lexer.specs.Lexemes.{BeginsHashedQuote, BodyPart, body_text, CharacterBody, character_body_text, LiteralPrefix, NoPrefix, BytePrefix, CPrefix, Lexeme, QuotedLexeme, RawLexeme, CharacterLexeme, BasedLexeme, DecimalLexeme, LexedFraction, lexed_fraction_text, LexedExponent, lexed_exponent_text, lexeme_text, IsLexeme}

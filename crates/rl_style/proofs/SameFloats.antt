@@ -333,7 +333,7 @@ Size style x = size_by style.digit_groups 10 x
 abbrev Least : Style → ℕ
 Least style = least_by style.digit_groups
 
--- The new text of a float before its suffix has a whole part and a text after it, as the old one does.
+-- Like the old float, the new float has a whole part before its suffix, and a text after the whole part.
 pub kept_numeral : (style : Style) (numeral x : List ℕ) (form : FloatForm numeral x)
     → Numeral (styled_numeral style x numeral) x
     (closed_shape (shape_of (kept_run style x numeral) x (kept_form style numeral x form).form) style.float_zero)

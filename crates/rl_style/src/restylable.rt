@@ -89,7 +89,7 @@ fn last_after(last: Last, end: usize, token: SourceToken<'_>) -> Last
     }
 }
 
-/// Whether the text begins with one colon. `::` is another token.
+/// Whether the text begins with one colon, and not with `::`, which is another token.
 fn begins_one_colon(text: &str) -> bool
     ensures { result ≡ begins_one_colon (chars text.now) }
 {
@@ -99,8 +99,8 @@ fn begins_one_colon(text: &str) -> bool
     }
 }
 
-/// Whether a number is a field of a tuple. `last` is the token before it, and `rest` the text after it, without white space and
-/// comments at its beginning.
+/// Whether a number is a field of a tuple. `last` describes the token before the number, and `rest` is the text after the
+/// number, without white space and comments at its beginning.
 fn names_field(last: Last, rest: &str) -> bool
     ensures { result ≡ names_field last (chars rest.now) }
 {
@@ -111,7 +111,7 @@ fn names_field(last: Last, rest: &str) -> bool
     }
 }
 
-/// Whether the literal `token` may be a field of a tuple. `rest` is the text after it.
+/// Whether the literal `token` may be a field of a tuple. `rest` is the text after the literal.
 fn is_field(last: Last, token: SourceToken<'_>, rest: &str) -> bool
     ensures { result ≡ is_field last token.entry.text.now (chars rest.now) }
 {

@@ -8,13 +8,13 @@ use crate::rl_lexer::{Form, SourceForm, SourceToken};
 pub enum Calls<'t> {
     /// The next token is outside of macro calls.
     Outside,
-    /// The next token follows this identifier, which may be a macro's name.
+    /// The next token follows the given identifier, which may be a macro's name.
     AfterWord(&'t str),
     /// The next token follows a macro's name, `!`, and perhaps identifiers.
     AfterBang,
     /// The next token follows `#`, or `#!`.
     AfterHash,
-    /// The next token is inside a macro call, nested in this number of brackets.
+    /// The next token is inside a macro call, nested in the given number of brackets.
     Inside(usize),
 }
 

@@ -69,7 +69,7 @@ fn last_after(last: Last, end: usize, token: SourceToken<'_>) -> Last {
     }
 }
 
-/// Whether the text begins with one colon. `::` is another token.
+/// Whether the text begins with one colon, and not with `::`, which is another token.
 #[inline]
 fn begins_one_colon(text: &str) -> bool {
     match strip_byte(text, b':') {
@@ -78,8 +78,8 @@ fn begins_one_colon(text: &str) -> bool {
     }
 }
 
-/// Whether a number is a field of a tuple. `last` is the token before it, and `rest` the text after it, without white space and
-/// comments at its beginning.
+/// Whether a number is a field of a tuple. `last` describes the token before the number, and `rest` is the text after the
+/// number, without white space and comments at its beginning.
 #[inline]
 fn names_field(last: Last, rest: &str) -> bool {
     match last {
@@ -89,7 +89,7 @@ fn names_field(last: Last, rest: &str) -> bool {
     }
 }
 
-/// Whether the literal `token` may be a field of a tuple. `rest` is the text after it.
+/// Whether the literal `token` may be a field of a tuple. `rest` is the text after the literal.
 #[inline]
 fn is_field(last: Last, token: SourceToken<'_>, rest: &str) -> bool {
     matches!(token.text.as_bytes(), [b'0'..=b'9', ..]) && names_field(last, rest)
