@@ -14,7 +14,7 @@ use Rattle.rl_syntax.specs.declared.integer_type.IntegerType.TheVariants.{U8, U1
 use Rattle.rl_flaws.specs.declared.number_types.NumberType.{NumberType}
 use Rattle.rl_flaws.specs.declared.number_types.NumberType.TheVariants.{Integer, F32, F64}
 
--- Each name of a number type has another number. So a suffix is the name of at most one number type.
+-- The names of number types are mapped to different numbers. So a suffix is the name of at most one number type.
 number_of : List ℕ → ℕ
 number_of [] = 0
 number_of (b ∷ bs) = b + 256 * number_of bs

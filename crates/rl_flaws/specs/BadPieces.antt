@@ -19,7 +19,8 @@ abbrev pub after_hex : ℕ → List ℕ → List ℕ
 after_hex quote [] = []
 after_hex quote (c ∷ cs) = if is_hex_digit c then after_one quote cs else after_one quote (c ∷ cs)
 
--- Skips the digits and underscores between the braces of `\u{..}`, and then one character, usually the closing brace.
+-- Skips the digits and underscores between the braces of `\u{..}`, and then one character, usually the closing brace. This
+-- character isn't skipped if it is a backslash or the literal's closing quote.
 unfoldable pub after_code_digits : ℕ → List ℕ → List ℕ
 after_code_digits quote [] = []
 after_code_digits quote (c ∷ cs) =

@@ -261,7 +261,7 @@ float_parts t x v s (inr (inr (d, p, h, k, inr (f, g, e)))) =
     grouped : (r f p x y : List ℕ) → (r ++ (46 ∷ f ++ (p ++ x))) ++ y ≡ r ++ (46 ∷ f ++ (p ++ (x ++ y)))
     grouped r f p x y = simp append_assoc
 
--- If a number may end with a dot before the text `y`, it may also end with a dot and a zero there.
+-- If a number that ends with a dot is a token before the text `y`, it is also a token before `y` with a zero after the dot.
 dot_closes : (y : List ℕ) → after_decimal (46 ∷ y) ≡ y → shape_end PointShape y ≡ y
 dot_closes y h = go (first_passes (λ d. d == 46 || is_start d) y) h
   where

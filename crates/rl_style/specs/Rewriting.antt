@@ -154,7 +154,8 @@ respelled style kind zero c escape =
     else (if style.named_escapes && gets_letter zero c then PlainEscape (letter_of c) else escape)
 
 -- The new form of an escape. If the style requires it, a quote that doesn't close the literal loses its backslash, and a
--- visible character replaces its numeric escape. The digits of other numeric escapes are written in the style's case.
+-- visible character or an escape with a letter replaces a numeric escape. Other numeric escapes have their digits in the
+-- style.
 abbrev pub reescaped : Style → Kind → Bool → StrictUnit → StrictUnit
 reescaped style kind zero (QuoteEscape c) =
     if style.quote_escapes && not (c == closer kind) then Itself c else QuoteEscape c

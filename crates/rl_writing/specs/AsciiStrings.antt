@@ -13,8 +13,8 @@ use Rattle.rl_writing.specs.Integers.{numeral}
 abbrev pub unicode_escape : ℕ → List ℕ
 unicode_escape c = code "\\" ∷ code "u" ∷ code "{" ∷ (numeral 16 false c ++ (code "}" ∷ []))
 
--- The written form of a character in an ASCII literal. The form of a non-ASCII character is its escape `\u{..}`, and that of
--- an ASCII character is the one of other literals.
+-- The written form of a character in an ASCII literal. A non-ASCII character is written as its escape `\u{..}`. An ASCII
+-- character is written as in other literals.
 abbrev pub ascii_text : Kind → ℕ → List ℕ
 ascii_text kind c = if nat_lt c 128 then unit_text (written_unit kind c) else unicode_escape c
 

@@ -1,4 +1,4 @@
--- The loop's invariant: without leading zeros and underscores, the text and its rest are equal.
+-- The loop's invariant: after the leading zeros and underscores are dropped from both, the text and its rest are equal.
 use Rattle.rl_syntax.proofs.Common.{◌≡◌, ◌≤◌, length}
 use denote.Text.{Utf8}
 use denote.Shadow.{shadow}
