@@ -17,7 +17,7 @@ other_name found.Identifier h e = h refl
 other_name (found.Delimiter c) h e = absurd (cc)
 other_name (found.Mark c) h e = absurd (cc)
 
--- If an error follows from a text, it isn't an allocation failure.
+-- An error that a text causes isn't an allocation failure.
 pub no_memory : (kind : LexKind) (r : List ℕ) → ((groups : List OpenGroup) → ErrorAt kind groups r) → kind ≡ Memory → ⊥
 no_memory kind r h e = subst (λ (k : LexKind). ErrorAt k [] r) e (h [])
 
