@@ -327,9 +327,9 @@ right_unshown options calls whole text lo hi bad (found, read, right) =
       read,
       inr (
         λ picked.
-          let is : IsBad here before text found = subst (λ (s : Shown). Picks s labelled.0 (IsBad here before text found)) bad
-          picked in
-          not_bad here before text found is.0 (right_at options calls before text found right) is.1,
+            let is : IsBad here before text found = subst (λ (s : Shown). Picks s labelled.0 (IsBad here before text found)) bad
+            picked in
+            not_bad here before text found is.0 (right_at options calls before text found right) is.1,
         refl,
       ),
     )

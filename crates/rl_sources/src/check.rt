@@ -10,7 +10,7 @@ ghost use Rattle.rl_sources.specs.Steps.{LooksForFlaws};
 use crate::finding::Wrong;
 use crate::options::Options;
 use rl_flaws::{TypeError, may_be_negated, type_error};
-use rl_lenient::{Found, find};
+use rl_lenient::{Found, parse_literal};
 use rl_output::Shown;
 use rl_strict::{Flaw, LineEnds, explain_value, read};
 use rl_syntax::Kind;
@@ -116,7 +116,7 @@ pub(crate) fn is_right(options: &Options<'_>, before: &str, text: &str) -> bool
     ensures right { IsTrue result → LooksForFlaws options.now → IsRightText options.now before.now text.now }
     ensures wrong { IsFalse result → IsWrongText options.now before.now text.now }
 {
-    let found = find(text);
+    let found = parse_literal(text);
     find_wrong(options, before, text, &found).is_none()
 }
 

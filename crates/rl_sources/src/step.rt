@@ -15,7 +15,7 @@ ghost use Rattle.rl_output.specs.declared.choice.Spelling.TheVariants.{Value};
 ghost use Rattle.rl_output.specs.declared.choice.Shown.TheVariants.{Bad};
 ghost use Rattle.rl_sources.specs.Steps.{BeginsRest, EndsUnshown, IsAcceptedToken, IsCursorOver, FollowsCalls, IsLiteralOf, IsShownAt, IsStepOf, IsStopAt, IsValidUnshown, MayShow, PassesUnshown, ShowsNothing, StopsUnshown, TakesShown};
 ghost use Rattle.rl_sources.specs.Findings.{IsFoundIn};
-ghost use Rattle.rl_style.specs.Calls.{calls_after, calls_seen, is_in_call};
+ghost use Rattle.rl_style.specs.Calls.{advance_calls, calls_seen, is_in_call};
 ghost use Rattle.rl_sources.specs.Options.{options_at as options_in};
 
 use crate::check::{find_wrong, is_right, looks_for_flaws, reason_of};
@@ -27,12 +27,12 @@ use crate::options::{Options, ends_at_strays, finds_strays, options_at};
 use crate::place::{displayed_place, place_inside, push_context_inside, push_context_of};
 use crate::reason::push_error_line;
 use rl_files::{make_visible, push_visible};
-use rl_lenient::{Found, find};
+use rl_lenient::{Found, parse_literal};
 use rl_output::{
     Form, Level, Place, Places, Shown, Spelling, first_line, push_annotation_end, push_line_start,
 };
-use rl_program::{label_of, push_found, push_unescaped_line, unescaped_value};
-use rl_style::{Calls, calls_after, is_in_call};
+use rl_program::{label_of, push_found_line, push_unescaped_line, unescaped_value};
+use rl_style::{Calls, advance_calls, is_in_call};
 use rl_tokens::{LexError, LexKind, SourceForm, SourceToken, Sources};
 use std::alloc::{AllocError, Allocator};
 
@@ -54,7 +54,7 @@ fn push_made_line<A: Allocator + Copy>(
         (chars (string_bytes out.old)) (chars (string_bytes out.new))) }
 {
     let from = out.as_str().len();
-    push_found(alloc, out, text, found)?;
+    push_found_line(alloc, out, text, found)?;
     make_visible(alloc, out, from)
 }
 
@@ -301,7 +301,7 @@ fn push_literal_token<'t, A: Allocator + Copy>(
         (chars (string_bytes out.old)) (chars (string_bytes out.new))) }
     ensures same { places.new ≡ places.old }
 {
-    let found = find(token.text);
+    let found = parse_literal(token.text);
     let before = places.before(token.lo);
     let wrong = find_wrong(options, before, token.text, &found);
     let label = label_of(kind_of(&found));
@@ -362,10 +362,10 @@ fn follows_calls(options: &Options<'_>) -> bool
 #[inline(always)]
 fn pass_token<'t>(follows: bool, calls: &mut Calls<'t>, token: SourceToken<'t>)
     ensures { IsTrue follows → calls_seen calls.new
-        ≡ calls_after (calls_seen calls.old) (source_view token.entry.form) token.entry.text.now }
+        ≡ advance_calls (calls_seen calls.old) (source_view token.entry.form) token.entry.text.now }
 {
     if follows {
-        *calls = calls_after(*calls, token)
+        *calls = advance_calls(*calls, token)
     }
 }
 
@@ -466,11 +466,7 @@ fn may_show(options: &Options<'_>, token: &SourceToken<'_>) -> bool
 ///
 /// The literal is checked as if it were outside of macro calls. If it is valid there, it is valid inside of macro calls too, so its
 /// position relative to macro calls isn't needed.
-fn is_valid_unshown<'t>(
-    options: &Options<'_>,
-    places: &Places<'t>,
-    token: &SourceToken<'t>,
-) -> bool
+fn is_valid_unshown<'t>(options: &Options<'_>, places: &Places<'t>, token: &SourceToken<'t>) -> bool
     requires { IsCharBoundary places.now token.now.lo }
     ensures { IsTrue result → IsValidUnshown options.now (chars places.now) token.now }
 {
@@ -483,11 +479,7 @@ fn is_valid_unshown<'t>(
 }
 
 /// Whether a token may have a line in the output. If only invalid literals are shown, no valid one may.
-fn may_have_line<'t>(
-    options: &Options<'_>,
-    places: &Places<'t>,
-    token: &SourceToken<'t>,
-) -> bool
+fn may_have_line<'t>(options: &Options<'_>, places: &Places<'t>, token: &SourceToken<'t>) -> bool
     requires { IsCharBoundary places.now token.now.lo }
     ensures shown { IsTrue result → MayShow options.now (source_view token.now.form) (chars token.now.text.now) }
     ensures unshown { IsFalse result → ShowsNothing options.now (chars places.now) token.now }

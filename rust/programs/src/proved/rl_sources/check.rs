@@ -4,7 +4,7 @@
 use crate::rl_sources::finding::Wrong;
 use crate::rl_sources::options::Options;
 use crate::rl_flaws::{TypeError, may_be_negated, type_error};
-use crate::rl_lenient::{Found, find};
+use crate::rl_lenient::{Found, parse_literal};
 use crate::rl_output::Shown;
 use crate::rl_strict::{Flaw, LineEnds, explain_value, read};
 use crate::rl_syntax::Kind;
@@ -86,7 +86,7 @@ pub(crate) fn find_wrong(
 ///
 /// `before` is the source before the literal.
 pub(crate) fn is_right(options: &Options<'_>, before: &str, text: &str) -> bool {
-    let found = find(text);
+    let found = parse_literal(text);
     find_wrong(options, before, text, &found).is_none()
 }
 

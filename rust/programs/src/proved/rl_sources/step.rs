@@ -11,12 +11,12 @@ use crate::rl_sources::options::{Options, ends_at_strays, finds_strays, options_
 use crate::rl_sources::place::{displayed_place, place_inside, push_context_inside, push_context_of};
 use crate::rl_sources::reason::push_error_line;
 use crate::rl_files::{make_visible, push_visible};
-use crate::rl_lenient::{Found, find};
+use crate::rl_lenient::{Found, parse_literal};
 use crate::rl_output::{
     Form, Level, Place, Places, Shown, Spelling, first_line, push_annotation_end, push_line_start,
 };
-use crate::rl_program::{label_of, push_found, push_unescaped_line, unescaped_value};
-use crate::rl_style::{Calls, calls_after, is_in_call};
+use crate::rl_program::{label_of, push_found_line, push_unescaped_line, unescaped_value};
+use crate::rl_style::{Calls, advance_calls, is_in_call};
 use crate::rl_tokens::{LexError, LexKind, SourceForm, SourceToken, Sources};
 use crate::rattle_std::alloc::{AllocError, Allocator};
 
@@ -34,7 +34,7 @@ fn push_made_line<A: Allocator + Copy>(
     found: Option<Found>,
 ) -> Result<(), AllocError> {
     let from = out.as_str().len();
-    push_found(alloc, out, text, found)?;
+    push_found_line(alloc, out, text, found)?;
     make_visible(alloc, out, from)
 }
 
@@ -213,7 +213,7 @@ fn push_literal_token<'t, A: Allocator + Copy>(
     rest: &'t str,
     places: &mut Places<'t>,
 ) -> Result<(), AllocError> {
-    let found = find(token.text);
+    let found = parse_literal(token.text);
     let before = places.before(token.lo);
     let wrong = find_wrong(options, before, token.text, &found);
     let label = label_of(kind_of(&found));
@@ -262,7 +262,7 @@ fn follows_calls(options: &Options<'_>) -> bool {
 #[inline(always)]
 fn pass_token<'t>(follows: bool, calls: &mut Calls<'t>, token: SourceToken<'t>) {
     if follows {
-        *calls = calls_after(*calls, token)
+        *calls = advance_calls(*calls, token)
     }
 }
 
@@ -335,11 +335,7 @@ fn may_show(options: &Options<'_>, token: &SourceToken<'_>) -> bool {
 ///
 /// The literal is checked as if it were outside of macro calls. If it is valid there, it is valid inside of macro calls too, so its
 /// position relative to macro calls isn't needed.
-fn is_valid_unshown<'t>(
-    options: &Options<'_>,
-    places: &Places<'t>,
-    token: &SourceToken<'t>,
-) -> bool {
+fn is_valid_unshown<'t>(options: &Options<'_>, places: &Places<'t>, token: &SourceToken<'t>) -> bool {
     match options.shown {
         Shown::Bad if token.is_literal() => {
             is_right(options, places.before(token.lo), token.text)
@@ -349,11 +345,7 @@ fn is_valid_unshown<'t>(
 }
 
 /// Whether a token may have a line in the output. If only invalid literals are shown, no valid one may.
-fn may_have_line<'t>(
-    options: &Options<'_>,
-    places: &Places<'t>,
-    token: &SourceToken<'t>,
-) -> bool {
+fn may_have_line<'t>(options: &Options<'_>, places: &Places<'t>, token: &SourceToken<'t>) -> bool {
     if is_valid_unshown(options, places, token) {
         return false;
     }
