@@ -18,7 +18,7 @@ mod visit_report;
 pub use crate::change::push_change;
 pub use crate::changes::push_changes;
 pub use crate::diff::push_diff;
-pub use crate::exit::{CallError, run_with_arguments, out_of_memory_ending};
+pub use crate::exit::{CallError, out_of_memory_ending, run_with_arguments};
 use crate::host::host_arguments;
 pub use crate::outcome::{Outcome, rewrite_outcome, source_check_options};
 pub use crate::report::Report;
