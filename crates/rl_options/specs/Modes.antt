@@ -101,7 +101,7 @@ is_help_mode _ = false
 abbrev pub goes_with : Modes → Mode → Bool
 goes_with among m = is_help_mode m || is_in m among
 
--- The command has the option without a value. For an option that has an effect in all modes, the result is false.
+-- The command prints errors, or invisible and bidirectional characters, or the literals of some kinds.
 abbrev pub wants_bad : Wanted → Bool
 wants_bad BadWanted = true
 wants_bad _ = false
@@ -114,10 +114,12 @@ abbrev pub wants_kinds : Wanted → Bool
 wants_kinds (OnlyWanted list) = true
 wants_kinds _ = false
 
+-- Literals are printed as written.
 abbrev pub is_source : Spelling → Bool
 is_source spelling.Source = true
 is_source spelling.Value = false
 
+-- Positions are byte offsets, or lines and columns.
 abbrev pub is_bytes : PlaceForm → Bool
 is_bytes places.Bytes = true
 is_bytes _ = false
@@ -126,6 +128,7 @@ abbrev pub is_lines : PlaceForm → Bool
 is_lines places.Lines = true
 is_lines _ = false
 
+-- The output for a file is the number of its lines, or its path.
 abbrev pub is_count : Output → Bool
 is_count output.Count = true
 is_count _ = false
@@ -134,10 +137,12 @@ abbrev pub is_path : Output → Bool
 is_path output.Path = true
 is_path _ = false
 
-abbrev pub is_files : Action → Bool
-is_files action.Files = true
-is_files _ = false
+-- The command only lists the files that would be read.
+abbrev pub lists_files : Action → Bool
+lists_files action.Files = true
+lists_files _ = false
 
+-- The command has the option without a value. For an option that has an effect in all modes, the result is false.
 abbrev pub has_flag : Flag → Wishes → Bool
 has_flag flag.Bad w = wants_bad w.wanted
 has_flag flag.Hidden w = wants_hidden w.wanted
@@ -151,7 +156,7 @@ has_flag flag.NoStray w = w.rejects_strays
 has_flag flag.AnySuffix w = w.any_suffix
 has_flag flag.Count w = is_count w.output
 has_flag flag.FilesWithMatches w = is_path w.output
-has_flag flag.Files w = is_files w.action
+has_flag flag.Files w = lists_files w.action
 has_flag flag.Stats w = w.prints_stats
 has_flag _ w = false
 

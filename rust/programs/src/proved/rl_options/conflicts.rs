@@ -71,20 +71,25 @@ fn mode_clash<A: Allocator>(command: Command<'_>) -> Option<ArgumentError<A>> {
     }
 }
 
+/// Whether a path is `-`, which is standard input.
+fn is_input_name(path: &str) -> bool {
+    path == "-"
+}
+
 /// Whether one of the paths is standard input.
 fn has_input_path<A: Allocator>(paths: &[String<A>]) -> bool {
-    paths.iter().any(|path| path.as_str() == "-")
+    paths.iter().any(|path| is_input_name(path.as_str()))
 }
 
 /// Whether one of the lists of paths is read from standard input.
 fn has_input_list(lists: &[&str]) -> bool {
-    lists.iter().any(|list| *list == "-")
+    lists.iter().any(|list| is_input_name(list))
 }
 
 /// Whether the rules of the style are read from standard input.
 fn has_input_style(style: Option<&str>) -> bool {
     match style {
-        Some(file) => file == "-",
+        Some(file) => is_input_name(file),
         None => false,
     }
 }
