@@ -85,18 +85,18 @@ abbrev pub is_input_style : Option (List ℕ) → Bool
 is_input_style None = false
 is_input_style (Some file) = is_input_name file
 
--- Sources or a list of paths are read from standard input. They are also if there are no paths and no lists.
+-- Sources or a list of paths may be read from standard input: a path or a list is `-`, or there are no paths and no lists.
 abbrev pub is_input_read : List (List ℕ) → List (List ℕ) → Bool
 is_input_read paths lists =
     ((length paths == 0) && (length lists == 0)) || list_any is_input_name paths || list_any is_input_name lists
 
--- Sources or a list of paths are read from standard input. The paths and lists are the values in the program.
+-- Sources or a list of paths may be read from standard input. The paths and lists are the values in the program.
 abbrev pub is_input_among : {A : Type 0} → List (String A) → List (Bor (List ℕ)) → Bool
 is_input_among paths lists =
     ((length paths == 0) && (length lists == 0)) || list_any (λ path. is_input_name (string_bytes path)) paths
     || list_any (λ list. is_input_name list.now) lists
 
--- The rules of a style are read from standard input, and sources or a list of paths too.
+-- The rules of a style are read from standard input, and sources or a list of paths may be read from it too.
 abbrev pub is_input_read_twice : Wishes → Bool
 is_input_read_twice w = is_input_style w.style && is_input_read w.paths w.files_from
 

@@ -52,24 +52,26 @@ acting_mode action.Files other = other
 abbrev pub mode_of : Wishes → Mode
 mode_of w = acting_mode w.action (rewriting_mode w.restyle (printing_mode w.wanted w.searches))
 
--- In the mode, literals are printed, and not errors or characters. `rewrites` says that literals are rewritten, or that the changes
--- are printed.
+-- In the mode, literals are printed, and not errors or characters.
 abbrev pub prints_literals : Mode → Bool
 prints_literals mode.Unselected = true
 prints_literals mode.Only = true
 prints_literals mode.Find = true
 prints_literals _ = false
 
+-- In the mode, literals are rewritten, or the changes are printed.
 abbrev pub rewrites : Mode → Bool
 rewrites mode.Fix = true
 rewrites mode.Check = true
 rewrites mode.Diff = true
 rewrites _ = false
 
+-- The mode is `--bad`.
 abbrev pub is_bad_mode : Mode → Bool
 is_bad_mode mode.Bad = true
 is_bad_mode _ = false
 
+-- The mode is `--find`.
 abbrev pub is_find_mode : Mode → Bool
 is_find_mode mode.Find = true
 is_find_mode _ = false
@@ -93,6 +95,7 @@ is_in m modes.Printing = not (rewrites m)
 is_in m modes.Rewriting = rewrites m
 is_in m modes.BadOrRewriting = rewrites m || is_bad_mode m
 
+-- In the mode, the help or the version is printed.
 abbrev pub is_help_mode : Mode → Bool
 is_help_mode mode.Help = true
 is_help_mode _ = false
@@ -173,6 +176,7 @@ has_operand takes.Style w = is_some w.style
 has_operand takes.Macros w = is_some w.macros
 has_operand _ w = false
 
+-- The command has the option. For an option that has an effect in all modes, the result is false.
 abbrev pub has_option : Effect → Wishes → Bool
 has_option (effects.Sets flag) w = has_flag flag w
 has_option (effects.Takes operand) w = has_operand operand w

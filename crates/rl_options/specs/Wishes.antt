@@ -22,8 +22,8 @@ use Rattle.rl_options.specs.declared.flags.When.TheVariants.{Auto}
 use Rattle.rl_options.specs.declared.arguments.ParsedArguments.{ParsedArguments}
 use Rattle.rl_options.specs.Flags.{colored_form}
 
--- The literals that are printed: all of them, those of the listed kinds, or the invalid ones. `HiddenWanted` prints invisible
--- characters instead.
+-- The findings that are printed: all literals, the literals of the listed kinds, the invalid literals, or the invisible and
+-- bidirectional characters.
 pub data Wanted : Type 0 where
   AllWanted : Wanted
   OnlyWanted : (list : List ℕ) → Wanted
@@ -98,8 +98,8 @@ first_wishes has_colors = record {
   paths = [];
 }
 
--- If no path is passed, `.` is read in place of standard input. `lacks_input` says that standard input isn't a file, a pipe or a
--- socket. Else an option selects the files of directories.
+-- If no path is passed, `.` is read in place of standard input. Either standard input isn't a file, a pipe or a socket, as
+-- `lacks_input` says, or an option selects the files of directories.
 abbrev pub reads_current_directory : Bool → Wishes → Bool
 reads_current_directory lacks_input w =
     lacks_input || w.all_directories || not (length w.extensions == 0) || not (length w.excludes == 0)

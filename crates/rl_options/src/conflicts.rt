@@ -128,14 +128,14 @@ fn has_input_style(style: Option<&str>) -> bool
     }
 }
 
-/// Whether sources or a list of paths are read from standard input. They are also if there are no paths and no lists.
+/// Whether sources or a list of paths may be read from standard input: a path or a list is `-`, or there are no paths and no lists.
 fn reads_input<A: Allocator>(paths: &[String<A>], lists: &[&str]) -> bool
     ensures { result ≡ is_input_among paths.now lists.now }
 {
     paths.is_empty() && lists.is_empty() || has_input_path(paths) || has_input_list(lists)
 }
 
-/// Whether the rules of a style are read from standard input, and sources or a list of paths too.
+/// Whether the rules of a style are read from standard input, and sources or a list of paths may be read from it too.
 fn reads_input_twice<A: Allocator>(asked: &ParsedArguments<'_, A>) -> bool
     ensures { result ≡ is_input_read_twice (wishes_in asked.now) }
 {

@@ -43,7 +43,7 @@ call_error_line (NoStyle file error) =
 call_error_line NoFile = codes "rl_scan: there was no file to read"
 call_error_line Write = codes "rl_scan: write failed"
 
--- The paths to read. If none is passed, it is `.` if `is_here`, else `-` for standard input.
+-- The paths to read. Without a path, `.` is read if `is_here`, else `-`, which is standard input.
 abbrev pub paths_read : Bool → List (List ℕ) → List (List ℕ)
 paths_read is_here [] = cond is_here (codes ".") (codes "-") ∷ []
 paths_read is_here (path ∷ paths) = path ∷ paths

@@ -98,7 +98,7 @@ context_of command = cond (asks_context command && prints_lines command.output)
       after = side_lines command.after command.around;
     })) None
 
--- Literals inside macro calls are checked like all others, by the option `--macros`.
+-- Literals in macro code are checked like all others: the option `--macros all` is passed.
 abbrev pub judges_macros : Option Macros → Bool
 judges_macros None = false
 judges_macros (Some macros.Skip) = false

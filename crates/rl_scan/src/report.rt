@@ -135,7 +135,7 @@ fn context_of(command: Command<'_>) -> Option<Context>
     })
 }
 
-/// Whether literals inside macro calls are checked like all others, by the option `--macros`.
+/// Whether literals in macro code are checked like all others: the option `--macros all` is passed.
 fn judges_macros(macros: Option<Macros>) -> bool
     ensures { result ≡ judges macros }
 {
