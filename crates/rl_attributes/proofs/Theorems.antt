@@ -1,6 +1,7 @@
--- The theorems of src/laws.rt, as lemmas that callers may cite. There are more lemmas for callers. A fact of all entries, or of
--- one, is a fact of their attributes. The value of a setting with a default follows from the value that is set, or from the fact
--- that none is set, and the reverse. A fact of an optional result follows for each of its two cases.
+-- The theorems of src/laws.rt, as lemmas that callers may cite, and further lemmas for callers. If a property holds for
+-- all entries, or for one, it holds for their attributes. The value of a setting with a default follows from the value
+-- that the attributes set, or from the absence of such a value, and the reverse. If a property holds for an optional
+-- result, it holds in each of the two cases.
 pub use Rattle.rl_attributes.proofs.TextLemmas.{set_or_of_set, set_or_of_unset, set_of_set_or, default_of_set_or, rejected_named, in_some, in_none}
 use Rattle.std.proofs.Common.{◌↔◌, List, All, Any}
 use Rattle.rl_attributes.specs.declared.attributes.Entry.{Entry}

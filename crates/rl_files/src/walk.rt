@@ -29,8 +29,8 @@ pub struct Selection<'a> {
 /// An entry that a walk still has to visit.
 #[derive(Drop)]
 pub enum WalkEntry<A: Allocator = Global> {
-    /// A path that may be a directory. The number is the length of its start that is the directory passed by the user, with a
-    /// slash. Without the number, the path itself was passed, and may also be a file.
+    /// A path that may be a directory. The number is the length, with a slash, of the start of the path that is the
+    /// directory passed by the user. Without the number, the user passed the path itself, which may also be a file.
     Directory(Option<usize>, String<A>),
     /// A file in a directory.
     File(String<A>),
@@ -75,7 +75,7 @@ impl fmt::Display for WalkError {
 /// A walk through directories, which returns their files one by one.
 #[derive(Drop)]
 pub struct Walk<A: Allocator = Global> {
-    // the entries to visit, in reverse order
+    // The entries that the walk still has to visit, in reverse order.
     pending: Vec<WalkEntry<A>, A>,
 }
 
@@ -160,7 +160,7 @@ fn path_in<A: Allocator>(alloc: A, directory: &str, name: &str) -> Result<String
     Ok(path)
 }
 
-/// Whether a path is one that the user passed, and not the path of a directory below it: `from` is `None`.
+/// Whether a path is one that the user passed, so that `from` is `None`, and not the path of a directory below it.
 fn is_given(from: Option<usize>) -> bool
     ensures { MatchBool result (from ≡ None) (from ≢ None) }
 {

@@ -10,8 +10,7 @@ ghost use Rattle.rl_strict.specs.LineEnds.{IsRestOf, read_of};
 use rl_strict::walk_units::split;
 use rl_strict::{FlawKind, LineEnds};
 
-/// Returns the text after its first character. If that character is a backslash or the quote `quote`, the result is all of the
-/// text.
+/// Returns the text without its first character, or all of the text if this character is a backslash or the quote `quote`.
 #[tactic(auto, using(rl_syntax::proofs::TailLemmas::tail_self, rl_syntax::proofs::TailLemmas::tail_step, rl_strict::proofs::EndLemmas::self_in, rl_strict::proofs::EndLemmas::step_in))]
 fn after_one(ends: LineEnds, quote: char, text: &str) -> &str
     ensures read { read_of ends (chars result.now) ≡ after_one quote (read_of ends (chars text.now)) }
@@ -103,7 +102,8 @@ fn after_escape(ends: LineEnds, quote: char, text: &str) -> &str
     }
 }
 
-/// Returns the text after the invalid escape or character at its beginning, where parsing a string continues.
+/// Returns the text after the invalid escape or character with which the given text begins. There the parsing of a string
+/// continues.
 #[tactic(auto, using(rl_syntax::proofs::TailLemmas::tail_self, rl_syntax::proofs::TailLemmas::tail_step, rl_strict::proofs::EndLemmas::self_in, rl_strict::proofs::EndLemmas::step_in))]
 pub fn after_bad_piece(ends: LineEnds, quote: char, text: &str) -> &str
     ensures read { read_of ends (chars result.now) ≡ after_bad_piece quote (read_of ends (chars text.now)) }

@@ -1,4 +1,4 @@
--- Names that most lemmas on the code cite, in addition to those that `Common` of `rl_syntax` passes on.
+-- Names that most lemmas of this crate cite, in addition to those that `Common` of `rl_syntax` re-exports.
 pub use Rattle.rl_syntax.specs.Classes.{after_run, is_hash}
 pub use Rattle.rl_lexer.specs.Mirrors.LexemeAt.{hashes as hash_count}
 pub use Rattle.rl_syntax.specs.Numbers.{Base, Binary, Decimal, Dot, FloatReads, Fraction, Hexadecimal, IntReads, IsAfterPrefix, IsFraction, IsSuffix, Minus, NoFraction, NoSign, Octal, Sign, float_digits, fraction_text, is_exponent_letter, limit, prefix, radix, sign_text}

@@ -16,8 +16,8 @@ use Rattle.std.specs.Str.{IsUtf8}
 use Rattle.rl_lenient.specs.declared.found.Body.{Body}
 use Rattle.rl_lenient.specs.Founds.{IsFound, IsQuotedAt, suffix_in}
 
--- By `syn`'s grammar, a text without CR is a byte literal, or a byte string literal that isn't raw, with an empty
--- suffix or an identifier as its suffix, exactly if it is that by Rust's grammar. Its value is then equal by both.
+-- By `syn`'s grammar, a text without CR is a byte literal, or a byte string literal that isn't raw, with an empty suffix or an
+-- identifier as its suffix, exactly if it is one by Rust's grammar. The value is equal by both grammars.
 abbrev pub BytesWithoutReturnsAreStrict : Type 0
 BytesWithoutReturnsAreStrict =
     (text : List ℕ) → KeepsBytesStrict text

@@ -4,7 +4,8 @@ ghost use Rattle.rl_lenient.specs.Laws.{BytesWithoutReturnsAreStrict, SegmentsMa
 ghost use Rattle.rl_lenient.specs.PartLaws.{AnIntegerHasOneBase, AFloatHasOneOfEachPart};
 
 /// By `syn`'s grammar, a text without CR is a byte literal, or a byte string literal that isn't raw, with an empty
-/// suffix or an identifier as its suffix, exactly if it is that by Rust's grammar. Its value is then equal by both.
+/// suffix or an identifier as its suffix, exactly if it is one by Rust's grammar. The value is equal by both
+/// grammars.
 pub fn bytes_are_strict()
     ensures { BytesWithoutReturnsAreStrict }
 {}

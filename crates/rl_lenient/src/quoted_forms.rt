@@ -79,7 +79,7 @@ pub fn split_opener(text: &str) -> Option<(QuotedForm, Kind, &str)>
     if first == first_of(Kind::Char) {
         Some((QuotedForm::Single, Kind::Char, rest))
     } else if first == first_of(Kind::Byte) {
-        // A byte string begins with the letter of a byte literal too.
+        // Byte literals and byte strings begin with the same letter, `b`.
         split_byte_opener(rest)
     } else if first == first_of(Kind::CStr) {
         split_string_opener(Kind::CStr, rest)
@@ -201,7 +201,7 @@ pub(crate) fn find_cooked(kind: Kind, text: &str, inside: &str) -> Option<Found>
     ensures none { IfNone result (HasNoReading (chars text.now)) }
     ensures found { IfSome result (IsFound text.now) }
 {
-    // All string literals end with one quote. Naming the kind `Str` makes it a constant for the compiler.
+    // Each string literal ends with `"`. Naming the kind `Str` makes this quote a constant for the compiler.
     let (_, following) = split_plain(kind, inside);
     if let Some(suffix) = after_quote(Kind::Str, following) {
         return Some(quoted(kind, places(text, inside, following, suffix, true), 0));
@@ -240,7 +240,7 @@ pub(crate) fn find_raw(kind: Kind, text: &str, inside: &str) -> Option<Found>
     ensures none { IfNone result (HasNoReading (chars text.now)) }
     ensures found { IfSome result (IsFound text.now) }
 {
-    // The called function returns only byte offsets. A parse result that it returned would be copied once more.
+    // `raw_places` returns only byte offsets. A parse result that it returned would be copied once more.
     let body = raw_places(kind, text, inside)?;
     Some(quoted(kind, body, 0))
 }

@@ -1,4 +1,4 @@
--- Before the first byte at which a literal or a comment may begin, neither begins.
+-- Neither a literal nor a comment begins before the first byte at which the code says that one may begin.
 use Rattle.rl_syntax.proofs.Common.{◌≡◌, ℕ, zero, suc, ◌+◌, ◌<◌, ◌≤◌, Bool, true, false, not, ◌&&◌, ◌||◌, ◌==◌, nat_le, cond, List, [], ◌∷◌, ◌++◌, Some, None, length, take, drop, get_or, lit<, nat_lt, refl, sym, ap, subst, ◌∙◌, arith, agree_below_at, and_from, and_parts, nat_tests, take-append-drop, IsCharBoundary-start, IsCharBoundary-after_ascii, IsUtf8-take, chars-append, chars-IsAscii, is_ascii_alphabetic, is_ascii_digit, chars, IsAscii, IsCharBoundary, IsUtf8}
 use Rattle.rl_syntax.proofs.BeginsLemmas.{begins_bytes}
 use Rattle.rl_syntax.proofs.UnlikelyPlaces.{is_past}
@@ -27,7 +27,7 @@ implied : (a b : Bool) → (not a || b) ≡ true → a ≡ true → b ≡ true
 implied true b h is = h
 implied false b h is = absurd (cc)
 
--- The ASCII character begins an identifier, and not a literal.
+-- Whether an ASCII character begins an identifier, and not a literal.
 abbrev word_here : ℕ → Bool
 word_here c = is_word_byte c && not (is_likely_head c)
 
@@ -39,7 +39,7 @@ word_table : (c : ℕ) → c < 128 → word_here c ≡ true → word_facts c ≡
 word_table c low is = implied (word_here c) (word_facts c) (agree_below_at (λ k. not (word_here k) || word_facts k)
     (λ _. true) 128 c refl low) is
 
--- The ASCII character begins neither an identifier, white space, a delimiter nor a punctuation character.
+-- Whether an ASCII character begins neither an identifier, nor white space, nor a delimiter, nor a punctuation character.
 abbrev stray_here : ℕ → Bool
 stray_here c = not (is_word_byte c) && (not (is_likely_mark c) && (not (is_white c) && not (is_always_token c)))
 
@@ -56,7 +56,7 @@ stray_table c low is = implied (stray_here c) (stray_facts c)
 
 -- ---- characters that begin an identifier, and not a literal
 
--- An identifier whose first two letters are neither those of `true` nor those of `false` is neither of these two words.
+-- If an identifier doesn't begin with `tr` or `fa`, it is neither `true` nor `false`.
 word_no_truth : (c : ℕ) (u after : List ℕ) (token : SourceBefore (c ∷ u) (PlainKind IdentifierForm) after)
     → ((c == 116) && begins_char 114 u) ≡ false → ((c == 102) && begins_char 97 u) ≡ false
     → IsLiteralText (PlainKind IdentifierForm) (source_text token.token) → ⊥
@@ -116,7 +116,7 @@ reach_letter c u r slash white word no_t no_f more =
     reach_token c u (after_run is_continue u) r (PlainKind IdentifierForm) slash white token
     (word_no_truth c u (after_run is_continue u) token no_t no_f) more
 
--- A delimiter or punctuation character isn't a literal.
+-- A delimiter or a punctuation character isn't a literal.
 mark_no_literal : (d : Bool) (c : ℕ) (text : List ℕ) → IsLiteralText (PlainKind (cond d (DelimiterForm c) (MarkForm c)))
     text → ⊥
 mark_no_literal true c text is = is
@@ -202,7 +202,7 @@ slash_of false false true b h = absurd (cc)
 slash_of false false false b h = refl
 
 -- If a text begins with a character that begins neither an identifier nor a literal nor a comment, and only tokens other than
--- literals follow up to `r`, this also holds for the whole text.
+-- literals follow the character up to the text `r`, there are only such tokens before `r` in the whole text.
 reach_other : (c : ℕ) (u r : List ℕ) → c < 128 → is_word_byte c ≡ false → not (is_likely_mark c) ≡ true → Reaches u r
     → Reaches (c ∷ u) r
 reach_other c u r low plain unlikely more = go (is_white c) (is_always_token c) refl refl
@@ -222,7 +222,7 @@ Passes p c u r =
     (c < 128) × (not (is_likely_mark c) ≡ true)
     × (is_word_byte p ≡ false → is_word_byte c ≡ true → Reaches (after_run is_continue u) r → Reaches (c ∷ u) r)
 
--- If the byte before a byte shows that neither a literal nor a comment begins there, the facts `Passes` hold for the byte.
+-- If the byte before a byte shows that neither a literal nor a comment begins at the second byte, the facts `Passes` hold for it.
 passes_before : (p c : ℕ) (u r : List ℕ) → is_past (p, c) ≡ true → Passes p c u r
 passes_before p c u r past =
     let parts = parts_of (is_likely_mark c) (is_word_byte p) (is_likely_head c) past in (
@@ -247,7 +247,7 @@ three false true d h = absurd (cc)
 three false false true h = absurd (cc)
 three false false false h = (refl, refl, refl)
 
--- If the byte after a byte shows that neither a literal nor a comment begins there, the facts `Passes` hold for the byte.
+-- If the byte after a byte shows that neither a literal nor a comment begins at the first byte, the facts `Passes` hold for it.
 passes_letter : (p c next : ℕ) (u r : List ℕ) → Agrees next u → goes_on_likely c next ≡ false → Passes p c u r
 passes_letter p c next u r agrees stops = go (c == 98) (c == 99) (c == 114) (c == 116) (c == 102) refl refl refl refl refl
     stops
@@ -316,7 +316,8 @@ passes p c next u r agrees none = go (goes_on_likely c next) refl none
 
 -- ---- sequences of bytes at which neither a literal nor a comment begins
 
--- Neither a literal nor a comment begins at any of the bytes, where `next` is the byte after them.
+-- Whether neither a literal nor a comment begins at any byte of a list. The byte before the list and the byte after it, `next`,
+-- are given.
 abbrev none_in : ℕ → List ℕ → ℕ → Bool
 none_in p [] next = true
 none_in p (c ∷ cs) next = begins_none p c (first_or next cs) && none_in c cs next
@@ -362,7 +363,7 @@ reach_front p next (c ∷ cs) t r agrees all h = go (reach_front c next cs t r a
 
 -- ---- the bytes before the first one at which a literal or a comment may begin
 
--- The byte after the first n bytes of a list is the next one in the list.
+-- The first byte of a list is the first one of its first n bytes. If n is 0, it is the first one of the other bytes.
 first_same : (n : ℕ) (bs : List ℕ) → first_or (first_or 0 (drop n bs)) (take n bs) ≡ first_or 0 bs
 first_same zero bs = refl
 first_same (suc n) [] = refl
@@ -393,7 +394,7 @@ front_ascii p next (c ∷ cs) h zero = none_low p c (first_or next cs) (and_part
 front_ascii p next (c ∷ cs) h (suc i) = front_ascii c next cs (and_parts (begins_none p c (first_or next cs))
     (none_in c cs next) h).1 i
 
--- The next byte is the next character, if that is ASCII.
+-- The next byte of a text is the text's next character, if this character is ASCII.
 agrees_bytes : (rest : List ℕ) → IsUtf8 rest → Agrees (first_or 0 rest) (chars rest)
 agrees_bytes rest u = λ k some low. first_char k (chars rest)
     ∙ sym (begins_bytes (k ∷ []) rest u (and_from (nat_lt k 128) true (below k low) refl)) ∙ first_byte k rest some
@@ -440,8 +441,8 @@ unlikely-boundary bs (suc m) u e =
     let next : m + 1 ≡ suc m = omega arith in
     subst (IsCharBoundary bs) next (IsCharBoundary-after_ascii bs m u (omega arith) (omega (arith, low, same)))
 
--- Between the text's start and the text after the skipped bytes, and after the identifier that continues there, there
--- are only tokens that aren't literals.
+-- The code skips bytes of a text, and the rest of an identifier in which they end. The skipped text contains only tokens that
+-- aren't literals.
 pub unlikely-reaches : (bs rest : List ℕ) (n : ℕ) (r : List ℕ) → IsUtf8 bs → IsUtf8 rest → n ≤ skippable_len bs
     → rest ≡ drop n bs → Reaches (past_word (byte_before bs n) (chars rest)) r → Reaches (chars bs) r
 unlikely-reaches bs rest n r u v e cut reaches =
@@ -457,8 +458,8 @@ unlikely-reaches bs rest n r u v e cut reaches =
     (agrees_bytes rest v) in
     subst (λ (z : List ℕ). Reaches z r) (sym whole) (reach_front 0 next front (chars rest) r agrees all reaches)
 
--- The lemma `unlikely-reaches` in the form in which the contract states it. `before` is the byte before the text after the
--- skipped bytes.
+-- The lemma `unlikely-reaches` as the contract states it: the bytes that the code skips contain only tokens that aren't literals.
+-- `before` is the last byte that was skipped.
 pub unlikely-holds : (bs rest past next : List ℕ) (n before : ℕ) → IsUtf8 bs → IsUtf8 rest → n ≤ skippable_len bs
     → rest ≡ drop n bs → before ≡ byte_before bs n → past ≡ past_word before (chars rest) → Reaches past next
     → HasOnlyOtherTokens (chars bs) next

@@ -308,8 +308,8 @@ fn mark_form(c: char) -> Form
     }
 }
 
-// The next three functions are alike. They are separate functions, because the memory for a call's result is zeroed at
-// the entry of the calling function.
+// The functions `quoted_literal`, `character_literal` and `raw_literal` are alike. They are separate functions,
+// because the memory for a call's result is zeroed at the entry of the calling function.
 
 /// Returns the form `Literal` and the text after a string literal, where `text` follows its opening `"`. Returns `None`
 /// if the literal isn't closed.

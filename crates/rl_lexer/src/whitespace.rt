@@ -35,7 +35,7 @@ pub fn skip(text: &str) -> &str
     ensures skipped { Skipped (chars text.now) (chars result.now) }
     // The result is a slice at the end of the text.
     ensures following { IsTail text.now result.now }
-    // Only one rest of a text meets this definition, and skipping again doesn't change the result.
+    // Each text has only one text after its white space and plain comments. Skipping again doesn't change the result.
     ensures only { OneRest }
     ensures again { Skipped (chars result.now) (chars result.now) }
 {

@@ -39,8 +39,8 @@ range_fits kind t lo hi first last u r =
 
 -- ---- lemmas about tables with a span for each byte
 
--- A table's span for a byte of the decoded value is the span of the character or escape from which the byte comes. For
--- a byte after the end it is the last span.
+-- A table has a span for each byte of a literal's decoded value: the span of the character or escape from which the
+-- byte comes. For an index after the end, the table returns its last span.
 entry_is : (s : SegmentsState) (base : Span) (table : List Span) (t : IsSpanTable s base table) (at : ℕ)
     → entry_at table at ≡ unit_span s base t.units at
 entry_is s base table t at = go (ltb at (length table)) refl
@@ -189,7 +189,8 @@ are_respanned goes place h (t ∷ ts) = (
   refl,
 )
 
--- If the spans of token trees are looked up in the table, each token tree has the span in the file from which it comes.
+-- A table has a span in the file for each byte of a string literal's decoded value. If the spans of the value's token
+-- trees are looked up in the table, each token tree has the span in the file from which it comes.
 pub moved_by_table : (token : SpannedText) (s : SegmentsState) (base : Span) (table : List Span) (cut trees : List Tree)
     → IsSegmentsOf Str (chars token.text) s → base ≡ token.span → IsSpanTable s base table
     → token.span.lo + length token.text ≡ token.span.hi → trees ≡ map (relocated table) cut

@@ -64,7 +64,7 @@ fn set_entry<'t>(values: &mut Values, entry: &NextEntry<'t>) -> Result<(), Style
     Ok(())
 }
 
-/// Whether an earlier entry has set the rule with this name.
+/// Whether an earlier entry has set the rule with the name `name`.
 fn is_set(values: &Values, name: &str) -> bool
     ensures { MatchBool result
         (NamesSet (value_at values.now) name.now) (NamesSet (value_at values.now) name.now → ⊥) }

@@ -1,4 +1,4 @@
--- Names that several lemmas cite, with those of `Common` of `rl_syntax`.
+-- Re-exports the names that many proof files of this crate use, and those of `Common` of `rl_syntax`.
 unfoldable pub use Rattle.rl_lenient.proofs.CodeDigitLemmas.{unicode_digits_at}
 pub use Rattle.rl_lenient.proofs.CodeDigitLemmas.{below_six, digit_apart, unicode_is}
 pub use Rattle.rl_lenient.proofs.CutLemmas.{some_text, tail_chars}

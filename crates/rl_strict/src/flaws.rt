@@ -246,8 +246,7 @@ pub struct Flaw {
     /// The kind of error.
     pub kind: FlawKind,
     /// The byte offset where the faulty piece begins. The piece is, for example, an escape, a character, a suffix, a whole number,
-    /// or a whole
-    /// word. In a character or byte literal it may be all of the text after the opening quote.
+    /// or a whole word. In a character or byte literal, the piece may be all of the text after the opening quote.
     pub from: usize,
     /// The byte offset of the first character that can't continue a literal, or the text's end if the text is too short. For an
     /// integer above 128 bits it is the byte offset of the suffix.
@@ -307,7 +306,7 @@ pub fn end_flaw(at_end: FlawKind, before: FlawKind, text: &str) -> FlawAt<'_>
     }
 }
 
-/// Returns `text` without the letters at its beginning that `word` begins with.
+/// Returns the part of `text` after the longest common prefix of `word` and `text`.
 fn skip_letters<'t>(word: &str, text: &'t str) -> &'t str
     ensures { chars result.now ≡ after_letters (chars word.now) (chars text.now) }
 {

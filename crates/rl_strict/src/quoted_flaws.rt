@@ -10,7 +10,8 @@ use rl_lenient::units::{CodeDigits, allows_code, allows_unicode_escapes, code_di
 use rl_syntax::Kind;
 use rl_syntax::text::split_char;
 
-/// Returns the flaw after the first digit of a `\x` escape. If the second digit exists, the escape is `\x00` in a C string.
+/// Returns the flaw of an invalid `\x` escape after its first digit. `text` begins at the second digit. If the second digit is
+/// valid, the flaw is a NUL, which is `\x00` in a C string.
 fn low_digit_flaw(text: &str) -> FlawAt<'_>
     ensures { found_flaw result.kind (chars result.rest.now) ≡ low_digit_flaw_at (chars text.now) }
 {

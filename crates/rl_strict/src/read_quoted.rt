@@ -1,4 +1,4 @@
-//! Quoted literals of Rust's grammar: parses one to the byte offsets of its parts and its value, or to its flaw.
+//! Parses a quoted literal of Rust's grammar. The result is the byte offsets of the literal's parts and its value, or its flaw.
 
 ghost use Rattle.std.specs.Prelude.{◌≡◌, ◌≤◌, ◌∷◌, ◌++◌, ℕ, Some, false, option_map, replicate, IsTrue, IfOk, IfErr, IfSome};
 ghost use Rattle.std.specs.Str.{chars};

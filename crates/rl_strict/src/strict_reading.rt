@@ -205,7 +205,8 @@ fn read_rare(ends: LineEnds, text: &str) -> Result<Reading, FlawAt<'_>>
     }
 }
 
-/// Parses the text as a literal token. The error is the flaw as ends of the text, before it's converted to byte offsets.
+/// Parses the text as a literal token. The error is the flaw, with the text that begins at the flaw and the text that begins at
+/// the flaw's piece. The caller converts these texts to byte offsets.
 #[inline(always)]
 fn read_at(ends: LineEnds, text: &str) -> Result<Reading, FlawAt<'_>>
     ensures reads { IfOk result (IsReadingOf ends false text.now) }
@@ -248,8 +249,9 @@ fn after_minus(signed: bool, text: &str) -> Option<&str>
     if signed { strip_byte(text, b'-') } else { None }
 }
 
-/// Parses the text as a literal token, or as a minus and a number if `signed` is true. The error is the flaw as ends of the
-/// text, before it's converted to byte offsets.
+/// Parses the text as a literal token, or as a minus and a number if `signed` is true. The error is the flaw, with
+/// the text that begins at the flaw and the text that begins at the flaw's piece. The caller converts these texts to byte
+/// offsets.
 #[inline(always)]
 fn signed_at(text: &str, ends: LineEnds, signed: bool) -> Result<Reading, FlawAt<'_>>
     ensures reads { IfOk result (IsReadingOf ends signed text.now) }

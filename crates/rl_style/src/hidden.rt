@@ -66,8 +66,8 @@ fn put_two(out: &mut [u8], at: usize, c: char) -> usize
     put_byte(out, end, lower_digit(number % 16))
 }
 
-/// Writes the numeric escape of a character: `\x` for ASCII, and otherwise `\u{..}` with the fewest digits. They are in lower
-/// case.
+/// Writes the numeric escape of a character: `\x` for ASCII, and otherwise `\u{..}` with the fewest digits. The digits are in
+/// lower case.
 fn put_code(out: &mut [u8], at: usize, c: char) -> usize
     requires { at + length (code_text c) ≤ length out.old }
     ensures end { result ≡ at + length (code_text c) }
@@ -108,8 +108,8 @@ fn put_hidden(out: &mut [u8], at: usize, style: Style, zero: bool, c: char) -> u
     put_styled_code(out, at, style, c)
 }
 
-/// Writes the new form of an unescaped character: at most four bytes for each of its own. NUL may be written as `\0` if `zero`
-/// is true.
+/// Writes the new form of an unescaped character: at most four bytes for each byte of the character. NUL may be written as
+/// `\0` if `zero` is true.
 pub(crate) fn put_itself(out: &mut [u8], at: usize, style: Style, zero: bool, c: char) -> usize
     requires { at + 4 * length (encode_utf8 c) ≤ length out.old }
     ensures end { result ≤ at + 4 * length (encode_utf8 c) }

@@ -45,8 +45,9 @@ pub fn tokens_in_front_stay()
     ensures { StaysAround }
 {}
 
-/// If a literal is replaced by a well-formed one with its form, prefix and suffix, the new literal is lexed as one token before
-/// the text that follows the old one. It begins as the old one does.
+/// If a literal is replaced by a well-formed literal with its kind, prefix and suffix, the new literal is lexed as one token
+/// before the text that follows the old one. It begins as the old one does. Both are raw strings, or neither is. But a raw
+/// string with the prefix `b` or `c` may become a string with escapes.
 pub fn new_literals_are_tokens()
     ensures { KeepsItsEnds }
 {}
@@ -76,7 +77,7 @@ pub fn the_restyled_source_is_kept()
 {}
 
 /// If any literals of a text are rewritten in a style, the text is lexed into the old number of tokens, of the old kinds. Each
-/// token is the old one, or its new text.
+/// token is the old one, or has its new text.
 pub fn the_tokens_of_edits_are_kept()
     ensures { KeepsTheTokensOfEdits }
 {}
@@ -87,8 +88,8 @@ pub fn the_edited_source_is_kept()
     ensures { KeepsTheEditedSource }
 {}
 
-/// If a raw string is replaced by a string with escapes, the token before it is lexed as before, provided that the text between
-/// them ends with neither a hash nor a dot.
+/// If a raw string is replaced by a string with escapes, the token before it is lexed as before, provided that the text
+/// between the token and the string ends with neither a hash nor a dot.
 pub fn tokens_before_quotes_stay()
     ensures { StaysBeforeQuote }
 {}

@@ -34,8 +34,8 @@ fn may_precede_quote(front: &str) -> bool
     }
 }
 
-/// Whether a raw string of the kind may lose its `r`, where `front` is the text before it. A string without `b` or `c` keeps it
-/// after a hash or a dot.
+/// Whether a raw string of the kind may lose its `r`, where `front` is the text before it. After a hash or a dot, a raw string
+/// without `b` or `c` keeps its `r`.
 fn may_lose_r(kind: Kind, front: &str) -> bool
     ensures { result ≡ may_lose_r kind (chars front.now) }
 {

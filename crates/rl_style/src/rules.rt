@@ -81,7 +81,7 @@ impl Rule {
 }
 
 impl Style {
-    /// Returns a style that has only this rule of the style, and no other rule.
+    /// Returns a style that has the rule `rule` as this style has it, and no other rule.
     pub fn only(self, rule: Rule) -> Style
         ensures { result ≡ style_of self rule }
     {

@@ -1,4 +1,4 @@
--- The literals that are written for values, by a table of this project's own.
+-- The literals that are written for values. The table of escapes is this project's own choice.
 use Rattle.std.specs.Prelude.{ℕ, ◌+◌, ◌-◌, ◌/◌, ◌%◌, Bool, not, ◌&&◌, ◌||◌, ◌==◌, nat_lt, List, [], ◌∷◌, ◌++◌, map, if◌then◌else◌, ◌≡◌}
 use Prim.Native.Char.{code}
 use Rattle.rl_syntax.specs.declared.kind.Kind.{Kind}
@@ -22,8 +22,8 @@ own_quote Byte = Named Apostrophe
 own_quote Char = Named Apostrophe
 own_quote _ = Named Quote
 
--- The character or byte is written by its number, as `\x7F`, unless it has a shorter escape: characters below the
--- space, DEL (which is 127), and in literals of bytes the bytes from 128 up.
+-- Whether a character or byte is written by its number, as `\x7F`, unless it has a shorter escape: characters below the space,
+-- DEL (which is 127), and in literals of bytes the bytes from 128 up.
 abbrev pub is_written_as_number : Kind → ℕ → Bool
 is_written_as_number kind c =
     nat_lt c (code " ") || c == 127

@@ -5,9 +5,9 @@ ghost use Rattle.rl_syntax.specs.Quoted.{holds_characters, is_string, opener};
 ghost use Rattle.rl_syntax.specs.Words.{kind_name, kind_shown, kind_word};
 ghost use Rattle.rl_syntax.specs.Written.{closer};
 
-// These constants are the opening texts of quoted literals, prefix and quote. `Kind::opener` returns one of them for a
-// kind. The lexer uses the constants, because the compiler makes a test of a text's start from a constant, but not from
-// the result of a call.
+// The constants whose names end with `_OPENER` are the opening texts of quoted literals, prefix and quote.
+// `Kind::opener` returns one of them for a kind. The lexer uses the constants, because the compiler makes a test of a
+// text's start from a constant, but not from the result of a call.
 pub const STR_OPENER: &str = "\"";
 
 pub const BYTE_STR_OPENER: &str = "b\"";

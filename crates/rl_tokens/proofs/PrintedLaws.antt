@@ -53,8 +53,8 @@ filled_gap gap rest is some = gap_begins gap rest is (λ h. absurd (some h))
 last_begins : (last : List ℕ) → IsTrivia last → BeginsGap last
 last_begins last is = subst (λ (x : List ℕ). BeginsGap x) (append-nil last) (gap_begins last [] is (λ h. tt))
 
--- The separator and the item of an entry, with any text after them, are in the family `ends` of texts that may follow
--- an item.
+-- A condition on an entry of a printed list, a separator and an item: the entry followed by any text is in the family
+-- `ends`, the texts that may follow an item.
 abbrev Follows : (List ℕ → Type 0) → Entry → Type 0
 Follows ends e = (rest : List ℕ) → ends (e.gap ++ (item_text e.item ++ rest))
 
@@ -118,7 +118,7 @@ printed_lexes t entries last file printed =
     (gap_ends last (last_begins last printed.last_gap)))
     printed.last_gap
 
--- A lexed literal is the same lexeme if a separator follows it.
+-- A lexed literal stays the same lexeme if the text after it is replaced by a separator.
 literal_keeps : (l : Lexeme) → form_of l ≡ LiteralForm → KeepsItsEnd l
 literal_keeps (QuotedLexeme p parts x) form = tt
 literal_keeps (RawLexeme p n body x) form = tt

@@ -17,7 +17,7 @@ stream_fold {A} = fold-TokenStream A Tree GroupParts (List Tree) tree_step group
 stream_fold-view : {A : Type 0} (s : TokenStream A) → stream_fold s ≡ stream_view s
 stream_fold-view {A} s = fold_out-TokenStream A Tree GroupParts (List Tree) tree_step group_step stream_step s
 
--- The plain data of a group, as a token tree, has the plain data of its parts.
+-- The plain data of a group consists of the plain data of the group's parts.
 pub tree_view-group : {A : Type 0} (g : Group A) → tree_view (tree.Group g)
     ≡ GroupTree (delimiter_of g) (inside_of (stream_view (stream_of g))) (group_span g)
 tree_view-group {A} g =
@@ -39,7 +39,8 @@ pub tree_view-ident : (A : Type 0) (i : SpannedText) → tree_view {A = A} (tree
 tree_view-ident A i = ap tree_view (sym (tree.rolls-Ident i))
     ∙ fold-roll-TokenTree A Tree GroupParts (List Tree) tree_step group_step stream_step (layer.Ident i)
 
--- If a token tree is appended to a stream, its plain data is appended to the plain data of the stream.
+-- If a token tree is appended to a stream, the plain data of the token tree is appended to the plain data of the
+-- stream.
 pub stream_view-append : {A : Type 0} (old new : TokenStream A) (x : TokenTree A) (t : Tree) → tree_view x ≡ t
     → trees_of new ≡ trees_of old ++ x ∷ [] → stream_view new ≡ stream_view old ++ t ∷ []
 stream_view-append old new x t is e = ap (map tree_view) e ∙ map-append tree_view (trees_of old) (x ∷ [])
@@ -90,7 +91,8 @@ pub relocated_group : {A : Type 0} (table : List Span) (g h : Group A) → group
     → tree_view (tree.Group h) ≡ relocated table (tree_view (tree.Group g))
 relocated_group table g h e = tree_view-group h ∙ e ∙ ap (relocated table) (sym (tree_view-group g))
 
--- If the first token tree of a list is consumed, the plain data of the list begins with its plain data.
+-- If the first token tree of a list is consumed, the plain data of the list begins with the plain data of that token
+-- tree.
 pub first_taken : {A : Type 0} (xs rest : List (TokenTree A)) (x : TokenTree A) (t : Tree) → xs ≡ x ∷ rest → tree_view x
     ≡ t → map tree_view xs ≡ t ∷ map tree_view rest
 first_taken xs rest x t e is = ap (map tree_view) e ∙ ap (λ z. z ∷ map tree_view rest) is

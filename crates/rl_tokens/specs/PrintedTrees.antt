@@ -34,7 +34,7 @@ PrintedLexes =
     (t : List ℕ) (entries : List Entry) (last : List ℕ) (file : ℕ) → Printed t entries last
     → Lexes t file (printed_trees file 0 entries)
 
--- The text is that of a literal token that the lexer finds in some text. The literal needn't be valid.
+-- The text is the text of a literal token that the lexer finds in some text. The literal needn't be valid.
 abbrev pub IsLexedLiteral : List ℕ → Type 0
 IsLexedLiteral text =
     (l : Lexeme) × (after : List ℕ) × IsLexeme l after × (form_of l ≡ LiteralForm)

@@ -47,7 +47,7 @@ mutual
     NoTrees : Trees
     MoreTrees : (first : Tree) (rest : Trees) → Trees
 
--- A list of token trees, as the data type of the token trees inside a group.
+-- Converts a list of token trees to the data type of the token trees inside a group.
 abbrev pub inside_of : List Tree → Trees
 inside_of [] = NoTrees
 inside_of (t ∷ ts) = MoreTrees t (inside_of ts)
@@ -58,7 +58,7 @@ pub record GroupParts : Type 0 where
   pub inside : List Tree
   pub span : Span
 
--- One step of the conversion of a token tree, a group or a stream to plain data, given the plain data of its parts.
+-- Three functions that convert a token tree, a group and a stream to plain data. Their parts are converted already.
 abbrev pub tree_step : {A : Type 0} → TokenTree-F A Tree GroupParts (List Tree) → Tree
 tree_step (TokenTree-F.Group g) = GroupTree g.delimiter (inside_of g.inside) g.span
 tree_step (TokenTree-F.Ident i) = IdentTree i
@@ -115,7 +115,7 @@ abbrev mutual
   all_relocated table (MoreTrees t ts) =
       MoreTrees (relocated table t) (all_relocated table ts)
 
--- A group as plain data of a token tree.
+-- The plain data of the token tree that consists of a group.
 abbrev pub group_tree : {A : Type 0} → Group A → Tree
 group_tree g = GroupTree (delimiter_of g) (inside_of (stream_view (stream_of g))) (group_span g)
 

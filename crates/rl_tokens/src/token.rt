@@ -16,11 +16,11 @@ use std::alloc::{AllocFailed, Allocator, Global};
 /// See the example of [`TokenTree`].
 #[derive(Clone, Copy, PartialEq, Eq, Debug)]
 pub enum Delimiter {
-    /// `( .. )`
+    /// Parentheses: `( .. )`.
     Parenthesis,
-    /// `{ .. }`
+    /// Braces: `{ .. }`.
     Brace,
-    /// `[ .. ]`
+    /// Square brackets: `[ .. ]`.
     Bracket,
 }
 

@@ -1,4 +1,4 @@
-//! A server's settings with three names, each of which has a default.
+//! A server's settings: three names, each of which has a default.
 
 ghost use Rattle.std.specs.Prelude.{◌≡◌, ℕ, List, Bool, IfOk, Ok, string_bytes};
 ghost use Rattle.rl_attributes.specs.TextSettings.{IsStringOrMemory, list_of};

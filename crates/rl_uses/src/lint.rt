@@ -74,11 +74,11 @@ pub fn control_strings<A: Allocator + Copy>(
     text: &str,
     file: u32,
 ) -> Result<Vec<Span, A>, Error<A>>
-    // On success the text consists of literals, and the spans are those of the string literals with control characters
-    // among them.
+    // On success the text consists of literals, and the spans are the spans of those string literals of the text whose
+    // decoded value contains a control character.
     ensures found { IfOk result (λ spans. (list : List (Lit A))
         × AreRead (chars text.now) file list × AreErrors list spans.items) }
-    // The returned error is that of `read_all`, or an allocation failure at one of the literals.
+    // The returned error is the error of `read_all` for the text, or an allocation failure at one of the literals.
     ensures rejected { IfErr result (RejectsTextOrMemory text.now file) }
 {
     let literals = read_all(alloc, text, file)?;

@@ -1,4 +1,4 @@
--- Grouped digits: if all digits have a property, so have the groups.
+-- Digits that underscores divide into groups.
 use Rattle.rl_syntax.proofs.Common.{◌≡◌, ℕ, ◌*◌, ◌-◌, ◌<◌, ◌≤◌, Bool, true, false, not, cond, List, [], ◌∷◌, ◌++◌, length, take, refl, ap, ◌∙◌, inl, inr, arith, nat_lt, list_all, and_parts, and_from, cases_Bool, if◌then◌else◌}
 use Rattle.std.specs.Prelude.{reverse}
 use Rattle.std.proofs.Common.{length-take}
@@ -28,7 +28,7 @@ grouped_all test size (d ∷ ds) mark h =
       | inr e ↦ ap (list_all test) (no_separator_after size d ds e) ∙ and_from _ _ p.0 more
     ]
 
--- Grouped digits without their underscores are the digits.
+-- If the underscores of grouped digits are removed, the digits remain.
 pub grouped_digits : (size : ℕ) (ds : List ℕ) → list_all (λ c. not (is_underscore c)) ds ≡ true
     → without_underscores (grouped size ds) ≡ ds
 grouped_digits size [] h = refl
@@ -62,16 +62,16 @@ pub grouped_short : (size n k : ℕ) (room : List ℕ) → n ≤ k → length (g
 grouped_short size n k room h =
     omega (arith, h, grouped_length size (reverse (take n room)), length-reverse (take n room), length-take n room)
 
--- If `n` digits were written, the last digit first, the reversed digits are also `n`.
+-- If the code wrote `n` digits, the last digit first, reversing them gives `n` digits.
 pub count_is : (n : ℕ) (room : List ℕ) → n ≤ length room → length (reverse (take n room)) ≡ n
 count_is n room h = length-reverse (take n room) ∙ length-take-le n room h
 
--- With group size 0, digits have no underscores.
+-- If the group size is 0, no underscores are written between digits.
 pub ungrouped : (ds : List ℕ) → grouped 0 ds ≡ ds
 ungrouped [] = refl
 ungrouped (d ∷ ds) = ap (λ z. d ∷ z) (ungrouped ds)
 
--- ---- the least number of digits
+-- ---- the fewest digits that are divided into groups
 
 pub few_ungrouped : (group least : ℕ) (ds : List ℕ) → length ds < least
     → grouped (group_size group least (length ds)) ds ≡ ds

@@ -8,7 +8,7 @@ use Rattle.rl_syntax.specs.declared.integer_type.IntegerType.{IntegerType}
 use Rattle.rl_writing.specs.declared.base.Base.{Base}
 use Rattle.rl_writing.specs.declared.base.Base.TheVariants.{Binary, Octal, Decimal, Hexadecimal}
 
--- The base in the definitions of the grammars, for the base in the code.
+-- Converts the code's base to the base in the definitions of the grammars.
 abbrev pub base_view : Base → numbers.Base
 base_view Binary = numbers.Binary
 base_view Octal = numbers.Octal
@@ -33,8 +33,8 @@ ends_group size left = nat_lt 0 size && nat_lt 0 left && left % size == 0
 abbrev pub group_size : ℕ → ℕ → ℕ → ℕ
 group_size group least count = if nat_lt count least then 0 else group
 
--- The digits with an underscore between groups of this size, counted from the last digit. With size 0 there are no
--- underscores.
+-- The digits, with an underscore between groups. Groups have the given size, and are counted from the last digit. If the size
+-- is 0, no underscores are written.
 abbrev pub grouped : ℕ → List ℕ → List ℕ
 grouped size [] = []
 grouped size (d ∷ ds) =

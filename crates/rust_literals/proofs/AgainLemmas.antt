@@ -27,7 +27,7 @@ use Rattle.rust_literals.proofs.PrintedLemmas.{holds_exactly}
 lit_text_is : {A : Type 0} (token : SpannedText) (lit : Lit A) → IsReadFrom token lit → lit_text lit ≡ chars token.text
 lit_text_is token lit (is, r) = ap (λ (t : SpannedText). chars t.text) is
 
--- The literal `lit` with another span: it is parsed from the token `other`.
+-- A literal that equals `lit` except for its span, and that is parsed from the token `other`.
 abbrev MovedLit : {A : Type 0} → SpannedText → Lit A → Type 0
 MovedLit {A} other lit = (moved : Lit A) × IsReadFrom other moved × IsSameAt lit other.span moved
 

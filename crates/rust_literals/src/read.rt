@@ -56,8 +56,8 @@ fn read_on<A: Allocator + Copy>(
     Ok(list)
 }
 
-/// Returns `list` with the literals of `text` after its first `count` ones appended. The literals of `list` are the last of these
-/// `count`. Those before may have been dropped.
+/// Returns `list` with the literals of `text` after its first `count` literals appended. The literals of `list` are the
+/// last of the first `count` literals of `text`. The literals before those of `list` may have been dropped.
 fn read_from<A: Allocator + Copy>(
     alloc: A,
     text: &str,
@@ -85,7 +85,7 @@ pub(crate) fn read_after<A: Allocator + Copy>(
     file: u32,
     count: usize,
 ) -> Result<Vec<Lit<A>, A>, Error<A>>
-    // The text consists of its first literals and the returned ones.
+    // The text consists of its first `count` literals and the returned ones after them.
     ensures read { (first : List (Lit A)) → AreFirst (chars text.now) file count first
         → IfOk result (λ more. AreRead (chars text.now) file (first ++ more.items)) }
     ensures rejected { (first : List (Lit A)) → AreFirst (chars text.now) file count first

@@ -1,5 +1,5 @@
-//! Functions that find the end of invalid quoted literals, as `''` and `'ab'`. Each begins neither as a valid character
-//! literal nor as a lifetime, but ends before the text does.
+//! Functions that find the end of invalid quoted literals, as `''` and `'ab'`. Each begins like neither a valid
+//! character literal nor a lifetime, and has an end in the source.
 #![tactic(auto, using(rl_syntax::proofs::TailLemmas::tail_step))]
 
 ghost use Rattle.std.specs.Prelude.{◌≡◌, ◌<◌, length, option_map, IfSome};

@@ -7,11 +7,11 @@ use Rattle.rl_syntax.specs.Mirrors.RunsAt.{is_word_byte}
 
 -- ---- bytes at which a literal or a comment may begin
 
--- Bytes that may begin a literal or a comment after any other byte: quotes, the slash, and all non-ASCII bytes.
+-- Whether a byte may begin a literal or a comment after any other byte. Quotes, the slash, and all non-ASCII bytes may.
 abbrev pub is_likely_mark : ℕ → Bool
 is_likely_mark c = c == code "\"" || c == code "'" || c == code "/" || nat_le 128 c
 
--- Bytes that may begin a literal, `true` or `false`, if no identifier character precedes them.
+-- Whether a byte may begin a literal, `true` or `false`, if no identifier character precedes the byte.
 abbrev pub is_likely_head : ℕ → Bool
 is_likely_head c =
     is_ascii_digit c || c == code "b" || c == code "c" || c == code "f" || c == code "r"

@@ -11,8 +11,8 @@ fn ends_search(c: char, following: &str) -> bool {
     c == '/' || (c == '\n' && !begins_with_char(following, '\''))
 }
 
-/// Returns the text after the character `c`, or `None` if the search for a closing quote ends there. A backslash skips the
-/// character after it too.
+/// Returns the text after the character `c`, or `None` if the search for a closing quote ends at `c`. If `c` is a backslash,
+/// the character after it is skipped too.
 #[inline]
 fn after_part(ends: LineEnds, c: char, following: &str) -> Option<&str> {
     if c == '\\' {
@@ -40,8 +40,8 @@ fn next_quote(ends: LineEnds, text: &str) -> Option<&str> {
     None
 }
 
-/// Returns the text that begins at the closing quote of a character or byte literal, or `None` if it isn't closed. `text` is
-/// the text after the opening quote. If it begins with two quotes, the second one is the closing quote.
+/// Returns the text that begins at the closing quote of a character or byte literal, or `None` if the literal isn't closed.
+/// `text` is the text after the opening quote. If `text` begins with two quotes, the second one is the closing quote.
 #[inline]
 pub fn closing_quote(ends: LineEnds, text: &str) -> Option<&str> {
     let Some(second) = strip_byte(text, b'\'') else {

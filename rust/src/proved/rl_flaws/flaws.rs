@@ -34,8 +34,8 @@ fn whole(text: &str) -> Left<'_> {
 }
 
 /// Returns the part of the text to check after a flaw of the kind `flaw`. `inside` is the text that the flaw was found in, and
-/// `piece` the text that begins at the flaw's piece. After a flaw in a character or byte literal, this part begins at the quote
-/// that closes the literal. Without such a quote it is nothing.
+/// `piece` the text that begins at the flaw's piece. After a flaw in a character or byte literal, this part begins at the
+/// quote that closes the literal. If no quote closes the literal, nothing is left to check.
 #[inline]
 fn left_after<'t>(
     ends: LineEnds,
@@ -153,8 +153,8 @@ pub fn next_flaw<'t>(ends: LineEnds, len: usize, left: Left<'t>) -> NextFlaw<'t>
 ///
 /// The first flaw is the error that [`read`](crate::rl_strict::read) returns with `signed = false`. After an invalid character or
 /// escape in a string, the search continues inside the string. After a flaw before the closing quote of a character or byte
-/// literal, only the suffix is checked. Any other flaw is the last one. Offsets are in bytes of the text as written. In a file,
-/// where CR LF is read as LF, no offset is between the two.
+/// literal, only the suffix is checked. Any other flaw is the last one. Offsets are in bytes of the text as written. In a
+/// file, where CR LF is read as LF, no offset is between the CR and the LF.
 pub struct Flaws<'t> {
     ends: LineEnds,
     len: usize,

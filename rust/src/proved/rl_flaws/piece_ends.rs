@@ -4,8 +4,7 @@
 use crate::rl_strict::walk_units::split;
 use crate::rl_strict::{FlawKind, LineEnds};
 
-/// Returns the text after its first character. If that character is a backslash or the quote `quote`, the result is all of the
-/// text.
+/// Returns the text without its first character, or all of the text if this character is a backslash or the quote `quote`.
 #[inline]
 fn after_one(ends: LineEnds, quote: char, text: &str) -> &str {
     match split(ends, text) {
@@ -72,7 +71,8 @@ fn after_escape(ends: LineEnds, quote: char, text: &str) -> &str {
     }
 }
 
-/// Returns the text after the invalid escape or character at its beginning, where parsing a string continues.
+/// Returns the text after the invalid escape or character with which the given text begins. There the parsing of a string
+/// continues.
 #[inline]
 pub fn after_bad_piece(ends: LineEnds, quote: char, text: &str) -> &str {
     match split(ends, text) {

@@ -13,7 +13,7 @@ use crate::rl_syntax::Kind;
 pub struct Opened<'t> {
     pub form: QuotedForm,
     pub kind: Kind,
-    /// The hashes of a raw string; empty for other forms.
+    /// The hashes of a raw string, or an empty text for other forms.
     pub hashes: &'t str,
 }
 

@@ -155,7 +155,7 @@ pub fn find_float(text: &str) -> Option<Found> {
 /// it is neither, or an integer above 128 bits.
 #[inline]
 fn find_number(text: &str) -> Option<Found> {
-    // Each arm returns by itself. A value that both arms make would be copied once more, padding included.
+    // Each arm of the `match` returns by itself. A value that both arms make would be copied, padding included.
     match read_number(text)? {
         Number::Integer(magnitude, suffix) => {
             return Some(integer_found(text, suffix, magnitude));
@@ -239,7 +239,7 @@ fn find_word_or_quoted(text: &str) -> Option<Found> {
     let Some((form, kind, inside)) = split_opener(text) else {
         return find_truth(text);
     };
-    // Each arm returns by itself. A value that all arms make would be copied once more.
+    // Each arm of the `match` returns by itself. A value that all arms make would be copied once more.
     match form {
         QuotedForm::Cooked => return find_cooked(kind, text, inside),
         QuotedForm::Single => return find_single(kind, text, inside),

@@ -6,7 +6,8 @@ use crate::rl_lenient::units::{CodeDigits, allows_code, allows_unicode_escapes, 
 use crate::rl_syntax::Kind;
 use crate::rl_syntax::text::split_char;
 
-/// Returns the flaw after the first digit of a `\x` escape. If the second digit exists, the escape is `\x00` in a C string.
+/// Returns the flaw of an invalid `\x` escape after its first digit. `text` begins at the second digit. If the second digit is
+/// valid, the flaw is a NUL, which is `\x00` in a C string.
 fn low_digit_flaw(text: &str) -> FlawAt<'_> {
     match split_char(text) {
         None => make_flaw(FlawKind::Unclosed, text),

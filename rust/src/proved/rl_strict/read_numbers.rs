@@ -9,7 +9,7 @@ use crate::rl_syntax::characters::is_start;
 use crate::rl_syntax::classes::{CharClass, skip_class};
 use crate::rl_syntax::text::{split_ascii, split_char};
 
-/// The reason why parsing a number stopped, and the text that begins there.
+/// The reason why parsing a number stopped, and the text that begins where parsing stopped.
 #[derive(Clone, Copy)]
 pub struct Stop<'t> {
     pub kind: FlawKind,
@@ -175,7 +175,7 @@ pub fn number_of(text: &str) -> Result<Number<'_>, Stop<'_>> {
 }
 
 /// Parses all of `text`, which begins with a digit, as a number. The error is the reason why the text isn't a number, and the
-/// text from its position on.
+/// text that begins where parsing stopped.
 #[inline(always)]
 pub fn read_number(text: &str) -> Result<Number<'_>, Stop<'_>> {
     number_of(text)

@@ -1,5 +1,5 @@
 // Rendered from crates/rl_strict/src/read_quoted.rt by tools/render, which erases contracts: change that file, and render again.
-//! Quoted literals of Rust's grammar: parses one to the byte offsets of its parts and its value, or to its flaw.
+//! Parses a quoted literal of Rust's grammar. The result is the byte offsets of the literal's parts and its value, or its flaw.
 
 use crate::rl_strict::flaws::{FlawAt, FlawKind, make_flaw};
 use crate::rl_strict::line_ends::LineEnds;

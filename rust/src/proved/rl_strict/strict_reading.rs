@@ -154,7 +154,8 @@ fn read_rare(ends: LineEnds, text: &str) -> Result<Reading, FlawAt<'_>> {
     }
 }
 
-/// Parses the text as a literal token. The error is the flaw as ends of the text, before it's converted to byte offsets.
+/// Parses the text as a literal token. The error is the flaw, with the text that begins at the flaw and the text that begins at
+/// the flaw's piece. The caller converts these texts to byte offsets.
 #[inline]
 fn read_at(ends: LineEnds, text: &str) -> Result<Reading, FlawAt<'_>> {
     match front_of(text) {
@@ -189,8 +190,9 @@ fn after_minus(signed: bool, text: &str) -> Option<&str> {
     if signed { strip_byte(text, b'-') } else { None }
 }
 
-/// Parses the text as a literal token, or as a minus and a number if `signed` is true. The error is the flaw as ends of the
-/// text, before it's converted to byte offsets.
+/// Parses the text as a literal token, or as a minus and a number if `signed` is true. The error is the flaw, with
+/// the text that begins at the flaw and the text that begins at the flaw's piece. The caller converts these texts to byte
+/// offsets.
 #[cfg_attr(debug_assertions, inline)]
 #[cfg_attr(not(debug_assertions), inline(always))]
 fn signed_at(text: &str, ends: LineEnds, signed: bool) -> Result<Reading, FlawAt<'_>> {

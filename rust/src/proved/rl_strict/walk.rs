@@ -34,7 +34,8 @@ fn skip_raw<'t>(ends: LineEnds, kind: Kind, hashes: &str, text: &'t str) -> &'t 
 pub struct QuotedContent<'t> {
     /// The text that begins at the closing quote, or at the faulty piece.
     pub closing: &'t str,
-    /// Whether the text before `closing` is known to contain no escapes. Outside files it is the literal's value then.
+    /// Whether the text before `closing` is known to contain no escapes. Outside files, a text without escapes is the literal's
+    /// value.
     pub plain: bool,
     pub end: Result<&'t str, FlawAt<'t>>,
 }

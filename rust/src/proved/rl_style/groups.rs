@@ -38,7 +38,7 @@ fn least_digits(style: Style) -> usize {
 }
 
 /// Whether an underscore follows a digit. `count` is the number of digits in the sequence, and `left` the number of digits
-/// after this one. Groups are counted from the first digit if `from_first` is true, and from the last one otherwise.
+/// after the digit. Groups are counted from the first digit if `from_first` is true, and from the last one otherwise.
 #[inline]
 fn ends(from_first: bool, size: usize, count: usize, left: usize) -> bool {
     if from_first {
@@ -62,7 +62,7 @@ fn count_digits(run: &str) -> usize {
     count
 }
 
-/// Writes the new form of a digit, and an underscore after it if `ends` is true: its group ends there.
+/// Writes the new form of a digit. If `ends` is true, the digit's group ends, and an underscore is written after the digit.
 #[inline]
 fn put_digit(out: &mut [u8], at: usize, manner: Manner, digit: char, ends: bool) -> usize {
     let end = put_character(out, at, manner, digit);

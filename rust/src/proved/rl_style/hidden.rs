@@ -49,8 +49,8 @@ fn put_two(out: &mut [u8], at: usize, c: char) -> usize {
     put_byte(out, end, lower_digit(number % 16))
 }
 
-/// Writes the numeric escape of a character: `\x` for ASCII, and otherwise `\u{..}` with the fewest digits. They are in lower
-/// case.
+/// Writes the numeric escape of a character: `\x` for ASCII, and otherwise `\u{..}` with the fewest digits. The digits are in
+/// lower case.
 #[inline]
 fn put_code(out: &mut [u8], at: usize, c: char) -> usize {
     if c < '\u{80}' {
@@ -79,8 +79,8 @@ fn put_hidden(out: &mut [u8], at: usize, style: Style, zero: bool, c: char) -> u
     put_styled_code(out, at, style, c)
 }
 
-/// Writes the new form of an unescaped character: at most four bytes for each of its own. NUL may be written as `\0` if `zero`
-/// is true.
+/// Writes the new form of an unescaped character: at most four bytes for each byte of the character. NUL may be written as
+/// `\0` if `zero` is true.
 #[inline]
 pub(crate) fn put_itself(out: &mut [u8], at: usize, style: Style, zero: bool, c: char) -> usize {
     if style.hidden && needs_number(c) {

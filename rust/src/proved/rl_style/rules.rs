@@ -75,7 +75,7 @@ impl Rule {
 }
 
 impl Style {
-    /// Returns a style that has only this rule of the style, and no other rule.
+    /// Returns a style that has the rule `rule` as this style has it, and no other rule.
     #[inline]
     pub fn only(self, rule: Rule) -> Style {
         let keep = Style::KEEP;

@@ -31,8 +31,8 @@ fn divided(number: u128, by: u8) -> (u128, u8) {
     }
 }
 
-/// Writes the digits of `value` in the base `radix` to the start of `room`, the last digit first, and returns their
-/// number. The value must fit as many bits as `room` has bytes.
+/// Writes the digits of `value` in the base `radix` to the start of `room`, the last digit first, and returns the number of
+/// digits. The value must fit as many bits as `room` has bytes.
 #[inline]
 pub fn put_reversed(value: u128, radix: u8, upper: bool, room: &mut [u8]) -> usize {
     let mut left = value;

@@ -15,9 +15,9 @@ fn raw_may_contain(kind: Kind, c: char) -> bool {
     }
 }
 
-/// Returns the number of hashes that a raw string needs so that it doesn't end after the character `c`: 1 after a
-/// quote, one more after each hash that follows a quote directly, and 0 after any other text. `opened` is the result
-/// for the character before `c`.
+/// Returns the number of hashes that a raw string needs so that it doesn't end after the character `c`. It is 1 after a quote,
+/// one more after each hash that directly follows a quote or its hashes, and 0 otherwise. `opened` is the result for the
+/// character before `c`.
 #[inline]
 fn hashes_opened(opened: usize, c: char) -> usize {
     match c {
@@ -49,11 +49,11 @@ pub fn raw_hashes(kind: Kind, text: &str) -> Option<usize> {
     if needed < 256 { Some(needed) } else { None }
 }
 
-/// Returns the text between the quotes of the raw byte string or raw C string whose value is the bytes `value`, and the
-/// fewest hashes for it, as [`raw_hashes`] returns them.
+/// Returns the text between the quotes of the raw byte string or raw C string whose value is the bytes `value`, and the fewest
+/// hashes for it, as [`raw_hashes`] returns them.
 ///
-/// Returns `None` if no raw string has this value: the bytes aren't UTF-8, which every literal is, or `raw_hashes`
-/// returns `None` for them.
+/// Returns `None` if no raw string has this value. Either the bytes aren't UTF-8, and can't be in a literal, or
+/// `raw_hashes` returns `None` for them.
 #[inline]
 pub fn raw_form(kind: Kind, value: &[u8]) -> Option<(&str, usize)> {
     let Ok(text) = core::str::from_utf8(value) else {

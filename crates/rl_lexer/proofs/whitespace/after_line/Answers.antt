@@ -1,4 +1,4 @@
--- The next LF ends the line.
+-- A line ends at its next LF.
 use Rattle.rl_syntax.proofs.Common.{refl}
 use Rattle.rl_lexer.proofs.CommentSteps.{line_rest}
 use Rattle.rl_lexer.proofs.whitespace.after_line.Goals as goal

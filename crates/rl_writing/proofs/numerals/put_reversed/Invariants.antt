@@ -1,5 +1,5 @@
--- The digits of the remaining number, before the digits that were written, are those of the number. The remaining
--- number is at least halved.
+-- The loop's invariant: the digits of the remaining number, followed by the digits written so far in reverse order, are the
+-- digits of the whole number. Each iteration at least halves the remaining number.
 use Rattle.rl_syntax.proofs.Common.{◌≡◌, ◌*◌, ◌^◌, ◌<◌, ◌⊎◌, length, take}
 use Rattle.std.specs.Prelude.{reverse}
 use Rattle.rl_writing.specs.Integers.{numeral}

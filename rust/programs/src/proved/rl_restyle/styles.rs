@@ -50,7 +50,7 @@ fn set_entry<'t>(values: &mut Values, entry: &NextEntry<'t>) -> Result<(), Style
     Ok(())
 }
 
-/// Whether an earlier entry has set the rule with this name.
+/// Whether an earlier entry has set the rule with the name `name`.
 fn is_set(values: &Values, name: &str) -> bool {
     match rule_of(name) {
         Some(rule) => values.get(rule).is_some(),

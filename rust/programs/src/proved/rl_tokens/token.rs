@@ -14,11 +14,11 @@ use crate::rattle_std::alloc::{AllocFailed, Allocator, Global};
 /// The pair of delimiters around a group of token trees.
 #[derive(Clone, Copy, PartialEq, Eq, Debug)]
 pub enum Delimiter {
-    /// `( .. )`
+    /// Parentheses: `( .. )`.
     Parenthesis,
-    /// `{ .. }`
+    /// Braces: `{ .. }`.
     Brace,
-    /// `[ .. ]`
+    /// Square brackets: `[ .. ]`.
     Bracket,
 }
 

@@ -1,6 +1,6 @@
 // Rendered from crates/rl_lexer/src/source/bad_quote.rt by tools/render, which erases contracts: change that file, and render again.
-//! Functions that find the end of invalid quoted literals, as `''` and `'ab'`. Each begins neither as a valid character
-//! literal nor as a lifetime, but ends before the text does.
+//! Functions that find the end of invalid quoted literals, as `''` and `'ab'`. Each begins like neither a valid
+//! character literal nor a lifetime, and has an end in the source.
 
 use super::after_any_name;
 use crate::rl_lexer::lexeme::after_suffix;

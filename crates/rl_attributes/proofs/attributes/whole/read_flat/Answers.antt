@@ -1,4 +1,5 @@
--- Each iteration of the loop reads one more setting. At the end of the text all settings have been read.
+-- Each iteration of the loop over the settings of a text reads one more setting. At the end of the text all settings
+-- have been read.
 use Rattle.rl_syntax.proofs.Common.{rules, ◌≡◌, ◌≢◌, ◌∷◌, [], ◌++◌, ◌∙◌, sym}
 use Rattle.rl_settings.proofs.SettingLemmas.{some_rest}
 use Rattle.rust_literals.proofs.FlatLemmas.{empty_text}
