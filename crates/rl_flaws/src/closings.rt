@@ -8,7 +8,7 @@ ghost use Rattle.rl_strict.specs.LineEnds.{IsRestOf, read_of};
 ghost use Rattle.rl_flaws.specs.Closings.{IsClosedBy, ReachesQuote};
 
 use rl_strict::LineEnds;
-use rl_strict::walk_units::split;
+use rl_strict::walk_units::split_first_char;
 use rl_syntax::text::{begins_with_char, strip_byte};
 
 /// Whether the search for a closing quote ends at `c`: at a slash, or at an LF that a quote doesn't follow directly.
@@ -30,7 +30,7 @@ fn after_part(ends: LineEnds, c: char, following: &str) -> Option<&str>
     ensures shorter { IfSome result (λ rest. length rest.now ≤ length following.now) }
 {
     if c == '\\' {
-        let (_, more) = split(ends, following)?;
+        let (_, more) = split_first_char(ends, following)?;
         return Some(more);
     }
     if ends_search(c, following) {
@@ -49,7 +49,7 @@ fn next_quote(ends: LineEnds, text: &str) -> Option<&str>
     ensures following { IfSome result (λ quote. IsTail text.now quote.now) }
 {
     let mut rest = text;
-    while let Some((c, following)) = split(ends, rest) {
+    while let Some((c, following)) = split_first_char(ends, rest) {
         if c == '\'' {
             return Some(rest);
         }

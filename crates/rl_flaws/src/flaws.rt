@@ -12,9 +12,9 @@ ghost use Rattle.rl_flaws.specs.Left.{IsLeft, IsLeftAfter, IsSameLiteral, StaysO
 ghost use Rattle.rl_flaws.specs.PiecesLeft.{IsGoodLeft};
 
 use crate::closings::closing_quote;
-use crate::invalid_piece::{InvalidPiece, placed};
+use crate::invalid_piece::{InvalidPiece, invalid_piece_with_offsets};
 use crate::piece_ends::{after_bad_piece, is_flaw_after_quote, is_flaw_of_unit};
-use crate::walks::{Opened, open, walk};
+use crate::walks::{Opened, split_opening_delimiter, parse_quoted_content};
 use rl_lenient::quoted_forms::QuotedForm;
 use rl_strict::read_quoted::suffix_flaw;
 use rl_strict::{FlawKind, LineEnds, read};
@@ -40,7 +40,7 @@ fn whole(text: &str) -> Left<'_>
     ensures left { IsLeft (length text.now) result }
     ensures flaws { (ends : AnyEnds) → AreFlawsOf ends text.now (state_of ends (length text.now) result) }
 {
-    match open(text) {
+    match split_opening_delimiter(text) {
         Some((opened, inside)) => Left::Inside(opened, inside),
         None => Left::Whole(text),
     }
@@ -120,7 +120,7 @@ pub fn next_flaw_inside<'t>(
     ensures same { StaysOpen opened.entry result.left }
     ensures good { ends ≡ Text → IsGoodLeft len (Inside opened.entry rest.entry) result.good.now result.end }
 {
-    let stretch = walk(ends, opened, rest);
+    let stretch = parse_quoted_content(ends, opened, rest);
     let good = before(rest, stretch.closing);
     let end = len - stretch.closing.len();
     match stretch.end {
@@ -133,7 +133,7 @@ pub fn next_flaw_inside<'t>(
         Err(found) => NextFlaw {
             good,
             end,
-            bad: Some(placed(ends, len, opened.kind.quote(), found)),
+            bad: Some(invalid_piece_with_offsets(ends, len, opened.kind.quote(), found)),
             left: left_after(ends, opened, rest, found.kind, found.piece),
         },
     }
@@ -158,7 +158,7 @@ fn judge_closed<'t>(ends: LineEnds, len: usize, kind: Kind, closing: &'t str) ->
         Some(found) => NextFlaw {
             good: "",
             end: 0,
-            bad: Some(placed(ends, len, '\'', found)),
+            bad: Some(invalid_piece_with_offsets(ends, len, '\'', found)),
             left: Left::Nothing,
         },
     }

@@ -31,7 +31,7 @@ pub fn the_rest_has_one_next_flaw()
 {}
 
 /// Rust has no type for a literal for which [`type_error`](crate::type_error) returns an error.
-pub fn an_error_excludes_a_type()
+pub fn a_literal_with_a_type_error_has_no_type()
     ensures { AnErrorExcludesAType }
 {}
 

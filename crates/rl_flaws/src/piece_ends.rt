@@ -7,7 +7,7 @@ ghost use Rattle.rl_syntax.specs.Quoted.{is_hex_digit};
 ghost use Rattle.rl_flaws.specs.BadPieces.{after_brace, after_code_digits, after_escape, after_hex, after_one, after_bad_piece, after_unicode, is_flaw_after_quote, is_flaw_of_unit};
 ghost use Rattle.rl_strict.specs.LineEnds.{IsRestOf, read_of};
 
-use rl_strict::walk_units::split;
+use rl_strict::walk_units::split_first_char;
 use rl_strict::{FlawKind, LineEnds};
 
 /// Returns the text without its first character, or all of the text if this character is a backslash or the quote `quote`.
@@ -17,7 +17,7 @@ fn after_one(ends: LineEnds, quote: char, text: &str) -> &str
     ensures rest { IsRestOf ends (chars text.now) (chars result.now) }
     ensures following { IsTail text.now result.now }
 {
-    match split(ends, text) {
+    match split_first_char(ends, text) {
         Some((c, rest)) if c != '\\' && c != quote => rest,
         _ => text,
     }
@@ -30,7 +30,7 @@ fn after_hex(ends: LineEnds, quote: char, text: &str) -> &str
     ensures rest { IsRestOf ends (chars text.now) (chars result.now) }
     ensures following { IsTail text.now result.now }
 {
-    match split(ends, text) {
+    match split_first_char(ends, text) {
         Some((c, rest)) if c.is_ascii_hexdigit() => after_one(ends, quote, rest),
         _ => after_one(ends, quote, text),
     }
@@ -52,7 +52,7 @@ fn after_code_digits(ends: LineEnds, quote: char, text: &str) -> &str
     ensures following { IsTail text.now result.now }
 {
     let mut rest = text;
-    while let Some((c, following)) = split(ends, rest) {
+    while let Some((c, following)) = split_first_char(ends, rest) {
         if !is_code_part(c) {
             return after_one(ends, quote, rest);
         }
@@ -68,7 +68,7 @@ fn after_brace(ends: LineEnds, quote: char, text: &str) -> &str
     ensures rest { IsRestOf ends (chars text.now) (chars result.now) }
     ensures following { IsTail text.now result.now }
 {
-    match split(ends, text) {
+    match split_first_char(ends, text) {
         Some((c, rest)) if c.is_ascii_hexdigit() => after_code_digits(ends, quote, rest),
         _ => after_one(ends, quote, text),
     }
@@ -81,7 +81,7 @@ fn after_unicode(ends: LineEnds, quote: char, text: &str) -> &str
     ensures rest { IsRestOf ends (chars text.now) (chars result.now) }
     ensures following { IsTail text.now result.now }
 {
-    match split(ends, text) {
+    match split_first_char(ends, text) {
         Some(('{', rest)) => after_brace(ends, quote, rest),
         _ => after_one(ends, quote, text),
     }
@@ -94,7 +94,7 @@ fn after_escape(ends: LineEnds, quote: char, text: &str) -> &str
     ensures rest { IsRestOf ends (chars text.now) (chars result.now) }
     ensures following { IsTail text.now result.now }
 {
-    match split(ends, text) {
+    match split_first_char(ends, text) {
         Some(('x', rest)) => after_hex(ends, quote, rest),
         Some(('u', rest)) => after_unicode(ends, quote, rest),
         Some((_, rest)) => rest,
@@ -110,7 +110,7 @@ pub fn after_bad_piece(ends: LineEnds, quote: char, text: &str) -> &str
     ensures rest { IsRestOf ends (chars text.now) (chars result.now) }
     ensures following { IsTail text.now result.now }
 {
-    match split(ends, text) {
+    match split_first_char(ends, text) {
         Some(('\\', rest)) => after_escape(ends, quote, rest),
         Some((_, rest)) => rest,
         None => text,

@@ -1,6 +1,6 @@
 -- The body of a string literal is its value byte for byte, or it is longer than the value.
 use Rattle.rl_syntax.proofs.Common.{◌≡◌, ℕ, ◌<◌, ◌≤◌, ◌⊎◌, inl, inr, Bool, true, false, not, ltb, ◌==◌, drop, List, [], ◌∷◌, ◌++◌, length, refl, sym, ap, subst, ◌∙◌, arith, encode_utf8_all, AllByRecursion, list_all, IsUtf8, append_cancel_right, and_from, and_parts, both_ways, or_right, encodes-append, encodes-chars, length-encode}
-use Rattle.rl_lenient.proofs.Names.{append_cancel_left, Kind, Str, ByteStr, CStr, first_passes, Contents, Characters, Bytes, ReadsQuoted, quoted_contents, QuotedUnit, Letter, Plain, CrLf, Named, Hex, Unicode, Continuation, LowerN, LowerR, LowerT, Backslash, Apostrophe, Quote, Zero, letter_value, unit_text, unit_value, hex_value, unicode_value, holds_characters, content_of, allows_code, is_string, is_plain, IsUnit, opener, raw_opener, texts, values}
+use Rattle.rl_lenient.proofs.Names.{append_cancel_left, Kind, Str, ByteStr, CStr, first_passes, Contents, Characters, Bytes, ReadsQuoted, quoted_contents, QuotedUnit, Letter, Plain, CrLf, Named, Hex, Unicode, Continuation, LowerN, LowerR, LowerT, Backslash, Apostrophe, Quote, Zero, letter_value, unit_text, unit_value, hex_value, unicode_value, decodes_to_chars, content_of, allows_code, is_string, is_plain, IsUnit, opener, raw_opener, texts, values}
 use Rattle.std.proofs.Common.{length-append}
 use Rattle.std.specs.Str.{chars}
 use Rattle.std.proofs.lemmas.Str.{length-le-encodes, len_utf8_bounds}
@@ -52,12 +52,12 @@ unit_shrinks kind (Plain c) h = record { no_longer = omega (arith, ap length (he
 unit_shrinks kind CrLf h = shorter kind _ _ (omega (
   arith,
   one_byte_of kind 10
-      (or_right (not (holds_characters kind)) true refl),
+      (or_right (not (decodes_to_chars kind)) true refl),
 ))
 unit_shrinks kind (Named l) h = shorter kind _ _ (omega (
   arith,
   one_byte_of kind (letter_value l)
-      (or_right (not (holds_characters kind)) _ (letter_small l)),
+      (or_right (not (decodes_to_chars kind)) _ (letter_small l)),
 ))
 unit_shrinks kind (Hex high low) h = shorter kind _ _ (omega
     (arith, one_byte_of kind (hex_value high low) (and_parts (allows_code kind (hex_value high low)) _ h.2).1))

@@ -1,6 +1,6 @@
 -- The code that decodes a quoted literal writes the bytes of the literal's value.
 use Rattle.rl_syntax.proofs.Common.{◌≡◌, ℕ, ◌<◌, ◌||◌, Bool, true, false, not, cond, ltb, List, [], ◌∷◌, ◌++◌, length, Some, refl, sym, ap, subst, ◌∙◌, arith, append-nil, encode_utf8, encode_utf8_all, AllByRecursion, list_all, IsUtf8, scalar, and_from, and_parts, lt-ltb, ltb-true, encodes-append, encodes-chars, length-encode}
-use Rattle.rl_lenient.proofs.Names.{Kind, Str, Char, QuotedUnit, Letter, Plain, CrLf, Named, Hex, Unicode, Continuation, LowerN, LowerR, LowerT, Backslash, Apostrophe, Quote, Zero, letter_value, unit_text, unit_value, hex_value, unicode_value, content_of, holds_characters, is_string, is_single, is_plain, allows_unicode_escapes, IsUnit, texts, values, Characters}
+use Rattle.rl_lenient.proofs.Names.{Kind, Str, Char, QuotedUnit, Letter, Plain, CrLf, Named, Hex, Unicode, Continuation, LowerN, LowerR, LowerT, Backslash, Apostrophe, Quote, Zero, letter_value, unit_text, unit_value, hex_value, unicode_value, content_of, decodes_to_chars, is_string, is_single, is_plain, allows_unicode_escapes, IsUnit, texts, values, Characters}
 use Rattle.std.specs.Char.{len_utf8}
 use Rattle.std.specs.Str.{chars}
 use Rattle.std.proofs.Math.Utf8.{scalars}
@@ -23,7 +23,7 @@ use Rattle.rl_lenient.proofs.FormLemmas.{Formed, formed, parts_formed, formed_on
 -- ---- values as bytes
 
 pub in_bytes_append : (kind : Kind) (v w : List ℕ) → in_bytes kind (v ++ w) ≡ in_bytes kind v ++ in_bytes kind w
-in_bytes_append kind v w = go (holds_characters kind)
+in_bytes_append kind v w = go (decodes_to_chars kind)
   where
     go : (b : Bool) → cond b (encode_utf8_all (v ++ w)) (v ++ w) ≡ cond b (encode_utf8_all v) v
         ++ cond b (encode_utf8_all w) w
@@ -32,7 +32,7 @@ in_bytes_append kind v w = go (holds_characters kind)
 
 -- The value of characters, written as bytes, is their UTF-8 encoding, in literals of every kind.
 pub held_in_bytes : (kind : Kind) (cs : List ℕ) → in_bytes kind (content_of kind cs) ≡ encode_utf8_all cs
-held_in_bytes kind cs = go (holds_characters kind)
+held_in_bytes kind cs = go (decodes_to_chars kind)
   where
     go : (b : Bool) → cond b (encode_utf8_all (cond b cs (encode_utf8_all cs))) (cond b cs (encode_utf8_all cs))
         ≡ encode_utf8_all cs
@@ -44,14 +44,14 @@ pub ascii_byte : (c : ℕ) → c < 128 → encode_utf8_all (c ∷ []) ≡ c ∷ 
 ascii_byte c small = append-nil (encode_utf8 c) ∙ encode_ascii c small
 
 pub byte_in_bytes : (kind : Kind) (n : ℕ) → IsHeldBy kind (Byte n) → in_bytes kind (n ∷ []) ≡ n ∷ []
-byte_in_bytes kind n h = go (holds_characters kind) h
+byte_in_bytes kind n h = go (decodes_to_chars kind) h
   where
     go : (b : Bool) → (not b || ltb n 128) ≡ true → cond b (encode_utf8_all (n ∷ [])) (n ∷ []) ≡ n ∷ []
     go true e = ascii_byte n (ltb-true n 128 e)
     go false e = refl
 
 pub nothing_in_bytes : (kind : Kind) → in_bytes kind [] ≡ []
-nothing_in_bytes kind = go (holds_characters kind)
+nothing_in_bytes kind = go (decodes_to_chars kind)
   where
     go : (b : Bool) → cond b (encode_utf8_all []) [] ≡ []
     go true = refl

@@ -1,6 +1,6 @@
 -- Sequences of characters and escapes, parsed one at a time.
 use Rattle.rl_syntax.proofs.Common.{◌≡◌, ℕ, Bool, true, false, cond, List, [], ◌∷◌, ◌++◌, None, refl, sym, ap, subst, ◌∙◌, append_assoc, append-nil, Some, encode_utf8, encode_utf8_all, AllByRecursion, list_all, and_parts}
-use Rattle.rl_lenient.proofs.Names.{flat_map-append, Kind, first_passes, QuotedUnit, Plain, CrLf, Named, Hex, Unicode, Continuation, unit_text, unit_value, is_blank, content_of, holds_characters, is_plain, IsUnit, EndsBefore, texts, values}
+use Rattle.rl_lenient.proofs.Names.{flat_map-append, Kind, first_passes, QuotedUnit, Plain, CrLf, Named, Hex, Unicode, Continuation, unit_text, unit_value, is_blank, content_of, decodes_to_chars, is_plain, IsUnit, EndsBefore, texts, values}
 use Rattle.rl_syntax.specs.Quoted.{ContinuationsEnd}
 use Rattle.rl_lenient.specs.Mirrors.UnitAt.{found, unit_at}
 use Rattle.rl_lenient.specs.UnitRuns.{RunEnds, BeginsRun}
@@ -93,7 +93,7 @@ row_step kind a v b p row h =
 -- ---- a sequence of plain characters
 
 held_nil : (kind : Kind) → content_of kind [] ≡ []
-held_nil kind = go (holds_characters kind)
+held_nil kind = go (decodes_to_chars kind)
   where
     go : (b : Bool) → cond b [] (encode_utf8_all []) ≡ []
     go true = refl
@@ -101,7 +101,7 @@ held_nil kind = go (holds_characters kind)
 
 held_more : (kind : Kind) (c : ℕ) (cs : List ℕ) → content_of kind (c ∷ []) ++ content_of kind cs
     ≡ content_of kind (c ∷ cs)
-held_more kind c cs = go (holds_characters kind)
+held_more kind c cs = go (decodes_to_chars kind)
   where
     go : (b : Bool) → cond b (c ∷ []) (encode_utf8_all (c ∷ [])) ++ cond b cs (encode_utf8_all cs)
         ≡ cond b (c ∷ cs) (encode_utf8_all (c ∷ cs))

@@ -1,7 +1,7 @@
 -- The bytes that the functions which decode quoted literals write.
 use Rattle.std.specs.Prelude.{◌≡◌, ℕ, List, [], ◌∷◌, encode_utf8, encode_utf8_all, if◌then◌else◌, IsTrue}
 use Rattle.rl_syntax.specs.declared.kind.Kind.{Kind}
-use Rattle.rl_syntax.specs.Quoted.{holds_characters, is_string}
+use Rattle.rl_syntax.specs.Quoted.{decodes_to_chars, is_string}
 use Rattle.rl_syntax.specs.Reading.{Contents, ReadsQuoted}
 use Rattle.rl_lenient.specs.declared.units.Piece.{Piece}
 use Rattle.rl_lenient.specs.declared.units.Piece.TheVariants.{Character, Byte, Nothing}
@@ -14,7 +14,7 @@ piece_bytes Nothing = []
 
 -- The bytes of a literal's value. Characters are encoded in UTF-8.
 abbrev pub in_bytes : Kind → List ℕ → List ℕ
-in_bytes kind v = if holds_characters kind then encode_utf8_all v else v
+in_bytes kind v = if decodes_to_chars kind then encode_utf8_all v else v
 
 -- The bytes are those of the value of the text as a string literal, in whichever way the text is parsed.
 abbrev pub HoldsBytes : List ℕ → List ℕ → Type 0

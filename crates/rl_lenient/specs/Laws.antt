@@ -58,7 +58,7 @@ abbrev pub ATakenLiteralIsRead : Type 0
 ATakenLiteralIsRead =
     (old new : CursorState) (l : NextLiteral) → TakesNextLiteral old l new → IsReadLiteral l
 
--- If `find` returns a literal for a text, the text is parsed with that literal's value and suffix.
+-- If `parse_literal` returns a literal for a text, the text is parsed with that literal's value and suffix.
 abbrev pub AFoundLiteralReads : Type 0
 AFoundLiteralReads =
     (text : List ℕ) (found : Found) (contents : Contents) → IsFound text found

@@ -7,7 +7,7 @@ use Rattle.rl_syntax.specs.declared.kind.Kind.{Kind}
 use Rattle.rl_syntax.specs.declared.span.Span.{Span}
 use Rattle.rl_syntax.specs.Spans.{nowhere}
 use Rattle.rl_syntax.specs.Texts.{byte_len, first_passes}
-use Rattle.rl_syntax.specs.Quoted.{QuotedUnit, is_plain, is_string, holds_characters, Plain, CrLf, Named, Hex, Unicode, Continuation, Cooked, Raw, Single, IsUnit, ContinuationsEnd, opener, raw_opener, texts, letter_value, hex_value, unicode_value, unit_text, unit_value}
+use Rattle.rl_syntax.specs.Quoted.{QuotedUnit, is_plain, is_string, decodes_to_chars, Plain, CrLf, Named, Hex, Unicode, Continuation, Cooked, Raw, Single, IsUnit, ContinuationsEnd, opener, raw_opener, texts, letter_value, hex_value, unicode_value, unit_text, unit_value}
 use Rattle.rl_lenient.specs.Decoded.{in_bytes}
 use Prim.Native.Char.{code}
 use Rattle.rl_lenient.specs.declared.segments.Segment.{Segment}
@@ -124,7 +124,7 @@ segment_end s at = value_end s.value s.lo s.hi at
 
 -- The value of an escape as that of a segment: a character in a literal of characters, and otherwise a byte.
 abbrev pub number_segment : Kind → ℕ → SegmentValue
-number_segment kind n = if holds_characters kind then Char n else Byte n
+number_segment kind n = if decodes_to_chars kind then Char n else Byte n
 
 -- The value of the segment that is one escape or a line end CR LF. An escape `\u{..}` is a character also in a literal
 -- of bytes.

@@ -274,12 +274,12 @@ pub(crate) fn find_truth(text: &str) -> Option<Found>
 }
 
 /// Returns the parse result of the literal `text`. The text must be a literal.
-pub fn found_in(text: &str) -> Found
+pub fn parse_known_literal(text: &str) -> Found
     requires { HasReading (chars text.now) }
     ensures found { IsFound text.now result }
     ensures kind { (kind : AnyKind) → ReadsAs kind (chars text.now) → result.kind ≡ kind }
 {
-    match find(text) {
+    match parse_literal(text) {
         Some(found) => found,
         None => unreachable!(),
     }
@@ -289,7 +289,7 @@ pub fn found_in(text: &str) -> Found
 ///
 /// The result contains that of [`shape`](crate::shape), and further offsets and values that parsing computes.
 #[inline(always)]
-pub fn find(text: &str) -> Option<Found>
+pub fn parse_literal(text: &str) -> Option<Found>
     ensures none { IfNone result (HasNoReading (chars text.now)) }
     ensures found { IfSome result (IsFound text.now) }
 {
@@ -371,6 +371,6 @@ pub fn shape(text: &str) -> Option<Parts<'_>>
     ensures following { IfSome result (λ p. IsTail text.now p.suffix.now) }
     ensures strict_bytes { KeepsBytesStrict (chars text.now) }
 {
-    let found = find(text)?;
+    let found = parse_literal(text)?;
     Some(found.parts(text))
 }

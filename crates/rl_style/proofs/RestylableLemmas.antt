@@ -3,7 +3,7 @@ use Rattle.rl_syntax.proofs.Common.{◌≡◌, ℕ, chars, subst, sym}
 use Rattle.rl_lexer.specs.Cursors.{CursorState}
 use Rattle.rl_lexer.specs.Sources.{BeginsNoSource, TakesSource, source_view}
 use Rattle.rl_lexer.specs.declared.sources.SourceToken.{SourceToken}
-use Rattle.rl_style.specs.Calls.{CallState, calls_after, is_in_call}
+use Rattle.rl_style.specs.Calls.{CallState, advance_calls, is_in_call}
 use Rattle.rl_style.specs.declared.restylable.Last.{Last}
 use Rattle.rl_style.specs.declared.restylable.Restylable.{Restylable}
 use Rattle.rl_style.specs.Restylable.{GivesLiteral, GivesNone, Here, Behind, Passes, Stops, IsLiteralOfSource, RestylableState, is_field, last_after, passed}
@@ -15,7 +15,7 @@ state tokens last end calls = record { tokens = tokens; last = last; end = end; 
 -- position relative to macro calls.
 pub record Steps (s : RestylableState) (token : SourceToken) (last : Last) (calls : CallState) : Type 0 where
   pub last_is : last ≡ last_after s.last s.end (source_view token.form) token.lo
-  pub calls_are : calls ≡ calls_after s.calls (source_view token.form) token.text.now
+  pub calls_are : calls ≡ advance_calls s.calls (source_view token.form) token.text.now
 
 -- The next state after a token and the state that the code's values represent are equal. A property of the first state holds
 -- for the second one. The lemma `unstepped` is the reverse.

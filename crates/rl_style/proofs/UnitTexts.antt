@@ -5,7 +5,7 @@ use Rattle.std.specs.Prelude.{Option}
 use Rattle.std.specs.Str.{chars}
 use Rattle.rl_syntax.proofs.Basics.{apart, false_unless}
 use Rattle.rl_syntax.proofs.LowBytes.{encode_is_high, low_front}
-use Rattle.rl_lenient.proofs.Names.{Kind, Str, ByteStr, CStr, Byte, Char, Int, Float, BoolKind, content_of, holds_characters, place_value, strict_content_of, strict_contents, first_passes, IsTail, StrictUnit, Itself, QuoteEscape, PlainEscape, AsciiEscape, ByteEscape, UnicodeEscape, LineBreak, strict_text, is_strict_unit, unit_text}
+use Rattle.rl_lenient.proofs.Names.{Kind, Str, ByteStr, CStr, Byte, Char, Int, Float, BoolKind, content_of, decodes_to_chars, place_value, strict_content_of, strict_contents, first_passes, IsTail, StrictUnit, Itself, QuoteEscape, PlainEscape, AsciiEscape, ByteEscape, UnicodeEscape, LineBreak, strict_text, is_strict_unit, unit_text}
 use Rattle.rl_syntax.specs.Written.{closer}
 use Rattle.rl_syntax.specs.Strict.{is_allowed_in_single_quotes, is_bare_in_string, is_plain_letter, is_unicode_escape, plain_escapes, plain_value_in, spaced_digit, spaced_value}
 use Rattle.rl_lenient.specs.Mirrors.UnitAt.{unit_at}
@@ -96,7 +96,7 @@ held_of BoolKind n = alone_of n
 -- The code computes a number from a character: the character if it is ASCII, and 128 otherwise. The definition computes an
 -- equal number from the character's value.
 pub content_ascii : (k : Kind) (n m : ℕ) → m ≡ cond (nat_lt n 128) n 128 → m ≡ ascii_in (content_of k (n ∷ []))
-content_ascii k n m e = go (holds_characters k)
+content_ascii k n m e = go (decodes_to_chars k)
   where
     bytes : cond (nat_lt n 128) n 128 ≡ ascii_in (encode_utf8_all (n ∷ []))
     bytes =

@@ -82,15 +82,15 @@ after_any_other (Inside depth) = Inside depth
 after_any_other _ = Outside
 
 -- The position relative to macro calls, after a token of the given kind. The text of the token is `bytes`.
-abbrev pub calls_after : CallState → SourceKind → List ℕ → CallState
-calls_after s (PlainKind IdentifierForm) bytes = after_word s bytes
-calls_after s (PlainKind (DelimiterForm c)) bytes = after_bracket s c
-calls_after s (PlainKind (MarkForm c)) bytes = after_mark s c
-calls_after s (PlainKind LiteralForm) bytes = after_any_other s
-calls_after s RawIdentifierKind bytes = after_word s bytes
-calls_after s LifetimeKind bytes = after_any_other s
-calls_after s DocCommentKind bytes = after_any_other s
-calls_after s StrayKind bytes = after_any_other s
+abbrev pub advance_calls : CallState → SourceKind → List ℕ → CallState
+advance_calls s (PlainKind IdentifierForm) bytes = after_word s bytes
+advance_calls s (PlainKind (DelimiterForm c)) bytes = after_bracket s c
+advance_calls s (PlainKind (MarkForm c)) bytes = after_mark s c
+advance_calls s (PlainKind LiteralForm) bytes = after_any_other s
+advance_calls s RawIdentifierKind bytes = after_word s bytes
+advance_calls s LifetimeKind bytes = after_any_other s
+advance_calls s DocCommentKind bytes = after_any_other s
+advance_calls s StrayKind bytes = after_any_other s
 
 -- The next token is inside a macro call.
 abbrev pub is_in_call : CallState → Bool

@@ -7,7 +7,7 @@ use Rattle.rl_syntax.specs.Classes.{after_run}
 use Rattle.rl_syntax.specs.Texts.{first_passes, is_run_part, is_underscore}
 use Rattle.rl_syntax.specs.Spelling.{without_underscores}
 use Rattle.rl_lexer.specs.Lexemes.{is_base_letter}
-use Rattle.rl_writing.specs.Integers.{ends_group, group_size}
+use Rattle.rl_writing.specs.Integers.{is_digit_group_end, group_size}
 use Rattle.rl_style.specs.declared.style.DigitGroups.{DigitGroups}
 use Rattle.rl_style.specs.declared.style.Style.{Style}
 
@@ -30,8 +30,8 @@ least_by (Some groups) = groups.least
 -- Whether an underscore follows a digit. `left` digits follow the digit, of the `count` digits of the number. Groups are
 -- counted from the first digit if the first argument is true, and from the last digit otherwise.
 abbrev pub ends : Bool → ℕ → ℕ → ℕ → Bool
-ends false size count left = ends_group size left
-ends true size count left = nat_lt 0 left && ends_group size (count - left)
+ends false size count left = is_digit_group_end size left
+ends true size count left = nat_lt 0 left && is_digit_group_end size (count - left)
 
 -- The digits, with an underscore after some of them. An underscore follows a digit if the number of digits after the digit
 -- passes the test.

@@ -9,7 +9,7 @@ use Rattle.rl_lexer.specs.Cursors.{CursorState}
 use Rattle.rl_lexer.specs.Lexemes.{DelimiterForm, MarkForm}
 use Rattle.rl_lexer.specs.Sources.{BeginsNoSource, DocCommentKind, IsLiteralText, PlainKind, SourceKind, TakesSource, source_view}
 use Rattle.rl_lexer.specs.declared.sources.SourceToken.{SourceToken}
-use Rattle.rl_style.specs.Calls.{CallState, calls_after, is_in_call}
+use Rattle.rl_style.specs.Calls.{CallState, advance_calls, is_in_call}
 use Rattle.rl_style.specs.declared.restylable.Last.{Last}
 use Rattle.rl_style.specs.declared.restylable.Last.TheVariants.{Other, Dot, Dots, Opening}
 use Rattle.rl_style.specs.declared.restylable.Restylable.{Restylable}
@@ -71,7 +71,7 @@ passed s token tokens = record {
   tokens = tokens;
   last = last_after s.last s.end (source_view token.form) token.lo;
   end = token.hi;
-  calls = calls_after s.calls (source_view token.form) token.text.now;
+  calls = advance_calls s.calls (source_view token.form) token.text.now;
 }
 
 -- The token of a source is a literal.

@@ -3,7 +3,7 @@
 ghost use Rattle.std.specs.Prelude.{◌≡◌};
 ghost use Rattle.rl_lexer.specs.Cursors.{form_view};
 ghost use Rattle.rl_lexer.specs.Sources.{PlainKind, source_view};
-ghost use Rattle.rl_style.specs.Calls.{after_closer, after_bracket, after_mark, after_opener, after_any_other, after_word, calls_after, calls_seen, deeper, is_in_call, is_keyword};
+ghost use Rattle.rl_style.specs.Calls.{after_closer, after_bracket, after_mark, after_opener, after_any_other, after_word, advance_calls, calls_seen, deeper, is_in_call, is_keyword};
 
 use rl_lexer::{Form, SourceForm, SourceToken};
 
@@ -146,7 +146,7 @@ fn after_any_other(calls: Calls<'_>) -> Calls<'_>
 /// Returns the position relative to macro calls, after a token of the lexer with the form `form` and the text `text`.
 #[inline(always)]
 fn after_lexeme<'t>(calls: Calls<'t>, form: Form, text: &'t str) -> Calls<'t>
-    ensures { calls_seen result ≡ calls_after (calls_seen calls.entry) (PlainKind (form_view form)) text.now }
+    ensures { calls_seen result ≡ advance_calls (calls_seen calls.entry) (PlainKind (form_view form)) text.now }
 {
     match form {
         Form::Identifier => after_word(calls, text),
@@ -158,8 +158,8 @@ fn after_lexeme<'t>(calls: Calls<'t>, form: Form, text: &'t str) -> Calls<'t>
 
 /// Returns the position relative to macro calls, after one more token of a source.
 #[inline(always)]
-pub fn calls_after<'t>(calls: Calls<'t>, token: SourceToken<'t>) -> Calls<'t>
-    ensures { calls_seen result ≡ calls_after (calls_seen calls.entry) (source_view token.entry.form) token.entry.text.now }
+pub fn advance_calls<'t>(calls: Calls<'t>, token: SourceToken<'t>) -> Calls<'t>
+    ensures { calls_seen result ≡ advance_calls (calls_seen calls.entry) (source_view token.entry.form) token.entry.text.now }
 {
     match token.form {
         SourceForm::Token(form) => after_lexeme(calls, form, token.text),

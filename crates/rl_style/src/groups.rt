@@ -12,7 +12,7 @@ use crate::characters::{Manner, begins_base_letter, put_character, put_numeral};
 use crate::style::{DigitGroups, Style};
 use rl_syntax::slice_writer::put_byte;
 use rl_syntax::text::split_char;
-use rl_writing::{ends_group, group_size_for};
+use rl_writing::{is_digit_group_end, digit_group_size};
 
 /// Returns the number of digits in a group, for numbers of the base `base`.
 fn base_group(groups: DigitGroups, base: u32) -> usize
@@ -54,9 +54,9 @@ fn ends(from_first: bool, size: usize, count: usize, left: usize) -> bool
     ensures { result ≡ ends from_first size count left }
 {
     if from_first {
-        left > 0 && ends_group(size, count - left)
+        left > 0 && is_digit_group_end(size, count - left)
     } else {
-        ends_group(size, left)
+        is_digit_group_end(size, left)
     }
 }
 
@@ -105,7 +105,7 @@ fn put_grouped(out: &mut [u8], at: usize, manner: Manner, from_first: bool, run:
     ensures len { length out.new ≡ length out.old }
 {
     let count = count_digits(run);
-    let size = group_size_for(manner.size, least_digits(manner.style), count);
+    let size = digit_group_size(manner.size, least_digits(manner.style), count);
     let mut left = count;
     let mut end = at;
     let mut rest = run;

@@ -11,7 +11,7 @@ use crate::codes::put_digits;
 use crate::style::Style;
 use rl_syntax::slice_writer::{put_byte, put_char, put_text};
 use rl_syntax::text::split_char;
-use rl_writing::{needs_escape, put_unicode};
+use rl_writing::{needs_escape, put_unicode_escape};
 
 /// Whether the character must be written as a numeric escape: it is invisible, bidirectional or a control character other than
 /// LF, CR and TAB.
@@ -77,7 +77,7 @@ fn put_code(out: &mut [u8], at: usize, c: char) -> usize
     if c < '\u{80}' {
         return put_two(out, at, c);
     }
-    put_unicode(out, at, c)
+    put_unicode_escape(out, at, c)
 }
 
 /// Writes the numeric escape of a character, with its digits as the style requires.

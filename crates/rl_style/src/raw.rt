@@ -15,7 +15,7 @@ use rl_lenient::digit_runs::begins_digit;
 use rl_syntax::Kind;
 use rl_syntax::slice_writer::{put_byte, put_text};
 use rl_syntax::text::split_char;
-use rl_writing::{raw_hashes, write_raw_into};
+use rl_writing::{min_raw_hashes, write_raw_into};
 
 /// Whether the byte is a hash or a dot.
 fn is_hash_or_dot(byte: u8) -> bool
@@ -148,7 +148,7 @@ pub(crate) fn write_raw(
     if !style.raw_hashes {
         return put_text(out, 0, text);
     }
-    let Some(hashes) = raw_hashes(kind, inside) else {
+    let Some(hashes) = min_raw_hashes(kind, inside) else {
         unreachable!()
     };
     let at = write_raw_into(kind, hashes, inside, out);

@@ -8,7 +8,7 @@ ghost use Rattle.rl_style.specs.Calls.{Outside};
 ghost use Rattle.rl_style.specs.Restylable.{GivesLiteral, GivesNone, begins_one_colon, is_field, last_after, names_field, one_more};
 ghost use Rattle.rl_style.specs.declared.restylable.Last.TheVariants as last;
 
-use crate::calls::{Calls, calls_after, is_in_call};
+use crate::calls::{Calls, advance_calls, is_in_call};
 use rl_lexer::{Form, LexError, SourceForm, SourceToken, Sources};
 use rl_syntax::text::{begins_with_char, strip_byte};
 use std::marker::Model;
@@ -148,7 +148,7 @@ impl<'t> Restylables<'t> {
             let (before, around) = (last, calls);
             last = last_after(before, end, token);
             end = token.hi;
-            calls = calls_after(around, token);
+            calls = advance_calls(around, token);
             if token.is_literal() {
                 self.last = last;
                 self.end = end;

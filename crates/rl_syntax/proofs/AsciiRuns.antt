@@ -3,7 +3,7 @@ use Rattle.rl_syntax.proofs.Common.{◌≡◌, ◌+◌, ◌<◌, ◌≤◌, ◌�
 use Rattle.std.proofs.lemmas.List.Sums.{prefix_len_passes}
 use Rattle.rl_syntax.specs.Texts.{first_passes, is_white, IsTail}
 use Rattle.rl_syntax.specs.Classes.{after_run, class_test}
-use Rattle.rl_syntax.specs.Mirrors.RunsAt.{is_word_byte, is_blank_byte, is_run_byte, run_class}
+use Rattle.rl_syntax.specs.Mirrors.RunsAt.{is_ascii_id_continue, is_blank_byte, is_run_byte, run_class}
 use Rattle.rl_syntax.proofs.AsciiLemmas.{ascii_xid_continue, continue_is_plain}
 use Rattle.rl_syntax.proofs.LowBytes.{cases128, low_front}
 use Rattle.rl_syntax.proofs.ScanLemmas.{prefix_ends, prefix_passes}
@@ -68,7 +68,7 @@ module _ (q : ℕ → Bool) (low : PassesLow q) where
 
 -- ---- sequences of identifier characters and of white space
 
-word_low : (c : ℕ) → is_word_byte c ≡ true → c < 128
+word_low : (c : ℕ) → is_ascii_id_continue c ≡ true → c < 128
 word_low c h = grind (arith, nat_tests)
 
 blank_low : (c : ℕ) → is_blank_byte c ≡ true → c < 128

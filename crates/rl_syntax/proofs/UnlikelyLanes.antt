@@ -5,7 +5,7 @@ use Rattle.std.specs.Bool.{beq}
 use Rattle.std.proofs.lemmas.List.{drop-drop, drop-take, take-take}
 use Rattle.std.proofs.lemmas.Simd.{get_or-chunk}
 use Rattle.rl_syntax.proofs.LaneLemmas.{lane, masked, not-not}
-use Rattle.rl_syntax.specs.Mirrors.RunsAt.{has_bit, is_word_byte}
+use Rattle.rl_syntax.specs.Mirrors.RunsAt.{has_bit, is_ascii_id_continue}
 use Rattle.rl_syntax.specs.Mirrors.UnlikelyAt.{around, is_likely_mark, is_likely_head, may_begin_at, last_of, byte_before}
 
 -- ---- each byte with the byte before it and the next byte
@@ -139,12 +139,12 @@ agree_at c low w q t r h a =
 
 -- Whether a literal or a comment may begin at a byte, from the byte before it, the byte itself, and the byte after it.
 abbrev pub by_bytes : ℕ × ℕ × ℕ → Bool
-by_bytes x = by_lanes x.1 (not (is_word_byte x.0)) (x.2 == 34) (x.2 == 39) (x.2 == 114) (x.2 == 35) (x.2 == 97)
+by_bytes x = by_lanes x.1 (not (is_ascii_id_continue x.0)) (x.2 == 34) (x.2 == 39) (x.2 == 114) (x.2 == 35) (x.2 == 97)
 
 same_places : (xs : List (ℕ × ℕ × ℕ)) → AreBytes xs → map by_bytes xs ≡ map may_begin_at xs
 same_places [] h = refl
-same_places (x ∷ xs) h = ap₂ (λ a b. a ∷ b) (agree_at x.1 h.0 (not (is_word_byte x.0)) (x.2 == 34) (x.2 == 39)
-    (x.2 == 114) (x.2 == 35) (x.2 == 97) ∙ not-not (by_definition x.1 (not (is_word_byte x.0)) (x.2 == 34) (x.2 == 39)
+same_places (x ∷ xs) h = ap₂ (λ a b. a ∷ b) (agree_at x.1 h.0 (not (is_ascii_id_continue x.0)) (x.2 == 34) (x.2 == 39)
+    (x.2 == 114) (x.2 == 35) (x.2 == 97) ∙ not-not (by_definition x.1 (not (is_ascii_id_continue x.0)) (x.2 == 34) (x.2 == 39)
     (x.2 == 114) (x.2 == 35) (x.2 == 97))) (same_places xs h.1)
 
 -- ---- the mask

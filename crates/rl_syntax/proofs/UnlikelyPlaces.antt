@@ -2,7 +2,7 @@
 use Rattle.rl_syntax.proofs.Common.{◌≡◌, ℕ, zero, suc, ◌+◌, ◌≤◌, ◌≢◌, Bool, true, false, not, cond, List, [], ◌∷◌, map, length, drop, refl, sym, ap, ◌∙◌, arith, prefix_len, mask_l, chunk, count_trailing_zeros}
 use Rattle.rl_syntax.proofs.LaneLemmas.{run_stops, run_through}
 use Rattle.rl_syntax.proofs.UnlikelyLanes.{around-length}
-use Rattle.rl_syntax.specs.Mirrors.UnlikelyAt.{around, begins_none, first_or, may_begin, may_begin_at, unlikely_after, skippable_len}
+use Rattle.rl_syntax.specs.Mirrors.UnlikelyAt.{around, begins_none, first_or, may_begin, may_begin_at, unlikely_after, literal_free_prefix_len}
 
 -- Whether neither a literal nor a comment begins at the second byte of a pair, if the first byte of the pair precedes it.
 abbrev pub is_past : ℕ × ℕ → Bool
@@ -40,9 +40,9 @@ on_from q (suc n) (x ∷ xs) h = go (q x) refl h (on_from q n xs)
     go false e h more = absurd (omega arith)
 
 -- The lowest bit of the mask of sixteen bytes is at the first of these bytes at which a literal or a comment may begin.
-pub first_place : (bs : List ℕ) (at m : ℕ) → at ≤ skippable_len bs → at + 16 ≤ length bs
+pub first_place : (bs : List ℕ) (at m : ℕ) → at ≤ literal_free_prefix_len bs → at + 16 ≤ length bs
     → m ≡ mask_l (map may_begin_at (chunk at 16 (around 0 bs))) → m ≢ 0 → at + count_trailing_zeros 64 m
-    ≡ skippable_len bs
+    ≡ literal_free_prefix_len bs
 first_place bs at m front room bits some =
     let xs = around 0 bs in
     let whole = unlikely_run 0 bs in
@@ -53,8 +53,8 @@ first_place bs at m front room bits some =
     omega (arith, whole, on, run, same)
 
 -- If no bit of the mask of sixteen bytes is set, neither a literal nor a comment begins at any of these bytes.
-pub none_among : (bs : List ℕ) (at m : ℕ) → at ≤ skippable_len bs → at + 16 ≤ length bs
-    → m ≡ mask_l (map may_begin_at (chunk at 16 (around 0 bs))) → m ≡ 0 → at + 16 ≤ skippable_len bs
+pub none_among : (bs : List ℕ) (at m : ℕ) → at ≤ literal_free_prefix_len bs → at + 16 ≤ length bs
+    → m ≡ mask_l (map may_begin_at (chunk at 16 (around 0 bs))) → m ≡ 0 → at + 16 ≤ literal_free_prefix_len bs
 none_among bs at m front room bits none =
     let xs = around 0 bs in
     let whole = unlikely_run 0 bs in

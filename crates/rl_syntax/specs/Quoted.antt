@@ -64,13 +64,13 @@ unit_text (Continuation line_end run) = code "\\" ∷ line_end ∷ run
 
 -- Whether the value of a literal of the kind consists of characters, as for strings and characters. The values of the other
 -- quoted kinds consist of bytes.
-abbrev pub holds_characters : Kind → Bool
-holds_characters Str = true
-holds_characters Char = true
-holds_characters _ = false
+abbrev pub decodes_to_chars : Kind → Bool
+decodes_to_chars Str = true
+decodes_to_chars Char = true
+decodes_to_chars _ = false
 
 abbrev pub content_of : Kind → List ℕ → List ℕ
-content_of kind cs = if holds_characters kind then cs else encode_utf8_all cs
+content_of kind cs = if decodes_to_chars kind then cs else encode_utf8_all cs
 
 abbrev pub hex_value : ℕ → ℕ → ℕ
 hex_value high low = place_value 16 (high ∷ low ∷ [])
@@ -129,7 +129,7 @@ is_raw kind c = allows_code kind c
 -- Whether the escape `\xHH` in a literal of the kind may have the given number: below 128 in a literal of characters, and not 0
 -- in a C string. `allows_unicode_escapes` says whether literals of the kind may contain escapes `\u{..}`.
 abbrev pub may_be_hex : Kind → ℕ → Bool
-may_be_hex kind n = allows_code kind n && (not (holds_characters kind) || nat_lt n 128)
+may_be_hex kind n = allows_code kind n && (not (decodes_to_chars kind) || nat_lt n 128)
 
 abbrev pub allows_unicode_escapes : Kind → Bool
 allows_unicode_escapes ByteStr = false

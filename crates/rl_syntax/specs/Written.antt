@@ -3,7 +3,7 @@ use Rattle.std.specs.Prelude.{ℕ, ◌+◌, ◌-◌, ◌/◌, ◌%◌, Bool, not
 use Prim.Native.Char.{code}
 use Rattle.rl_syntax.specs.declared.kind.Kind.{Kind}
 use Rattle.rl_syntax.specs.declared.kind.Kind.TheVariants.{Byte, Char}
-use Rattle.rl_syntax.specs.Quoted.{QuotedUnit, Plain, Named, Hex, Zero, LowerT, LowerN, LowerR, Backslash, Quote, Apostrophe, holds_characters, opener, texts}
+use Rattle.rl_syntax.specs.Quoted.{QuotedUnit, Plain, Named, Hex, Zero, LowerT, LowerN, LowerR, Backslash, Quote, Apostrophe, decodes_to_chars, opener, texts}
 use Rattle.rl_syntax.specs.Reading.{Reads, quoted_contents}
 use Rattle.rl_syntax.specs.Strict.{Strict}
 
@@ -27,7 +27,7 @@ own_quote _ = Named Quote
 abbrev pub is_written_as_number : Kind → ℕ → Bool
 is_written_as_number kind c =
     nat_lt c (code " ") || c == 127
-    || (nat_lt 127 c && not (holds_characters kind))
+    || (nat_lt 127 c && not (decodes_to_chars kind))
 
 -- The written form of a character or byte in a literal of the kind: itself or an escape.
 unfoldable pub written_unit : Kind → ℕ → QuotedUnit

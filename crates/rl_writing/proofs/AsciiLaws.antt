@@ -8,7 +8,7 @@ use Rattle.std.specs.Char.{IsScalar}
 use Rattle.std.specs.Prelude.{encode_utf8_all}
 use Rattle.rl_syntax.specs.declared.kind.Kind.{Kind}
 use Rattle.rl_syntax.specs.declared.kind.Kind.TheVariants.{Str, Char}
-use Rattle.rl_syntax.specs.Quoted.{holds_characters, opener, unit_text}
+use Rattle.rl_syntax.specs.Quoted.{decodes_to_chars, opener, unit_text}
 use Rattle.rl_syntax.specs.Reading.{quoted_contents}
 use Rattle.rl_syntax.specs.Strict.{StrictUnit, Itself, QuoteEscape, PlainEscape, AsciiEscape, ByteEscape, UnicodeEscape, LineBreak, is_strict_unit, strict_text, strict_contents, strict_content_of, strict_opener, strict_closer, BlanksEnd, HasUnits, StrictCooked, Strict}
 use Rattle.rl_syntax.specs.Written.{closer, is_written_as_number, upper_digit, written_unit}
@@ -147,7 +147,7 @@ char_fine c s = elim (cases_lt c 128) [
   | inr a ↦ fine_wide Char c a s (escape_is c s) (ap (λ z. z ∷ []) (escape_value c))
 ]
 
-pub fine : (k : Kind) (c : ℕ) → holds_characters k ≡ true → IsScalar c → Fine k c
+pub fine : (k : Kind) (c : ℕ) → decodes_to_chars k ≡ true → IsScalar c → Fine k c
 fine Str c h s = str_fine c s
 fine Char c h s = char_fine c s
 fine kind c h s = absurd (cc)
@@ -163,7 +163,7 @@ pub record FineRow (k : Kind) (v : List ℕ) : Type 0 where
   pub count : length units ≡ length v
   pub low : list_all is_low (flat_map (ascii_text k) v) ≡ true
 
-row_of : (k : Kind) (v : List ℕ) → holds_characters k ≡ true → scalars v ≡ true → FineRow k v
+row_of : (k : Kind) (v : List ℕ) → decodes_to_chars k ≡ true → scalars v ≡ true → FineRow k v
 row_of k [] h s = record { units = []; each = refl; blanks_end = tt; text_is = refl; value_is = refl; count = refl; low = refl }
 row_of k (c ∷ v) h s =
     let p = and_parts (scalar c) (scalars v) s in
@@ -226,7 +226,7 @@ pub form_utf8 : (k : Kind) (v whole : List ℕ) → IsAsciiForm k v (ascii_liter
 form_utf8 k v whole f e = low_utf8 whole (ap (list_all is_low) e ∙ f.ascii)
 
 -- The bytes of an ASCII character's written form are its text in an ASCII literal.
-pub low_bytes : (k : Kind) (c : ℕ) (bytes : List ℕ) → holds_characters k ≡ true → IsScalar c → c < 128
+pub low_bytes : (k : Kind) (c : ℕ) (bytes : List ℕ) → decodes_to_chars k ≡ true → IsScalar c → c < 128
     → bytes ≡ encode_utf8_all (unit_text (written_unit k c)) → bytes ≡ ascii_text k c
 low_bytes k c bytes h s small e =
     let f = fine k c h s in

@@ -12,7 +12,7 @@ use Rattle.rl_syntax.proofs.Dec.{dec_is_decimal}
 use Rattle.rl_syntax.proofs.StrictNumbers.{strict_int}
 use Rattle.rl_syntax.specs.declared.integer_type.IntegerType.{IntegerType}
 use Rattle.rl_writing.specs.declared.integers.IntegerStyle.{IntegerStyle}
-use Rattle.rl_writing.specs.Integers.{base_view, ends_group, group_size, grouped, numeral, suffix_text}
+use Rattle.rl_writing.specs.Integers.{base_view, is_digit_group_end, group_size, grouped, numeral, suffix_text}
 use Rattle.rl_writing.specs.WrittenIntegers.{IsWrittenInteger, grouped_numeral, written_integer}
 use Rattle.rl_writing.proofs.AsciiLemmas.{is_low, low_chars, low_join, low_utf8}
 use Rattle.rl_writing.proofs.GroupLemmas.{grouped_all, grouped_digits}
@@ -71,7 +71,7 @@ row_is b upper size value =
     ∙ glyphs in
     record {
       first = first;
-      more = (if ends_group size (length some.more) then 95 ∷ [] else []) ++ grouped size some.more;
+      more = (if is_digit_group_end size (length some.more) then 95 ∷ [] else []) ++ grouped size some.more;
       is = ap (grouped size) some.is;
       begins = glyph_part base first (and_parts (is_glyph base first) (list_all (is_glyph base) some.more) begun).0;
       each = grouped_all (is_run_part (has_value base)) size ds (or_right (has_value base 95) true refl)

@@ -7,7 +7,7 @@ use Rattle.rl_syntax.specs.Texts.{first_passes}
 use Rattle.rl_syntax.proofs.Basics.{all_weaker, hashes_all, word_without}
 use Rattle.rl_syntax.specs.declared.kind.Kind.{Kind}
 use Rattle.rl_syntax.specs.declared.kind.Kind.TheVariants.{Str, ByteStr, CStr}
-use Rattle.rl_syntax.specs.Quoted.{holds_characters, is_raw, is_string, raw_opener, Raw}
+use Rattle.rl_syntax.specs.Quoted.{decodes_to_chars, is_raw, is_string, raw_opener, Raw}
 use Rattle.rl_syntax.specs.Reading.{Bytes, Characters, Contents, Reads}
 use Rattle.rl_syntax.specs.Strict.{IsRawInside, IsStrictSuffix, Strict, StrictRaw, strict_closer, strict_opener, strict_raw_opener}
 use Rattle.rl_syntax.proofs.Agreeing.{strict_reads}
@@ -211,7 +211,7 @@ none_suffices k n inside s is many m v x r =
     omega (arith, is, many, needs.few, needs.enough)
 
 -- The value of a raw byte string or raw C string consists of the bytes between its quotes.
-pub bytes_held : (k : Kind) (n : ℕ) (text value : List ℕ) → is_string k ≡ true → holds_characters k ≡ false
+pub bytes_held : (k : Kind) (n : ℕ) (text value : List ℕ) → is_string k ≡ true → decodes_to_chars k ≡ false
     → text ≡ value → IsUtf8 value → HasFewestHashes k (chars text) n → raw_contents k (chars text) ≡ Bytes value
 bytes_held ByteStr n text value s h same u f =
     let stand = (strict_needs ByteStr n (chars text) [] _ s f.strict).stand in

@@ -26,8 +26,8 @@ unfoldable pub numeral : ℕ → Bool → ℕ → List ℕ
 numeral base upper n = digits_onto (suc n) base upper n []
 
 -- Whether an underscore follows a digit that has `left` digits after it, in groups of `size` digits.
-abbrev pub ends_group : ℕ → ℕ → Bool
-ends_group size left = nat_lt 0 size && nat_lt 0 left && left % size == 0
+abbrev pub is_digit_group_end : ℕ → ℕ → Bool
+is_digit_group_end size left = nat_lt 0 size && nat_lt 0 left && left % size == 0
 
 -- The size of the groups in which `count` digits are written: 0, which means no groups, if `count` is below `least`.
 abbrev pub group_size : ℕ → ℕ → ℕ → ℕ
@@ -38,4 +38,4 @@ group_size group least count = if nat_lt count least then 0 else group
 abbrev pub grouped : ℕ → List ℕ → List ℕ
 grouped size [] = []
 grouped size (d ∷ ds) =
-    d ∷ ((if ends_group size (length ds) then code "_" ∷ [] else []) ++ grouped size ds)
+    d ∷ ((if is_digit_group_end size (length ds) then code "_" ∷ [] else []) ++ grouped size ds)

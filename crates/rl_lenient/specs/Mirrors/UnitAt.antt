@@ -5,7 +5,7 @@ use Rattle.std.specs.Char.{IsScalar, digit_value}
 use Rattle.std.proofs.Math.Utf8.{scalar}
 use Prim.Native.Char.{code}
 use Rattle.rl_syntax.specs.declared.kind.Kind.{Kind}
-use Rattle.rl_syntax.specs.Quoted.{content_of, holds_characters, is_line_end, is_string, is_plain, allows_code, may_be_hex, allows_unicode_escapes}
+use Rattle.rl_syntax.specs.Quoted.{content_of, decodes_to_chars, is_line_end, is_string, is_plain, allows_code, may_be_hex, allows_unicode_escapes}
 use Rattle.rl_syntax.specs.Texts.{begins_char, is_blank}
 use Rattle.rl_lenient.specs.declared.units.Piece.{Piece}
 use Rattle.rl_lenient.specs.declared.units.Piece.TheVariants.{Character, Byte, Nothing}
@@ -20,7 +20,7 @@ piece_value kind Nothing = []
 -- byte is ASCII if the literal consists of characters.
 abbrev pub IsHeldBy : Kind → Piece → Type 0
 IsHeldBy kind (Character c) = IsScalar c
-IsHeldBy kind (Byte b) = IsTrue (not (holds_characters kind) || nat_lt b 128)
+IsHeldBy kind (Byte b) = IsTrue (not (decodes_to_chars kind) || nat_lt b 128)
 IsHeldBy kind Nothing = ⊤
 
 abbrev pub is_character : Piece → Bool

@@ -2,7 +2,7 @@
 //! Finds the closing quote of an invalid character or byte literal, as rustc does.
 
 use crate::rl_strict::LineEnds;
-use crate::rl_strict::walk_units::split;
+use crate::rl_strict::walk_units::split_first_char;
 use crate::rl_syntax::text::{begins_with_char, strip_byte};
 
 /// Whether the search for a closing quote ends at `c`: at a slash, or at an LF that a quote doesn't follow directly.
@@ -16,7 +16,7 @@ fn ends_search(c: char, following: &str) -> bool {
 #[inline]
 fn after_part(ends: LineEnds, c: char, following: &str) -> Option<&str> {
     if c == '\\' {
-        let (_, more) = split(ends, following)?;
+        let (_, more) = split_first_char(ends, following)?;
         return Some(more);
     }
     if ends_search(c, following) {
@@ -31,7 +31,7 @@ fn after_part(ends: LineEnds, c: char, following: &str) -> Option<&str> {
 #[inline]
 fn next_quote(ends: LineEnds, text: &str) -> Option<&str> {
     let mut rest = text;
-    while let Some((c, following)) = split(ends, rest) {
+    while let Some((c, following)) = split_first_char(ends, rest) {
         if c == '\'' {
             return Some(rest);
         }

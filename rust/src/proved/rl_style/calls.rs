@@ -139,7 +139,7 @@ fn after_lexeme<'t>(calls: Calls<'t>, form: Form, text: &'t str) -> Calls<'t> {
 
 /// Returns the position relative to macro calls, after one more token of a source.
 #[inline(always)]
-pub fn calls_after<'t>(calls: Calls<'t>, token: SourceToken<'t>) -> Calls<'t> {
+pub fn advance_calls<'t>(calls: Calls<'t>, token: SourceToken<'t>) -> Calls<'t> {
     match token.form {
         SourceForm::Token(form) => after_lexeme(calls, form, token.text),
         SourceForm::RawIdentifier => after_word(calls, token.text),

@@ -5,7 +5,7 @@ use crate::rl_style::characters::{Manner, begins_base_letter, put_character, put
 use crate::rl_style::style::{DigitGroups, Style};
 use crate::rl_syntax::slice_writer::put_byte;
 use crate::rl_syntax::text::split_char;
-use crate::rl_writing::{ends_group, group_size_for};
+use crate::rl_writing::{is_digit_group_end, digit_group_size};
 
 /// Returns the number of digits in a group, for numbers of the base `base`.
 #[inline]
@@ -42,9 +42,9 @@ fn least_digits(style: Style) -> usize {
 #[inline]
 fn ends(from_first: bool, size: usize, count: usize, left: usize) -> bool {
     if from_first {
-        left > 0 && ends_group(size, count - left)
+        left > 0 && is_digit_group_end(size, count - left)
     } else {
-        ends_group(size, left)
+        is_digit_group_end(size, left)
     }
 }
 
@@ -77,7 +77,7 @@ fn put_digit(out: &mut [u8], at: usize, manner: Manner, digit: char, ends: bool)
 #[inline]
 fn put_grouped(out: &mut [u8], at: usize, manner: Manner, from_first: bool, run: &str) -> usize {
     let count = count_digits(run);
-    let size = group_size_for(manner.size, least_digits(manner.style), count);
+    let size = digit_group_size(manner.size, least_digits(manner.style), count);
     let mut left = count;
     let mut end = at;
     let mut rest = run;

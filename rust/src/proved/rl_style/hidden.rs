@@ -5,7 +5,7 @@ use crate::rl_style::codes::put_digits;
 use crate::rl_style::style::Style;
 use crate::rl_syntax::slice_writer::{put_byte, put_char, put_text};
 use crate::rl_syntax::text::split_char;
-use crate::rl_writing::{needs_escape, put_unicode};
+use crate::rl_writing::{needs_escape, put_unicode_escape};
 
 /// Whether the character must be written as a numeric escape: it is invisible, bidirectional or a control character other than
 /// LF, CR and TAB.
@@ -56,7 +56,7 @@ fn put_code(out: &mut [u8], at: usize, c: char) -> usize {
     if c < '\u{80}' {
         return put_two(out, at, c);
     }
-    put_unicode(out, at, c)
+    put_unicode_escape(out, at, c)
 }
 
 /// Writes the numeric escape of a character, with its digits as the style requires.

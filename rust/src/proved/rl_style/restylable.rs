@@ -1,7 +1,7 @@
 // Rendered from crates/rl_style/src/restylable.rt by tools/render, which erases contracts: change that file, and render again.
 //! The literals of a source that a style may rewrite.
 
-use crate::rl_style::calls::{Calls, calls_after, is_in_call};
+use crate::rl_style::calls::{Calls, advance_calls, is_in_call};
 use crate::rl_lexer::{Form, LexError, SourceForm, SourceToken, Sources};
 use crate::rl_syntax::text::{begins_with_char, strip_byte};
 
@@ -116,7 +116,7 @@ impl<'t> Restylables<'t> {
             let (before, around) = (last, calls);
             last = last_after(before, end, token);
             end = token.hi;
-            calls = calls_after(around, token);
+            calls = advance_calls(around, token);
             if token.is_literal() {
                 self.last = last;
                 self.end = end;

@@ -104,7 +104,7 @@ pub struct Command<'a> {
     pub style: Option<&'a str>,
     /// The rules of the style, by which literals are rewritten.
     pub rules: Style,
-    /// Whether literals in macro calls are rewritten, if `--macros` is passed.
+    /// Whether literals in macro code are treated as all others, if `--macros` is passed.
     pub macros: Option<Macros>,
 }
 

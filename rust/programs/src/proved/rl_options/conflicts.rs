@@ -7,7 +7,7 @@ use crate::rl_options::arguments::ParsedArguments;
 use crate::rl_options::command::{Action, Command, Output};
 use crate::rl_options::modes::{mode_of, mode_words, modes_hint};
 use crate::rl_options::table::without_effect;
-use crate::rl_output::{Shown, has_extents, names};
+use crate::rl_output::{Shown, has_extents, list_contains};
 use crate::rattle_std::alloc::Allocator;
 
 /// The kinds of literals whose value may contain a text.
@@ -15,7 +15,7 @@ const TEXT_KINDS: &str = "Str,ByteStr,CStr,Byte,Char";
 
 /// Whether a list names a kind of literals whose value may contain a text. Commas separate the kinds.
 fn has_text_kind(list: &str) -> bool {
-    list.split(',').any(|word| names(TEXT_KINDS, word))
+    list.split(',').any(|word| list_contains(TEXT_KINDS, word))
 }
 
 /// Whether the literals that are printed may have a value that contains a text.
@@ -94,12 +94,12 @@ fn has_input_style(style: Option<&str>) -> bool {
     }
 }
 
-/// Whether sources or a list of paths are read from standard input. They are also if there are no paths and no lists.
+/// Whether sources or a list of paths may be read from standard input: a path or a list is `-`, or there are no paths and no lists.
 fn reads_input<A: Allocator>(paths: &[String<A>], lists: &[&str]) -> bool {
     paths.is_empty() && lists.is_empty() || has_input_path(paths) || has_input_list(lists)
 }
 
-/// Whether the rules of a style are read from standard input, and sources or a list of paths too.
+/// Whether the rules of a style are read from standard input, and sources or a list of paths may be read from it too.
 fn reads_input_twice<A: Allocator>(asked: &ParsedArguments<'_, A>) -> bool {
     has_input_style(asked.command.style)
         && reads_input(asked.paths.as_slice(), asked.lists.as_slice())

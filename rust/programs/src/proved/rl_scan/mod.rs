@@ -18,7 +18,7 @@ mod visit_report;
 pub use crate::rl_scan::change::push_change;
 pub use crate::rl_scan::changes::push_changes;
 pub use crate::rl_scan::diff::push_diff;
-pub use crate::rl_scan::exit::{CallError, call, out_of_memory};
+pub use crate::rl_scan::exit::{CallError, out_of_memory_ending, run_with_arguments};
 use crate::rl_scan::host::host_arguments;
 pub use crate::rl_scan::outcome::{Outcome, rewrite_outcome, source_check_options};
 pub use crate::rl_scan::report::Report;
@@ -31,12 +31,11 @@ pub use crate::rl_options::{
 };
 use crate::rl_program::finish;
 use crate::rattle_std::alloc::Global;
-use crate::rattle_std::env;
 use crate::rattle_std::env::VarError;
-use crate::rattle_std::fs;
 use crate::rattle_std::io::IsTerminal;
 use crate::rattle_std::os::unix::fs::FileTypeExt;
 use crate::rattle_std::process::ExitCode;
+use crate::rattle_std::{env, fs};
 
 /// Whether the environment variable NO_COLOR isn't empty. It requests that programs print no colours.
 fn forbids_colors(rt: &HostRuntime) -> bool {
@@ -76,9 +75,9 @@ fn console(rt: &HostRuntime) -> Console {
 
 pub fn main(rt: HostRuntime) -> ExitCode {
     let Ok(args) = host_arguments(&rt) else {
-        return finish(&rt, out_of_memory::<Global>());
+        return finish(&rt, out_of_memory_ending::<Global>());
     };
-    let ending = call(
+    let ending = run_with_arguments(
         rt.alloc(),
         args.as_slice(),
         console(&rt),

@@ -107,7 +107,7 @@ fn context_of(command: Command<'_>) -> Option<Context> {
     })
 }
 
-/// Whether literals inside macro calls are checked like all others, by the option `--macros`.
+/// Whether literals in macro code are checked like all others: the option `--macros all` is passed.
 fn judges_macros(macros: Option<Macros>) -> bool {
     matches!(macros, Some(Macros::All))
 }
