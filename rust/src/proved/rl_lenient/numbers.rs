@@ -4,6 +4,7 @@
 use crate::rl_lenient::digit_runs::{after_minus, read_digit_run, skip_digits};
 use crate::rl_lenient::parse_literal;
 use crate::rl_lenient::number_forms::split_radix;
+use crate::rl_lenient::parse_literal;
 use crate::rl_syntax::Kind;
 use crate::rl_syntax::text::{before, split_char, strip_byte};
 
