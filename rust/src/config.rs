@@ -5,7 +5,7 @@ use crate::common::shifted;
 use crate::help::Separators;
 use crate::lit::Lit;
 use crate::rl_lexer::{without_byte_order_mark, Tokens};
-use crate::rl_settings::{next_config_entry, first_error, EntryRejection, EntryStep, NextEntry};
+use crate::rl_settings::{first_error, next_config_entry, EntryRejection, EntryStep, NextEntry};
 use crate::setting::{no_such, without_suffix, Key, SettingError, Settings};
 use crate::settings::{entry_of, rejected, Entry, SettingsSyntaxError};
 use alloc::borrow::Cow;

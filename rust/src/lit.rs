@@ -2,12 +2,12 @@
 
 use crate::kind::Kind;
 use crate::parse_error::ParseError;
-use crate::rl_lenient::{parse_literal, is_plain_integer, Body, Found};
+use crate::rl_lenient::{is_plain_integer, parse_literal, Body, Found};
 #[cfg(any(feature = "sources", feature = "settings"))]
 use crate::rl_strict::explain_value;
 use crate::rl_strict::strict_reading::{
-    classify_start, read, read_character, read_non_digit_start, read_string, read_unsigned_number, Front,
-    Reading,
+    classify_start, read, read_character, read_non_digit_start, read_string, read_unsigned_number,
+    Front, Reading,
 };
 use crate::rl_strict::{is_float_by_suffix, limit_flaw, LineEnds};
 use crate::rl_syntax;

@@ -8,8 +8,7 @@ use crate::next_literal::placed;
 use crate::rl_lenient::NextLiteral;
 use crate::rl_lexer::{LexError, Tokens};
 use crate::rl_settings::{
-    first_error, lexer_error, next_setting, NextSetting, SettingRejection, SettingStep,
-    SyntaxError,
+    first_error, lexer_error, next_setting, NextSetting, SettingRejection, SettingStep, SyntaxError,
 };
 use alloc::collections::BTreeSet;
 use alloc::string::String;

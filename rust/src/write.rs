@@ -4,8 +4,8 @@
 use crate::numbers::Base;
 use crate::rl_syntax::{write_bytes_into, write_char_into, write_str_into, Kind};
 use crate::rl_writing::{
-    self, raw_text_and_hashes, min_raw_hashes, write_char_ascii_into, write_integer_into, write_raw_into,
-    write_str_ascii_into,
+    self, min_raw_hashes, raw_text_and_hashes, write_char_ascii_into, write_integer_into,
+    write_raw_into, write_str_ascii_into,
 };
 use crate::value::Integer;
 use alloc::string::String;

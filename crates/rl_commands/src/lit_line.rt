@@ -6,7 +6,7 @@ ghost use Rattle.rl_program.specs.Lines.{IsLineOfKind, Appends};
 ghost use Rattle.rl_lenient.specs.Founds.{is_quoted};
 ghost use Rattle.rl_commands.specs.LitLines.{IsLineOfLit};
 
-use rl_program::{push_found_line, push_line_of_kind, push_verbatim_line, bool_word};
+use rl_program::{bool_word, push_found_line, push_line_of_kind, push_verbatim_line};
 use rl_quoted::{Quoted, QuotedKind};
 use rl_tokens::Kind;
 use rust_literals::Lit;

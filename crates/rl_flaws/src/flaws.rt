@@ -14,7 +14,7 @@ ghost use Rattle.rl_flaws.specs.PiecesLeft.{IsGoodLeft};
 use crate::closings::closing_quote;
 use crate::invalid_piece::{InvalidPiece, invalid_piece_with_offsets};
 use crate::piece_ends::{after_bad_piece, is_flaw_after_quote, is_flaw_of_unit};
-use crate::walks::{Opened, split_opening_delimiter, parse_quoted_content};
+use crate::walks::{Opened, parse_quoted_content, split_opening_delimiter};
 use rl_lenient::quoted_forms::QuotedForm;
 use rl_strict::read_quoted::suffix_flaw;
 use rl_strict::{FlawKind, LineEnds, read};

@@ -37,7 +37,12 @@ fn end_of(ends: LineEnds, len: usize, quote: char, kind: FlawKind, piece: &str, 
 
 /// Converts a flaw that was found inside a literal to byte offsets. The flaw's texts are ends of the input text, which has
 /// `len` bytes.
-pub fn invalid_piece_with_offsets(ends: LineEnds, len: usize, quote: char, found: FlawAt<'_>) -> InvalidPiece
+pub fn invalid_piece_with_offsets(
+    ends: LineEnds,
+    len: usize,
+    quote: char,
+    found: FlawAt<'_>,
+) -> InvalidPiece
     requires piece { length found.piece.now ≤ len }
     requires rest { length found.rest.now ≤ len }
     ensures kind { result.flaw.kind ≡ found.entry.kind }

@@ -18,7 +18,7 @@ ghost use Rattle.rl_flaws.specs.Opened.{IsOpened, opened_front};
 use rl_lenient::quoted_forms::{QuotedForm, split_opener};
 use rl_strict::LineEnds;
 use rl_strict::walk::{
-    QuotedContent, split_raw_opening, parse_cooked_content, parse_raw_content, parse_single_unit,
+    QuotedContent, parse_cooked_content, parse_raw_content, parse_single_unit, split_raw_opening,
 };
 use rl_syntax::Kind;
 
@@ -81,7 +81,11 @@ fn walk_unit(ends: LineEnds, kind: Kind, text: &str) -> QuotedContent<'_>
 
 /// Parses a quoted literal whose opening delimiter is `opened`. `text` begins after that delimiter, or at a later character or
 /// escape inside the literal.
-pub fn parse_quoted_content<'t>(ends: LineEnds, opened: Opened<'t>, text: &'t str) -> QuotedContent<'t>
+pub fn parse_quoted_content<'t>(
+    ends: LineEnds,
+    opened: Opened<'t>,
+    text: &'t str,
+) -> QuotedContent<'t>
     requires { IsOpened opened }
     ensures good { ends ≡ Text → IsInsideUpTo opened.entry.form opened.entry.kind (chars opened.entry.hashes.now)
         (chars text.now) (chars result.closing.now) }

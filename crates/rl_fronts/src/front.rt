@@ -12,7 +12,7 @@ ghost use Rattle.rl_fronts.specs.Fronts.{IsFront, HasNoFront, HasFrontOf, RunsAs
 ghost use Rattle.rl_lenient.specs.Founds.{IsFound};
 ghost use Rattle.rl_fronts.specs.FrontTokens.{HasNoWord, HasNoMinus};
 
-use rl_lenient::{Found, bool_of, parse_literal, find_negative};
+use rl_lenient::{Found, bool_of, find_negative, parse_literal};
 use rl_tokens::{Error, Ident, Kind, Literal, ParseBuffer, Punct, Span};
 use std::alloc::Allocator;
 use std::marker::Model;

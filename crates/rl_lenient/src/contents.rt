@@ -12,8 +12,8 @@ ghost use Rattle.rl_syntax.specs.declared.kind.Kind.TheVariants.{Float};
 ghost use Rattle.rl_lenient.specs.Decoded.{piece_bytes};
 ghost use Rattle.rl_lenient.specs.Mirrors.Decodes.{Decodes};
 
-use crate::found::{parse_literal, find_float, parse_known_literal};
-use crate::units::{Piece, piece_code, split_plain, parse_char_or_escape};
+use crate::found::{find_float, parse_known_literal, parse_literal};
+use crate::units::{Piece, parse_char_or_escape, piece_code, split_plain};
 use rl_syntax::Kind;
 use rl_syntax::slice_writer::{put, put_byte, put_char};
 

@@ -42,11 +42,11 @@ pub mod units;
 mod values;
 
 pub use crate::contents::{
-    byte_of, byte_of_body, decode_bytes_into, char_of, char_of_body, is_plain, decode_str_into,
+    byte_of, byte_of_body, char_of, char_of_body, decode_bytes_into, decode_str_into, is_plain,
 };
 pub use crate::digits::{float_digits_into, is_plain_integer};
 pub use crate::found::{
-    Body, Found, Parts, bool_of, parse_literal, find_float, find_int, find_negative, shape,
+    Body, Found, Parts, bool_of, find_float, find_int, find_negative, parse_literal, shape,
 };
 pub use crate::next_literals::{
     ListStep, NextLiteral, Rejection, RejectionKind, next_list_literal, next_literal,

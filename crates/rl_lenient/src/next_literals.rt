@@ -5,7 +5,7 @@ ghost use Rattle.rl_lexer.specs.Cursors.{form_view};
 ghost use Rattle.rl_lenient.specs.NextLiterals.{FindsReading, TakesNextLiteral, HasNoNextLiteral, token_rejection, RejectsNext, StepsList};
 ghost use Rattle.rl_lenient.specs.Values.{IsReadLiteral};
 
-use crate::found::{Found, parse_literal, find_negative, find_truth};
+use crate::found::{Found, find_negative, find_truth, parse_literal};
 use rl_lexer::{Form, LexKind, Lexeme, Tokens};
 
 /// The next literal of a list: its token, the minus before it, and its parse result. The token may be an invalid

@@ -9,7 +9,6 @@ ghost use Rattle.rl_lenient.specs.PartMirrors.PartsAt.{fraction_at, after_letter
 ghost use Rattle.rl_lenient.specs.NumberParts.{IsFloatOf, IsIntegerOf};
 
 use crate::digit_runs::{after_minus, read_digit_run, skip_digits};
-use crate::parse_literal;
 use crate::number_forms::split_radix;
 use crate::parse_literal;
 use rl_syntax::Kind;

@@ -14,7 +14,7 @@ ghost use Rattle.rl_syntax.specs.Reading.{HasNoReading};
 ghost use Rattle.rl_syntax.specs.Classes.{after_run, is_hash};
 
 use crate::found::{Body, Found};
-use crate::units::{is_ascii, piece_code, split_plain, parse_char_or_escape};
+use crate::units::{is_ascii, parse_char_or_escape, piece_code, split_plain};
 use rl_syntax::Kind;
 use rl_syntax::classes::skip_hashes;
 use rl_syntax::text::{after_prefix, before, split_ascii};

@@ -12,7 +12,7 @@ ghost use Rattle.rl_syntax.specs.declared.kind.Kind.{Kind as AnyKind};
 ghost use Rattle.rl_lenient.specs.Segments.{AreUnitsIn, IsFirstSegment, IsLongest, IsNoText, IsBytePlace, IsSegmentsOf};
 
 use crate::found::{Body, parse_literal};
-use crate::units::{Piece, is_plain_char, split_plain, parse_char_or_escape};
+use crate::units::{Piece, is_plain_char, parse_char_or_escape, split_plain};
 use rl_syntax::Kind;
 use rl_syntax::text::{before, split_char};
 use std::marker::Model;

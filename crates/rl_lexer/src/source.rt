@@ -21,7 +21,7 @@ use crate::no_token::{begins_raw_identifier, opens};
 use crate::whitespace::{after_block, after_line, is_comment_block, is_comment_line, skip};
 use bad_quote::after_bad_quote;
 use rl_syntax::characters::is_id_start;
-use rl_syntax::classes::{skip_white, skip_id_continue};
+use rl_syntax::classes::{skip_id_continue, skip_white};
 use rl_syntax::lanes::{byte_before, is_ascii_id_continue, literal_free_prefix_len};
 use rl_syntax::lines::{after_first_line_feed, split_line};
 use rl_syntax::text::{begins_with_char, split_ascii, split_char, strip_byte, without_first_char};

@@ -20,10 +20,10 @@ use crate::line_ends::LineEnds;
 use crate::read_numbers::skip_suffix;
 use crate::strict_quoted_flaws::{begins_hash, quote_of};
 use crate::strict_reading::Reading;
-use crate::walk::{split_raw_opening, parse_cooked_content, parse_raw_content, parse_single_unit};
+use crate::walk::{parse_cooked_content, parse_raw_content, parse_single_unit, split_raw_opening};
 use rl_lenient::Body;
 use rl_lenient::quoted_forms::{QuotedForm, part_offsets};
-use rl_lenient::units::{Piece, is_allowed_in_single_quotes, piece_code, parse_char_or_escape};
+use rl_lenient::units::{Piece, is_allowed_in_single_quotes, parse_char_or_escape, piece_code};
 use rl_syntax::Kind;
 use rl_syntax::text::split_char;
 

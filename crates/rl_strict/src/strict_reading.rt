@@ -18,7 +18,7 @@ ghost use Rattle.rl_strict.specs.LineEnds.{IsRestOf, read_of};
 ghost use Rattle.rl_strict.specs.Readings.{ExplainsOf, IsFlawOf, IsPlaceAfter, IsReadingOf, IsRestPlace, IsTokenIf};
 ghost use Rattle.rl_strict.specs.StrictRead.{IsStrictReading, IsSignedRead, placed_in};
 
-use crate::flaws::{Flaw, FlawAt, FlawKind, flaw_at_end_or_before, non_literal_flaw, make_flaw};
+use crate::flaws::{Flaw, FlawAt, FlawKind, flaw_at_end_or_before, make_flaw, non_literal_flaw};
 use crate::line_ends::LineEnds;
 use crate::read_numbers::{Number, parse_number};
 use crate::read_quoted::{Single, quoted_at, text_at, unit_at};

@@ -12,7 +12,7 @@ use crate::characters::{Manner, begins_base_letter, put_character, put_numeral};
 use crate::style::{DigitGroups, Style};
 use rl_syntax::slice_writer::put_byte;
 use rl_syntax::text::split_char;
-use rl_writing::{is_digit_group_end, digit_group_size};
+use rl_writing::{digit_group_size, is_digit_group_end};
 
 /// Returns the number of digits in a group, for numbers of the base `base`.
 fn base_group(groups: DigitGroups, base: u32) -> usize

@@ -161,7 +161,12 @@ impl Style {
 /// # Errors
 ///
 /// Returns the flaw of [`explain`](rl_strict::explain) if `text` isn't a literal token.
-pub fn is_changed_by_style(front: &str, text: &str, style: Style, out: &mut [u8]) -> Result<bool, Flaw>
+pub fn is_changed_by_style(
+    front: &str,
+    text: &str,
+    style: Style,
+    out: &mut [u8],
+) -> Result<bool, Flaw>
     requires { 4 * length text.now + 1 ≤ length out.old }
     ensures change { IfOk result (λ is. IsTrue is ↔ Changes style (chars front.now) (chars text.now)) }
     ensures flaw { IfErr result (ExplainsStrictly (chars text.now)) }

@@ -60,7 +60,11 @@ fn strings_have_values(rt: HostRuntime) -> Result<(), Fail> {
         let Err(error) = value(alloc, text) else {
             panic!(rt; "accepted: {text}");
         };
-        assert_eq!(rt; word_and_range(&error), ("string literal", 0, text.len()), "{text}");
+        assert_eq!(rt;
+            word_and_range(&error),
+            ("string literal", 0, text.len()),
+            "{text}"
+        );
     }
     Ok(())
 }

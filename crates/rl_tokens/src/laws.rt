@@ -3,12 +3,14 @@
 ghost use Rattle.rl_tokens.specs.PrintedTrees.{PrintedLiteralsLexToTheirTrees, ReprintedLiteralsLexToThemselves};
 
 pub use rl_lexer::laws::{
-    literals_dont_begin_with_a_minus, a_source_has_one_lexing, text_tokens_are_source_tokens,
+    a_source_has_one_lexing, literals_dont_begin_with_a_minus, text_tokens_are_source_tokens,
 };
 pub use rl_syntax::laws::{
-    a_minus_tells_the_sign, both_grammars_agree, a_text_has_one_reading, a_text_has_one_strict_reading, readings_of_a_text_are_equal,
-    a_strict_literal_contains_no_cr, a_negated_strict_number_is_a_syn_literal, a_strict_literal_is_a_syn_literal, true_and_false_are_strict_literals, a_written_value_is_a_syn_literal,
-    a_written_value_is_a_strict_literal,
+    a_minus_tells_the_sign, a_negated_strict_number_is_a_syn_literal,
+    a_strict_literal_contains_no_cr, a_strict_literal_is_a_syn_literal, a_text_has_one_reading,
+    a_text_has_one_strict_reading, a_written_value_is_a_strict_literal,
+    a_written_value_is_a_syn_literal, both_grammars_agree, readings_of_a_text_are_equal,
+    true_and_false_are_strict_literals,
 };
 
 /// Proves that a printed list of literals is lexed into exactly the token trees of the list's items. The literals are

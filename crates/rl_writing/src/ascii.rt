@@ -6,7 +6,7 @@ ghost use Rattle.rl_syntax.specs.declared.kind.Kind.TheVariants.{Char, Str};
 ghost use Rattle.rl_syntax.specs.Quoted.{decodes_to_chars};
 ghost use Rattle.rl_writing.specs.AsciiStrings.{ascii_text, unicode_escape, IsAsciiForm};
 
-use crate::numerals::{put_grouped, put_digits_reversed};
+use crate::numerals::{put_digits_reversed, put_grouped};
 use rl_syntax::Kind;
 use rl_syntax::slice_writer::{put, put_byte, put_text};
 use rl_syntax::text::split_char;

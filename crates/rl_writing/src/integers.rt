@@ -6,7 +6,7 @@ ghost use Rattle.rl_writing.specs.Integers.{suffix_text};
 ghost use Rattle.rl_writing.specs.WrittenIntegers.{IsWrittenInteger};
 
 use crate::base::Base;
-use crate::numerals::{digit_group_size, put_grouped, put_digits_reversed};
+use crate::numerals::{digit_group_size, put_digits_reversed, put_grouped};
 use rl_syntax::IntegerType;
 use rl_syntax::slice_writer::put_text;
 

@@ -36,5 +36,5 @@ pub use crate::ascii::{put_unicode_escape, write_char_ascii_into, write_str_asci
 pub use crate::base::Base;
 pub use crate::hiding::{is_invisible_or_bidi, needs_escape};
 pub use crate::integers::{IntegerStyle, write_integer_into};
-pub use crate::numerals::{is_digit_group_end, digit_group_size};
-pub use crate::raw_strings::{raw_text_and_hashes, min_raw_hashes, write_raw_into};
+pub use crate::numerals::{digit_group_size, is_digit_group_end};
+pub use crate::raw_strings::{min_raw_hashes, raw_text_and_hashes, write_raw_into};

@@ -4,7 +4,7 @@
 use crate::rl_flaws::closings::closing_quote;
 use crate::rl_flaws::invalid_piece::{InvalidPiece, invalid_piece_with_offsets};
 use crate::rl_flaws::piece_ends::{after_bad_piece, is_flaw_after_quote, is_flaw_of_unit};
-use crate::rl_flaws::walks::{Opened, split_opening_delimiter, parse_quoted_content};
+use crate::rl_flaws::walks::{Opened, parse_quoted_content, split_opening_delimiter};
 use crate::rl_lenient::quoted_forms::QuotedForm;
 use crate::rl_strict::read_quoted::suffix_flaw;
 use crate::rl_strict::{FlawKind, LineEnds, read};

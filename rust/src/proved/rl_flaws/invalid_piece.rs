@@ -30,7 +30,12 @@ fn end_of(ends: LineEnds, len: usize, quote: char, kind: FlawKind, piece: &str, 
 /// Converts a flaw that was found inside a literal to byte offsets. The flaw's texts are ends of the input text, which has
 /// `len` bytes.
 #[inline]
-pub fn invalid_piece_with_offsets(ends: LineEnds, len: usize, quote: char, found: FlawAt<'_>) -> InvalidPiece {
+pub fn invalid_piece_with_offsets(
+    ends: LineEnds,
+    len: usize,
+    quote: char,
+    found: FlawAt<'_>,
+) -> InvalidPiece {
     let hi = len - skip_first_char(ends, found.rest).len();
     InvalidPiece {
         flaw: Flaw {

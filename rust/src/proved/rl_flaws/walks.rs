@@ -4,7 +4,7 @@
 use crate::rl_lenient::quoted_forms::{QuotedForm, split_opener};
 use crate::rl_strict::LineEnds;
 use crate::rl_strict::walk::{
-    QuotedContent, split_raw_opening, parse_cooked_content, parse_raw_content, parse_single_unit,
+    QuotedContent, parse_cooked_content, parse_raw_content, parse_single_unit, split_raw_opening,
 };
 use crate::rl_syntax::Kind;
 
@@ -58,7 +58,11 @@ fn walk_unit(ends: LineEnds, kind: Kind, text: &str) -> QuotedContent<'_> {
 /// Parses a quoted literal whose opening delimiter is `opened`. `text` begins after that delimiter, or at a later character or
 /// escape inside the literal.
 #[inline]
-pub fn parse_quoted_content<'t>(ends: LineEnds, opened: Opened<'t>, text: &'t str) -> QuotedContent<'t> {
+pub fn parse_quoted_content<'t>(
+    ends: LineEnds,
+    opened: Opened<'t>,
+    text: &'t str,
+) -> QuotedContent<'t> {
     match opened.form {
         QuotedForm::Cooked => parse_cooked_content(ends, opened.kind, text),
         QuotedForm::Single => walk_unit(ends, opened.kind, text),

@@ -3,8 +3,8 @@
 //! is its value, byte for byte.
 
 #[cfg(feature = "__rendered")]
-use crate::rl_lenient::found::{parse_literal, find_float, parse_known_literal};
-use crate::rl_lenient::units::{Piece, split_plain, parse_char_or_escape};
+use crate::rl_lenient::found::{find_float, parse_known_literal, parse_literal};
+use crate::rl_lenient::units::{Piece, parse_char_or_escape, split_plain};
 #[cfg(feature = "__rendered")]
 use crate::rl_lenient::units::piece_code;
 use crate::rl_syntax::Kind;

@@ -25,7 +25,7 @@ mod values;
 pub use crate::rl_lenient::contents::decode_bytes_into;
 #[cfg(feature = "__rendered")]
 pub use crate::rl_lenient::contents::{
-    byte_of, byte_of_body, char_of, char_of_body, is_plain, decode_str_into,
+    byte_of, byte_of_body, char_of, char_of_body, decode_str_into, is_plain,
 };
 pub use crate::rl_lenient::digits::{float_digits_into, is_plain_integer};
 pub use crate::rl_lenient::found::{Body, Found, bool_of, parse_literal};

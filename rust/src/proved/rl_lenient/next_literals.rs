@@ -1,7 +1,7 @@
 // Rendered from crates/rl_lenient/src/next_literals.rt by tools/render, which erases contracts: change that file, and render again.
 //! Functions that return the next literal of a list of literals, or the list's error.
 
-use crate::rl_lenient::found::{Found, parse_literal, find_negative, find_truth};
+use crate::rl_lenient::found::{Found, find_negative, find_truth, parse_literal};
 use crate::rl_lexer::{Form, LexKind, Lexeme, Tokens};
 
 /// The next literal of a list: its token, the minus before it, and its parse result. The token may be an invalid

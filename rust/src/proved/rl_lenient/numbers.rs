@@ -2,7 +2,6 @@
 //! Functions that split the text of a number into its parts.
 
 use crate::rl_lenient::digit_runs::{after_minus, read_digit_run, skip_digits};
-use crate::rl_lenient::parse_literal;
 use crate::rl_lenient::number_forms::split_radix;
 use crate::rl_lenient::parse_literal;
 use crate::rl_syntax::Kind;

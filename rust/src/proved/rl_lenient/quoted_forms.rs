@@ -2,7 +2,7 @@
 //! Functions that parse quoted literals, and return the byte offsets of their parts.
 
 use crate::rl_lenient::found::{Body, Found};
-use crate::rl_lenient::units::{is_ascii, piece_code, split_plain, parse_char_or_escape};
+use crate::rl_lenient::units::{is_ascii, parse_char_or_escape, piece_code, split_plain};
 use crate::rl_syntax::Kind;
 use crate::rl_syntax::classes::skip_hashes;
 use crate::rl_syntax::text::{after_prefix, before, split_ascii};

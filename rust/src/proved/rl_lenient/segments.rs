@@ -4,7 +4,7 @@
 use crate::rl_lenient::found::Body;
 #[cfg(feature = "__rendered")]
 use crate::rl_lenient::found::parse_literal;
-use crate::rl_lenient::units::{Piece, is_plain_char, split_plain, parse_char_or_escape};
+use crate::rl_lenient::units::{Piece, is_plain_char, parse_char_or_escape, split_plain};
 use crate::rl_syntax::Kind;
 use crate::rl_syntax::text::{before, split_char};
 

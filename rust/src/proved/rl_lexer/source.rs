@@ -8,7 +8,7 @@ use crate::rl_lexer::no_token::{begins_raw_identifier, opens};
 use crate::rl_lexer::whitespace::{after_block, after_line, is_comment_block, is_comment_line, skip};
 use bad_quote::after_bad_quote;
 use crate::rl_syntax::characters::is_id_start;
-use crate::rl_syntax::classes::{skip_white, skip_id_continue};
+use crate::rl_syntax::classes::{skip_id_continue, skip_white};
 use crate::rl_syntax::lanes::{byte_before, is_ascii_id_continue, literal_free_prefix_len};
 use crate::rl_syntax::lines::split_line;
 #[cfg(feature = "__rendered")]

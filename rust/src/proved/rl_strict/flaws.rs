@@ -272,7 +272,11 @@ fn skip_letters<'t>(word: &str, text: &'t str) -> &'t str {
 pub fn non_literal_flaw(text: &str) -> FlawAt<'_> {
     match split_char(text) {
         None => make_flaw(FlawKind::Empty, text),
-        Some(('b' | 'c', rest)) => flaw_at_end_or_before(FlawKind::UnexpectedEnd, FlawKind::NotALiteral, rest),
+        Some(('b' | 'c', rest)) => flaw_at_end_or_before(
+            FlawKind::UnexpectedEnd,
+            FlawKind::NotALiteral,
+            rest,
+        ),
         Some(('t', _)) => flaw_at_end_or_before(
             FlawKind::UnexpectedEnd,
             FlawKind::NotALiteral,

@@ -6,10 +6,10 @@ use crate::rl_strict::line_ends::LineEnds;
 use crate::rl_strict::read_numbers::skip_suffix;
 use crate::rl_strict::strict_quoted_flaws::{begins_hash, quote_of};
 use crate::rl_strict::strict_reading::Reading;
-use crate::rl_strict::walk::{split_raw_opening, parse_cooked_content, parse_raw_content, parse_single_unit};
+use crate::rl_strict::walk::{parse_cooked_content, parse_raw_content, parse_single_unit, split_raw_opening};
 use crate::rl_lenient::Body;
 use crate::rl_lenient::quoted_forms::{QuotedForm, part_offsets};
-use crate::rl_lenient::units::{Piece, is_allowed_in_single_quotes, piece_code, parse_char_or_escape};
+use crate::rl_lenient::units::{Piece, is_allowed_in_single_quotes, parse_char_or_escape, piece_code};
 use crate::rl_syntax::Kind;
 use crate::rl_syntax::text::split_char;
 

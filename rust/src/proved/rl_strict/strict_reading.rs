@@ -1,7 +1,7 @@
 // Rendered from crates/rl_strict/src/strict_reading.rt by tools/render, which erases contracts: change that file, and render again.
 //! Parses a text as one literal token of Rust's grammar, or returns its flaw.
 
-use crate::rl_strict::flaws::{Flaw, FlawAt, FlawKind, flaw_at_end_or_before, non_literal_flaw, make_flaw};
+use crate::rl_strict::flaws::{Flaw, FlawAt, FlawKind, flaw_at_end_or_before, make_flaw, non_literal_flaw};
 use crate::rl_strict::line_ends::LineEnds;
 use crate::rl_strict::read_numbers::{Number, parse_number};
 use crate::rl_strict::read_quoted::{Single, quoted_at, text_at, unit_at};

@@ -112,9 +112,11 @@ pub fn parse_single_unit(ends: LineEnds, kind: Kind, text: &str) -> UnitStretch<
         },
         None => UnitStretch {
             closing: text,
-            end: Err(flaw_at_end_or_before(FlawKind::Unclosed, FlawKind::TwoCharacters, closing).with_piece(
-                text,
-            )),
+            end: Err(flaw_at_end_or_before(
+                FlawKind::Unclosed,
+                FlawKind::TwoCharacters,
+                closing,
+            ).with_piece(text)),
         },
     }
 }

@@ -5,7 +5,7 @@ use crate::rl_style::characters::{Manner, begins_base_letter, put_character, put
 use crate::rl_style::style::{DigitGroups, Style};
 use crate::rl_syntax::slice_writer::put_byte;
 use crate::rl_syntax::text::split_char;
-use crate::rl_writing::{is_digit_group_end, digit_group_size};
+use crate::rl_writing::{digit_group_size, is_digit_group_end};
 
 /// Returns the number of digits in a group, for numbers of the base `base`.
 #[inline]

@@ -155,7 +155,12 @@ impl Style {
 ///
 /// Returns the flaw of [`explain`](crate::rl_strict::explain) if `text` isn't a literal token.
 #[inline]
-pub fn is_changed_by_style(front: &str, text: &str, style: Style, out: &mut [u8]) -> Result<bool, Flaw> {
+pub fn is_changed_by_style(
+    front: &str,
+    text: &str,
+    style: Style,
+    out: &mut [u8],
+) -> Result<bool, Flaw> {
     let len = rewrite_into(front, text, style, out)?;
     let is_same = &out[..len] == text.as_bytes();
     Ok(!is_same)

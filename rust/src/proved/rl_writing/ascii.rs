@@ -1,7 +1,7 @@
 // Rendered from crates/rl_writing/src/ascii.rt by tools/render, which erases contracts: change that file, and render again.
 //! Functions that write string and character literals in ASCII, with `\u{..}` for each non-ASCII character.
 
-use crate::rl_writing::numerals::{put_grouped, put_digits_reversed};
+use crate::rl_writing::numerals::{put_digits_reversed, put_grouped};
 #[cfg(feature = "writers")]
 use crate::rl_syntax::Kind;
 use crate::rl_syntax::slice_writer::{put, put_byte};

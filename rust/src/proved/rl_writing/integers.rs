@@ -2,7 +2,7 @@
 //! A function that writes an integer literal, and the style in which it writes.
 
 use crate::rl_writing::base::Base;
-use crate::rl_writing::numerals::{digit_group_size, put_grouped, put_digits_reversed};
+use crate::rl_writing::numerals::{digit_group_size, put_digits_reversed, put_grouped};
 use crate::rl_syntax::IntegerType;
 use crate::rl_syntax::slice_writer::put_text;
 

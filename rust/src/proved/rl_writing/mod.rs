@@ -24,5 +24,5 @@ pub use crate::rl_writing::base::Base;
 pub use crate::rl_writing::hiding::{is_invisible_or_bidi, needs_escape};
 #[cfg(feature = "writers")]
 pub use crate::rl_writing::integers::{IntegerStyle, write_integer_into};
-pub use crate::rl_writing::numerals::{is_digit_group_end, digit_group_size};
-pub use crate::rl_writing::raw_strings::{raw_text_and_hashes, min_raw_hashes, write_raw_into};
+pub use crate::rl_writing::numerals::{digit_group_size, is_digit_group_end};
+pub use crate::rl_writing::raw_strings::{min_raw_hashes, raw_text_and_hashes, write_raw_into};

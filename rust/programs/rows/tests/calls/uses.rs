@@ -3,7 +3,7 @@
 use crate::rows::{check, check_headings};
 use crate::shown::{self, at, debug_or_error, value_or_error};
 use navyspindle_programs::rattle_std::alloc::Global;
-use navyspindle_programs::rl_grammar::{parse_literal, next_literal};
+use navyspindle_programs::rl_grammar::{next_literal, parse_literal};
 use navyspindle_programs::rl_tokens::{parse_all, ParseBuffer, Span, Tokens};
 use navyspindle_programs::rust_literals::read_all;
 use navyspindle_rows::rl_uses::callers::grammar::string_lit_value;
@@ -15,29 +15,31 @@ use navyspindle_rows::rl_uses::callers::strict::first_bad_byte;
 use navyspindle_rows::rl_uses::callers::style::write_lower_hex;
 use navyspindle_rows::rl_uses::callers::writing::write_ascii_string_literal;
 use navyspindle_rows::rl_uses::examples::attributes::{
-    required_host, optional_host, missing_host_offset, string_setting,
+    missing_host_offset, optional_host, required_host, string_setting,
 };
 use navyspindle_rows::rl_uses::examples::buffers::{
-    first_integer_in_group, punct_after_ident, parse_port, remaining_tree_count, integer_tree_count,
+    first_integer_in_group, integer_tree_count, parse_port, punct_after_ident, remaining_tree_count,
 };
 use navyspindle_rows::rl_uses::examples::grammar::{
-    decoded_string, hex_digits, exponent_of, first_escape_offset, integer_value, is_plain_string, is_rust_literal,
-    is_signed_literal, second_value_byte_offset, why_invalid, why_invalid_in_file, suffix_of, why_no_value,
+    decoded_string, exponent_of, first_escape_offset, hex_digits, integer_value, is_plain_string,
+    is_rust_literal, is_signed_literal, second_value_byte_offset, suffix_of, why_invalid,
+    why_invalid_in_file, why_no_value,
 };
 use navyspindle_rows::rl_uses::examples::literals::{
-    text_after_literal, value_as_number, float_digits_or_text, first_value_flaw, second_string,
+    first_value_flaw, float_digits_or_text, second_string, text_after_literal, value_as_number,
 };
 use navyspindle_rows::rl_uses::examples::own::{punct_in_string, value_after_equals};
 use navyspindle_rows::rl_uses::examples::quoted::{
-    brace_offset_in_file, byte_string_len, c_string_len, inner_literal_span, string_literal_text, string_value,
+    brace_offset_in_file, byte_string_len, c_string_len, inner_literal_span, string_literal_text,
+    string_value,
 };
 use navyspindle_rows::rl_uses::examples::tokens::{
-    after_comments, literal_and_error_offsets, first_delimiter, leading_doc_comment, is_identifier, lex_error_kind, second_token,
-    text_at,
+    after_comments, first_delimiter, is_identifier, leading_doc_comment, lex_error_kind,
+    literal_and_error_offsets, second_token, text_at,
 };
 use navyspindle_rows::rl_uses::{
-    backslash_in_path, bad_literals, strings_with_control_characters, count_literals, evaluate,
-    format as formatted, read_attribute, read_config, read_mount, read_number, write_raw,
+    backslash_in_path, bad_literals, count_literals, evaluate, format as formatted, read_attribute,
+    read_config, read_mount, read_number, strings_with_control_characters, write_raw,
     write_upper_hex, Attribute, Item, ItemList,
 };
 use std::fmt::Debug;
@@ -114,9 +116,10 @@ fn rejected_list() {
 #[test]
 fn lint() {
     check(TABLE, "lint", |text| {
-        value_or_error(strings_with_control_characters(Global, text, FILE), |spans| {
-            spans.iter().map(|it| at(*it) + " ").collect::<String>() + "\n"
-        })
+        value_or_error(
+            strings_with_control_characters(Global, text, FILE),
+            |spans| spans.iter().map(|it| at(*it) + " ").collect::<String>() + "\n",
+        )
     });
 }
 

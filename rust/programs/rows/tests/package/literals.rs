@@ -65,7 +65,9 @@ pub fn check_same(ours: &Lit, proved: &Proved) {
 pub fn check_closely(ours: &Lit, proved: &Proved) {
     check_same(ours, proved);
     let text = proved.text();
-    let word = proved.kind().map_or("text without a value", Kind::description);
+    let word = proved
+        .kind()
+        .map_or("text without a value", Kind::description);
     assert_eq!(ours.kind().to_string(), word, "{text:?}");
     assert_eq!(
         (&*ours.to_string(), &*ours.clone().into_text()),

@@ -2,7 +2,7 @@
 //! Writes the output line of a `Lit`.
 
 use crate::rattle_std::prelude::{String};
-use crate::rl_program::{push_found_line, push_line_of_kind, push_verbatim_line, bool_word};
+use crate::rl_program::{bool_word, push_found_line, push_line_of_kind, push_verbatim_line};
 use crate::rl_quoted::{Quoted, QuotedKind};
 use crate::rl_tokens::Kind;
 use crate::rust_literals::Lit;

@@ -1,7 +1,7 @@
 // Rendered from crates/rl_fronts/src/front.rt by tools/render, which erases contracts: change that file, and render again.
 //! The literal at the start of a parse buffer: a literal token, `true` or `false`, or a minus and a number.
 
-use crate::rl_lenient::{Found, bool_of, parse_literal, find_negative};
+use crate::rl_lenient::{Found, bool_of, find_negative, parse_literal};
 use crate::rl_tokens::{Error, Ident, Kind, Literal, ParseBuffer, Punct, Span};
 use crate::rattle_std::alloc::Allocator;
 

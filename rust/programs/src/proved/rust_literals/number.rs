@@ -183,7 +183,12 @@ impl<K: NumberKind, A: Allocator> fmt::Display for Number<K, A> {
 impl<K: NumberKind, A: Allocator + Copy> Parse<A> for Number<K, A> {
     fn parse(alloc: A, input: &mut ParseBuffer<'_, A>) -> Result<Number<K, A>, Error<A>> {
         let before = input.fork();
-        let (token, found) = match take_literal_of_kind(alloc, input, K::KIND, K::KIND.description()) {
+        let (token, found) = match take_literal_of_kind(
+            alloc,
+            input,
+            K::KIND,
+            K::KIND.description(),
+        ) {
             Ok(taken) => taken,
             Err(error) => return Err(error),
         };
