@@ -5,7 +5,6 @@ use Rattle.std.specs.List.{Any, list_any}
 use Rattle.std.specs.Str.{bytes_eq}
 use Rattle.rl_options.specs.declared.command.Command.{Command}
 use Rattle.rl_options.specs.declared.command.Action.{Action}
-use Rattle.rl_options.specs.declared.command.Action.TheVariants as action
 use Rattle.rl_options.specs.declared.command.Output.{Output}
 use Rattle.rl_options.specs.declared.command.Output.TheVariants as output
 use Rattle.rl_options.specs.declared.modes.Modes.{Modes}
@@ -13,7 +12,7 @@ use Rattle.rl_output.specs.Forms.{has_extents}
 use Rattle.rl_options.specs.declared.argument_error.ArgumentError.{ArgumentError}
 use Rattle.rl_options.specs.declared.argument_error.ArgumentError.TheVariants.{InputTwice, NoEffect, ObjectsOfPaths, StatsOfPaths, TextlessKinds}
 use Rattle.rl_output.specs.Choices.{Names, words_of}
-use Rattle.rl_options.specs.Modes.{mode_of, mode_words, modes_hint, option_without_effect}
+use Rattle.rl_options.specs.Modes.{lists_files, mode_of, mode_words, modes_hint, option_without_effect}
 use Rattle.rl_options.specs.Wishes.{AllWanted, BadWanted, HiddenWanted, OnlyWanted, Wanted, Wishes}
 
 -- The kinds of literals whose value may contain a text.
@@ -31,18 +30,14 @@ MayHold (OnlyWanted list) = HasTextKind list
 MayHold BadWanted = ⊤
 MayHold HiddenWanted = ⊤
 
--- The command only lists the files that would be read. `sums_lines` says that the output for a file is its path or the number of
--- its lines. `prints_no_objects` says that either is true.
-abbrev pub lists_files : Action → Bool
-lists_files action.Files = true
-lists_files _ = false
-
+-- The output for a file is its path or the number of its lines.
 abbrev pub sums_lines : Output → Bool
 sums_lines output.Lines = false
 sums_lines output.Count = true
 sums_lines output.Path = true
 sums_lines output.Nothing = false
 
+-- The output consists of paths or counts, which JSON objects and GitHub annotations don't have.
 abbrev pub prints_no_objects : Action → Output → Bool
 prints_no_objects action output = lists_files action || sums_lines output
 
@@ -81,26 +76,27 @@ IsWithoutEffect w (NoEffect name mode hint) =
     × (hint.now ≡ modes_hint among)
 IsWithoutEffect w _ = ⊥
 
--- The path is standard input. `is_input_style` says so of the file with the rules of a style.
+-- The path is `-`, which is standard input.
 abbrev pub is_input_name : List ℕ → Bool
 is_input_name path = bytes_eq path (codes "-")
 
+-- The rules of a style are read from standard input.
 abbrev pub is_input_style : Option (List ℕ) → Bool
 is_input_style None = false
 is_input_style (Some file) = is_input_name file
 
--- Sources or a list of paths are read from standard input. They are also if there are no paths and no lists.
+-- Sources or a list of paths may be read from standard input: a path or a list is `-`, or there are no paths and no lists.
 abbrev pub is_input_read : List (List ℕ) → List (List ℕ) → Bool
 is_input_read paths lists =
     ((length paths == 0) && (length lists == 0)) || list_any is_input_name paths || list_any is_input_name lists
 
--- Sources or a list of paths are read from standard input. The paths and lists are the values in the program.
+-- Sources or a list of paths may be read from standard input. The paths and lists are the values in the program.
 abbrev pub is_input_among : {A : Type 0} → List (String A) → List (Bor (List ℕ)) → Bool
 is_input_among paths lists =
     ((length paths == 0) && (length lists == 0)) || list_any (λ path. is_input_name (string_bytes path)) paths
     || list_any (λ list. is_input_name list.now) lists
 
--- The rules of a style are read from standard input, and sources or a list of paths too.
+-- The rules of a style are read from standard input, and sources or a list of paths may be read from it too.
 abbrev pub is_input_read_twice : Wishes → Bool
 is_input_read_twice w = is_input_style w.style && is_input_read w.paths w.files_from
 

@@ -59,7 +59,7 @@ formatted has_colors written.Github format.Text = colored_form has_colors Auto
 formatted has_colors written.Plain format.Text = written.Plain
 formatted has_colors written.Colored format.Text = written.Colored
 
--- The value of `--macros`: a word that determines whether literals in macro calls are rewritten.
+-- The value of `--macros`: a word that determines whether literals in macro code are treated as all others.
 abbrev pub macros_word : AnyMacros → List ℕ
 macros_word macros.Skip = codes "skip"
 macros_word macros.All = codes "all"
@@ -107,7 +107,7 @@ IsKindWord word = Names kind_list word
 abbrev pub AreKindWords : List ℕ → Type 0
 AreKindWords list = All IsKindWord (words_of list)
 
--- The first word of the list that isn't the name of a kind of literals.
+-- `word` is the first word of the list that isn't the name of a kind of literals.
 abbrev pub IsUnknownKind : List ℕ → List ℕ → Type 0
 IsUnknownKind list word =
     (before after : List (List ℕ)) × (words_of list ≡ before ++ word ∷ after) × All IsKindWord before

@@ -1,6 +1,7 @@
 pub mod Reads
 pub mod Meant
 pub mod Options
+pub mod Hints
 pub mod Flags
 pub mod Wishes
 pub mod Modes

@@ -42,7 +42,7 @@ AreWithAllListed w [] paths all = all ≡ paths
 AreWithAllListed w (file ∷ files) paths all =
     (some : List (List ℕ)) × AreWithListed w file paths some × AreWithAllListed w files some all
 
--- The first of the lists of paths that can't be read, and the reason.
+-- `unread` is the first of the files that can't be read, and `why` the reason. Each file lists paths.
 abbrev pub IsFirstUnread : World → List (List ℕ) → List (List ℕ) → List ℕ → PathError → Type 0
 IsFirstUnread w [] paths unread why = ⊥
 IsFirstUnread w (file ∷ files) paths unread why =

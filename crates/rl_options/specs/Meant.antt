@@ -34,7 +34,7 @@ is_slip (a ∷ said) (b ∷ meant) = cond (a == b) (is_slip said meant) (slips_h
 abbrev pub is_near : List ℕ → List ℕ → Bool
 is_near word meant = is_slip word meant || starts_with ◌==◌ meant word
 
--- The first name in the list that the word is similar to, or `None`.
+-- The suggestion for a word is the first name in the list that the word is similar to, or `None`.
 abbrev pub IsNearest : List ℕ → List ℕ → Option (Bor (List ℕ)) → Type 0
 IsNearest list word None = All (λ other. is_near word other ≡ false) (words_of list)
 IsNearest list word (Some meant) =

@@ -52,24 +52,26 @@ acting_mode action.Files other = other
 abbrev pub mode_of : Wishes → Mode
 mode_of w = acting_mode w.action (rewriting_mode w.restyle (printing_mode w.wanted w.searches))
 
--- In the mode, literals are printed, and not errors or characters. `rewrites` says that literals are rewritten, or that the changes
--- are printed.
+-- In the mode, literals are printed, and not errors or characters.
 abbrev pub prints_literals : Mode → Bool
 prints_literals mode.Unselected = true
 prints_literals mode.Only = true
 prints_literals mode.Find = true
 prints_literals _ = false
 
+-- In the mode, literals are rewritten, or the changes are printed.
 abbrev pub rewrites : Mode → Bool
 rewrites mode.Fix = true
 rewrites mode.Check = true
 rewrites mode.Diff = true
 rewrites _ = false
 
+-- The mode is `--bad`.
 abbrev pub is_bad_mode : Mode → Bool
 is_bad_mode mode.Bad = true
 is_bad_mode _ = false
 
+-- The mode is `--find`.
 abbrev pub is_find_mode : Mode → Bool
 is_find_mode mode.Find = true
 is_find_mode _ = false
@@ -93,6 +95,7 @@ is_in m modes.Printing = not (rewrites m)
 is_in m modes.Rewriting = rewrites m
 is_in m modes.BadOrRewriting = rewrites m || is_bad_mode m
 
+-- In the mode, the help or the version is printed.
 abbrev pub is_help_mode : Mode → Bool
 is_help_mode mode.Help = true
 is_help_mode _ = false
@@ -101,7 +104,7 @@ is_help_mode _ = false
 abbrev pub goes_with : Modes → Mode → Bool
 goes_with among m = is_help_mode m || is_in m among
 
--- The command has the option without a value. For an option that has an effect in all modes, the result is false.
+-- The command prints errors, or invisible and bidirectional characters, or the literals of some kinds.
 abbrev pub wants_bad : Wanted → Bool
 wants_bad BadWanted = true
 wants_bad _ = false
@@ -114,10 +117,12 @@ abbrev pub wants_kinds : Wanted → Bool
 wants_kinds (OnlyWanted list) = true
 wants_kinds _ = false
 
+-- Literals are printed as written.
 abbrev pub is_source : Spelling → Bool
 is_source spelling.Source = true
 is_source spelling.Value = false
 
+-- Positions are byte offsets, or lines and columns.
 abbrev pub is_bytes : PlaceForm → Bool
 is_bytes places.Bytes = true
 is_bytes _ = false
@@ -126,6 +131,7 @@ abbrev pub is_lines : PlaceForm → Bool
 is_lines places.Lines = true
 is_lines _ = false
 
+-- The output for a file is the number of its lines, or its path.
 abbrev pub is_count : Output → Bool
 is_count output.Count = true
 is_count _ = false
@@ -134,10 +140,12 @@ abbrev pub is_path : Output → Bool
 is_path output.Path = true
 is_path _ = false
 
-abbrev pub is_files : Action → Bool
-is_files action.Files = true
-is_files _ = false
+-- The command only lists the files that would be read.
+abbrev pub lists_files : Action → Bool
+lists_files action.Files = true
+lists_files _ = false
 
+-- The command has the option without a value. For an option that has an effect in all modes, the result is false.
 abbrev pub has_flag : Flag → Wishes → Bool
 has_flag flag.Bad w = wants_bad w.wanted
 has_flag flag.Hidden w = wants_hidden w.wanted
@@ -151,7 +159,7 @@ has_flag flag.NoStray w = w.rejects_strays
 has_flag flag.AnySuffix w = w.any_suffix
 has_flag flag.Count w = is_count w.output
 has_flag flag.FilesWithMatches w = is_path w.output
-has_flag flag.Files w = is_files w.action
+has_flag flag.Files w = lists_files w.action
 has_flag flag.Stats w = w.prints_stats
 has_flag _ w = false
 
@@ -168,6 +176,7 @@ has_operand takes.Style w = is_some w.style
 has_operand takes.Macros w = is_some w.macros
 has_operand _ w = false
 
+-- The command has the option. For an option that has an effect in all modes, the result is false.
 abbrev pub has_option : Effect → Wishes → Bool
 has_option (effects.Sets flag) w = has_flag flag w
 has_option (effects.Takes operand) w = has_operand operand w

@@ -69,7 +69,7 @@ options =
 unfoldable pub effect_named : List ℕ → Option Effect
 effect_named word = option_map (λ entry. entry.effect) (find (λ entry. bytes_eq entry.name word) options)
 
--- `c` is the letter of a short option.
+-- A short option has the letter `c`. The first argument is its letter, or `None` if it has none.
 abbrev pub is_letter_of : Option ℕ → ℕ → Bool
 is_letter_of None c = false
 is_letter_of (Some letter) c = letter == c
@@ -78,15 +78,15 @@ is_letter_of (Some letter) c = letter == c
 unfoldable pub effect_lettered : ℕ → Option Effect
 effect_lettered c = option_map (λ entry. entry.effect) (find (λ entry. is_letter_of entry.letter c) options)
 
--- The name of an option with the effect.
+-- The word is the name of an option with the effect.
 abbrev pub IsOptionWord : Effect → List ℕ → Type 0
 IsOptionWord effect word = effect_named word ≡ Some effect
 
--- The letter of a short option with the effect.
+-- `c` is the letter of a short option with the effect.
 abbrev pub IsLetter : Effect → ℕ → Type 0
 IsLetter effect c = effect_lettered c ≡ Some effect
 
--- The argument of an option with its value after `=`. The part before the first `=` is the option's name.
+-- The word is an option's name, `=` and the value `text`. The part before the first `=` is the name.
 abbrev pub IsJoinedWord : Operand → List ℕ → List ℕ → Type 0
 IsJoinedWord operand text word =
     IsOptionWord (Takes operand) (option_part word) × (word ≡ option_part word ++ (codes "=" ++ text))

@@ -22,8 +22,8 @@ use Rattle.rl_options.specs.declared.flags.When.TheVariants.{Auto}
 use Rattle.rl_options.specs.declared.arguments.ParsedArguments.{ParsedArguments}
 use Rattle.rl_options.specs.Flags.{colored_form}
 
--- The literals that are printed: all of them, those of the listed kinds, or the invalid ones. `HiddenWanted` prints invisible
--- characters instead.
+-- The findings that are printed: all literals, the literals of the listed kinds, the invalid literals, or the invisible and
+-- bidirectional characters.
 pub data Wanted : Type 0 where
   AllWanted : Wanted
   OnlyWanted : (list : List ℕ) → Wanted
@@ -98,10 +98,11 @@ first_wishes has_colors = record {
   paths = [];
 }
 
--- If no path is passed, `.` is read in place of standard input: input is a terminal, or an option selects the files of directories.
+-- If no path is passed, `.` is read in place of standard input. Either standard input isn't a file, a pipe or a socket, as
+-- `lacks_input` says, or an option selects the files of directories.
 abbrev pub reads_current_directory : Bool → Wishes → Bool
-reads_current_directory is_terminal w =
-    is_terminal || w.all_directories || not (length w.extensions == 0) || not (length w.excludes == 0)
+reads_current_directory lacks_input w =
+    lacks_input || w.all_directories || not (length w.extensions == 0) || not (length w.excludes == 0)
 
 -- The file with the rules of a style, if one is passed.
 abbrev pub style_of : Option (Bor (List ℕ)) → Option (List ℕ)

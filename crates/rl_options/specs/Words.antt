@@ -368,8 +368,8 @@ IsMissing takes.After error = error ≡ NoCount
 IsMissing takes.Style error = error ≡ NoStyle
 IsMissing takes.Macros error = error ≡ NoMacros
 
--- The error in the command-line arguments: an option's value is missing at the end, or options contradict each other, or an
--- argument is invalid.
+-- The error in the command-line arguments: an argument is invalid, an option's value is missing at the end, or options contradict
+-- each other.
 abbrev pub AreRejected : {A : Type 0} → Bool → List (List ℕ) → ArgumentError A → Type 0
 AreRejected has_colors words error =
     ((operand : Operand) × (old : Wishes) × IsMissing operand error

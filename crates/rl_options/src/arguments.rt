@@ -304,7 +304,7 @@ impl<'a, A: Allocator + Copy> ParsedArguments<'a, A> {
         Ok(())
     }
 
-    /// Sets whether literals in macro calls are rewritten, from the value of `--macros`.
+    /// Sets whether literals in macro code are treated as all others, from the value of `--macros`.
     fn take_macros(&mut self, alloc: A, word: &str) -> Result<(), ArgumentError<A>>
         ensures taken { OnOk result
             (IsTaken false takes.Macros (wishes_in self.old) word.now (wishes_in self.new)) }

@@ -3,8 +3,8 @@
 ghost use Rattle.std.specs.Prelude.{◌≡◌, ◌↔◌, ℕ, List, None, string_bytes, IfNone, IfSome, IsTrue};
 ghost use Rattle.std.specs.List.{list_any};
 ghost use Rattle.rl_options.specs.Wishes.{style_of, wanted_of, wishes_in, wishes_of};
-ghost use Rattle.rl_options.specs.Clashes.{GoTogether, HasTextKind, IsFirstClash, IsFirstOf, IsWithoutEffect, is_input_among, is_input_name, is_input_read_twice, is_input_style, MayHold, PrintTogether, asks_context as asks, lists_files as lists, prints_no_objects as no_objects, sums_lines as sums, printing_clashes};
-ghost use Rattle.rl_options.specs.Modes.{option_without_effect};
+ghost use Rattle.rl_options.specs.Clashes.{GoTogether, HasTextKind, IsFirstClash, IsFirstOf, IsWithoutEffect, is_input_among, is_input_name as names_input, is_input_read_twice, is_input_style, MayHold, PrintTogether, asks_context as asks, prints_no_objects as no_objects, sums_lines as sums, printing_clashes};
+ghost use Rattle.rl_options.specs.Modes.{lists_files as lists, option_without_effect};
 
 use crate::argument_error::ArgumentError;
 use crate::arguments::ParsedArguments;
@@ -97,18 +97,25 @@ fn mode_clash<A: Allocator>(command: Command<'_>) -> Option<ArgumentError<A>>
     }
 }
 
+/// Whether a path is `-`, which is standard input.
+fn is_input_name(path: &str) -> bool
+    ensures { result ≡ names_input path.now }
+{
+    path == "-"
+}
+
 /// Whether one of the paths is standard input.
 fn has_input_path<A: Allocator>(paths: &[String<A>]) -> bool
-    ensures { result ≡ list_any (λ path. is_input_name (string_bytes path)) paths.now }
+    ensures { result ≡ list_any (λ path. names_input (string_bytes path)) paths.now }
 {
-    paths.iter().any(|path| path.as_str() == "-")
+    paths.iter().any(|path| is_input_name(path.as_str()))
 }
 
 /// Whether one of the lists of paths is read from standard input.
 fn has_input_list(lists: &[&str]) -> bool
-    ensures { result ≡ list_any (λ list. is_input_name list.now) lists.now }
+    ensures { result ≡ list_any (λ list. names_input list.now) lists.now }
 {
-    lists.iter().any(|list| *list == "-")
+    lists.iter().any(|list| is_input_name(list))
 }
 
 /// Whether the rules of the style are read from standard input.
@@ -116,19 +123,19 @@ fn has_input_style(style: Option<&str>) -> bool
     ensures { result ≡ is_input_style (style_of style.entry) }
 {
     match style {
-        Some(file) => file == "-",
+        Some(file) => is_input_name(file),
         None => false,
     }
 }
 
-/// Whether sources or a list of paths are read from standard input. They are also if there are no paths and no lists.
+/// Whether sources or a list of paths may be read from standard input: a path or a list is `-`, or there are no paths and no lists.
 fn reads_input<A: Allocator>(paths: &[String<A>], lists: &[&str]) -> bool
     ensures { result ≡ is_input_among paths.now lists.now }
 {
     paths.is_empty() && lists.is_empty() || has_input_path(paths) || has_input_list(lists)
 }
 
-/// Whether the rules of a style are read from standard input, and sources or a list of paths too.
+/// Whether the rules of a style are read from standard input, and sources or a list of paths may be read from it too.
 fn reads_input_twice<A: Allocator>(asked: &ParsedArguments<'_, A>) -> bool
     ensures { result ≡ is_input_read_twice (wishes_in asked.now) }
 {

@@ -7,8 +7,9 @@ Prints the literals of Rust source files, or the errors in them.
 A PATH is a file or a directory. In a directory, rl_scan reads the *.rs files,
 sorted by their paths. It skips hidden files and directories, and `target`
 beside a Cargo.toml, and doesn't follow symbolic links. `-` is standard input.
-Without a PATH, rl_scan reads standard input. If that is a terminal, or with
---all, --extension or --exclude, it reads the current directory instead.
+Without a PATH, rl_scan reads standard input if that is a file, a pipe or a
+socket. Otherwise, or with --all, --extension or --exclude, it reads the current
+directory.
 
 Modes: one at most, except --find with --only
       --bad            print the literals that Rust rejects, and unclosed quotes

@@ -8,7 +8,7 @@ use Rattle.rl_files.specs.Replacements.{Replacement}
 use Rattle.rl_files.specs.Visible.{visible}
 use Rattle.rl_files.specs.Walks.{path_error_message}
 use Rattle.rl_files.specs.declared.tree.PathError.{PathError}
-use Rattle.rl_files.specs.declared.tree.PathError.TheVariants.{NameNotUtf8, PathNotUtf8}
+use Rattle.rl_files.specs.declared.tree.PathError.TheVariants.{NotFound, NameNotUtf8, PathNotUtf8}
 use Rattle.rl_lexer.specs.declared.lex_error.LexKind.{LexKind}
 use Rattle.rl_flaws.specs.declared.before.Edition.{Edition}
 use Rattle.rl_flaws.specs.declared.before.Edition.TheVariants.{E2021}
@@ -34,6 +34,7 @@ use Rattle.rl_output.specs.Colors.{painted}
 use Rattle.rl_output.specs.Forms.{is_json}
 use Rattle.rl_output.specs.Fronts.{line_front}
 use Rattle.rl_options.specs.Clashes.{asks_context}
+use Rattle.rl_options.specs.Hints.{path_hint}
 use Rattle.rl_sources.specs.Scans.{Scans, StopsAtError, error_end}
 
 -- The path is `-`, which is standard input.
@@ -97,7 +98,7 @@ context_of command = cond (asks_context command && prints_lines command.output)
       after = side_lines command.after command.around;
     })) None
 
--- Literals inside macro calls are checked like all others, by the option `--macros`.
+-- Literals in macro code are checked like all others: the option `--macros all` is passed.
 abbrev pub judges_macros : Option Macros → Bool
 judges_macros None = false
 judges_macros (Some macros.Skip) = false
@@ -248,6 +249,11 @@ is_error NameNotUtf8 = false
 is_error PathNotUtf8 = false
 is_error _ = true
 
+-- The hint after the error of a path. It is empty unless the path doesn't exist.
+abbrev pub error_hint : List ℕ → PathError → List ℕ
+error_hint path NotFound = path_hint path
+error_hint path _ = []
+
 -- The output for a path that can't be read: one line.
 pub record IsErrorReport (path : List ℕ) (why : PathError) (printed : Findings) : Type 0 where
   pub out : printed.out ≡ []
@@ -257,4 +263,5 @@ pub record IsErrorReport (path : List ℕ) (why : PathError) (printed : Findings
   pub found : printed.found ≡ false
   pub count : printed.count ≡ 0
   pub errors : chars printed.errors
-      ≡ codes "rl_scan: " ++ (visible (chars path) ++ (codes ": " ++ (path_error_message why ++ codes "\n")))
+      ≡ codes "rl_scan: " ++ (visible (chars path)
+      ++ chars (codes ": " ++ (path_error_message why ++ (error_hint path why ++ codes "\n"))))

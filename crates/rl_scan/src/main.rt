@@ -31,10 +31,11 @@ pub use rl_options::{
 };
 use rl_program::finish;
 use std::alloc::Global;
-use std::env;
 use std::env::VarError;
 use std::io::IsTerminal;
+use std::os::unix::fs::FileTypeExt;
 use std::process::ExitCode;
+use std::{env, fs};
 
 /// Whether the environment variable NO_COLOR isn't empty. It requests that programs print no colours.
 fn forbids_colors(rt: &HostRuntime) -> bool {
@@ -52,10 +53,22 @@ fn is_dumb(rt: &HostRuntime) -> bool {
     }
 }
 
+/// Whether standard input isn't a file, a pipe or a socket, but a terminal or another device, such as /dev/null. If the type of
+/// standard input is unknown, only a terminal counts.
+fn lacks_input(rt: &HostRuntime) -> bool {
+    match fs::metadata(rt, "/dev/stdin") {
+        Ok(about) => {
+            let kind = about.file_type();
+            !kind.is_file() && !kind.is_fifo() && !kind.is_socket()
+        }
+        Err(_) => rt.stdin().is_terminal(),
+    }
+}
+
 /// Returns the properties of standard input and output that a call depends on.
 fn console(rt: &HostRuntime) -> Console {
     Console {
-        input_is_terminal: rt.stdin().is_terminal(),
+        lacks_input: lacks_input(rt),
         has_colors: rt.stdout().is_terminal() && !forbids_colors(rt) && !is_dumb(rt),
     }
 }

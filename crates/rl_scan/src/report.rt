@@ -6,11 +6,11 @@ ghost use Rattle.rl_files.specs.Visible.{visible};
 ghost use Rattle.rl_files.specs.declared.tree.PathError.{PathError};
 ghost use Rattle.rl_output.specs.Fronts.{line_front};
 ghost use Rattle.rl_sources.specs.Scans.{error_end};
-ghost use Rattle.rl_scan.specs.Reports.{is_input as input, is_by_line as by_line, is_bad as bad, judges_macros as judges, is_alarm as alarm, is_error as fails, context_of as context, edition_read, side_lines as on_side, IsShownPath, IsPathIn, IsListReport, IsOptionsFor, IsScannedAs, worded_place as as_words, error_text, after_path as path_end, count_line, listed_of, path_line, printed_of, in_report, IsTextReport, IsErrorReport};
+ghost use Rattle.rl_scan.specs.Reports.{is_input as input, is_by_line as by_line, is_bad as bad, judges_macros as judges, is_alarm as alarm, is_error as fails, context_of as context, edition_read, error_hint, side_lines as on_side, IsShownPath, IsPathIn, IsListReport, IsOptionsFor, IsScannedAs, worded_place as as_words, error_text, after_path as path_end, count_line, listed_of, path_line, printed_of, in_report, IsTextReport, IsErrorReport};
 
 use crate::stats::requested_count;
 use rl_files::{PathError, push_visible};
-use rl_options::{Command, Output, PlaceForm, asks_context, visible_text};
+use rl_options::{Command, Output, PlaceForm, asks_context, path_hint, visible_text};
 use rl_output::{LineColumn, count_line_feeds};
 use rl_restyle::Macros;
 use rl_sources::{
@@ -135,7 +135,7 @@ fn context_of(command: Command<'_>) -> Option<Context>
     })
 }
 
-/// Whether literals inside macro calls are checked like all others, by the option `--macros`.
+/// Whether literals in macro code are checked like all others: the option `--macros all` is passed.
 fn judges_macros(macros: Option<Macros>) -> bool
     ensures { result ≡ judges macros }
 {
@@ -336,6 +336,20 @@ fn is_error(error: PathError) -> bool
     !matches!(error, PathError::NameNotUtf8 | PathError::PathNotUtf8)
 }
 
+/// Returns the hint after the error of a path. It is empty unless the path doesn't exist.
+fn hint_after<A: Allocator + Copy>(
+    alloc: A,
+    path: &str,
+    error: PathError,
+) -> Result<String<A>, AllocError>
+    ensures { IfOk result (λ hint. string_bytes hint ≡ error_hint path.now error) }
+{
+    match error {
+        PathError::NotFound => path_hint(alloc, path),
+        _ => Ok(String::new(alloc)),
+    }
+}
+
 /// Returns the output for a path that can't be read: a line on standard error. For a skipped name or path the line is a warning.
 pub(crate) fn report_error<A: Allocator + Copy>(
     alloc: A,
@@ -344,9 +358,10 @@ pub(crate) fn report_error<A: Allocator + Copy>(
 ) -> Result<Report<A>, AllocError>
     ensures { IfOk result (λ r. IsErrorReport path.now error (in_report r)) }
 {
+    let hint = hint_after(alloc, path, error)?;
     let mut errors = String::from_str(alloc, "rl_scan: ")?;
     push_visible(&mut errors, path)?;
-    writeln!(&mut errors, ": {error}")?;
+    writeln!(&mut errors, ": {error}{hint}")?;
     Ok(Report {
         out: Vec::new(alloc),
         errors: errors.into_bytes(),

@@ -7,8 +7,6 @@
 #[cfg_attr(not(feature = "__rendered"), allow(dead_code))]
 #[allow(unused_imports, unused_variables)]
 #[allow(clippy::style, clippy::complexity, clippy::pedantic)]
-// The proved sources search a list of texts by `any`.
-#[allow(clippy::manual_contains)]
 #[rustfmt::skip]
 mod proved;
 pub mod rattle_std;

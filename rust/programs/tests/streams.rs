@@ -4,7 +4,9 @@
 use std::ffi::OsStr;
 use std::fs::{self, OpenOptions};
 use std::io::Write;
+use std::os::fd::OwnedFd;
 use std::os::unix::ffi::OsStrExt;
+use std::os::unix::net::UnixStream;
 use std::path::Path;
 use std::process::{Command, Output, Stdio};
 
@@ -117,4 +119,51 @@ fn empty_arguments() {
         assert_eq!(status, Some(2), "{said}");
         assert!(said.starts_with(expected), "{said}");
     }
+}
+
+/// Returns the paths that `rl_scan -l` prints in the directory, without a path and with this standard input.
+fn read_without_path(directory: &Path, input: Stdio) -> String {
+    let mut command = rl_scan();
+    let done = command
+        .arg("-l")
+        .current_dir(directory)
+        .stdin(input)
+        .output()
+        .unwrap();
+    assert_eq!(String::from_utf8_lossy(&done.stderr), "");
+    assert_eq!(done.status.code(), Some(0));
+    String::from_utf8(done.stdout).unwrap()
+}
+
+/// Without a path, a file, a pipe or a socket is read. In place of another standard input, the current directory is read.
+#[test]
+fn input_without_a_path() {
+    let directory = Path::new(env!("CARGO_TARGET_TMPDIR")).join("input_without_a_path");
+    fs::create_dir_all(&directory).unwrap();
+    for name in ["a.rs", "input"] {
+        fs::write(directory.join(name), "1").unwrap();
+    }
+    let open = |path: &Path| Stdio::from(fs::File::open(path).unwrap());
+    for input in [Stdio::null(), open(&directory)] {
+        assert_eq!(read_without_path(&directory, input), "./a.rs\n");
+    }
+    assert_eq!(
+        read_without_path(&directory, open(&directory.join("input"))),
+        "-\n"
+    );
+    let mut echo = Command::new("echo")
+        .arg("1")
+        .stdout(Stdio::piped())
+        .spawn()
+        .unwrap();
+    let pipe = Stdio::from(echo.stdout.take().unwrap());
+    assert_eq!(read_without_path(&directory, pipe), "-\n");
+    assert!(echo.wait().unwrap().success());
+    let (socket, mut writer) = UnixStream::pair().unwrap();
+    writer.write_all(b"1").unwrap();
+    drop(writer);
+    assert_eq!(
+        read_without_path(&directory, Stdio::from(OwnedFd::from(socket))),
+        "-\n"
+    );
 }

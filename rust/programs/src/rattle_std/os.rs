@@ -6,7 +6,7 @@ pub mod unix {
         use crate::rattle_std::io::Result;
         use crate::rattle_std::rt::Files;
 
-        pub use std::os::unix::fs::{MetadataExt, PermissionsExt};
+        pub use std::os::unix::fs::{FileTypeExt, MetadataExt, PermissionsExt};
 
         /// Changes the owner, the group, or both, of the file at the path.
         pub fn chown<R: Files>(

@@ -3,9 +3,9 @@ use Rattle.rl_scan.proofs.EndingLemmas.{ends_help, ends_version}
 use Rattle.rl_scan.proofs.exit.answer.Goals as goal
 
 pub returns-in-Help : goal.returns-in-Help
-returns-in-Help g c = ends_help (wishes_in c.args.asked) c.args.is_terminal (g.T.Tree.holds c.args.tree.now) _ _ _ _
+returns-in-Help g c = ends_help (wishes_in c.args.asked) c.args.lacks_input (g.T.Tree.holds c.args.tree.now) _ _ _ _
     _ c.write_text.result c.in-Help.is c.write_text.ensures
 
 pub returns-in-Version : goal.returns-in-Version
-returns-in-Version g c = ends_version (wishes_in c.args.asked) c.args.is_terminal (g.T.Tree.holds c.args.tree.now) _ _
+returns-in-Version g c = ends_version (wishes_in c.args.asked) c.args.lacks_input (g.T.Tree.holds c.args.tree.now) _ _
     _ _ _ c.write_text-in-Version.result c.in-Version.is c.write_text-in-Version.ensures

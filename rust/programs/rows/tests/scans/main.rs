@@ -77,7 +77,7 @@ fn answer(line: &str) -> Vec<u8> {
         .map(|word| Text::from_str(Global, word).unwrap())
         .collect();
     let console = Console {
-        input_is_terminal: false,
+        lacks_input: false,
         has_colors: plain.is_some(),
     };
     let mut files = MemoryReplacements {

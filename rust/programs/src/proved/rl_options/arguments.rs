@@ -224,7 +224,7 @@ impl<'a, A: Allocator + Copy> ParsedArguments<'a, A> {
         Ok(())
     }
 
-    /// Sets whether literals in macro calls are rewritten, from the value of `--macros`.
+    /// Sets whether literals in macro code are treated as all others, from the value of `--macros`.
     fn take_macros(&mut self, alloc: A, word: &str) -> Result<(), ArgumentError<A>> {
         let Some(macros) = macros_of(word) else {
             return Err(ArgumentError::UnknownMacros(visible_text(alloc, word)?));

@@ -104,15 +104,15 @@ pub struct Command<'a> {
     pub style: Option<&'a str>,
     /// The rules of the style, by which literals are rewritten.
     pub rules: Style,
-    /// Whether literals in macro calls are rewritten, if `--macros` is passed.
+    /// Whether literals in macro code are treated as all others, if `--macros` is passed.
     pub macros: Option<Macros>,
 }
 
 /// The properties of standard input and output that a call of `rl_scan` depends on.
 #[derive(Clone, Copy)]
 pub struct Console {
-    /// Whether standard input is a terminal. If it is, and no path is passed, `.` is read.
-    pub input_is_terminal: bool,
+    /// Whether standard input isn't a file, a pipe or a socket. If it isn't, and no path is passed, `.` is read.
+    pub lacks_input: bool,
     /// Whether standard output accepts colours. If it does, lines have colours by default.
     pub has_colors: bool,
 }

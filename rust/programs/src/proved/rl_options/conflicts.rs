@@ -71,30 +71,35 @@ fn mode_clash<A: Allocator>(command: Command<'_>) -> Option<ArgumentError<A>> {
     }
 }
 
+/// Whether a path is `-`, which is standard input.
+fn is_input_name(path: &str) -> bool {
+    path == "-"
+}
+
 /// Whether one of the paths is standard input.
 fn has_input_path<A: Allocator>(paths: &[String<A>]) -> bool {
-    paths.iter().any(|path| path.as_str() == "-")
+    paths.iter().any(|path| is_input_name(path.as_str()))
 }
 
 /// Whether one of the lists of paths is read from standard input.
 fn has_input_list(lists: &[&str]) -> bool {
-    lists.iter().any(|list| *list == "-")
+    lists.iter().any(|list| is_input_name(list))
 }
 
 /// Whether the rules of the style are read from standard input.
 fn has_input_style(style: Option<&str>) -> bool {
     match style {
-        Some(file) => file == "-",
+        Some(file) => is_input_name(file),
         None => false,
     }
 }
 
-/// Whether sources or a list of paths are read from standard input. They are also if there are no paths and no lists.
+/// Whether sources or a list of paths may be read from standard input: a path or a list is `-`, or there are no paths and no lists.
 fn reads_input<A: Allocator>(paths: &[String<A>], lists: &[&str]) -> bool {
     paths.is_empty() && lists.is_empty() || has_input_path(paths) || has_input_list(lists)
 }
 
-/// Whether the rules of a style are read from standard input, and sources or a list of paths too.
+/// Whether the rules of a style are read from standard input, and sources or a list of paths may be read from it too.
 fn reads_input_twice<A: Allocator>(asked: &ParsedArguments<'_, A>) -> bool {
     has_input_style(asked.command.style)
         && reads_input(asked.paths.as_slice(), asked.lists.as_slice())

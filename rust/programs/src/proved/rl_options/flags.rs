@@ -62,7 +62,7 @@ pub(crate) enum Operand {
     After,
     /// A file with the rules of a style.
     Style,
-    /// A word that determines whether literals in macro calls are rewritten.
+    /// A word that determines whether literals in macro code are treated as all others.
     Macros,
 }
 

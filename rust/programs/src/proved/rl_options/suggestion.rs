@@ -5,7 +5,7 @@
 const RULES: &str =
     "hex_digits,drop_underscores,drop_leading_zeros,suffix_separator,binary_groups,octal_groups,decimal_groups,hexadecimal_groups,min_digits,float_zero,exponent_letter,drop_exponent_plus,escape_digits,fewest_escape_digits,drop_ascii_escapes,named_escapes,drop_quote_escapes,fewest_hashes,drop_raw,escape_invisible";
 
-/// Whether `said` is `meant` with its first two bytes exchanged, or both are equal.
+/// Whether `said` is `meant` with its first two bytes exchanged, or both have fewer than two bytes and are equal.
 fn is_swapped(said: &[u8], meant: &[u8]) -> bool {
     match (said, meant) {
         ([a, b, said @ ..], [c, d, meant @ ..]) => *a == *d && *b == *c && said == meant,

@@ -85,10 +85,10 @@ fn write_text<A: Allocator, W: Write>(out: &mut W, text: &str) -> Ending<CallErr
     }
 }
 
-/// Whether `.` is read, and not standard input, if no path is passed. This is the case if standard input is a terminal, or if an
-/// option selects files in directories.
-fn reads_current_directory<A: Allocator>(is_terminal: bool, asked: &ParsedArguments<'_, A>) -> bool {
-    is_terminal
+/// Whether `.` is read, and not standard input, if no path is passed. This is the case if standard input isn't a file, a pipe or a
+/// socket, or if an option selects files in directories.
+fn reads_current_directory<A: Allocator>(lacks_input: bool, asked: &ParsedArguments<'_, A>) -> bool {
+    lacks_input
         || asked.command.selection.all
         || !asked.extensions.is_empty()
         || !asked.excludes.is_empty()
@@ -261,19 +261,19 @@ fn selecting<'a>(
     }
 }
 
-/// Scans the files that the parsed arguments select. If literals are rewritten, `rules` is their style. `is_terminal` tells whether
-/// standard input is a terminal.
+/// Scans the files that the parsed arguments select. If literals are rewritten, `rules` is their style. If `lacks_input` is true,
+/// standard input isn't a file, a pipe or a socket.
 fn scan_requested<A: Allocator + Copy, T: Tree, W: Write, E: Write, F: Replace>(
     alloc: A,
     asked: ParsedArguments<'_, A>,
     rules: Style,
-    is_terminal: bool,
+    lacks_input: bool,
     tree: &T,
     out: &mut W,
     err: &mut E,
     files: &mut F,
 ) -> Ending<CallError<A>> {
-    let is_here = reads_current_directory(is_terminal, &asked);
+    let is_here = reads_current_directory(lacks_input, &asked);
     let ParsedArguments {
         command,
         mut paths,
@@ -324,11 +324,11 @@ fn rules_error<A: Allocator + Copy>(
 }
 
 /// Scans the files that the parsed arguments select, with the style from the file of `--style`, or with the default style.
-/// `is_terminal` tells whether standard input is a terminal.
+/// If `lacks_input` is true, standard input isn't a file, a pipe or a socket.
 fn scan_styled<A: Allocator + Copy, T: Tree, W: Write, E: Write, F: Replace>(
     alloc: A,
     asked: ParsedArguments<'_, A>,
-    is_terminal: bool,
+    lacks_input: bool,
     tree: &T,
     out: &mut W,
     err: &mut E,
@@ -339,7 +339,7 @@ fn scan_styled<A: Allocator + Copy, T: Tree, W: Write, E: Write, F: Replace>(
             alloc,
             asked,
             default_style(),
-            is_terminal,
+            lacks_input,
             tree,
             out,
             err,
@@ -347,7 +347,7 @@ fn scan_styled<A: Allocator + Copy, T: Tree, W: Write, E: Write, F: Replace>(
         );
     };
     match read_rules_file(alloc, tree, file) {
-        Ok(rules) => scan_requested(alloc, asked, rules, is_terminal, tree, out, err, files),
+        Ok(rules) => scan_requested(alloc, asked, rules, lacks_input, tree, out, err, files),
         Err(error) => rules_error(alloc, file, error),
     }
 }
@@ -356,7 +356,7 @@ fn scan_styled<A: Allocator + Copy, T: Tree, W: Write, E: Write, F: Replace>(
 fn answer<A: Allocator + Copy, T: Tree, W: Write, E: Write, F: Replace>(
     alloc: A,
     asked: ParsedArguments<'_, A>,
-    is_terminal: bool,
+    lacks_input: bool,
     tree: &T,
     out: &mut W,
     err: &mut E,
@@ -368,7 +368,7 @@ fn answer<A: Allocator + Copy, T: Tree, W: Write, E: Write, F: Replace>(
         Action::Scan | Action::Files => scan_styled(
             alloc,
             asked,
-            is_terminal,
+            lacks_input,
             tree,
             out,
             err,
@@ -423,15 +423,7 @@ pub fn run_with_arguments<A: Allocator + Copy, T: Tree, W: Write, E: Write, F: R
             if !only_paths(words, asked.paths.as_slice()) {
                 return Ending::Failed(CallError::NoArguments);
             }
-            answer(
-                alloc,
-                asked,
-                console.input_is_terminal,
-                tree,
-                out,
-                err,
-                files,
-            )
+            answer(alloc, asked, console.lacks_input, tree, out, err, files)
         }
         Err(error) => Ending::Failed(CallError::Word(error)),
     }

@@ -4,7 +4,7 @@
 use crate::rattle_std::prelude::{String, Vec};
 use crate::rl_scan::stats::requested_count;
 use crate::rl_files::{PathError, push_visible};
-use crate::rl_options::{Command, Output, PlaceForm, asks_context, visible_text};
+use crate::rl_options::{Command, Output, PlaceForm, asks_context, path_hint, visible_text};
 use crate::rl_output::{LineColumn, count_line_feeds};
 use crate::rl_restyle::Macros;
 use crate::rl_sources::{
@@ -107,7 +107,7 @@ fn context_of(command: Command<'_>) -> Option<Context> {
     })
 }
 
-/// Whether literals inside macro calls are checked like all others, by the option `--macros`.
+/// Whether literals in macro code are checked like all others: the option `--macros all` is passed.
 fn judges_macros(macros: Option<Macros>) -> bool {
     matches!(macros, Some(Macros::All))
 }
@@ -284,15 +284,28 @@ fn is_error(error: PathError) -> bool {
     !matches!(error, PathError::NameNotUtf8 | PathError::PathNotUtf8)
 }
 
+/// Returns the hint after the error of a path. It is empty unless the path doesn't exist.
+fn hint_after<A: Allocator + Copy>(
+    alloc: A,
+    path: &str,
+    error: PathError,
+) -> Result<String<A>, AllocError> {
+    match error {
+        PathError::NotFound => path_hint(alloc, path),
+        _ => Ok(String::new(alloc)),
+    }
+}
+
 /// Returns the output for a path that can't be read: a line on standard error. For a skipped name or path the line is a warning.
 pub(crate) fn report_error<A: Allocator + Copy>(
     alloc: A,
     path: &str,
     error: PathError,
 ) -> Result<Report<A>, AllocError> {
+    let hint = hint_after(alloc, path, error)?;
     let mut errors = String::from_str(alloc, "rl_scan: ")?;
     push_visible(&mut errors, path)?;
-    writeln!(&mut errors, ": {error}")?;
+    writeln!(&mut errors, ": {error}{hint}")?;
     Ok(Report {
         out: Vec::new(alloc),
         errors: errors.into_bytes(),
