@@ -399,7 +399,7 @@ mod tests {
             message("1.5"),
             "expected integer literal, found floating point literal"
         );
-        assert_eq!(message("300"), "number that u8 doesn't hold");
+        assert_eq!(message("300"), "number out of range for u8");
         let digits = LitInt::parse("300").map(|it| it.base10_parse::<u8>());
         let error = MacroError::from(digits.expect("an integer").unwrap_err());
         assert_eq!(error.to_string(), "number too large to fit in target type");

@@ -123,7 +123,7 @@ impl core::error::Error for SettingErrorKind {
 /// let port = Key::new("port", "an integer from 0 to 65535");
 /// let error = Settings::read("port = 70000")?.number::<u16>(port).unwrap_err();
 /// assert_eq!(error.range(), 7..12);
-/// let words = "port: expected an integer from 0 to 65535: number that u16 doesn't hold at byte 7";
+/// let words = "port: expected an integer from 0 to 65535: number out of range for u16 at byte 7";
 /// assert_eq!(error.to_string(), words);
 /// # Ok::<(), navyspindle::SettingError>(())
 /// ```
@@ -622,8 +622,8 @@ mod tests {
         let read = Settings::read("port = 1e400").expect("settings");
         let error = read.number::<f64>(PORT).expect_err("an infinity");
         let source = error.source().expect("the value's error").to_string();
-        assert_eq!(source, "number that f64 doesn't hold at byte 0");
-        let words = "port: expected an integer: number that f64 doesn't hold at byte 7";
+        assert_eq!(source, "number out of range for f64 at byte 0");
+        let words = "port: expected an integer: number out of range for f64 at byte 7";
         assert_eq!(error.to_string(), words);
     }
 

@@ -154,7 +154,7 @@ integers!(i8 I8, i16 I16, i32 I32, i64 I64, i128 I128, isize Isize => |number| n
 ///
 /// let error = LitInt::parse("0x1FFu8").unwrap().value::<u8>().unwrap_err();
 /// assert_eq!((error.expected(), error.range()), (NumberType::U8, 0..5));
-/// assert_eq!(error.to_string(), "number that u8 doesn't hold at byte 0");
+/// assert_eq!(error.to_string(), "number out of range for u8 at byte 0");
 /// ```
 #[derive(Clone, Debug, PartialEq, Eq, Hash)]
 pub struct ValueError {
@@ -289,7 +289,7 @@ impl ValueError {
             }
             ValueErrorKind::Form => write!(f, "float where {wanted} is wanted"),
             ValueErrorKind::Minus => write!(f, "minus before a number of {wanted}"),
-            ValueErrorKind::OutOfRange => write!(f, "number that {wanted} doesn't hold"),
+            ValueErrorKind::OutOfRange => write!(f, "number out of range for {wanted}"),
         }
     }
 }

@@ -130,7 +130,7 @@ fn an_integer_is_a_float_where_one_is_expected() {
     let error = single(&largest).unwrap_err().to_string();
     assert_eq!(
         error,
-        "a: expected a value: number that f32 doesn't hold at byte 4"
+        "a: expected a value: number out of range for f32 at byte 4"
     );
     // A suffix of another type is still rejected.
     assert_eq!(float("a = 1f64"), Ok(Some(1.0)));

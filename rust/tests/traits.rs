@@ -98,7 +98,7 @@ fn kinds_of_errors_print_and_are_errors() {
     let read = Settings::read("port = 300").unwrap();
     let error = read.number::<u8>(PORT).unwrap_err();
     let source = error.kind().source().unwrap();
-    assert_eq!(source.to_string(), "number that u8 doesn't hold at byte 0");
+    assert_eq!(source.to_string(), "number out of range for u8 at byte 0");
     let read = Settings::read("port = 0b2").unwrap();
     let error = read.number::<u8>(PORT).unwrap_err();
     let source = error.kind().source().unwrap();

@@ -75,7 +75,7 @@ fn said() {
         let error = LitInt::parse(text).unwrap().value::<u8>().unwrap_err();
         error.to_string()
     };
-    assert_eq!(said("256"), "number that u8 doesn't hold at byte 0");
+    assert_eq!(said("256"), "number out of range for u8 at byte 0");
     assert_eq!(said("-1"), "minus before a number of u8 at byte 0");
     assert_eq!(said("1k"), "suffix that isn't u8 at byte 1");
     let form = LitFloat::parse("1.5").unwrap().value::<u8>().unwrap_err();

@@ -25,7 +25,7 @@ none_listed : (list : List Attribute) → AreListed [] list → list ≡ []
 none_listed [] h = refl
 none_listed (a ∷ others) (b, i, c) = absurd (no_attribute a b i)
 
--- If token trees begin with a punctuation character, the token trees after it are unique.
+-- If token trees begin with a punctuation character, only one list can be the token trees after it.
 one_mark : (ch : ℕ) (trees a b : List Tree) → IsAfterMark ch trees a → IsAfterMark ch trees b → a ≡ b
 one_mark ch trees a b h k = let e = h.trees_are in let f = k.trees_are in cc
 
@@ -39,7 +39,8 @@ no_behind ch trees rest h e = let f = h.trees_are in absurd (cc)
 abbrev attribute : SpannedText → SpannedText → Attribute
 attribute name literal = record { name = name; literal = literal }
 
--- If token trees begin with two attributes, the two are equal, and so are the token trees after them.
+-- If two attributes are each at the start of the same token trees, the two attributes are equal, and so are the token
+-- trees after them.
 one_attribute : (trees : List Tree) (a b : Attribute) (r s : List Tree) → IsAttribute trees a r → IsAttribute trees b s
     → (a ≡ b) × (r ≡ s)
 one_attribute trees a b r s h k =
@@ -94,8 +95,8 @@ stand_more trees [] rest a following next h i m = (
 stand_more trees (x ∷ xs) rest a following next (b, n, j, k, h) i m =
     (b, n, j, k, stand_more n xs rest a following next h i m)
 
--- If token trees begin with an attribute and its comma or the end, and a list of attributes follows, all of them are a
--- list.
+-- If token trees are an attribute, followed by a comma or the end, and then a list of attributes, all of the token
+-- trees are a list of attributes.
 pub listed_more : (rest : List Tree) (a : Attribute) (next : List Tree) (more : List Attribute) → IsNext rest a next
     → AreListed next more → AreListed rest (a ∷ more)
 listed_more rest a next more n h =
@@ -168,7 +169,7 @@ names_before done a more h =
     distinct_before a.name.text (names_of done) (names_of more)
     (subst (IsDistinct bytes_eq) (map-append (λ x. x.name.text) done (a ∷ more)) h)
 
--- ---- token trees are at most one list of attributes
+-- ---- lemmas: token trees are at most one list of attributes
 
 pub one_listing : (trees : List Tree) (xs ys : List Attribute) → AreListed trees xs → AreListed trees ys → xs ≡ ys
 one_listing trees [] ys h k = sym (none_listed ys (subst (λ (t : List Tree). AreListed t ys) h k))
@@ -186,7 +187,7 @@ one_listing trees (x ∷ xs) (y ∷ ys) (b, i, inr (r, m, k)) (c, j, inr (s, n, 
     ap (λ z. z ∷ xs) one.0 ∙ ap (λ zs. y ∷ zs) (one_listing s xs ys (subst (λ (t : List Tree). AreListed t xs) rests k)
     l)
 
--- ---- rejected token trees aren't a list
+-- ---- lemmas: rejected token trees aren't a list of attributes
 
 -- The list of attributes `list` begins with the consumed attributes `done`, and the remaining token trees `rest` are
 -- its other attributes.
@@ -284,8 +285,8 @@ refused_next trees done rest scope e t d some r = record {
       never_refused done on.more rest scope e some (subst NamesDiffer on.list_is are.differ) on.listed r;
 }
 
--- If two tests of names give the same results, a name at the start of token trees is new for both or for neither. So both give
--- the next attribute the same errors (`same_seen`).
+-- If two tests of names give the same results, a name at the start of token trees is new for both or for neither. So
+-- both tests give the next attribute equal errors (`same_seen`).
 same_new : (s t : List ℕ → Bool) (trees : List Tree) (name : SpannedText) (following : List Tree)
     → ((n : List ℕ) → s n ≡ t n) → HasNewName s trees name following → HasNewName t trees name following
 same_new s t trees name following e h = record { named = h.named; anew = sym (e name.text) ∙ h.anew }

@@ -36,8 +36,8 @@ use Rattle.rl_attributes.specs.Names.{has_name}
 use Rattle.rl_attributes.specs.AttributeSteps.{AddsName, IsNext, LacksMemoryInStep, RejectsStep, reported_at, kind_reported_at}
 use Rattle.rl_attributes.proofs.AttributeLemmas.{AreTaken, taken_none, taken_more, taken_all, taken_begins, differ_more, differ_none, named_more, refused_next, same_seen, one_listing}
 
--- The invariant of the parser's loop: the attributes `entries` were consumed from the token trees `trees`, `names` is
--- the set of their names, and the token trees `rest` remain.
+-- The invariant of the loop that parses a list of attributes: the attributes `entries` were consumed from the token
+-- trees `trees`, `names` is the set of their names, and the token trees `rest` remain.
 pub record IsAt {A : Type 0} (trees : List Tree) (entries : List (Entry A)) (names : BTreeSet Name)
     (rest : List Tree) : Type 0 where
   pub taken : AreTaken trees (attributes_of entries) rest
@@ -46,7 +46,7 @@ pub record IsAt {A : Type 0} (trees : List Tree) (entries : List (Entry A)) (nam
   pub knows : (name : List ℕ) → has_name names name ≡ is_named name (attributes_of entries)
   pub left : IsRest trees rest
 
--- The invariant of the parser's loop holds at the start.
+-- The invariant of the loop that parses a list of attributes holds at the start.
 pub at_first : {A : Type 0} (trees : List Tree) (entries : List (Entry A)) (names : BTreeSet Name) → entries
     ≡ [] → IsEmpty names → IsAt trees entries names trees
 at_first {A = A} trees entries names e n = record {
@@ -57,7 +57,7 @@ at_first {A = A} trees entries names e n = record {
   left = rest_self trees;
 }
 
--- The invariant of the parser's loop holds after one more attribute.
+-- The invariant of the loop that parses a list of attributes holds again after one more attribute.
 pub at_next : {A : Type 0} (trees : List Tree) (entries more : List (Entry A)) (old new : BTreeSet Name)
     (rest next : List Tree) (entry : Entry A) → IsAt trees entries old rest → rest ≢ []
     → IsNext rest (attribute_of entry) next → IsFalse (has_name old (string_bytes entry.name)) → IsReadEntry entry
@@ -96,7 +96,7 @@ pub next_memory : {B : Type 0} (rest next : List Tree) (a : Attribute) (e : Erro
     ≡ Memory → LacksMemoryInStep rest e
 next_memory rest next a e n m = record { begun = subst (λ (ts : List Tree). begins_ident ts ≡ true) (sym n.is.named) refl; memory = m }
 
--- An error of the next attribute is an error of all of the token trees.
+-- If the parser of a list of attributes fails at the next attribute, its error is an error of the whole list.
 pub at_refusal : {A B : Type 0} (trees : List Tree) (entries : List (Entry A)) (names : BTreeSet Name)
     (rest : List Tree) (scope was : Span) (e : Error B) → IsAt trees entries names rest → rest ≢ [] → was ≡ scope
     → RejectsStep (has_name names) rest was e → LacksMemoryInStep trees e ⊎ RejectsAttributes trees scope e
@@ -106,7 +106,7 @@ at_refusal trees entries names rest scope was e at some s (inr r) =
     inr (subst (λ (z : Span). RejectsAttributes trees z e) s (refused_next trees (attributes_of entries) rest was e
     at.taken at.differ some seen))
 
--- If token trees begin with a new name, `=` and a literal, they begin with that attribute.
+-- If token trees begin with a new name, `=` and a literal, they begin with an attribute of that name and that literal.
 pub entry_taken : {A : Type 0} (seen : List ℕ → Bool) (trees at_equals at_literal rest : List Tree) (name : SpannedText)
     (text : List ℕ) (span : Span) (value : Lit A) → text ≡ name.text → span ≡ name.span
     → HasNewName seen trees name at_equals → IsAfterMark 61 at_equals at_literal → IsLitFront at_literal value rest
@@ -128,7 +128,7 @@ pub value_read : {A : Type 0} (trees : List Tree) (value : Lit A) (rest : List T
 value_read trees value rest front = subst (λ (t : SpannedText). IsReadAs (kind_of value) (chars t.text))
     (sym front.read.0) front.read.1
 
--- If something other than `=` follows a new name, the error is that of the next attribute.
+-- If a new name is followed by something other than `=`, the parser's error is an error of the next attribute.
 pub equals_refused : {A : Type 0} (seen : List ℕ → Bool) (trees following : List Tree) (scope was : Span)
     (name : SpannedText) (e : Error A) → HasNewName seen trees name following → IsFalse (begins_mark 61 following) → was
     ≡ scope → IsRejection following was (codes "`=`") e → RejectsStep seen trees scope e
@@ -143,7 +143,8 @@ equals_refused seen trees following scope was name e begun none same rejection =
       })));
     })
 
--- If something other than a comma follows an attribute with a new name, the error is that of the next attribute.
+-- If an attribute with a new name is followed by something other than a comma, the parser's error is an error of the
+-- next attribute.
 pub comma_refused : {A : Type 0} (seen : List ℕ → Bool) (trees following : List Tree) (scope was : Span)
     (attribute : Attribute) (e : Error A) → IsAttribute trees attribute following → IsFalse (seen attribute.name.text)
     → following ≢ [] → IsFalse (begins_mark 44 following) → was ≡ scope → IsRejection following was (codes "`,`") e
@@ -161,7 +162,8 @@ comma_refused seen trees following scope was attribute e is anew some none same 
       }))));
     })
 
--- If the parser of literals rejects the token trees after a new name and `=`, its error is that of the next attribute.
+-- If the parser of literals rejects the token trees after a new name and `=`, its error is an error of the next
+-- attribute.
 pub value_refused : {A : Type 0} (seen : List ℕ → Bool) (trees at_equals at_literal after : List Tree)
     (scope was : Span) (name : SpannedText) (e : Error A) → HasNewName seen trees name at_equals
     → IsAfterMark 61 at_equals at_literal → was ≡ scope → RunsLit at_literal was (Err e) after
@@ -294,7 +296,8 @@ apart entries name i k d e differ order within one other =
     let both = rw (first, second) at differs in
     absurd (cc)
 
--- If the names differ, and the attribute at an index has the name, each attribute with the name has the value of that attribute.
+-- The names of the attributes differ. If the attribute at an index has a name, each attribute with that name has the
+-- value of the attribute at the index.
 pub value_lent : {A : Type 0} (entries : List (Entry A)) (name : List ℕ) (i : ℕ) (entry : Entry A)
     → EntriesDiffer entries → i < length entries → entry ≡ get_or entries i entry → HasName name entry
     → (k : ℕ) (d : Entry A) → k < length entries → HasName name (get_or entries k d) → entry.value
@@ -310,8 +313,8 @@ value_lent {A = A} entries name i entry differ below is named k d within other =
     here : HasName name (get_or entries i entry)
     here = subst (λ (x : Entry A). HasName name x) is named
 
--- If no attribute before an index has the name, nor the attribute at the index, no attribute up to and including the
--- index has it.
+-- If neither the attributes before an index nor the attribute at the index have a name, no attribute up to and
+-- including the index has that name.
 pub none_more : {A : Type 0} (entries : List (Entry A)) (name : List ℕ) (i : ℕ) (entry : Entry A) → i < length entries
     → entry ≡ get_or entries i entry → (HasName name entry → ⊥)
     → ((k : ℕ) (d : Entry A) → k < i → HasName name (get_or entries k d) → ⊥) → (k : ℕ) (d : Entry A) → k < i + 1
@@ -333,8 +336,8 @@ parted_at xs i x below is =
     sym (take-append-drop i xs) ∙ ap (λ z. take i xs ++ z) (drop_more xs i x below
     ∙ ap (λ z. z ∷ drop (i + 1) xs) (sym is))
 
--- If some attribute has the name, each attribute with the name has the value `value`, and that value has the property `P`, then
--- some attribute with the name has a value with the property.
+-- If some attribute has a name, all attributes with that name have the value `value`, and `value` has the property `P`,
+-- then some attribute with that name has a value with the property `P`.
 pub value_rejected : {A : Type 0} (entries : List (Entry A)) (name : List ℕ) (value : Lit A) (P : Lit A → Type 0)
     → Any (HasName name) entries → All (λ e. HasName name e → value ≡ e.value) entries → P value
     → Any (λ e. HasName name e × P e.value) entries

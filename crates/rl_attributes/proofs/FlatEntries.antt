@@ -27,7 +27,7 @@ use Rattle.rl_attributes.specs.NextEntries.{borrowed_token, attribute_at, IsEntr
 use Rattle.rl_attributes.proofs.AttributeLemmas.{listed_more, differ_more, differ_none, named_more}
 use Rattle.rl_attributes.proofs.FlatSettings.{TakesAttribute, takes_attribute}
 
--- The text up to the remaining text `rest` is the attributes `list`, whatever attributes follow. At the end of the text
+-- The text before the remaining text `rest` is the attributes `list`, whatever attributes follow. If no text remains,
 -- no attributes follow.
 pub record AreFlat (text : List ℕ) (file : ℕ) (list : List Attribute) (rest : List ℕ) : Type 0 where
   pub trees : List Tree
@@ -62,8 +62,8 @@ flat_more text file old new list a same flat some t =
           (sym (append_assoc flat.trees t.trees following)) on);
     }
 
--- The invariant of the loop: the attributes `entries` were read from the text, `names` is the set of their names, and
--- the text `rest` remains.
+-- The invariant of the loop over the settings of a text: the attributes `entries` were read, `names` is the set of
+-- their names, and the text `rest` remains.
 pub record IsFlatAt {A : Type 0} (text : List ℕ) (file : ℕ) (entries : List (Entry A)) (names : BTreeSet Name)
     (rest : List ℕ) : Type 0 where
   pub flat : AreFlat text file (attributes_of entries) rest

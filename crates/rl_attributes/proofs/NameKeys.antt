@@ -1,4 +1,4 @@
--- Lemmas about the order of names by the numbers of their last eight bytes.
+-- Lemmas about the order of attribute names, which compares the last eight bytes of two names as numbers first.
 use Rattle.std.proofs.Common.{◌≡◌, ◌==◌, ◌&&◌, ℕ, Bool, true, false, List, refl, ◌∙◌, ap, rules}
 use Rattle.std.specs.Ordering.{nat_cmp, ordering_then, is_eq}
 use Rattle.std.specs.Cmp.{both_tied, unsigned_ties}
@@ -18,7 +18,8 @@ same_key xs ys true e = eq_self (name_key xs) (name_key ys) (ap name_key ((bytes
     eq_self : (m n : ℕ) → m ≡ n → true ≡ ((m == n) && true)
     eq_self m n h = search rules
 
--- Two names are equal exactly if the comparison by their numbers and then by their bytes gives `Equal`.
+-- Two names are equal exactly if their comparison gives `Equal`. The comparison is by the numbers of their last eight
+-- bytes, and then by all bytes.
 pub keys_tie : (xs ys : List ℕ) → bytes_eq xs ys
     ≡ is_eq (ordering_then (nat_cmp (name_key xs) (name_key ys)) (slice_cmp nat_cmp xs ys))
 keys_tie xs ys =

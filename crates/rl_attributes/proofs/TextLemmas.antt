@@ -111,7 +111,7 @@ truth_reads (Float l) b h = absurd h
 truth_reads (BoolLit l) b h = subst (λ (y : Bool). Reads (chars (truth_text l.value)) BoolKind (Truth y) []) h (word_reads l.value)
 truth_reads (Verbatim l) b h = absurd h
 
--- ---- lemmas about the kind and the suffix of a literal, which are those of its text
+-- ---- lemmas: the kind and the suffix of a literal are the kind and the suffix of the literal's text
 
 kind_by : (o : Option Kind) (t : List ℕ) → IsReadAs o t → (k : Kind) (v : Contents) (x : List ℕ)
     → Reads t k v x → o ≡ Some k
@@ -384,7 +384,7 @@ no_integer : (t : List ℕ) → ∥ ReadsAs FloatKind t ∥₁ → HasNoInteger 
 no_integer t h = λ sign magnitude suffix r.
     ∥∥₁_elim h (λ p q. absurd p) (λ is. is.2.no_integer sign magnitude suffix r)
 
--- The digits of a text that is a float and not an integer are its value as a literal.
+-- If a text is a float and not an integer, the text's value as a literal is its digits.
 float_contents : (t ds : List ℕ) → HasNoInteger t → HasDigits FloatKind t (chars ds)
     → HasContents FloatKind t (Digits (chars ds))
 float_contents t ds none h =

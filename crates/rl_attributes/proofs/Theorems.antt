@@ -1,12 +1,13 @@
--- The theorems of src/laws.rt, as lemmas that callers may cite. There are more lemmas for callers. A fact of all entries, or of
--- one, is a fact of their attributes. The value of a setting with a default follows from the value that is set, or from the fact
--- that none is set, and the reverse. A fact of an optional result follows for each of its two cases.
+-- The theorems of src/laws.rt, as lemmas that callers may cite, and further lemmas for callers. If a property holds for
+-- all entries, or for one, it holds for their attributes. The value of a setting with a default follows from the value
+-- that the attributes set, or from the absence of such a value, and the reverse. If a property holds for an optional
+-- result, it holds in each of the two cases.
 pub use Rattle.rl_attributes.proofs.TextLemmas.{set_or_of_set, set_or_of_unset, set_of_set_or, default_of_set_or, rejected_named, in_some, in_none}
 use Rattle.std.proofs.Common.{◌↔◌, List, All, Any}
 use Rattle.rl_attributes.specs.declared.attributes.Entry.{Entry}
 use Rattle.rl_attributes.specs.Attributes.{Attribute}
 use Rattle.rl_attributes.specs.Entries.{attribute_of, attributes_of}
-use Rattle.rl_attributes.specs.Laws.{AStringReadsFromItsText, ABoolReadsFromItsText, TheTextTellsTheKind, TheTextTellsTheSuffix, AMalformedLiteralHasNoReading, AStringIsRejectedForMemory, ABoolIsAccepted, KnownNamesAreTheSettings}
+use Rattle.rl_attributes.specs.Laws.{AStringReadsFromItsText, ABoolReadsFromItsText, TheTextTellsTheKind, TheTextTellsTheSuffix, AMalformedLiteralHasNoReading, OnlyAnAllocationFailureRejectsAString, ABoolIsAccepted, KnownNamesAreTheSettings}
 use Rattle.rl_attributes.proofs.TextLemmas.{string_in_text, truth_reads, is_kind, suffix_is, malformed, string_memory, truth_fits, knows_one, one_known, all_map, all_unmap, any_map, any_unmap}
 
 pub a_string_reads_from_its_text : {A B : Type 0} → AStringReadsFromItsText A B
@@ -24,8 +25,8 @@ the_text_tells_the_suffix = suffix_is
 pub a_malformed_literal_has_no_reading : {A : Type 0} → AMalformedLiteralHasNoReading A
 a_malformed_literal_has_no_reading = malformed
 
-pub a_string_is_rejected_for_memory : {A : Type 0} → AStringIsRejectedForMemory A
-a_string_is_rejected_for_memory = string_memory
+pub only_an_allocation_failure_rejects_a_string : {A : Type 0} → OnlyAnAllocationFailureRejectsAString A
+only_an_allocation_failure_rejects_a_string = string_memory
 
 pub a_bool_is_accepted : {A : Type 0} → ABoolIsAccepted A
 a_bool_is_accepted = truth_fits

@@ -71,7 +71,8 @@ pub record HasNewName (seen : List ℕ → Bool) (trees : List Tree) (name : Spa
   pub named : trees ≡ IdentTree name ∷ following
   pub anew : IsFalse (seen name.text)
 
--- The error `e` is that of token trees that don't begin with an identifier, where the name of an attribute is expected.
+-- The error `e` is the error for token trees that don't begin with an identifier, where the name of an attribute is
+-- expected.
 pub record MissesName {A : Type 0} (trees : List Tree) (scope : Span) (e : Error A) : Type 0 where
   pub none : IsFalse (begins_ident trees)
   pub rejection : IsRejection trees scope (codes "identifier") e
@@ -85,7 +86,7 @@ pub record RepeatsName {A : Type 0} (seen : List ℕ → Bool) (trees : List Tre
   pub again : IsTrue (seen name.text)
   pub error : e ≡ record { span = name.span; kind = Repeated }
 
--- The error `e` is that of an attribute's name without `=` after it. The name didn't occur before.
+-- The error `e` is the error for an attribute's name without `=` after it. The name didn't occur before.
 pub record MissesEquals {A : Type 0} (seen : List ℕ → Bool) (trees : List Tree) (scope : Span)
     (e : Error A) : Type 0 where
   pub name : SpannedText
@@ -94,7 +95,8 @@ pub record MissesEquals {A : Type 0} (seen : List ℕ → Bool) (trees : List Tr
   pub none : IsFalse (begins_mark (code "=") following)
   pub rejection : IsRejection following scope (codes "`=`") e
 
--- The error `e` is that of an attribute's name and `=` without a literal after them. The name didn't occur before.
+-- The error `e` is the error for an attribute's name and `=` without a literal after them. The name didn't occur
+-- before.
 pub record MissesLiteral {A : Type 0} (seen : List ℕ → Bool) (trees : List Tree) (scope : Span)
     (e : Error A) : Type 0 where
   pub name : SpannedText
@@ -105,8 +107,8 @@ pub record MissesLiteral {A : Type 0} (seen : List ℕ → Bool) (trees : List T
   pub none : HasNoFront at_literal
   pub rejection : IsRejection at_literal scope (codes "literal") e
 
--- The error `e` is that of an attribute that is followed by something other than a comma. The name of the attribute
--- didn't occur before.
+-- The error `e` is the error for an attribute that is followed by something other than a comma. The name of the
+-- attribute didn't occur before.
 pub record MissesComma {A : Type 0} (seen : List ℕ → Bool) (trees : List Tree) (scope : Span)
     (e : Error A) : Type 0 where
   pub attribute : Attribute
@@ -117,8 +119,8 @@ pub record MissesComma {A : Type 0} (seen : List ℕ → Bool) (trees : List Tre
   pub none : IsFalse (begins_mark (code ",") following)
   pub rejection : IsRejection following scope (codes "`,`") e
 
--- The error `e` is that of token trees that don't begin with an attribute whose name is new, followed by a comma or the
--- end. It is the error for the first part that is missing.
+-- The error `e` is the error for token trees that don't begin with an attribute with a new name, followed by a comma or
+-- the end. It is the error for the first part that is missing.
 pub record RejectsNextAttribute {A : Type 0} (seen : List ℕ → Bool) (trees : List Tree)
     (scope : Span) (e : Error A) : Type 0 where
   pub why : MissesName trees scope e ⊎ RepeatsName seen trees e ⊎ MissesEquals seen trees scope e
@@ -131,8 +133,8 @@ AreAttributesBefore trees (a ∷ others) rest =
     (following next : List Tree) × IsAttribute trees a following × IsAfterMark (code ",") following next
     × AreAttributesBefore next others rest
 
--- The error `e` is that of token trees that aren't a list of attributes. It is the error after the attributes at their
--- start, whose names all differ.
+-- The error `e` is the error for token trees that aren't a list of attributes. The token trees begin with attributes
+-- whose names all differ, and the error is at the token trees after these attributes.
 pub record RejectsAttributes {A : Type 0} (trees : List Tree) (scope : Span) (e : Error A)
     : Type 0 where
   pub earlier : List Attribute
@@ -154,7 +156,8 @@ abbrev pub RejectsAttributeTrees : {A : Type 0} → List Tree → Span → Error
 RejectsAttributeTrees trees scope e =
     LacksMemoryForName trees scope e ⊎ RejectsAttributes trees scope e
 
--- The text is lexed into token trees, and the error `e` is that of parsing these as a list of attributes.
+-- The text is lexed into token trees, and the error `e` is the error of parsing the token trees as a list of
+-- attributes.
 pub record RejectsLexedAttributes {A : Type 0} (text : List ℕ) (file end : ℕ) (e : Error A)
     : Type 0 where
   pub trees : List Tree

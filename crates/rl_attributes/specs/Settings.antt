@@ -28,7 +28,8 @@ pub record HasSomeLitSuffix {A : Type 0} (literal : Lit A) : Type 0 where
   pub has : HasLitSuffix literal suffix
   pub some : suffix ≢ []
 
--- One of the settings has the attribute's name, and the attribute's value has no suffix.
+-- The attribute `entry` is accepted: one of the settings has the attribute's name, and the attribute's value has no
+-- suffix.
 pub record IsAccepted {A : Type 0} (settings : List Setting) (entry : Entry A) : Type 0 where
   pub known : IsTrue (knows settings (string_bytes entry.name))
   pub bare : HasLitSuffix entry.value []
@@ -50,7 +51,7 @@ pub record HasSuffixedValue {A : Type 0} (settings : List Setting) (entry : Entr
 abbrev pub IsRejectedEntry : {A : Type 0} → List Setting → Entry A → SettingError A → Type 0
 IsRejectedEntry settings entry e = HasUnknownName settings entry e ⊎ HasSuffixedValue settings entry e
 
--- The error `e` is that of the first attribute that has an unknown name, or a value with a suffix.
+-- The error `e` is the error for the first attribute that has an unknown name, or a value with a suffix.
 pub record RejectsFirst {A : Type 0} (settings : List Setting) (entries : List (Entry A))
     (e : SettingError A) : Type 0 where
   pub earlier : List (Entry A)
@@ -62,15 +63,16 @@ pub record RejectsFirst {A : Type 0} (settings : List Setting) (entries : List (
 
 -- ---- the value of a setting, and the errors of a value
 
--- `found` is the value of the setting: the property `Holds` relates it to the value of each attribute with the
--- setting's name, and an attribute has that name. Or `found` is `None`, and no attribute has the name.
+-- The option `found` is the value of a setting. If it is `Some`, an attribute has the setting's name, and the property
+-- `Holds` relates the value of each attribute with that name to the value in `found`. If it is `None`, no attribute has
+-- the setting's name.
 pub record IsSetAs {A V : Type 0} (setting : Setting) (entries : List (Entry A))
     (Holds : Lit A → V → Type 0) (found : Option V) : Type 0 where
   pub every : All (λ e. HasName setting.name.now e → IsSomeAnd found (Holds e.value)) entries
   pub named : IfSome found (λ v. Any (HasName setting.name.now) entries)
 
--- The error `e` is that of an attribute with the setting's name whose value is rejected. `Rejects` relates a value to
--- its error.
+-- The error `e` is the error for an attribute with the setting's name whose value is rejected. `Rejects` relates a
+-- value to its error.
 abbrev pub RejectsSetValue : {A : Type 0} → Setting → List (Entry A)
     → (Lit A → SettingError A → Type 0) → SettingError A → Type 0
 RejectsSetValue setting entries Rejects e =
@@ -93,31 +95,31 @@ IsNumberSet gives (Int l) value = IsMadeOf gives (AreBase10Digits IntKind l.text
 IsNumberSet gives (Float l) value = IsMadeOf gives (AreBase10Digits FloatKind l.text) value
 IsNumberSet gives _ value = ⊥
 
--- The error `e` is that of a literal of another kind than expected: `Kind` at the literal, or `Malformed` if the
+-- The error `e` is the error for a literal of another kind than expected: `Kind` at the literal, or `Malformed` if the
 -- literal is `Verbatim`.
 abbrev pub IsOtherKind : {A : Type 0} → Setting → Lit A → SettingError A → Type 0
 IsOtherKind setting (Verbatim l) e = e ≡ Malformed setting l.span
 IsOtherKind setting other e = e ≡ Kind setting (lit_span other)
 
--- The error `e` is that of a setting that must be a string: the value isn't a string literal, or an allocation failed
--- for its decoded value.
+-- The error `e` is the error for a setting that must be a string: the value isn't a string literal, or an allocation
+-- failed for its decoded value.
 abbrev pub RejectsString : {A : Type 0} → Setting → Lit A → SettingError A → Type 0
 RejectsString setting (Str l) e = e ≡ Text (memory_at l.span)
 RejectsString setting other e = IsOtherKind setting other e
 
--- The error `e` is that of a setting that must be a `bool`: the value isn't a `bool` literal.
+-- The error `e` is the error for a setting that must be a `bool`: the value isn't a `bool` literal.
 abbrev pub RejectsTruth : {A : Type 0} → Setting → Lit A → SettingError A → Type 0
 RejectsTruth setting (Bool l) e = ⊥
 RejectsTruth setting other e = IsOtherKind setting other e
 
--- The error `e` is that of a number type that rejects a literal's digits in base ten. Its span is `span`.
+-- The error `e` is the error of a number type that rejects a literal's digits in base ten. The error's span is `span`.
 abbrev pub RejectsNumberDigits : {A N E : Type 0} → (List ℕ → Result N E → Type 0)
     → (E → Option (List ℕ)) → Setting → (List ℕ → Type 0) → Span → SettingError A → Type 0
 RejectsNumberDigits {A = A} gives output setting AreDigits span e =
     (why : Error A) × (e ≡ Value setting why) × IsRejectedBy gives output AreDigits span why
 
--- The error `e` is that of a setting that must be a number: the value isn't an integer or a float, or the number type
--- rejects its digits.
+-- The error `e` is the error for a setting that must be a number: the value isn't an integer or a float, or the number
+-- type rejects its digits.
 abbrev pub RejectsNumber : {A N E : Type 0} → (List ℕ → Result N E → Type 0)
     → (E → Option (List ℕ)) → Setting → Lit A → SettingError A → Type 0
 RejectsNumber gives output setting (Int l) e =

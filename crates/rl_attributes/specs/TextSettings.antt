@@ -117,22 +117,23 @@ IsSomeStringOrMemory value (Ok (Some s)) = chars (string_bytes s) ≡ chars valu
 IsSomeStringOrMemory value (Ok None) = ⊥
 IsSomeStringOrMemory value (Err e) = IsMemoryError e
 
--- The result is a number that the number type parses from `digits`, or an error, and the number type rejects `digits`.
+-- The result is a number that the number type parses from `digits`. Or the result is an error, and the number type
+-- rejects `digits`.
 abbrev pub IsNumberOrRejected : {A N E : Type 0} → (List ℕ → Result N E → Type 0) → List ℕ
     → Result N (SettingError A) → Type 0
 IsNumberOrRejected gives digits (Ok n) = gives digits (Ok n)
 IsNumberOrRejected {E = E} gives digits (Err e) = (error : E) × gives digits (Err error)
 
--- The result is `Some` number that the number type parses from `digits`, or an error, and the number type rejects
--- `digits`.
+-- The result is `Some` number that the number type parses from `digits`. Or the result is an error, and the number type
+-- rejects `digits`.
 abbrev pub IsSomeNumberOrRejected : {A N E : Type 0} → (List ℕ → Result N E → Type 0) → List ℕ
     → Result (Option N) (SettingError A) → Type 0
 IsSomeNumberOrRejected gives digits (Ok (Some n)) = gives digits (Ok n)
 IsSomeNumberOrRejected gives digits (Ok None) = ⊥
 IsSomeNumberOrRejected {E = E} gives digits (Err e) = (error : E) × gives digits (Err error)
 
--- The error `e` is that of a required setting: `Missing` if no attribute has the setting's name, or the error of the
--- value.
+-- The error `e` is the error for a required setting: `Missing` if no attribute has the setting's name, or the error of
+-- the value.
 abbrev pub RejectsRequired : {A : Type 0} → Setting → Attrs A
     → (Lit A → SettingError A → Type 0) → SettingError A → Type 0
 RejectsRequired setting attrs Rejects e =

@@ -53,7 +53,7 @@ impl<A: Allocator> Attrs<A> {
 
     /// Returns the span of the error for a missing name. For attributes that [`read`] parsed it is the empty span at
     /// the text's end. For attributes that were parsed from a parse buffer it is the buffer's scope.
-    pub fn end(&self) -> Span
+    pub fn end_span(&self) -> Span
         ensures { result ≡ attrs_end self.now }
     {
         self.end
@@ -79,7 +79,7 @@ impl<A: Allocator> Attrs<A> {
     /// // string_setting(alloc, "host = \"a\", port = 80", "host") == Some("a")
     /// ```
     pub fn get(&self, name: &str) -> Option<&Lit<A>>
-        // The result is the value of each attribute with the name. At most one attribute has it.
+        // If the result is a value, each attribute with the name has that value. At most one attribute has the name.
         ensures borrowed { All (λ entry. HasName name.now entry
             → IsSomeAnd result (λ value. value.now ≡ entry.value)) (entries_of self.now) }
         // If the result isn't `None`, an attribute has the name.

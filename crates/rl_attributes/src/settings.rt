@@ -41,18 +41,21 @@ impl fmt::Display for Setting {
 pub enum SettingError<A: Allocator = Global> {
     /// The text isn't a list of attributes, or an allocation failed.
     Text(Error<A>),
-    /// An attribute's name, at this span, is unknown.
+    /// The name of an attribute is unknown. The field is the name's span.
     Unknown(Span),
-    /// An attribute's value, at this span, has a suffix.
+    /// The value of an attribute has a suffix. The field is the value's span.
     Suffix(Span),
-    /// The setting's value, at this span, is a literal of another kind than the expected one.
+    /// The value of a setting is a literal of another kind than the expected one. The fields are the setting and the
+    /// value's span.
     Kind(Setting, Span),
-    /// The setting's value, at this span, isn't a valid literal, or is an integer above 128 bits. `explain_value` of
-    /// `rl_grammar` returns the reason for the literal's text.
+    /// The value of a setting isn't a valid literal, or is an integer above 128 bits. The fields are the setting and
+    /// the value's span. `explain_value` of `rl_grammar` returns the reason for the literal's text.
     Malformed(Setting, Span),
-    /// The number type of the setting rejected the value with this error, which `base10_parse` returned.
+    /// The number type of a setting rejected the value. The fields are the setting and the error, which `base10_parse`
+    /// returned.
     Value(Setting, Error<A>),
-    /// The setting is required, and no attribute has its name. The span is the end of the settings.
+    /// A setting is required, and no attribute has its name. The fields are the setting and a span, the end of the
+    /// settings.
     Missing(Setting, Span),
 }
 
@@ -118,7 +121,7 @@ impl<A: Allocator> From<AllocError> for SettingError<A> {
     ghost from_gives = { λ failed setting. setting ≡ Text (memory_at nowhere) };
 
     fn from(_failed: AllocError) -> SettingError<A> {
-        SettingError::Text(Error::memory(Span::call_site()))
+        SettingError::Text(Error::out_of_memory(Span::call_site()))
     }
 }
 
@@ -177,7 +180,7 @@ impl<A: Allocator> Attrs<A> {
         ensures bare_texts { OnOk result (HaveBareTexts (list_of self.now)) }
         ensures exactly { AreNamedOf (setting_names settings.now) (list_of self.now)
             → HaveBareTexts (list_of self.now) → IsOk result }
-        // The returned error is that of the first attribute that isn't accepted.
+        // The returned error is the error for the first attribute that isn't accepted.
         ensures first { IfErr result (RejectsFirst settings.now (entries_of self.now)) }
     {
         for entry in self.entries() {

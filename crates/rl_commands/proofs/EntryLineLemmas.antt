@@ -12,7 +12,8 @@ use Rattle.rl_attributes.specs.Attributes.{AreAttributesOf}
 use Rattle.rl_attributes.specs.Entries.{attributes_of, IsReadEntry}
 use Rattle.rl_commands.specs.EntryLines.{AreAttributeLines, ShowsAttributes, IsLineOfEntry, AreLinesOfEntries}
 
--- The output line of an attribute is appended as its name, a space and the line of its literal.
+-- If the name of an attribute, a space and the output line of its literal are appended to a text one after another, the
+-- output line of the attribute is appended.
 pub entry_pushed : {A : Type 0} (entry : Entry A) (name a b c d : List ℕ) → name ≡ string_bytes entry.name → b ≡ a
     ++ chars name → c ≡ b ++ chars (32 ∷ []) → Appends (IsLineOfLit entry.value) c d → Appends (IsLineOfEntry entry) a d
 entry_pushed entry name a b c d e p q (line, prints, r) = (
@@ -23,7 +24,8 @@ entry_pushed entry name a b c d e p q (line, prints, r) = (
       ∙ append_assoc a (chars name) (32 ∷ line),
 )
 
--- The output lines of attributes in the program are those of the parsed attributes.
+-- If a text consists of the output lines of the attributes in the program's memory, it consists of the output lines of
+-- the parsed attributes.
 lines_of_attributes : {A : Type 0} (es : List (Entry A)) (shown : List ℕ) → All IsReadEntry es
     → AreLinesOfEntries es shown → AreAttributeLines (attributes_of es) shown
 lines_of_attributes [] shown read e = e
@@ -32,7 +34,7 @@ lines_of_attributes (x ∷ es) shown read (first, others, (line, p, b), h, e) =
     (token_of x.value).text line (refl, All-head IsReadEntry x es read) refl p in
     (first, others, (line, is, b), lines_of_attributes es others (All-tail IsReadEntry x es read) h, e)
 
--- The output lines of all attributes in the program are those of the text.
+-- If the attributes in the program's memory are those of a text, their output lines are the output lines of the text.
 pub shows_attributes : {A : Type 0} (text : List ℕ) (es : List (Entry A)) (shown : List ℕ)
     → AreAttributesOf text 0 (attributes_of es) → All IsReadEntry es → AreLinesOfEntries es shown
     → ShowsAttributes text shown

@@ -30,7 +30,7 @@ pub first_none : {A : Type 0} (text : List ℕ) (literals : Literals A) (lines :
     → HasReturned text 0 [] literals → HasLines text literals (Some lines)
 first_none text literals lines empty returned = record { list = []; returned = returned; lines_are = ap chars empty ∙ chars-nil }
 
--- The loop's invariant stays true after one more literal.
+-- The invariant of the loop over the literals of a list holds again after one more literal.
 pub first_more : {A : Type 0} (text : List ℕ) (old new : Literals A) (lines longer : Option (String A)) (lit : Lit A)
     (has : HasLines text old lines) → HasReturned text 0 (has.list ++ lit ∷ []) new
     → IfSome longer (Lengthens lines lit) → HasLines text new longer

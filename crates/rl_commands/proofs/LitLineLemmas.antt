@@ -1,4 +1,4 @@
--- Lemmas about the output line of a `Lit` and that of the text from which it was parsed.
+-- Lemmas: the output line of a `Lit` is the output line of the text from which the `Lit` was parsed.
 use Rattle.rl_lenient.proofs.Names.{Byte, ByteStr, CStr, Char, Digits, Float, FloatReads, Int, Kind, Reads, ReadsAs, SpannedText, Str, Truth, float_digits, truth_text}
 use Rattle.rl_syntax.proofs.Common.{List, [], ap, chars, inl, inr, refl, subst, sym, ℕ, ◌++◌, ◌∙◌, ◌≡◌}
 use Rattle.rl_syntax.specs.declared.kind.Kind.TheVariants.{Bool}
@@ -11,7 +11,7 @@ use Rattle.rust_literals.proofs.LitLemmas.{truth_reads}
 use Rattle.rl_program.specs.Lines.{line, kind_label, literal_line, verbatim_line, Appends, IsLineOf, IsLineOfKind}
 use Rattle.rl_commands.specs.LitLines.{IsLineOfFloat, IsLineOfLit}
 
--- The text of a literal is that of the token from which it was parsed.
+-- The text of a literal is the text of the token from which the literal was parsed.
 same_text : (l token : SpannedText) (t : List ℕ) → l ≡ token → token.text ≡ t → chars l.text ≡ chars t
 same_text l token t e k = ap chars (ap (λ z. z.text) e ∙ k)
 
@@ -35,7 +35,7 @@ float_line l token t shown e k r p =
           ∙ ap (λ z. literal_line Float z p.1) digits ∙ ap (λ z. literal_line Float r.0 z) one.1,
     )
 
--- The output line of a literal is that of the text of its token.
+-- The output line of a literal is the output line of the text of its token.
 pub line_of_text : {A : Type 0} (token : SpannedText) (literal : Lit A) (t shown : List ℕ) → IsReadFrom token literal
     → token.text ≡ t → IsLineOfLit literal shown → IsLineOf (chars t) shown
 line_of_text token (StrLit l) t shown r k p = kind_line Str l token t shown r.0 k p
@@ -59,7 +59,7 @@ line_of_text token (Verbatim l) t shown r k p =
     let same : chars l.text ≡ chars t = same_text l token t r.0 k in
     inr (rw (ap chars (sym k)) r.1, p ∙ ap verbatim_line same)
 
--- The output line of a float is that of the text of its token.
+-- The output line of a float is the output line of the text of its token.
 pub prints_float : (text old new shown suffix : List ℕ) → ((n x : List ℕ) × FloatReads text n x
     × (shown ≡ float_digits n)) → ((n : List ℕ) × FloatReads text n suffix) → new ≡ old
     ++ line (kind_label Float) shown suffix → Appends (IsLineOfFloat text) old new
@@ -71,7 +71,7 @@ prints_float text old new shown suffix d s h =
           ∙ ap (λ z. old ++ line (kind_label Float) z suffix) (d.3 ∙ ap float_digits one.0),
     )
 
--- The output line of a text is that for its kind, if it is parsed as that kind.
+-- If a text is parsed as a kind, its output line is the output line for that kind.
 pub kind_lined : (kind : Kind) (t shown : List ℕ) → ReadsAs kind t → IsLineOf t shown → IsLineOfKind kind t shown
 kind_lined kind t shown r (inl (k, contents, suffix, reads, is)) =
     let one = one_reading t k kind contents r.0 suffix r.1 reads r.2 in

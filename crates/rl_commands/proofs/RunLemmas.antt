@@ -9,7 +9,8 @@ use Rattle.rl_program.specs.declared.program_error.ProgramError.TheVariants.{Wri
 use Rattle.rl_program.specs.Streams.{AppendsBeginning}
 use Rattle.rl_commands.specs.Runs.{Shows, Prints, PrintsBeginning, IsRejectionOf, IsErrorOf}
 
--- If the bytes of the reader are known, a property of the bytes that were read is a property of the known bytes.
+-- If the bytes of the reader are known, and the bytes that were read have a property, the known bytes have the
+-- property.
 known : (P : List ℕ → Type 0) (input : Option (List ℕ)) (bytes : List ℕ) → IfSome input (λ all. bytes ≡ all) → P bytes
     → IfSome input P
 known P None bytes e p = tt
@@ -27,7 +28,8 @@ rejection_error command input old bytes (Literal error) e r = (
 )
 rejection_error command input old bytes kind e r = absurd r
 
--- If the output lines were written, the command prints them for the known bytes of the reader.
+-- If the bytes of the reader are known and the output lines were written, the command has printed the output lines for
+-- these bytes.
 pub prints_known : (command : Command) (input old new : Option (List ℕ)) (bytes line : List ℕ)
     → IfSome input (λ all. bytes ≡ all) → IsUtf8 bytes → Shows command (chars bytes) (chars line) → IsUtf8 line
     → Appends old new line → IfSome input (λ b. Prints command b old new)
@@ -50,7 +52,8 @@ write_error {A = A} command input old new bytes line error e u l w f a =
     bytes e (u, (chars line, l, subst (λ z. AppendsBeginning old new z) (sym (encodes-chars line w)) a)) in
     subst (IsErrorOf command input old new) (sym f) write
 
--- If a write failed after a beginning of the output lines was written, the result of the command is that error.
+-- If a write fails after a beginning of the output lines was written, the result of the command is the error of that
+-- write.
 pub begins_known : {A : Type 0} (command : Command) (input old new : Option (List ℕ)) (bytes line : List ℕ)
     → IfSome input (λ all. bytes ≡ all) → IsUtf8 bytes → Shows command (chars bytes) (chars line) → IsUtf8 line
     → (error : ProgramError A) → (error ≡ Write) × AppendsBeginning old new line → IsErrorOf command input old new error

@@ -25,7 +25,7 @@ token_lines trees (l ∷ ls) shown (after, front, h) (first, others, p, k, e) =
       lines = (first, others, line_of_text front.token l front.token.text first front.read refl p, rest.lines, e);
     }
 
--- The output lines of literals are those of the text from which they were parsed.
+-- The output lines of literals are the output lines of the text from which the literals were parsed.
 pub lines_of_text : {A : Type 0} (text : List ℕ) (list : List (Lit A)) (shown : List ℕ) → AreRead text 0 list
     → AreLinesOfLits list shown → AreLinesOfText text shown
 lines_of_text text list shown r p =

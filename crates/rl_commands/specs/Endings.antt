@@ -24,11 +24,11 @@ help_text =
 abbrev pub version_text : List ℕ
 version_text = codes "rl_tool 0.2.0\n"
 
--- The argument is `--help` or `-h`.
+-- Whether an argument is `--help` or `-h`.
 abbrev pub is_help_word : List ℕ → Bool
 is_help_word word = bytes_eq word (codes "--help") || bytes_eq word (codes "-h")
 
--- The argument is `--version` or `-V`.
+-- Whether an argument is `--version` or `-V`.
 abbrev pub is_version_word : List ℕ → Bool
 is_version_word word = bytes_eq word (codes "--version") || bytes_eq word (codes "-V")
 
@@ -37,7 +37,8 @@ abbrev pub text_of_word : List ℕ → Option (List ℕ)
 text_of_word word =
     cond (is_help_word word) (Some help_text) (cond (is_version_word word) (Some version_text) None)
 
--- The text that the program's arguments request. The arguments are the program's name and one that requests a text.
+-- The text that the program's arguments request, or `None`. The arguments request a text if they are the program's name
+-- and one argument that requests a text.
 abbrev pub requested_text : {A : Type 0} → List (String A) → Option (List ℕ)
 requested_text [] = None
 requested_text (program ∷ []) = None
@@ -50,8 +51,8 @@ EndsHelp text old new Done = Appends old new text
 EndsHelp text old new (Failed Write) = AppendsBeginning old new text
 EndsHelp text old new _ = ⊥
 
--- The result of a call with arguments that name a command: that of the command. With other arguments it is the usage, and nothing
--- is written.
+-- If the arguments name a command, the result of the call is the result of the command. With other arguments, the
+-- result is the usage, and nothing is written.
 abbrev pub EndsCommand : {A B : Type 0} → List (String A) → Option (List ℕ) → Option (List ℕ)
     → Option (List ℕ) → Ending (ProgramError B) → Type 0
 EndsCommand args input old new Done =
@@ -64,7 +65,8 @@ EndsCommand args input old new (Usage line) =
 EndsCommand args input old new (Failed error) =
     (command : Command) × AskFor args command × IsErrorOf command input old new error
 
--- The result of a call: that of writing the requested text, or else that of the command.
+-- The result of a call is the result of writing the requested text, if there is one, and otherwise the result of the
+-- command.
 abbrev pub EndsBy : {A B : Type 0} → Option (List ℕ) → List (String A) → Option (List ℕ) → Option (List ℕ)
     → Option (List ℕ) → Ending (ProgramError B) → Type 0
 EndsBy (Some text) args input old new ending = EndsHelp text old new ending

@@ -24,7 +24,7 @@ pub record ShowsAttributes (text shown : List ℕ) : Type 0 where
   pub are : AreAttributesOf text 0 list
   pub lines : AreAttributeLines list shown
 
--- ---- entries
+-- ---- the output lines of attributes in the program's memory
 
 -- The output line of an attribute in the program's memory, which is an entry of `Attrs`.
 abbrev pub IsLineOfEntry : {A : Type 0} → Entry A → List ℕ → Type 0

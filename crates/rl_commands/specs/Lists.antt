@@ -7,7 +7,7 @@ use Rattle.rust_literals.specs.Iterating.{HasReturned}
 use Rattle.rl_program.specs.Lines.{Appends}
 use Rattle.rl_commands.specs.LitLines.{IsLineOfLit, AreLinesOfLits}
 
--- `longer` is `lines` with the output line of the literal appended.
+-- The output lines `longer` are the output lines `lines` with the output line of one more literal appended.
 abbrev pub Lengthens : {A : Type 0} → Option (String A) → Lit A → String A → Type 0
 Lengthens None literal longer = ⊥
 Lengthens (Some lines) literal longer =

@@ -17,20 +17,22 @@ use Rattle.rl_program.specs.Streams.{AppendsBeginning}
 use Rattle.rl_attributes.specs.Attributes.{Attribute, AreAttributesOf, RejectsAttributeText}
 use Rattle.rl_commands.specs.EntryLines.{ShowsAttributes}
 
--- The output lines of a command for a text.
+-- The text `shown` consists of the output lines that a command writes for a text.
 abbrev pub Shows : Command → List ℕ → List ℕ → Type 0
 Shows Text text shown = IsLineOf text shown
 Shows ReadCommand text shown = AreLinesOfText text shown
 Shows Attr text shown = ShowsAttributes text shown
 
--- The bytes are UTF-8, and the output lines for their text were written.
+-- The effect of a command that succeeds: the bytes of the input are UTF-8, and the output lines for their text were
+-- written.
 abbrev pub Prints : Command → List ℕ → Option (List ℕ) → Option (List ℕ) → Type 0
 Prints command bytes old new =
     IsUtf8 bytes
     × ((lines : List ℕ) × Shows command (chars bytes) lines
     × Appends old new (encode_utf8_all lines))
 
--- The bytes are UTF-8, and a beginning of the output lines for their text was written.
+-- The effect of a command whose write fails: the bytes of the input are UTF-8, and a beginning of the output lines for
+-- their text was written.
 abbrev pub PrintsBeginning : Command → List ℕ → Option (List ℕ) → Option (List ℕ) → Type 0
 PrintsBeginning command bytes old new =
     IsUtf8 bytes
@@ -53,8 +55,9 @@ RejectsAsCommand Text bytes error =
 RejectsAsCommand ReadCommand bytes error = RejectsText (chars bytes) 0 (length bytes) error
 RejectsAsCommand Attr bytes error = RejectsAttributeText (chars bytes) 0 (length bytes) error
 
--- An allocation that isn't for a literal may fail. The command `text` makes it for the token or the output line. The commands
--- `read` and `attr` make it for output lines, after they parsed all literals or attributes.
+-- The condition under which an allocation that isn't for a literal may fail. The command `text` allocates for the token
+-- and the output line, without any condition. The commands `read` and `attr` allocate for output lines, after they
+-- parsed all literals or attributes.
 abbrev pub MayWantMemory : Type 0 → Command → List ℕ → Type 0
 MayWantMemory A Text bytes = ⊤
 MayWantMemory A ReadCommand bytes = (list : List (Lit A)) × AreRead (chars bytes) 0 list
@@ -68,7 +71,8 @@ IsRejectionOf {A} command bytes Memory = MayWantMemory A command bytes
 IsRejectionOf command bytes Read = ⊥
 IsRejectionOf command bytes Write = ⊥
 
--- The error of a run, and the bytes that it has written. They are none, or a beginning of the lines after a failed write.
+-- The error of a run, and the bytes that the run has written. No bytes are written, or a beginning of the lines after a
+-- failed write.
 abbrev pub IsErrorOf : {A : Type 0} → Command → Option (List ℕ) → Option (List ℕ) → Option (List ℕ)
     → ProgramError A → Type 0
 IsErrorOf command input old new Read = Keeps old new

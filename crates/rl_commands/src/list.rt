@@ -22,7 +22,8 @@ fn with_line<A: Allocator + Copy>(
 {
     let mut longer = lines?;
     let pushed = push_literal_line(alloc, &mut longer, &literal);
-    // A call of `drop`: dropping the literal in place, without a call, doubles the steps of the proof.
+    // The literal is dropped by a function call, because dropping it in place would double the number of steps to
+    // prove.
     drop(literal);
     match pushed {
         Ok(()) => Some(longer),

@@ -11,7 +11,7 @@ or_true : (a b : Bool) → b ≡ true → (a || b) ≡ true
 or_true true b e = refl
 or_true false b e = e
 
--- ---- ends of a list
+-- ---- lemmas about the ends of a list
 
 module _ {X : Type 0} (test : List X → Bool) where
   pub any_end_here : (xs : List X) → test xs ≡ true → any_end test xs ≡ true
@@ -35,7 +35,7 @@ module _ {X : Type 0} (test : List X → Bool) where
       go true e later = absurd (none 0 e)
       go false e later = later
 
--- ---- matching up to the first star
+-- ---- lemmas about matching a pattern up to its first star
 
 module _ {P X : Type 0} (star : P → Bool) (one : P → X → Bool) where
   -- If the first part of a pattern isn't a star, it must match the first element, and the other parts the rest of the list.
@@ -47,7 +47,8 @@ module _ {P X : Type 0} (star : P → Bool) (one : P → X → Bool) where
       → all_match star one (p ∷ ps) xs ≡ any_end (all_match star one ps) xs
   star_more p ps xs e = cond-true (star p) _ _ e
 
-  -- After the parts before a star have matched, the rest of the list is matched against the pattern after the star.
+  -- If the parts of a pattern before a star have matched, the rest of the list is matched against the pattern after the
+  -- star.
   shifted : (passed : List P) (at : P) (after : List P) (xs : List X) → All (λ p. star p ≡ false) passed
       → star at ≡ true → all_match star one (passed ++ at ∷ after) xs ≡ true
       → any_end (all_match star one after) (drop (length passed) xs) ≡ true
@@ -59,7 +60,8 @@ module _ {P X : Type 0} (star : P → Bool) (one : P → X → Bool) where
       (All-head (λ z. star z ≡ false) p ps plain)) ∙ e) in
       shifted ps at after xs (All-tail (λ z. star z ≡ false) p ps plain) is both.1
 
-  -- If matching reaches a star, later starts for the parts before the star can't give another result.
+  -- If the parts of a pattern before a star have matched at one position, the result is the same if later positions are
+  -- tried for these parts.
   first_enough : (pattern : List P) (text : List X) (after : List P) (rest : List X)
       → IsReached star pattern text after rest
       → all_match star one pattern text ≡ any_end (all_match star one after) rest
@@ -83,8 +85,8 @@ module _ {P X : Type 0} (star : P → Bool) (one : P → X → Bool) where
       go true e = any_end_here (all_match star one pattern) text (same ∙ e) ∙ sym e
       go false e = any_end_none (all_match star one pattern) text (λ k h. false≢true (sym e ∙ later k h)) ∙ sym e
 
-  -- The invariant of the loop over parts: the pattern matches the text if the parts `after` match the elements `rest`. The
-  -- parts before `after` aren't stars.
+  -- The invariant of the loop over the parts of a pattern: the pattern matches the text exactly if the parts `after`
+  -- match the elements `rest`. The parts before `after` aren't stars.
   pub record Goes (pattern : List P) (text : List X) (after : List P) (rest : List X) : Type 0 where
     pub passed : List P
     pub plain : All (λ p. star p ≡ false) passed
@@ -133,13 +135,13 @@ module _ {P X : Type 0} (star : P → Bool) (one : P → X → Bool) where
       };
     }
 
-    -- At the end of the pattern, it matches if no element is left.
+    -- If all parts of a pattern have matched, the pattern matches exactly if no element is left.
     pub stops_at_end : (pattern : List P) (text rest : List X) → Goes pattern text [] rest
         → StopsAs star one pattern_of text_of pattern text (Decided (length rest == 0))
     stops_at_end pattern text rest g = record { same = g.same; stands = tt }
 
-    -- If no element is left for a part, the pattern doesn't match. The next lemma is for a part that doesn't match the next
-    -- element.
+    -- If no element is left for a part other than a star, the pattern doesn't match. The next lemma, `stops_apart`, is
+    -- about a part that doesn't match the next element.
     pub stops_short : (pattern : List P) (text : List X) (p : P) (after : List P) → Goes pattern text (p ∷ after) []
         → star p ≡ false → StopsAs star one pattern_of text_of pattern text (Decided false)
     stops_short pattern text p after g plain = record {
@@ -159,7 +161,7 @@ module _ {P X : Type 0} (star : P → Bool) (one : P → X → Bool) where
         and_false true b e = absurd (false≢true (sym e))
         and_false false b e = refl
 
-    -- ---- matching after a star
+    -- ---- lemmas about matching a pattern after a star
 
     reached_smaller : (pattern : List P) (text : List X) (after : List P) (rest : List X)
         → IsReached star pattern text after rest → length after + 1 ≤ length pattern
@@ -183,7 +185,8 @@ module _ {P X : Type 0} (star : P → Bool) (one : P → X → Bool) where
       smaller = reached_smaller pattern text (pattern_of after) (text_of rest) s.stands;
     }
 
-    -- If the pattern after a star doesn't match from one start, it matches exactly if it matches from a later start.
+    -- If the pattern after a star doesn't match from one position of the text, it matches exactly if it matches from a
+    -- later position.
     pub fails_here : (pattern : List P) (first : List X) (x : X) (rest : List X)
         → any_end (all_match star one pattern) first ≡ any_end (all_match star one pattern) (x ∷ rest)
         → all_match star one pattern (x ∷ rest) ≡ false

@@ -56,13 +56,14 @@ and_false : (a b : Bool) → b ≡ false → (a && b) ≡ false
 and_false true b e = e
 and_false false b e = refl
 
--- The pattern is one part and the parts after its slash.
+-- If the text of a pattern is a part, a slash and more text, the parts of the pattern are that part and the parts of
+-- the text after the slash.
 pub pattern_more : (pattern part after : List ℕ) → path_parts pattern ≡ part ∷ path_parts after
     → pattern_parts pattern ≡ part ∷ pattern_parts after
 pattern_more pattern part after cut = ap with_inside cut
     ∙ cond-false _ _ _ (and_false (is_double_star part) (length (path_parts after) == 0) (some_part after))
 
--- The last part of the pattern is `**`, which is followed by `*`. `pattern_last` is the lemma for another last part.
+-- If the last part of a pattern is `**`, a part `*` follows it. The lemma `pattern_last` is about any other last part.
 pub pattern_inside : (pattern part : List ℕ) → path_parts pattern ≡ part ∷ [] → is_double_star part ≡ true
     → pattern_parts pattern ≡ part ∷ pattern_parts (codes "*")
 pattern_inside pattern part cut stars = ap with_inside cut ∙ cond-true _ _ _ (both (is_double_star part) stars)
@@ -79,7 +80,7 @@ pattern_last pattern part cut other = ap with_inside cut ∙ cond-false _ _ _ (n
     none true e = e
     none false e = refl
 
--- At the end of the pattern, it matches if no name is left.
+-- If all parts of a pattern have matched, the pattern matches the path exactly if no name of the path is left.
 pub path_ends : (pattern path : List (List ℕ)) (left : Option (Bor (List ℕ))) (none : Bool) → is_some left ≡ not none
     → Goes is_double_star name_matches pattern path [] (parts_left left)
     → StopsAs is_double_star name_matches pattern_left parts_left pattern path (Decided none)

@@ -1,14 +1,14 @@
--- Lemmas about paths as texts.
+-- Lemmas about the texts that represent paths.
 use Rattle.std.proofs.Common.{◌≡◌, ℕ, List, Bool, true, false, refl}
 use Rattle.std.specs.Str.{IsUtf8, is_utf8}
 use Rattle.std.proofs.lemmas.Str.{IsUtf8-from_is_utf8, is_utf8-from_IsUtf8}
 use Rattle.rl_files.specs.PathTexts.{path_text, shown_path}
 
--- A path that is UTF-8 is its own text.
+-- The text that represents a path is the path itself if the path is UTF-8.
 pub text_unchanged : (bytes : List ℕ) → IsUtf8 bytes → path_text bytes ≡ bytes
 text_unchanged bytes utf8 = rw (is_utf8-from_IsUtf8 bytes utf8) refl
 
--- The text of another path has its escaped bytes.
+-- The text that represents a path is the path's escaped bytes and a NUL if the path isn't UTF-8.
 pub text_escaped : (bytes : List ℕ) → (IsUtf8 bytes → ⊥) → path_text bytes ≡ shown_path bytes
 text_escaped bytes none = go (is_utf8 bytes) refl
   where

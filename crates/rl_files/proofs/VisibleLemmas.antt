@@ -10,7 +10,8 @@ use Rattle.std.proofs.lemmas.Grind.{flat_map-append}
 use Rattle.std.proofs.lemmas.Str.{encodes-append, encodes-chars, chars_from_encodes, chars-append, chars-IsAscii}
 use Rattle.std.proofs.lemmas.Str.Ascii.{IsAscii-nil, IsAscii-cons}
 
--- The loop's invariant stays true after one more character is appended, as the function `f` writes it.
+-- The invariant of a loop that writes the characters of a text by the function `f` holds again after one more
+-- character.
 pub written_more : (f : ℕ → List ℕ) (first old new done : List ℕ) (c : ℕ) → old ≡ first
     ++ encode_utf8_all (flat_map f done)
     → new ≡ old ++ encode_utf8_all (f c) → new ≡ first ++ encode_utf8_all (flat_map f (done ++ c ∷ []))
@@ -28,14 +29,14 @@ chars_written old new piece u v e =
     sym (chars_from_encodes (chars old ++ piece) new v (encodes-append (chars old) piece
     ∙ ap (λ (z : List ℕ). z ++ encode_utf8_all piece) (encodes-chars old u) ∙ sym e))
 
--- ASCII characters are neither invisible nor bidirectional.
+-- Characters below 127 are neither invisible nor bidirectional.
 low_not_hiding : (c : ℕ) → c < 127 → is_invisible_or_bidi c ≡ false
 low_not_hiding c h = grind (arith, nat_tests)
 
 not_control : (c : ℕ) → nat_le 32 c ≡ true → c < 127 → is_control c ≡ false
 not_control c low high = grind (arith, nat_tests)
 
--- A byte that is printable ASCII or LF is unchanged in a line.
+-- A byte that is printable ASCII or LF is unchanged in a line of output.
 plain_byte : (b : ℕ) → is_plain_byte b ≡ true → visible_in_line b ≡ b ∷ []
 plain_byte b h = go (b == 10) h
   where
@@ -49,7 +50,7 @@ plain_byte b h = go (b == 10) h
 plain_is_ascii : (b : ℕ) → is_plain_byte b ≡ true → b < 128
 plain_is_ascii b h = grind (arith, nat_tests)
 
--- Bytes that are printable ASCII or LF are unchanged in lines.
+-- Bytes that are printable ASCII or LF are unchanged in lines of output.
 pub plain_lines : (bs : List ℕ) → list_all is_plain_byte bs ≡ true → (visible_lines bs ≡ bs) × IsAscii bs
 plain_lines [] h = (refl, IsAscii-nil)
 plain_lines (b ∷ bs) h =

@@ -45,33 +45,33 @@ pub go_start : (selection : Selection) (holds : Option World) (old : List Waypoi
 go_start selection None old = tt
 go_start selection (Some w) old = λ visits m. m
 
--- Without an entry to visit, the walk returns nothing.
+-- If no entry is left to visit, the walk returns nothing.
 pub go_none : (selection : Selection) (holds : Option World) (old mid : List Waypoint) → WalksOn selection holds old mid → mid ≡ [] → VisitsNone selection holds old
 go_none selection None old mid on is = tt
 go_none selection (Some w) old mid on is = on [] (subst (λ (z : List Waypoint). Visits selection w z []) (sym is) VisitsNothing)
 
--- The next entry is a file, which the walk returns.
+-- If the next entry of a walk is a file, the walk returns the file.
 pub go_file : (selection : Selection) (holds : Option World) (old mid rest : List Waypoint) (path : List ℕ) → WalksOn selection holds old mid → mid
     ≡ AtFile path ∷ rest → VisitsFirst selection holds old (FileAt path) rest
 go_file selection None old mid rest path on is = tt
 go_file selection (Some w) old mid rest path on is = λ visited m. on (FileAt path ∷ visited)
     (subst (λ (z : List Waypoint). Visits selection w z (FileAt path ∷ visited)) (sym is) (VisitsFile m))
 
--- The next entry is a name that isn't UTF-8, which the walk reports.
+-- If the next entry of a walk is a name that isn't UTF-8, the walk reports the name.
 pub go_bad_name : (selection : Selection) (holds : Option World) (old mid rest : List Waypoint) (path : List ℕ) → WalksOn selection holds old mid → mid
     ≡ AtBadName path ∷ rest → VisitsFirst selection holds old (ErrorAt path NameNotUtf8) rest
 go_bad_name selection None old mid rest path on is = tt
 go_bad_name selection (Some w) old mid rest path on is = λ visited m. on (ErrorAt path NameNotUtf8 ∷ visited)
     (subst (λ (z : List Waypoint). Visits selection w z (ErrorAt path NameNotUtf8 ∷ visited)) (sym is) (VisitsBadName m))
 
--- The next entry is a path that isn't UTF-8, which the walk reports.
+-- If the next entry of a walk is a path that isn't UTF-8, the walk reports the path.
 pub go_bad_path : (selection : Selection) (holds : Option World) (old mid rest : List Waypoint) (path : List ℕ) → WalksOn selection holds old mid → mid
     ≡ AtBadPath path ∷ rest → VisitsFirst selection holds old (ErrorAt path PathNotUtf8) rest
 go_bad_path selection None old mid rest path on is = tt
 go_bad_path selection (Some w) old mid rest path on is = λ visited m. on (ErrorAt path PathNotUtf8 ∷ visited)
     (subst (λ (z : List Waypoint). Visits selection w z (ErrorAt path PathNotUtf8 ∷ visited)) (sym is) (VisitsBadPath m))
 
--- The next entry is a directory that can't be read, which the walk reports.
+-- If the next entry of a walk is a directory that can't be read, the walk reports the directory.
 pub go_missing : (selection : Selection) (holds : Option World) (old mid rest : List Waypoint) (given : Option ℕ) (path : List ℕ) (why : PathError)
     → WalksOn selection holds old mid → mid ≡ AtDirectory given path ∷ rest → (why ≡ OutOfMemory)
     ⊎ IfSome holds (λ w. w.names path ≡ Err why) → VisitsFirst selection holds old (ErrorAt path why) rest
@@ -79,7 +79,7 @@ go_missing selection None old mid rest given path why on is found = tt
 go_missing selection (Some w) old mid rest given path why on is found = λ visited m. on (ErrorAt path why ∷ visited)
     (subst (λ (z : List Waypoint). Visits selection w z (ErrorAt path why ∷ visited)) (sym is) (MissesDirectory why found m))
 
--- The next entry is a path that the user passed. It isn't a directory, and the walk returns it as a file.
+-- If the next entry of a walk is a path that the user passed and isn't a directory, the walk returns it as a file.
 pub go_given : (selection : Selection) (holds : Option World) (old mid rest : List Waypoint) (given : Option ℕ) (path : List ℕ) → WalksOn selection holds old mid
     → mid ≡ AtDirectory given path ∷ rest → given ≡ None → (NotADirectory ≡ OutOfMemory)
     ⊎ IfSome holds (λ w. w.names path ≡ Err NotADirectory) → VisitsFirst selection holds old (FileAt path) rest
@@ -89,7 +89,7 @@ go_given selection (Some w) old mid rest given path on is given_is (inr found) =
     (subst (λ (z : List Waypoint). Visits selection w z (FileAt path ∷ visited))
     (sym (is ∙ ap (λ (b : Option ℕ). AtDirectory b path ∷ rest) given_is)) (IsGivenFile found m))
 
--- The next entry is a directory, which the walk enters.
+-- If the next entry of a walk is a directory, the walk enters the directory.
 pub go_enter : (selection : Selection) (holds : Option World) (old mid rest new : List Waypoint) (given : Option ℕ) (path : List ℕ)
     (names : List (List ℕ)) → WalksOn selection holds old mid → mid ≡ AtDirectory given path ∷ rest
     → IfSome holds (λ w. w.names path ≡ Ok names) → EntersInOrder selection (given_length given path) path names rest new → WalksOn selection holds old new
@@ -98,7 +98,8 @@ go_enter selection (Some w) old mid rest new given path names on is found (sorte
     (subst (λ (z : List Waypoint). Visits selection w z visited) (sym is) (EntersDirectory names sorted found order
     (subst (λ (z : List Waypoint). Visits selection w z visited) new_is m)))
 
--- For any entries, some list is the results of a walk: for example that with an allocation failure for each directory.
+-- For any entries to visit, some list of results of the walk exists. For example, an allocation failure may be the
+-- result of each directory.
 pub some_visits : (selection : Selection) (w : World) (waypoints : List Waypoint) → (visits : List Visited) × Visits selection w waypoints visits
 some_visits selection w [] = ([], VisitsNothing)
 some_visits selection w (AtFile path ∷ rest) = let more = some_visits selection w rest in (FileAt path ∷ more.0, VisitsFile more.1)
@@ -109,7 +110,7 @@ some_visits selection w (AtBadPath path ∷ rest) = let more = some_visits selec
 some_visits selection w (AtDirectory given path ∷ rest) = let more = some_visits selection w rest in
     (ErrorAt path OutOfMemory ∷ more.0, MissesDirectory OutOfMemory (inl refl) more.1)
 
--- The walk has entered `turns` directories, and has returned nothing.
+-- The walk has entered `turns` directories one right after another, and has returned nothing meanwhile.
 abbrev pub HasEntered : Selection → Option World → List Waypoint → ℕ → List Waypoint → Type 0
 HasEntered selection holds old turns new = IfSome holds (λ w. EntersInTurn selection w old turns new)
 
@@ -126,7 +127,7 @@ entered_next selection (Some w) old mid rest new turns given path names entered 
     subst (λ (z : List Waypoint). EntersInTurn selection w old (turns + 1) z) (sym new_is) (EntersNext names sorted
     (subst (λ (z : List Waypoint). EntersInTurn selection w old turns z) is entered) found order)
 
--- If the walk has entered the largest number of directories, it ends early.
+-- If the walk has entered the largest number of directories that it may enter without a result, it ends early.
 pub ended_early : (selection : Selection) (holds : Option World) (old new : List Waypoint) (turns : ℕ)
     → HasEntered selection holds old turns new → turns ≡ 4294967295 → EndsEarly selection holds old TooManyDirectories
 ended_early selection None old new turns entered all = tt

@@ -9,7 +9,7 @@ use Rattle.rl_files.specs.Globs.{all_match, any_end}
 abbrev pub borrowed_bytes : Bor (List ℕ) → List ℕ
 borrowed_bytes bytes = bytes.now
 
--- The pattern matches the text, as decided from the result of matching up to the pattern's first star.
+-- Whether a pattern matches a text, from the result of matching up to the pattern's first star.
 abbrev pub says : {P X Q T : Type 0} → (P → Bool) → (P → X → Bool) → (Q → List P) → (T → List X) → Stop Q T → Bool
 says star one pattern_of text_of (Decided matches) = matches
 says star one pattern_of text_of (Star pattern text) =
@@ -37,7 +37,8 @@ pub record StopsAs {P X Q T : Type 0} (star : P → Bool) (one : P → X → Boo
   pub same : all_match star one pattern text ≡ says star one pattern_of text_of stop
   pub stands : IsStarReached star pattern_of text_of pattern text stop
 
--- A size that decreases from star to star: the length of the unmatched pattern, and one for the star.
+-- A size that decreases from star to star: the length of the pattern after the star, plus one for the star. It is 0 if
+-- no star is left.
 abbrev pub stop_size : {P Q T : Type 0} → (Q → List P) → Stop Q T → ℕ
 stop_size pattern_of (Decided matches) = 0
 stop_size pattern_of (Star after rest) = length (pattern_of after) + 1

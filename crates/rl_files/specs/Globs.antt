@@ -5,24 +5,24 @@ use Prim.Native.Char.{code}
 use Rattle.std.specs.List.{ends_with, list_any, slice_split}
 use Rattle.std.specs.Str.{bytes_eq}
 
--- The list or one of its ends passes the test.
+-- Whether a list or one of its ends passes a test.
 abbrev pub any_end : {X : Type 0} → (List X → Bool) → List X → Bool
 any_end test [] = test []
 any_end test (x ∷ xs) = test (x ∷ xs) || any_end test xs
 
--- The list has a first element that passes the test `one`, and the list after it passes the test `others`.
+-- Whether a list has a first element that passes the test `one`, followed by a list that passes the test `others`.
 abbrev pub first_and : {X : Type 0} → (X → Bool) → (List X → Bool) → List X → Bool
 first_and one others [] = false
 first_and one others (x ∷ xs) = one x && others xs
 
--- The parts of a pattern match the whole list, in order. A star matches any number of elements, perhaps none. Another part matches
--- one element.
+-- Whether the parts of a pattern match a whole list, in order. A star matches any number of elements, perhaps none. Any
+-- other part matches one element.
 abbrev pub all_match : {P X : Type 0} → (P → Bool) → (P → X → Bool) → List P → List X → Bool
 all_match star one [] xs = length xs == 0
 all_match star one (p ∷ ps) xs =
     cond (star p) (any_end (all_match star one ps) xs) (first_and (one p) (all_match star one ps) xs)
 
--- A byte of a pattern is `*`, which matches any number of bytes of a name.
+-- Whether a byte of a pattern is `*`, which matches any number of bytes of a name.
 abbrev pub is_star : ℕ → Bool
 is_star p = p == code "*"
 
@@ -36,12 +36,13 @@ name_matches pattern name = all_match is_star is_byte_match pattern name
 abbrev pub path_parts : List ℕ → List (List ℕ)
 path_parts path = slice_split (λ b. b == code "/") path
 
--- The names in a path, or none without a path.
+-- The names in an optional path. There are no names if there is no path.
 abbrev pub parts_left : Option (Bor (List ℕ)) → List (List ℕ)
 parts_left None = []
 parts_left (Some path) = path_parts path.now
 
--- The part of a pattern is `**`, which matches any number of names. At the end of a pattern it matches one name or more.
+-- Whether a part of a pattern is `**`, which matches any number of names. At the end of a pattern it matches one name
+-- or more.
 abbrev pub is_double_star : List ℕ → Bool
 is_double_star part = bytes_eq part (codes "**")
 
@@ -57,7 +58,7 @@ abbrev pub pattern_left : Option (Bor (List ℕ)) → List (List ℕ)
 pattern_left None = []
 pattern_left (Some pattern) = pattern_parts pattern.now
 
--- The parts of a pattern match the names of a path, in order.
+-- Whether the parts of a pattern match the names of a path, in order.
 abbrev pub path_matches : List (List ℕ) → List (List ℕ) → Bool
 path_matches patterns names = all_match is_double_star name_matches patterns names
 
@@ -74,19 +75,20 @@ abbrev pub after_slash : List ℕ → List ℕ
 after_slash [] = []
 after_slash (b ∷ path) = cond (b == code "/") path (b ∷ path)
 
--- A pattern matches a path. A pattern with a slash, other than at its end, matches the path from its start. A pattern without one
--- matches the last name of the path.
+-- Whether a pattern matches a path. A pattern with a slash, other than at its end, matches the path from its start. A
+-- pattern without one matches the last name of the path.
 abbrev pub glob_matches : List ℕ → List ℕ → Bool
 glob_matches pattern path = cond (has_slash pattern)
     (path_matches (pattern_parts (after_slash pattern)) (path_parts path))
     (any_end (path_matches (pattern_parts pattern)) (path_parts path))
 
--- A pattern matches a path. The path of a directory ends with a slash. A pattern with a slash at its end matches only directories.
+-- Whether a pattern excludes a path. The path of a directory ends with a slash. A pattern with a slash at its end
+-- matches only directories.
 abbrev pub excludes : List ℕ → List ℕ → Bool
 excludes pattern path =
     (not (ends_in_slash pattern) || ends_in_slash path) && glob_matches (without_slash pattern) (without_slash path)
 
--- The texts behind a list of references.
+-- The texts to which a list of references points.
 abbrev pub borrowed_texts : List (Bor (List ℕ)) → List (List ℕ)
 borrowed_texts words = map (λ word. word.now) words
 

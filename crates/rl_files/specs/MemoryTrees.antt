@@ -21,7 +21,7 @@ abbrev pub listed : Result (Bor (List (Bor (List ℕ)))) PathError → Result (L
 listed (Ok names) = Ok (words names.now)
 listed (Err why) = Err why
 
--- The bytes of the first file in the list with the path.
+-- The bytes of the first file in a list that has the path `path`.
 abbrev pub file_at : List MemoryFile → List ℕ → Result (List ℕ) PathError
 file_at [] path = Err NotFound
 file_at (f ∷ fs) path = cond (bytes_eq f.path.now path) (held f.bytes) (file_at fs path)

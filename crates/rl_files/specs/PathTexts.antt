@@ -5,7 +5,7 @@ use Rattle.std.specs.Fmt.{digits, format_spec, padded_integral}
 use Rattle.std.specs.List.{flat_map, slice_index}
 use Rattle.std.specs.Str.{is_utf8}
 
--- A byte in base sixteen, with two digits.
+-- The two hexadecimal digits of a byte.
 abbrev pub byte_digits : ℕ → List ℕ
 byte_digits b = padded_integral (format_spec 32 0 4 2 (2 ^ 64 - 1)) false [] (digits 16 false b)
 
@@ -25,10 +25,10 @@ shown_path bytes = bytes_shown bytes ++ 0 ∷ []
 abbrev pub path_text : List ℕ → List ℕ
 path_text bytes = cond (is_utf8 bytes) bytes (shown_path bytes)
 
--- The text represents a path that isn't UTF-8: it ends with a NUL.
+-- Whether a text represents a path that isn't UTF-8: the text ends with a NUL.
 abbrev pub is_marked : List ℕ → Bool
 is_marked text = not (length text == 0) && (slice_index text (length text - 1) == 0)
 
--- The text without the NUL at its end.
+-- A text without its last character, the NUL that marks a path that isn't UTF-8.
 abbrev pub unmarked : List ℕ → List ℕ
 unmarked text = take (length text - 1) text

@@ -16,7 +16,7 @@ pub record Replacement : Type 0 where
 abbrev pub replacing : List ℕ → List ℕ → List ℕ → Replacement
 replacing path old new = record { path = path; old = old; new = new }
 
--- The list of replacements, if it is known, with one more at its end.
+-- Appends one more replacement to a list of replacements, if the list is known.
 abbrev pub handed_too : Replacement → Option (List Replacement) → Option (List Replacement)
 handed_too last handed = option_map (λ before. before ++ (last ∷ [])) handed
 
@@ -24,11 +24,11 @@ handed_too last handed = option_map (λ before. before ++ (last ∷ [])) handed
 abbrev pub path_beside : List ℕ → ℕ → List ℕ
 path_beside path number = path ++ (codes ".rl_scan-" ++ decimal number)
 
--- The replacement of a file, from the value in the program.
+-- A replacement of a file as plain data, from the program's value.
 abbrev pub replacement_of : {A : Type 0} → MemoryReplacement A → Replacement
 replacement_of r = replacing (string_bytes r.path) r.old.items r.new.items
 
--- The reason why the file at a path can't be replaced, from the first entry in the list with this path.
+-- The reason why the file at a path can't be replaced, from the first entry in the list that has the path.
 abbrev pub why_unwritable : List Unwritable → List ℕ → Option PathError
 why_unwritable [] path = None
 why_unwritable (u ∷ us) path = cond (bytes_eq u.path.now path) (Some u.why) (why_unwritable us path)

@@ -26,7 +26,8 @@ write_error system.StorageFull = path.NoRoom
 write_error system.ReadOnlyFilesystem = path.ReadOnly
 write_error _ = path.WriteFailed
 
--- The reason why a new file can't be created in a directory. A denied permission is that of the directory.
+-- The reason why a new file can't be created in a directory. If permission is denied, it is the permission for the
+-- directory.
 abbrev pub create_error : ErrorKind → PathError
 create_error system.PermissionDenied = path.DirectoryDenied
 create_error kind = write_error kind

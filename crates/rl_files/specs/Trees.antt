@@ -11,7 +11,8 @@ pub record World : Type 0 where
   pub bytes : List ℕ → Result (List ℕ) PathError
   pub names : List ℕ → Result (List (List ℕ)) PathError
 
--- The result is that of the tree if the tree's contents are known. An error may also be an allocation failure.
+-- The result of reading a tree of files is the one that the tree's contents determine, if the contents are known. An
+-- error may also be an allocation failure.
 abbrev pub Finds : {X : Type 0} → Option World → (World → Result X PathError) → Result X PathError → Type 0
 Finds holds look (Ok found) = IfSome holds (λ w. look w ≡ Ok found)
 Finds holds look (Err error) = (error ≡ OutOfMemory) ⊎ IfSome holds (λ w. look w ≡ Err error)

@@ -46,30 +46,31 @@ abbrev pub walk_error_message : WalkError → List ℕ
 walk_error_message walk.OutOfMemory = codes "out of memory"
 walk_error_message walk.TooManyDirectories = codes "too many directories"
 
--- The name is that of a directory: it ends with a slash.
+-- Whether a name is that of a directory: the name ends with a slash.
 abbrev pub is_directory : List ℕ → Bool
 is_directory name = ends_with ◌==◌ name (codes "/")
 
--- The name ends with a dot and the extension.
+-- Whether a name ends with a dot and the extension `extension`.
 abbrev pub has_extension : List ℕ → List ℕ → Bool
 has_extension extension name =
     ends_with ◌==◌ name extension && ends_with ◌==◌ (take (length name - length extension) name) (codes ".")
 
--- The names in a directory include `Cargo.toml`, so that it is a Cargo package.
+-- Whether the names in a directory include `Cargo.toml`, so that the directory is a Cargo package.
 abbrev pub are_of_package : List (List ℕ) → Bool
 are_of_package names = list_any (λ name. bytes_eq name (codes "Cargo.toml")) names
 
--- A name is left out: a hidden one, and in a Cargo package the directory `target`, into which Cargo builds.
+-- Whether a walk leaves a name out: a hidden name, and in a Cargo package the directory `target`, into which Cargo
+-- builds.
 abbrev pub is_left_out : Bool → List ℕ → Bool
 is_left_out in_package name =
     starts_with ◌==◌ name (codes ".") || (in_package && bytes_eq name (codes "target/"))
 
--- The name ends with a dot and one of the extensions.
+-- Whether a name ends with a dot and one of the extensions.
 abbrev pub has_one_of : List (List ℕ) → List ℕ → Bool
 has_one_of extensions name = list_any (λ extension. has_extension extension name) extensions
 
--- The walk visits the name. Directories and files with a selected extension are visited, unless the name is left out. A name that
--- isn't UTF-8 is empty, and is visited to be reported.
+-- Whether a walk visits a name. Directories and files with a selected extension are visited, unless the name is left
+-- out. A name that isn't UTF-8 is empty, and is visited to be reported.
 abbrev pub is_wanted : Selection → Bool → List ℕ → Bool
 is_wanted selection in_package name =
     (selection.all || not (is_left_out in_package name))
@@ -79,9 +80,10 @@ is_wanted selection in_package name =
 abbrev pub path_in : List ℕ → List ℕ → List ℕ
 path_in directory name = cond (is_directory directory) directory (directory ++ codes "/") ++ name
 
--- An entry that a walk still has to visit. `AtDirectory` is a directory with the length of its start that is the directory passed
--- by the user. Without that length, the path itself was passed, and may also be a file. `AtFile` is a file. `AtBadName` is a
--- directory with a name that isn't UTF-8. `AtBadPath` is a path that the user passed and that isn't UTF-8, with its bytes escaped.
+-- An entry that a walk still has to visit. `AtDirectory` is the path of a directory below one that the user passed,
+-- with the length of the passed directory in the path. Without that length, the user passed the path itself, which may
+-- also be a file. `AtFile` is a file. `AtBadName` is a directory with a name that isn't UTF-8. `AtBadPath` is a path
+-- that the user passed and that isn't UTF-8, with its bytes escaped.
 pub data Waypoint : Type 0 where
   AtDirectory : (from : Option ℕ) → (path : List ℕ) → Waypoint
   AtFile : (path : List ℕ) → Waypoint
@@ -111,8 +113,8 @@ given_waypoint path = cond (is_marked path) (AtBadPath (unmarked path)) (AtDirec
 abbrev pub given_waypoints : List (List ℕ) → List Waypoint
 given_waypoints paths = map given_waypoint paths
 
--- The length, with a slash, of the directory that the user passed. Without the first argument, that directory is `path`. Else
--- `path` is below it, and the first argument is the length.
+-- The length, with a slash, of the directory that the user passed. If the first argument is `None`, that directory is
+-- `path`. Otherwise `path` is below that directory, and the first argument is the length.
 abbrev pub given_length : Option ℕ → List ℕ → ℕ
 given_length None path = cond (is_directory path) (length path) (length path + 1)
 given_length (Some from) path = from
@@ -122,7 +124,8 @@ abbrev pub waypoint_of : ℕ → List ℕ → List ℕ → Waypoint
 waypoint_of from directory name = cond (is_directory name) (AtDirectory (Some from) (path_in directory name))
     (cond (length name == 0) (AtBadName directory) (AtFile (path_in directory name)))
 
--- An excluding pattern matches the path of a name in a directory. The first `from` bytes of the path aren't compared.
+-- Whether an excluding pattern matches the path of a name in a directory. The first `from` bytes of the path aren't
+-- compared.
 abbrev pub is_pruned : Selection → ℕ → List ℕ → List ℕ → Bool
 is_pruned selection from directory name =
     is_excluded (borrowed_texts selection.excludes.now) (drop from (path_in directory name))
@@ -138,12 +141,12 @@ abbrev pub waypoints_in : Selection → ℕ → List ℕ → List (List ℕ) →
 waypoints_in selection from directory names =
     flat_map (waypoints_of selection (are_of_package names) from directory) names
 
--- `sorted` has all the names, in the order of their bytes.
+-- The list `sorted` contains all names of the list `names`, in the order of their bytes.
 abbrev pub IsOrderOf : List (List ℕ) → List (List ℕ) → Type 0
 IsOrderOf names sorted = IsPermutation names sorted × IsSorted (slice_cmp nat_cmp) sorted
 
--- The results of a walk with a list of entries to visit, in order. The results in a directory are in the order of its names, and
--- before those of the next entry.
+-- The results of a walk with a list of entries to visit. The results come in the order of the entries. The results of a
+-- directory come in the order of its names, before the results of the next entry.
 pub data Visits (selection : Selection) (w : World) : List Waypoint → List Visited → Type 0 where
   VisitsNothing : Visits selection w [] []
   VisitsFile : {path : List ℕ} {rest : List Waypoint} {visits : List Visited} → Visits selection w rest visits
@@ -177,8 +180,8 @@ VisitsFirst selection holds old first new =
 abbrev pub VisitsNone : Selection → Option World → List Waypoint → Type 0
 VisitsNone selection holds old = IfSome holds (λ w. Visits selection w old [])
 
--- The walk enters a number of directories, one right after another, and returns nothing before, between or after them. The entries
--- were `old` before.
+-- A walk enters a number of directories, one right after another, and returns nothing before, between or after them.
+-- `old` are the entries to visit before the first of the directories.
 pub data EntersInTurn (selection : Selection) (w : World) (old : List Waypoint) : ℕ → List Waypoint → Type 0 where
   EntersNone : EntersInTurn selection w old 0 old
   EntersNext : {turns : ℕ} {from : Option ℕ} {path : List ℕ} {rest : List Waypoint} (names sorted : List (List ℕ))

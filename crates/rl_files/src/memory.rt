@@ -30,13 +30,13 @@ pub struct MemoryDirectory<'a> {
 /// Files and directories in memory.
 #[derive(Clone, Copy)]
 pub struct MemoryTree<'a> {
-    /// The files of the tree.
+    /// The files of the file tree in memory.
     pub files: &'a [MemoryFile<'a>],
-    /// The directories of the tree.
+    /// The directories of the file tree in memory.
     pub directories: &'a [MemoryDirectory<'a>],
 }
 
-/// Returns the bytes of the first file in the list with the path.
+/// Returns the bytes of the first file in the list `files` that has the path `path`.
 fn find_file<'a>(files: &[MemoryFile<'a>], path: &str) -> Result<&'a [u8], PathError>
     ensures { held result ≡ file_at files.now path.now }
 {
@@ -50,7 +50,7 @@ fn find_file<'a>(files: &[MemoryFile<'a>], path: &str) -> Result<&'a [u8], PathE
     Err(PathError::NotFound)
 }
 
-/// Returns the names in the first directory in the list with the path.
+/// Returns the names in the first directory in the list that has the path `path`.
 fn find_directory<'a>(
     directories: &[MemoryDirectory<'a>],
     path: &str,
@@ -67,7 +67,7 @@ fn find_directory<'a>(
     Err(PathError::NotADirectory)
 }
 
-/// Returns a copy of the bytes.
+/// Returns a copy of the bytes `bytes`, in memory from `alloc`.
 fn copy_bytes<A: Allocator>(alloc: A, bytes: &[u8]) -> Result<Vec<u8, A>, AllocError>
     ensures { IfOk result (λ copy. copy.items ≡ bytes.now) }
 {
@@ -76,7 +76,7 @@ fn copy_bytes<A: Allocator>(alloc: A, bytes: &[u8]) -> Result<Vec<u8, A>, AllocE
     Ok(copy)
 }
 
-/// Returns a copy of the names.
+/// Returns a copy of the names `names`, in memory from `alloc`.
 fn copy_names<A: Allocator + Copy>(
     alloc: A,
     names: &[&str],
@@ -150,7 +150,7 @@ pub struct MemoryReplacements<'a, A: Allocator = Global> {
     pub alloc: A,
     /// The files that can't be replaced.
     pub unwritable: &'a [Unwritable<'a>],
-    /// The replacements, in order.
+    /// The replacements that were made, in order.
     pub handed: Vec<MemoryReplacement<A>, A>,
 }
 

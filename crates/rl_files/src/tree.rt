@@ -36,11 +36,11 @@ pub enum PathError {
     ReadOnly,
     /// The program has no permission to write in the file's directory.
     DirectoryDenied,
-    /// The file would get another owner or group.
+    /// A replacement would give the file another owner or group.
     OwnerChanges,
-    /// Reading failed for another reason.
+    /// Reading failed for a reason that no other variant describes.
     ReadFailed,
-    /// Writing failed for another reason.
+    /// Writing failed for a reason that no other variant describes.
     WriteFailed,
 }
 

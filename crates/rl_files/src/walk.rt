@@ -6,7 +6,7 @@ ghost use Rattle.rl_files.specs.Trees.{string_texts};
 ghost use Rattle.rl_files.specs.Walks.{has_extension as has_ending, are_of_package as of_package, is_left_out as left_out, is_wanted as wanted, has_one_of as has_ending_of, is_directory as directory, given_length as base, path_in as path_of, waypoint, waypoint_of, visited, waypoints_of, waypoints_in, given_waypoint, given_waypoints, EndsEarly, EntersInOrder, WalksOn, VisitsFirst, VisitsNone};
 
 use crate::glob::is_excluded;
-use crate::path_texts::escaped_path;
+use crate::path_texts::escaped_non_utf8_path;
 use crate::tree::{PathError, Tree};
 use std::alloc::{AllocError, Allocator, Global};
 use std::fmt;
@@ -29,8 +29,8 @@ pub struct Selection<'a> {
 /// An entry that a walk still has to visit.
 #[derive(Drop)]
 pub enum WalkEntry<A: Allocator = Global> {
-    /// A path that may be a directory. The number is the length of its start that is the directory passed by the user, with a
-    /// slash. Without the number, the path itself was passed, and may also be a file.
+    /// A path that may be a directory. The number is the length, with a slash, of the start of the path that is the
+    /// directory passed by the user. Without the number, the user passed the path itself, which may also be a file.
     Directory(Option<usize>, String<A>),
     /// A file in a directory.
     File(String<A>),
@@ -75,7 +75,7 @@ impl fmt::Display for WalkError {
 /// A walk through directories, which returns their files one by one.
 #[derive(Drop)]
 pub struct Walk<A: Allocator = Global> {
-    // the entries to visit, in reverse order
+    // The entries that the walk still has to visit, in reverse order.
     pending: Vec<WalkEntry<A>, A>,
 }
 
@@ -160,7 +160,7 @@ fn path_in<A: Allocator>(alloc: A, directory: &str, name: &str) -> Result<String
     Ok(path)
 }
 
-/// Whether a path is one that the user passed, and not the path of a directory below it: `from` is `None`.
+/// Whether a path is one that the user passed, so that `from` is `None`, and not the path of a directory below it.
 fn is_given(from: Option<usize>) -> bool
     ensures { MatchBool result (from ≡ None) (from ≢ None) }
 {
@@ -221,7 +221,7 @@ fn pending_of<A: Allocator>(
 fn entry_given<A: Allocator>(alloc: A, path: String<A>) -> Result<WalkEntry<A>, AllocError>
     ensures { IfOk result (λ entry. waypoint entry ≡ given_waypoint (string_bytes path)) }
 {
-    if let Some(shown) = escaped_path(path.as_str()) {
+    if let Some(shown) = escaped_non_utf8_path(path.as_str()) {
         return Ok(WalkEntry::BadPath(String::from_str(alloc, shown)?));
     }
     Ok(WalkEntry::Directory(None, path))

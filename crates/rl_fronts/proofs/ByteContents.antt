@@ -20,7 +20,8 @@ pub is_made : {S E : Type 0} (r : Result S E) (bytes : List ℕ) (place : E → 
 is_made (Ok s) bytes place none first = refl
 is_made (Err e) bytes place none first = absurd (zero_is_found bytes (place e) none first)
 
--- If a byte string or C string literal is plain, its decoded value is the text between its quotes.
+-- If the parse result of a byte string or C string literal has the flag `plain`, the literal's decoded value is the
+-- text between its quotes.
 pub plain_contents_bytes : (kind : Kind) (t body : List ℕ) (plain : Bool) → (kind ≡ ByteStr) ⊎ (kind ≡ CStr) → plain
     ≡ true → HasBody kind (chars t) body plain → IsUtf8 body → HasContents kind (chars t) (Bytes body)
 plain_contents_bytes kind t body plain which is has u =

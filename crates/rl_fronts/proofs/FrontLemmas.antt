@@ -20,7 +20,8 @@ use Rattle.rl_lenient.specs.Founds.{IsFound}
 use Rattle.rl_lenient.proofs.FoundLemmas.{found_reads}
 use Rattle.rl_lenient.proofs.MinusLemmas.{no_truth, minus_chars}
 
--- If token trees begin with two literals, the two literals are equal, and so are the token trees after them.
+-- If two literals are each at the start of the same token trees, the two literals are equal, and so are the token trees
+-- after them.
 pub one_front : (trees : List Tree) (a b : SpannedText) (r s : List Tree) → IsFront trees a r → IsFront trees b s
     → (a ≡ b) × (r ≡ s)
 one_front [] a b r s h k = absurd h
@@ -68,7 +69,7 @@ front_of kind trees token rest h r = record { front = h; reads = r; shorter = fr
 pub one_kind : (t : List ℕ) (k l : Kind) → ReadsAs k t → ReadsAs l t → k ≡ l
 one_kind t k l (v, x, r) (w, y, s) = (one_reading t k l v w x y r s).0
 
--- A parse result of the kind exists exactly if the text is of the kind.
+-- A text has a parse result of a kind exactly if it is a literal of that kind.
 pub found_as : (kind : Kind) (t : List ℕ) (o : Option Found) → IfSome o (IsFound t) → IfSome o (λ f. f.kind ≡ kind)
     → IfNone o (ReadsAs kind (chars t) → ⊥) → IsTrue (is_some o) ↔ ReadsAs kind (chars t)
 found_as kind t (Some f) found is none = (
@@ -119,7 +120,7 @@ pub no_minus_at : (trees following rest : List Tree) (m : Mark) (l : SpannedText
 no_minus_at trees following rest m l t first second text none = λ n k other e minus (kind, (v, x, r)).
     let same : t ≡ k.text = cc in none kind v x (subst (λ z. Reads (45 ∷ chars z) kind v x) (sym same) r)
 
--- An allocation failure whose span is replaced is an allocation failure at the new span.
+-- If the span of an allocation failure is replaced, the result is an allocation failure at the new span.
 pub memory_moved : {A : Type 0} (e f : Error A) (at to from : Span) → e ≡ record { span = at; kind = f.kind } → at ≡ to
     → f ≡ memory_at from → e ≡ memory_at to
 memory_moved {A} e f at to from made there is = made ∙ ap₂ (λ (s : Span) (k : ErrorKind A). record

@@ -21,7 +21,8 @@ float_chars : (t : List ℕ) (f : Found) → IsUtf8 t → IsBodyWithin t f.body 
     → chars t ≡ chars (body_in t f.body) ++ chars (suffix_in t f.body)
 float_chars t f u s e = ap chars e ∙ chars-append (body_in t f.body) (suffix_in t f.body) (body_text t f.body u s)
 
--- A text that is parsed as a float among literals of all kinds is also a float by the rule for floats only.
+-- If a text is parsed as a float when all kinds of literals are allowed, it has the same parse result when only floats
+-- are allowed.
 pub found_float : (t : List ℕ) (f : Found) → IsUtf8 t → f.kind ≡ Float → IsFound t f → IsFoundFloat t f
 found_float t f u e h =
     let b = body_in t f.body in

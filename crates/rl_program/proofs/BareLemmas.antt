@@ -58,7 +58,8 @@ no_suffix (c ∷ cs) h = absurd (let e = eqb-true (length (c ∷ cs)) 0 h in ome
 pub bare_chars : (text : List ℕ) → list_all is_bare text ≡ true → chars text ≡ text
 bare_chars text bare = chars-IsAscii text (IsAscii-from_all text (bare_low text bare))
 
--- The output line of a string literal is appended in three parts.
+-- If the start, the value and the end of a string literal's output line are appended to a text one after another, the
+-- output line is appended.
 pub bare_pieces : (a b d e text : List ℕ) → b ≡ a ++ chars (codes "Str \"") → d ≡ b ++ chars text → e ≡ d
     ++ chars (codes "\" -\n") → e ≡ a ++ bare_line (chars text)
 bare_pieces a b d e text p q r =
@@ -80,7 +81,7 @@ bare_is_line text suffix bare none =
     let same : chars text ≡ text = bare_chars text bare in
     rw (no_suffix suffix none) (bare_shown (chars text) (ap (list_all is_bare) same ∙ bare))
 
--- ---- a string literal whose value can be copied from the text
+-- ---- lemmas about a string literal whose value can be copied from the text
 
 quote : chars (codes "\"") ≡ codes "\""
 unfolding chars
@@ -123,7 +124,7 @@ not_bare text value e u not other is =
     let same : chars value ≡ other = (same_from_push (chars value) other 34 34 (ap (drop 1) (sym e ∙ is.0))).0 in
     false≢true (sym not ∙ bare_bytes value other u same is.1)
 
--- The output line of a string literal whose value can be copied has this value.
+-- The output line of a string literal whose value can be copied contains the copied value.
 pub bare_reads : (text value : List ℕ) → IsBareString text value → IsLineOf text (bare_line value)
 bare_reads text value is =
     let reads : Reads (34 ∷ (value ++ 34 ∷ [])) Str (Characters value) [] = subst

@@ -12,21 +12,22 @@ use Rattle.rl_program.specs.FoundLines.{IsShownOf}
 use Rattle.rl_program.specs.Lines.{line, kind_label, payload, literal_line, IsLineOfKind, Appends}
 use Rattle.rl_program.proofs.PrintLemmas.{prints_kind}
 
--- The line with the value that a literal's output line shows, and with its suffix, is that output line.
+-- If a line with a literal's kind, its shown value and its suffix is appended to the output, the literal's output line
+-- is appended.
 pub shows_line : (kind : Kind) (text old new shown suffix : List ℕ) → IsShownOf kind text shown
     → HasSuffix kind text suffix → new ≡ old ++ line (kind_label kind) shown suffix
     → Appends (IsLineOfKind kind text) old new
 shows_line kind text old new shown suffix (contents, has, is) s e = prints_kind kind text old new shown suffix contents
     has s is e
 
--- The line with a string literal's value as a newly written literal is the literal's output line.
+-- The output line of a string literal consists of its kind, its value written as a new string literal, and its suffix.
 pub string_line : (text value suffix old new : List ℕ) → HasContents Str text (Characters (chars value))
     → HasSuffix Str text suffix → new ≡ old ++ literal_line Str (Characters (chars value)) suffix
     → Appends (IsLineOfKind Str text) old new
 string_line text value suffix old new has s e = shows_line Str text old new (written_text Str (chars value)) suffix
     (Characters (chars value), has, refl) s e
 
--- The value as a newly written literal is the value that the output line shows.
+-- If the value of a literal is written as a new literal, the new literal is the value that the output line shows.
 pub written_shown : {E : Type 0} (r : Result SpannedText E) (kind other : Kind) (text value : List ℕ)
     (contents : Contents) → kind ≡ other → payload other contents ≡ written_text other value
     → HasContents kind text contents → IfOk r (λ l. IsWrittenForm other value (chars l.text))
@@ -39,7 +40,8 @@ written_shown r kind other text value contents is same has w =
           ∙ ap (λ (k : Kind). payload k contents) (sym is),
     )) w
 
--- The newly written literal of one character or byte is the value that the output line shows.
+-- If the value of a character or byte literal is written as a new literal, the new literal is the value that the output
+-- line shows.
 pub unit_shown : {E : Type 0} (r : Result SpannedText E) (kind : Kind) (text : List ℕ) (found : Found) → found.kind
     ≡ kind → is_single kind ≡ true → payload kind (quoted_contents kind (found.unit ∷ []))
     ≡ written_text kind (found.unit ∷ []) → IsFound text found

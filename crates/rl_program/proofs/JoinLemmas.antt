@@ -1,16 +1,16 @@
--- Lemmas about texts of one piece for each element of a list, in order.
+-- Lemmas about texts that consist of one piece for each element of a list, in order.
 use Rattle.std.proofs.Common.{◌≡◌, ℕ, List, [], ◌∷◌, ◌++◌, refl, sym, ap, subst, ◌∙◌, append_assoc}
 use Rattle.std.proofs.lemmas.List.{append-nil}
 use Rattle.rl_program.specs.Lines.{Joins, Appends}
 
--- The pieces of two lists, one after the other, are those of the appended lists.
+-- If two texts consist of the pieces of two lists, the two texts joined consist of the pieces of the two lists joined.
 pub joins_append : {A : Type 0} (IsPiece : A → List ℕ → Type 0) (xs ys : List A) (s t : List ℕ) → Joins IsPiece xs s
     → Joins IsPiece ys t → Joins IsPiece (xs ++ ys) (s ++ t)
 joins_append IsPiece [] ys s t h k = subst (Joins IsPiece ys) (sym (ap (λ z. z ++ t) h)) k
 joins_append IsPiece (x ∷ xs) ys s t (first, rest, p, h, e) k =
     (first, rest ++ t, p, joins_append IsPiece xs ys rest t h k, ap (λ z. z ++ t) e ∙ append_assoc first rest t)
 
--- A single piece is the text for a list of one element.
+-- The piece of an element is the text of the list with only that element.
 pub joins_one : {A : Type 0} (IsPiece : A → List ℕ → Type 0) (x : A) (t : List ℕ) → IsPiece x t
     → Joins IsPiece (x ∷ []) t
 joins_one IsPiece x t p = (t, [], p, refl, sym (append-nil t))
@@ -19,7 +19,8 @@ joins_one IsPiece x t p = (t, [], p, refl, sym (append-nil t))
 pub appends_none : (old : List ℕ) → Appends (λ piece. piece ≡ []) old old
 appends_none old = ([], refl, sym (append-nil old))
 
--- One more piece is appended after the pieces that were appended to a text.
+-- If the pieces of a list were appended to a text, and the piece of one more element is appended, the pieces of the
+-- longer list were appended.
 pub appends_more : {A : Type 0} (IsPiece : A → List ℕ → Type 0) (xs : List A) (x : A) (a b c : List ℕ)
     → Appends (Joins IsPiece xs) a b → Appends (IsPiece x) b c → Appends (Joins IsPiece (xs ++ (x ∷ []))) a c
 appends_more IsPiece xs x a b c (s, h, e) (t, p, d) = (
@@ -29,7 +30,8 @@ appends_more IsPiece xs x a b c (s, h, e) (t, p, d) = (
       ∙ append_assoc a s t,
 )
 
--- One more piece is appended after the pieces of a list.
+-- If a text consists of the pieces of a list, and the piece of one more element is appended, the text consists of the
+-- pieces of the longer list.
 pub joins_more : {A : Type 0} (IsPiece : A → List ℕ → Type 0) (xs : List A) (x : A) (b c : List ℕ) → Joins IsPiece xs b
     → Appends (IsPiece x) b c → Joins IsPiece (xs ++ (x ∷ [])) c
 joins_more IsPiece xs x b c h (t, p, d) = subst (Joins IsPiece (xs ++ (x ∷ []))) (sym d)

@@ -46,7 +46,7 @@ line_feed : chars (10 ∷ []) ≡ 10 ∷ []
 unfolding chars
 line_feed = refl
 
--- The end of an output line is appended in three parts.
+-- If a space, the suffix and LF are appended to a text one after another, the end of an output line is appended.
 pub end_joined : (e f g h suffix : List ℕ) → f ≡ e ++ chars (32 ∷ []) → g ≡ f ++ suffix_word suffix → h ≡ g
     ++ chars (10 ∷ []) → h ≡ e ++ line_end suffix
 end_joined e f g h suffix s t u =
@@ -54,7 +54,8 @@ end_joined e f g h suffix s t u =
     ∙ ap (λ z. z ++ (suffix_word suffix ++ (10 ∷ []))) (s ∙ ap (λ z. e ++ z) space)
     ∙ append_assoc e (32 ∷ []) (suffix_word suffix ++ (10 ∷ []))
 
--- An output line is appended in four parts.
+-- If a label, a space, a value and the end of an output line are appended to a text one after another, an output line
+-- is appended.
 pub line_joined : (a b d e h word shown suffix : List ℕ) → b ≡ a ++ word → d ≡ b ++ chars (32 ∷ []) → e ≡ d ++ shown → h
     ≡ e ++ line_end suffix → h ≡ a ++ line word shown suffix
 line_joined a b d e h word shown suffix p q r s =

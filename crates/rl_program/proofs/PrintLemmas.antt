@@ -30,7 +30,8 @@ pub no_chars : chars [] ≡ []
 unfolding chars
 no_chars = refl
 
--- The line with the decoded value and the suffix of a text's only parse result is the output line of the text.
+-- A text has at most one parse result. If a line with the decoded value and the suffix of a parse result is appended to
+-- the output, the line is the output line of the text.
 pub prints_kind : (kind : Kind) (text old new shown suffix : List ℕ) (contents : Contents)
     → HasContents kind text contents → HasSuffix kind text suffix → shown ≡ payload kind contents → new ≡ old
     ++ line (kind_label kind) shown suffix → Appends (IsLineOfKind kind text) old new

@@ -6,13 +6,13 @@ use Rattle.std.specs.Io.KnownBytes.{Appends, Consumes, IsAtEnd, Keeps}
 use Rattle.std.proofs.KnownBytes.{Appends-trans, Appends-kept, Consumes-all, Consumes-trans}
 use Rattle.rl_program.specs.Streams.{AppendsBeginning}
 
--- The invariant of the loop over writes: a start of the bytes is written, and `rest` are the bytes after it.
+-- The invariant of the loop that writes bytes: a beginning of the bytes is written, and `rest` are the bytes after it.
 pub record IsWritten (old new : Option (List ℕ)) (all rest : List ℕ) : Type 0 where
   pub front : List ℕ
   pub all_is : all ≡ front ++ rest
   pub appends : Appends old new front
 
--- The loop's invariant stays true after one more write.
+-- The invariant of the loop that writes bytes holds again after one more write.
 pub written_more : (a b c : Option (List ℕ)) (all rest piece left : List ℕ) → IsWritten a b all rest → Appends b c piece
     → rest ≡ piece ++ left → IsWritten a c all left
 written_more a b c all rest piece left w p e = record {
@@ -29,20 +29,20 @@ written_beginning a b c all rest w k =
     ∙ take-append_seam w.front rest in
     (length w.front, rw front (Appends-kept a b c w.front w.appends k))
 
--- A write of no byte changes nothing.
+-- A write of zero bytes leaves the written bytes unchanged.
 pub none_kept : (a b : Option (List ℕ)) (bytes : List ℕ) (n : ℕ) → n ≡ 0 → Appends a b (take n bytes) → Keeps a b
 none_kept None b bytes n e h = tt
 none_kept (Some xs) None bytes n e h = h
 none_kept (Some xs) (Some ys) bytes n e h = h ∙ ap (λ z. xs ++ take z bytes) e ∙ append-nil xs
 
--- A list is its first elements and the slice from there to its end.
+-- A list consists of its first `n` elements and the slice from there to its end.
 pub slice_rest : (n : ℕ) (xs : List ℕ) → xs ≡ take n xs ++ take (length xs - n) (drop n xs)
 slice_rest n xs =
     let all : take (length xs - n) (drop n xs) ≡ drop n xs = take_all (length xs - n) (drop n xs)
     (omega (arith, length-drop n xs)) in
     rw all (sym (take-append-drop n xs))
 
--- If a call of the reader returns no byte, everything has been read.
+-- If a call of the reader returns no bytes, all bytes of the reader have been read.
 pub consumed_all : (a b d : Option (List ℕ)) (bytes buffer : List ℕ) (n : ℕ) → Consumes a b bytes → n ≡ 0
     → Consumes b d (take n buffer) × (n ≡ 0 → 0 < length buffer → IsAtEnd d) → 0 < length buffer
     → IfSome a (λ all. bytes ≡ all)

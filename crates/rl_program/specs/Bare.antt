@@ -13,6 +13,7 @@ is_bare c =
 abbrev pub IsBareString : List ℕ → List ℕ → Type 0
 IsBareString text value = (text ≡ codes "\"" ++ (value ++ codes "\"")) × IsTrue (list_all is_bare value)
 
--- The output line of a string literal without a suffix. Its value is printable ASCII without quotes and backslashes.
+-- The output line of a string literal that has no suffix, and whose value is printable ASCII without quotes and
+-- backslashes.
 abbrev pub bare_line : List ℕ → List ℕ
 bare_line text = codes "Str \"" ++ (text ++ codes "\" -\n")

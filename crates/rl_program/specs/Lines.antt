@@ -27,7 +27,7 @@ abbrev pub label_of : Option Kind → List ℕ
 label_of (Some kind) = kind_label kind
 label_of None = codes "Verbatim"
 
--- The label of the output line of the text.
+-- The text `label` is the label of the output line of the text `text`.
 abbrev pub IsLabelOf : List ℕ → List ℕ → Type 0
 IsLabelOf text label = (kind : Option Kind) × IsReadAs kind text × (label ≡ label_of kind)
 
@@ -59,20 +59,21 @@ literal_line kind contents suffix = line (kind_label kind) (payload kind content
 abbrev pub verbatim_line : List ℕ → List ℕ
 verbatim_line text = line (codes "Verbatim") (written_text Str text) []
 
--- The output line of the text: that of the literal that it is, or that of a text that isn't a literal.
+-- The line `shown` is the output line of the text `text`: the line of a literal if the text is a literal, and otherwise
+-- the line of a text that isn't one.
 abbrev pub IsLineOf : List ℕ → List ℕ → Type 0
 IsLineOf text shown =
     ((kind : Kind) × (contents : Contents) × (suffix : List ℕ) × Reads text kind contents suffix
     × (shown ≡ literal_line kind contents suffix))
     ⊎ (HasNoReading text × (shown ≡ verbatim_line text))
 
--- `shown` consists of one piece for each element of the list, in order.
+-- The text `shown` consists of one piece for each element of a list, in order.
 abbrev pub Joins : {A : Type 0} → (A → List ℕ → Type 0) → List A → List ℕ → Type 0
 Joins IsPiece [] shown = shown ≡ []
 Joins IsPiece (x ∷ xs) shown =
     (first rest : List ℕ) × IsPiece x first × Joins IsPiece xs rest × (shown ≡ first ++ rest)
 
--- The output lines of the tokens, in order. Each is that of the token's text.
+-- The text `shown` consists of the output lines of the tokens' texts, in order.
 abbrev pub AreLinesOf : List SpannedText → List ℕ → Type 0
 AreLinesOf tokens shown = Joins (λ t. IsLineOf (chars t.text)) tokens shown
 
@@ -89,12 +90,12 @@ pub record AreLinesOfText (text shown : List ℕ) : Type 0 where
   pub used : ReadsTokens trees tokens
   pub lines : AreLinesOf tokens shown
 
--- The output line of the text, which is a literal of the kind.
+-- The line `shown` is the output line of the text `text`, which is a literal of the kind `kind`.
 abbrev pub IsLineOfKind : Kind → List ℕ → List ℕ → Type 0
 IsLineOfKind kind text shown =
     (contents : Contents) × (suffix : List ℕ) × Reads text kind contents suffix
     × (shown ≡ literal_line kind contents suffix)
 
--- `new` is `old` with a piece after it that satisfies `IsPiece`.
+-- The text `new` is the text `old` with a piece appended. The piece satisfies `IsPiece`.
 abbrev pub Appends : (List ℕ → Type 0) → List ℕ → List ℕ → Type 0
 Appends IsPiece old new = (piece : List ℕ) × IsPiece piece × (new ≡ old ++ piece)

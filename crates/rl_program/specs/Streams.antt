@@ -2,6 +2,7 @@
 use Rattle.std.specs.Prelude.{ℕ, List, take, Option}
 use Rattle.std.specs.Io.KnownBytes.{Appends}
 
--- A beginning of `bytes` is appended to the written bytes, perhaps an empty one, if the written bytes are known.
+-- A beginning of `bytes`, perhaps an empty one, is appended to the written bytes. Nothing is stated if the written
+-- bytes aren't known.
 abbrev pub AppendsBeginning : Option (List ℕ) → Option (List ℕ) → List ℕ → Type 0
 AppendsBeginning old new bytes = (count : ℕ) × Appends old new (take count bytes)

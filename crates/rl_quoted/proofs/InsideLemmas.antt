@@ -23,8 +23,8 @@ empty_suffix text suffix e h =
     let z : length suffix ≡ 0 = grind (arith, nat_tests) in
     subst (λ x. HasSuffix Str text x) (ap chars (nil_from_length suffix z) ∙ chars-nil) h
 
--- A parser's result for a buffer of the token trees of a string literal's decoded value is its result inside the
--- literal. The buffer's scope is the literal's span.
+-- A parser runs on a buffer with the token trees of a string literal's decoded value. The buffer's scope is the
+-- literal's span. Then the parser's result is its result inside the literal.
 pub ran_inside : {T E : Type 0} (placing : Placing) (runs : List Tree → Span → Result T E → List Tree → Type 0)
     (token : SpannedText) (buffer trees left rest : List Tree) (scope : Span) (r : Result T E)
     → AreInside placing token trees → buffer ≡ trees → scope ≡ token.span → left ≡ rest → runs buffer scope r left
@@ -54,7 +54,7 @@ pub refuses_left : {T A : Type 0} (placing : Placing) (runs : List Tree → Span
 refuses_left placing runs token value rest at ran some reported =
     inr (inr (inl (record { value = value; rest = rest; ran = ran; some = some; place = at; reported = reported; error = refl })))
 
--- A lexer's error whose span is replaced is that lexer's error at the new span.
+-- If the span of a lexer's error is replaced, the result is the lexer's error of that kind at the new span.
 pub moved_refusal : {A : Type 0} (kind : LexKind) (place : Span) (at : Span) (e : Error A) → e
     ≡ lex_rejection kind place → record { span = at; kind = e.kind } ≡ lex_rejection kind at
 moved_refusal DocComment place at e q = ap (λ x. record { span = at; kind = x.kind }) q
@@ -82,8 +82,8 @@ rejection_span UnclosedGroup place e q = ap (λ x. x.span) q
 rejection_span TooDeep place e q = ap (λ x. x.span) q
 rejection_span LexMemory place e q = ap (λ x. x.span) q
 
--- A lexing error of a string literal's decoded value, at the span in the file that `placing` gives, rejects the
--- literal.
+-- If the decoded value of a string literal has a lexing error, the literal is rejected with that error. The error's
+-- span in the file is the span that `placing` selects.
 pub refuses_lexing : {A : Type 0} (placing : Placing) (token : SpannedText) (value text : List ℕ) (file : ℕ) (at : Span)
     (e : Error A) → HasContents Str (chars token.text) (Characters value) → chars text ≡ value → file ≡ token.span.file
     → IsReportedAt placing token e.span at → RejectsLexing (chars text) file e
@@ -100,8 +100,8 @@ refuses_lexing placing token value text file at e contents same where_from repor
   error = moved_refusal lexing.kind (place_at file lexing.at) at e lexing.error;
 }
 
--- The token trees of a string literal's decoded value, with their spans replaced as `placing` says, are the token trees
--- inside the literal.
+-- A string literal's decoded value is lexed, and the spans of the token trees are replaced by those that `placing`
+-- selects. The result is the token trees inside the literal.
 pub are_inside : (placing : Placing) (token : SpannedText) (value text : List ℕ) (file : ℕ) (cut trees : List Tree)
     → HasContents Str (chars token.text) (Characters value) → chars text ≡ value → file ≡ token.span.file
     → Lexes (chars text) file cut → AreMoved (IsReportedAt placing token) cut trees → AreInside placing token trees

@@ -73,7 +73,7 @@ held_none Byte t b c = absurd (b refl)
 held_none Char t b c = absurd (c refl)
 held_none kind t b c = record { unit = λ s. absurd (cc); none = λ d e. refl }
 
--- The parse result that is built from a quoted literal's stored byte offsets is that of its text.
+-- The parse result that is built from a quoted literal's stored byte offsets is the parse result of the literal's text.
 pub held_found : (kind : Kind) (t : List ℕ) (body : Body) (n : ℕ) (found : Found) → IsUtf8 t → is_quoted kind ≡ true
     → HasPartsAt kind t body → HeldUnit kind t n
     → found ≡ record { kind = kind; body = body; magnitude = 0; truth = false; unit = n } → IsFound t found

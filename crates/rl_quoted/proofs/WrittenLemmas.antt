@@ -199,7 +199,8 @@ written_long kind t bytes u q w =
       l.back_long,
     )
 
--- `plain` is `true` exactly if the literal is of a kind of strings and its body has the bytes of its value.
+-- The flag `plain` is `true` exactly if the literal is of a kind of strings and the bytes of its body equal the bytes
+-- of its value.
 abbrev Whole : Kind → Bool → List ℕ → List ℕ → Type 0
 Whole kind plain body bytes = IsTrue plain ↔ (IsTrue (is_string kind) × (body ≡ bytes))
 

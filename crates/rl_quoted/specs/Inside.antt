@@ -59,8 +59,8 @@ AreMoved goes (t ∷ ts) moved =
     (first : Tree) × (others : List Tree) × IsMoved goes t first × AreMoved goes ts others
     × (moved ≡ first ∷ others)
 
--- The string literal's decoded value is lexed into the token trees `trees`, with their spans replaced as `placing`
--- says, also inside groups.
+-- The string literal's decoded value is lexed into the token trees `trees`, and their spans are replaced as `placing`
+-- selects, also inside groups.
 pub record AreInside (placing : Placing) (token : SpannedText) (trees : List Tree) : Type 0 where
   pub value : List ℕ
   pub contents : HasContents Str (chars token.text) (Characters value)
@@ -69,7 +69,7 @@ pub record AreInside (placing : Placing) (token : SpannedText) (trees : List Tre
   pub moved : AreMoved (IsReportedAt placing token) cut trees
 
 -- A parser runs on the token trees of a string literal's decoded value. The parser's result is `answer`, and it leaves
--- the token trees `rest` over. `runs` is the parser's meaning.
+-- the token trees `rest` over. The relation `runs` specifies the parser.
 pub record Runs {R : Type 0} (placing : Placing)
     (runs : List Tree → Span → R → List Tree → Type 0) (token : SpannedText) (answer : R)
     (rest : List Tree) : Type 0 where
@@ -85,8 +85,8 @@ pub record IsParsed {T E : Type 0} (placing : Placing)
   pub ran : Runs placing runs token (Ok value) []
   pub no_suffix : HasSuffix Str (chars token.text) []
 
--- The error `e` is that of a string literal whose decoded value can't be lexed: the first error of the decoded value,
--- or an allocation failure, at the span in the file that `placing` gives for its position.
+-- The error `e` is the error for a string literal whose decoded value can't be lexed: the first error of the decoded
+-- value, or an allocation failure, at the span in the file that `placing` selects for its position.
 pub record RejectsLexingInside {A : Type 0} (placing : Placing) (token : SpannedText) (e : Error A)
     : Type 0 where
   pub value : List ℕ
@@ -98,15 +98,15 @@ pub record RejectsLexingInside {A : Type 0} (placing : Placing) (token : Spanned
   pub reported : IsReportedAt placing token (place_at token.span.file at) place
   pub error : e ≡ lex_rejection kind place
 
--- The error `e` is the own error of a parser that runs on the token trees of a string literal's decoded value.
+-- A parser that runs on the token trees of a string literal's decoded value returns the error `e`.
 pub record IsOwnRejection {T E : Type 0} (placing : Placing)
     (runs : List Tree → Span → Result T E → List Tree → Type 0) (token : SpannedText) (e : E)
     : Type 0 where
   pub rest : List Tree
   pub ran : Runs placing runs token (Err e) rest
 
--- The error `e` is `Unexpected`: a parser returns a value, and leaves over token trees of a string literal's decoded
--- value.
+-- The error `e` is `Unexpected`. A parser returns a value, but leaves some token trees of a string literal's decoded
+-- value over.
 pub record LeavesTreesInside {T A : Type 0} (placing : Placing)
     (runs : List Tree → Span → Result T (Error A) → List Tree → Type 0) (token : SpannedText)
     (e : Error A) : Type 0 where
@@ -124,12 +124,12 @@ ReportsSuffix text (Suffix suffix) =
     HasSuffix Str text (chars (string_bytes suffix)) × (string_bytes suffix ≢ [])
 ReportsSuffix text _ = ⊥
 
--- The error `e` is that of a string literal with a suffix: `Suffix`, at the literal's span.
+-- The error `e` is the error for a string literal with a suffix: `Suffix`, at the literal's span.
 pub record IsSuffixed {A : Type 0} (token : SpannedText) (e : Error A) : Type 0 where
   pub span : e.span ≡ token.span
   pub suffix : ReportsSuffix (chars token.text) e.kind
 
--- The error `e` is that of a string literal with a suffix, and a parser consumes all token trees of the literal's
+-- The error `e` is the error for a string literal with a suffix. A parser consumes all token trees of the literal's
 -- decoded value.
 pub record LeavesSuffix {T A : Type 0} (placing : Placing)
     (runs : List Tree → Span → Result T (Error A) → List Tree → Type 0) (token : SpannedText)
@@ -139,8 +139,8 @@ pub record LeavesSuffix {T A : Type 0} (placing : Placing)
   pub suffixed : IsSuffixed token e
 
 -- The errors of parsing a string literal's decoded value, in the order in which they are reported: a lexing error, the
--- parser's own error, token trees that are left over, and a suffix of the literal. An allocation failure at the
--- literal's span is one more.
+-- parser's own error, token trees that are left over, and a suffix of the literal. Another error is an allocation
+-- failure at the literal's span.
 abbrev pub RejectsInsideAt : {T A : Type 0} → Placing
     → (List Tree → Span → Result T (Error A) → List Tree → Type 0) → SpannedText → Error A → Type 0
 RejectsInsideAt placing runs token e =

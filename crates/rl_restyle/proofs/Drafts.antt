@@ -1,4 +1,4 @@
--- A source that is being rewritten, literal by literal.
+-- Lemmas about a draft: a source of which the literals up to a position are rewritten.
 use Rattle.rl_syntax.proofs.Common.{◌≡◌, ℕ, ◌+◌, inl, inr, Ok, Err, Result, IfOk, map, string_bytes, List, [], ◌∷◌, ◌++◌, length, Option, Some, None, refl, sym, ◌∙◌, ap, subst, arith, append_assoc, append-nil, both_ways, chars, chars-nil, IsUtf8, IsTrue}
 use Rattle.std.specs.Prelude.{◌⊎◌, OnOk}
 use Rattle.rl_syntax.specs.Texts.{IsTail, byte_len}
@@ -10,7 +10,7 @@ use Rattle.rl_lexer.specs.declared.lex_error.LexError.{LexError}
 use Rattle.rl_lexer.specs.declared.sources.SourceToken.{SourceToken}
 use Rattle.rl_lexer.proofs.CutLemmas.{byte_len-append}
 use Rattle.rl_lexer.proofs.ErrorKinds.{char_len}
-use Rattle.rl_style.specs.Calls.{CallState, Outside, calls_after, is_in_call}
+use Rattle.rl_style.specs.Calls.{CallState, Outside, advance_calls, is_in_call}
 use Rattle.rl_style.specs.Recut.{begins_with_code}
 use Rattle.rl_style.specs.Restylable.{GivesLiteral, GivesNone, Here, Behind, Passes, Stops, IsLiteralOfSource, RestylableState, is_field, last_after, passed}
 use Rattle.rl_style.specs.Restyled.{IsEdited}
@@ -30,7 +30,7 @@ use Rattle.rl_restyle.proofs.Pieces.{edited_longer, edited_more, edits_more, las
 abbrev Told : Type 0
 Told = List (ℕ × ℕ × List ℕ)
 
--- ---- the start of the source
+-- ---- lemmas about the start of the source
 
 pub draft_start : (style : Style) (macros : Macros) (text : List ℕ) (s : RestylableState) (at : ℕ) (out : List ℕ)
     (edits : List (ℕ × ℕ × List ℕ)) → s.tokens.text ≡ text → IsCursorState text s.tokens.rest
@@ -57,7 +57,7 @@ draft_start style macros text s at out edits same cursor cut last end calls begi
       edits_are = nothing;
     }
 
--- ---- the next token
+-- ---- lemmas about the next token
 
 record Next (style : Style) (macros : Macros) (t : List ℕ) (s : RestylableState) (at : ℕ) (out : List ℕ) (edits : Told)
     (d : IsDraft style macros t s at out edits) (w : CutSource) (tokens : CursorState) : Type 0 where
@@ -108,7 +108,7 @@ next_token style macros t s at out edits d token tokens takes =
       whole = ap chars takes.same ∙ d.whole;
     }
 
--- The next token is between the text that precedes it and the rest after it.
+-- A source consists of the text before the next token, the token, and the rest after it.
 surrounds : (style : Style) (macros : Macros) (t : List ℕ) (s : RestylableState) (at : ℕ) (out : List ℕ) (edits : Told)
     (d : IsDraft style macros t s at out edits) (token : SourceToken) (tokens : CursorState)
     → (takes : TakesSource s.tokens token tokens)
@@ -117,14 +117,14 @@ surrounds style macros t s at out edits d token tokens takes =
     let n = next_token style macros t s at out edits d token tokens takes in
     record { after = n.later ++ chars tokens.rest; text_is = n.text_is; at_is = n.place_is; skips = n.skips }
 
--- The context after one more token, in the definitions, is that of the cursor's state after the token.
+-- After one more token, the definitions and the cursor's state give the next token equal contexts.
 seen_passed : (s : RestylableState) (token : SourceToken) (tokens : CursorState) (w : CutSource)
     → IsBorrowedSource token w → seen_after (seen_of s) w ≡ seen_of (passed s token tokens)
 seen_passed s token tokens w is =
     let seen : SourceKind → ℕ → ℕ → List ℕ → Seen = λ k lo hi b. record {
       last = last_after s.last s.end k lo;
       end = hi;
-      calls = calls_after s.calls k b;
+      calls = advance_calls s.calls k b;
     } in
     let view : SourceKind = source_view token.form in
     ap (λ k. seen k w.at (source_end w) (cut_bytes w)) is.kind_is
@@ -139,7 +139,7 @@ seen_next : (style : Style) (macros : Macros) (t : List ℕ) (s : RestylableStat
 seen_next style macros t s at out edits d token tokens takes = seen_more nothing_seen d.cuts takes.cut
     ∙ ap (λ z. seen_after z takes.cut) d.seen_is ∙ seen_passed s token tokens takes.cut takes.is_cut
 
--- A token that stays unchanged leaves the new text and the edits of the draft unchanged.
+-- If a token stays unchanged, the new text and the edits of the draft stay unchanged.
 draft_past : (style : Style) (macros : Macros) (t : List ℕ) (s : RestylableState) (at : ℕ) (out : List ℕ) (edits : Told)
     → IsDraft style macros t s at out edits → (token : SourceToken) (tokens : CursorState)
     → (takes : TakesSource s.tokens token tokens) → IsEditOf style macros t (seen_of s) takes.cut None
@@ -177,7 +177,7 @@ draft_past style macros t s at out edits d token tokens takes is =
           ∙ append-nil (placed_edits d.cuts d.texts));
     }
 
--- After a token that a new text replaces, the draft contains the new text and the edit.
+-- If a new text replaces a token, the draft then contains the new text and the edit.
 draft_put : (style : Style) (macros : Macros) (t : List ℕ) (s : RestylableState) (at : ℕ) (out : List ℕ) (edits : Told)
     → (d : IsDraft style macros t s at out edits) → (token : SourceToken) (tokens : CursorState)
     → (takes : TakesSource s.tokens token tokens) (new : List ℕ)
@@ -230,7 +230,7 @@ draft_put style macros t s at out edits d token tokens takes new is later_at lon
           ∙ sym (placed_more style macros t nothing_seen d.cuts d.texts w e d.are_edits);
     }
 
--- ---- the next literal
+-- ---- lemmas about the next literal
 
 -- The next literal of the cursor is `l`. The draft contains the new text of all tokens before it, and the cursor's state after it
 -- is `new`.
@@ -245,7 +245,7 @@ record AtLiteral (style : Style) (macros : Macros) (t : List ℕ) (at : ℕ) (ou
   inside_is : l.in_macro ≡ is_in_call s.calls
   new_is : new ≡ passed s l.token tokens
 
--- A token of the cursor is a literal if the lexed token is one.
+-- If a lexed token is a literal, the token that the cursor returns for it is a literal.
 told_literal : (token : SourceToken) (w : CutSource) → IsBorrowedSource token w
     → IsLiteralText (source_kind w.token) (source_text w.token) → IsLiteralOfSource token
 told_literal token w is h = subst (λ (k : SourceKind). IsLiteralText k (chars token.text.now)) is.kind_is
@@ -295,7 +295,7 @@ to_none style macros t at out edits d (Passes {s = s} {token = token} {tokens = 
     (draft_past style macros t s at out edits d token tokens takes
     (other_edit style macros t s at out edits d token tokens takes none)) g
 
--- The old text before the next literal is the text up to the literal's byte offset.
+-- The text before the byte offset of the next literal is the old text before that literal.
 literal_front : (style : Style) (macros : Macros) (t : List ℕ) (at : ℕ) (out : List ℕ) (edits : Told) (l : Restylable)
     (new : RestylableState) → (a : AtLiteral style macros t at out edits l new)
     → IsTextBetween t 0 l.token.lo ((a.draft.front ++ a.draft.tail) ++ a.draft.gap)
@@ -309,7 +309,7 @@ literal_front style macros t at out edits l new a =
       hi_is = sym a.takes.is_cut.lo_is ∙ n.place_is;
     }
 
--- The text between the last edit and the next literal is the unchanged text of the draft.
+-- The part of the source between the last edit and the next literal is the text that the draft leaves unchanged.
 literal_middle : (style : Style) (macros : Macros) (t : List ℕ) (at : ℕ) (out : List ℕ) (edits : Told) (l : Restylable)
     (new : RestylableState) → (a : AtLiteral style macros t at out edits l new)
     → IsTextBetween t at l.token.lo (a.draft.tail ++ a.draft.gap)
@@ -340,7 +340,7 @@ next_middle style macros t at out edits l (old, new, d, g) =
     let a = to_literal style macros t at out edits d g in
     (a.draft.tail ++ a.draft.gap, literal_middle style macros t at out edits l new a)
 
--- The new text of a literal, or none, is the edit of its token.
+-- The edit of a literal's token is the literal's new text, or no edit if the literal has no new text.
 edit_of : (style : Style) (macros : Macros) (t : List ℕ) (at : ℕ) (out : List ℕ) (edits : Told) (l : Restylable)
     (new : RestylableState) (e : Option (List ℕ)) → (a : AtLiteral style macros t at out edits l new)
     → IsTextOf style macros t l e → IsEditOf style macros t (seen_of a.s) a.takes.cut e
@@ -397,7 +397,7 @@ put_some style macros t at out edits l x later_at longer told is text at_is told
     (edit_of style macros t at out edits l new (Some x) a is) later_at longer told at_is
     (text (a.draft.tail ++ a.draft.gap) (literal_middle style macros t at out edits l new a)) told_is)
 
--- ---- the end of the source
+-- ---- lemmas about the end of the source
 
 -- If the rest of the source begins with no token and has no error, it is empty.
 pub none_left : (s : RestylableState) → BeginsNoSource (chars s.tokens.rest)
@@ -470,7 +470,7 @@ source_error style macros text s at out edits e code d is place = (
   },
 )
 
--- ---- the results of function calls
+-- ---- lemmas about the results of function calls
 
 pub put_done : {X E : Type 0} (style : Style) (macros : Macros) (t : List ℕ) (at : ℕ) (out : List ℕ)
     (edits : List (ℕ × ℕ × List ℕ)) (l : Restylable) (x : List ℕ) (later_at : ℕ) (longer : List ℕ)

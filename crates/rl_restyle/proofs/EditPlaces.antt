@@ -1,4 +1,4 @@
--- The byte offsets of the edits of a source.
+-- Lemmas about the byte offsets of the edits of a source.
 use Rattle.rl_syntax.proofs.Common.{◌≡◌, ℕ, ◌+◌, List, [], ◌∷◌, ◌++◌, None, Option, Some, append_assoc, ap, arith, refl, sym, ◌∙◌}
 use Rattle.rl_syntax.specs.Texts.{byte_len}
 use Rattle.rl_lexer.proofs.CutLemmas.{byte_len-append}
@@ -9,7 +9,7 @@ use Rattle.rl_restyle.specs.Edits.{Restyles, placed_edits}
 use Rattle.rl_restyle.specs.Places.{AreEditsIn}
 use Rattle.rl_restyle.specs.declared.edit.Macros.{Macros}
 
--- The edits of an end of the text, which begins at the byte offset `at`, are edits of the whole text.
+-- Edits of the end of a text are edits of the whole text. The end begins at the byte offset `at`.
 stand_on : (text front old new : List ℕ) (at : ℕ) (ws : List CutSource) (es : List (Option (List ℕ)))
     → text ≡ front ++ old → at ≡ byte_len front → IsEdited at old ws es new → AreEditsIn text (placed_edits ws es)
 stand_on text front old new at [] [] is at_is edited = tt

@@ -1,4 +1,4 @@
--- A rewritten source is lexed as before, except for the rewritten literals.
+-- Proof that a rewritten source is lexed into the tokens of the old source, except for the rewritten literals.
 use Rattle.rl_syntax.proofs.Common.{◌≡◌, ℕ, arith, inl, inr, List, [], ◌∷◌, ◌++◌, Option, Some, None, none-some, refl, sym, AllByRecursion}
 use Rattle.rl_syntax.specs.Texts.{byte_len}
 use Rattle.rl_lexer.specs.Sources.{BadQuoteToken, CutSource, DocBlockToken, DocLineToken, IsLiteralText, LifetimeToken, PlainToken, RawIdentifierToken, RawLifetimeToken, SourceLexeme, StrayToken, source_kind, source_text}
@@ -10,7 +10,8 @@ use Rattle.rl_style.proofs.EditedCuts.{keeps_the_edited_source}
 use Rattle.rl_restyle.specs.Edits.{AreEdits, KeepsTheWholeSource, Seen, nothing_seen, seen_after}
 use Rattle.rl_restyle.specs.declared.edit.Macros.{Macros}
 
--- A literal of a source without errors is a token of the lexer.
+-- If a literal of a source without errors is rewritten in a style, the literal is one literal token, and the new text
+-- is the token's text in the style.
 literal_in_style : (style : Style) (t : List ℕ) (token : SourceLexeme) (at : ℕ) (written front rest : List ℕ)
     → IsSoundToken token → IsLiteralText (source_kind token) (source_text token)
     → t ≡ front ++ (source_text token ++ rest) → at ≡ byte_len front → Rewrites style front (source_text token) written

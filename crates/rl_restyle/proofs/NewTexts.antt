@@ -1,4 +1,4 @@
--- The new text of a literal, as the code creates it.
+-- Lemmas about the new text of a literal, as the code creates it.
 use Rattle.rl_syntax.proofs.Common.{◌≡◌, ◌≢◌, ◌++◌, inl, length, take, drop, take-append_seam, chars-append, IsTrue, List, Ok, Err, Option, Result, Some, None, ℕ, sym, ◌∙◌, ap, subst, chars, encode_utf8_all, encodes-chars, string_bytes, IsUtf8, IfNone, IfOk, IfSome}
 use Rattle.std.specs.Prelude.{String}
 use Rattle.rl_strict.specs.StrictShapes.{IsToken}
@@ -17,7 +17,7 @@ use Rattle.rl_restyle.specs.declared.edit.Macros.{Macros}
 pub same_bytes : (x y : List ℕ) → IsUtf8 x → IsUtf8 y → chars x ≡ chars y → x ≡ y
 same_bytes x y u v e = sym (encodes-chars x u) ∙ ap encode_utf8_all e ∙ encodes-chars y v
 
--- A text that isn't a literal token has no rewritten text in a style.
+-- If a text isn't a literal token, a style leaves the text unchanged.
 pub no_other : (style : Style) (front text : List ℕ) (flaw : Flaw) → ExplainsStrictly text flaw → (new : List ℕ)
     → Rewrites style front text new → new ≡ text
 no_other style front text flaw is new rewrites =
@@ -30,13 +30,14 @@ no_other style front text flaw is new rewrites =
     } in
     absurd (is.no_token token)
 
--- If as many bytes were written as a vector keeps, its items are the written bytes.
+-- If a vector is shortened to the number of bytes that were written into it, its items are the written bytes.
 pub all_items : (n : ℕ) (written items whole : List ℕ) → whole ≡ take n (written ++ drop (length written) items)
     → length written ≡ n → whole ≡ written
 all_items n written items whole is long = is ∙ ap (λ z. take z (written ++ drop (length written) items)) (sym long)
     ∙ take-append_seam written (drop (length written) items)
 
--- If a literal may be rewritten, its new text after the text `before` is its new text in the source.
+-- Suppose that a literal may be rewritten, and that `before` is the source before the literal. If the code rewrites the
+-- literal after the text `before`, the result is the literal's new text in the source.
 pub literal_text : {A E : Type 0} (style : Style) (macros : Macros) (source : List ℕ) (l : Restylable)
     (before : List ℕ) (made : Result (Option (String A)) E) → IsTrue (is_chosen macros l.is_field l.in_macro)
     → ((front : List ℕ) → IsTextBetween source 0 l.token.lo front → before ≡ front)
@@ -48,12 +49,13 @@ literal_text style macros source l before (Ok m) taken at is = inl (
   λ front stands. subst (λ z. IsRewritten style z (chars l.token.text.now) (text_in m)) (at front stands) is,
 )
 
--- A text with a piece appended has the characters of the text, followed by those of the piece.
+-- If a piece is appended to a text, the characters of the piece are appended to the characters of the text.
 pub piece_after : (old piece new : List ℕ) (middle : List ℕ) → IsUtf8 old → new ≡ old ++ piece → chars piece ≡ middle
     → chars new ≡ chars old ++ middle
 piece_after old piece new middle u is same = ap chars is ∙ chars-append old piece u ∙ ap (λ z. chars old ++ z) same
 
--- The written text, or `None` if it equals the old text, is the new text of the literal.
+-- If the code returns the written text of a literal, or `None` if it equals the old text, the result is the literal's
+-- new text.
 pub text_made : {A E : Type 0} (style : Style) (front old written : List ℕ) (made : Result (Option (String A)) E)
     → Rewrites style front old written → IfOk made (λ m. IfNone m (written ≡ old))
     → IfOk made (λ m. IfSome m (λ s. chars (string_bytes s) ≡ written))

@@ -1,4 +1,4 @@
--- A source has exactly one rewritten text in a style.
+-- Proof that a source has exactly one rewritten text in a style.
 use Rattle.rl_syntax.proofs.Common.{◌≡◌, ℕ, ◌+◌, inl, inr, List, [], ◌∷◌, ◌++◌, Option, Some, None, refl, sym, ◌∙◌, ap, subst, map, arith, encode_utf8_all, IsTrue}
 use Rattle.std.specs.Prelude.{◌⊎◌}
 use Rattle.rl_syntax.specs.Texts.{byte_len}
@@ -8,7 +8,7 @@ use Rattle.rl_lexer.specs.Skipping.{Skipped}
 use Rattle.rl_lexer.specs.Sources.{BadQuoteToken, BeginsNoSource, CutSource, DocBlockToken, DocLineToken, IsLiteralText, LifetimeToken, PlainToken, RawIdentifierToken, RawLifetimeToken, SourceKind, SourceLexeme, StrayToken, source_end, source_text, told}
 use Rattle.rl_lexer.proofs.Pieces.{one_rest}
 use Rattle.rl_lexer.proofs.SourceLaws.{one_lexing}
-use Rattle.rl_style.specs.Calls.{calls_after, is_in_call}
+use Rattle.rl_style.specs.Calls.{advance_calls, is_in_call}
 use Rattle.rl_style.specs.Restylable.{is_field, last_after}
 use Rattle.rl_style.specs.Restyled.{IsEdited, edited_text}
 use Rattle.rl_style.specs.declared.style.Style.{Style}
@@ -18,7 +18,7 @@ use Rattle.rl_style.proofs.Recut.{IsFull, lexeme_full}
 use Rattle.rl_restyle.specs.Edits.{AreEdits, HasOneText, IsChosen, IsEditOf, IsRewritten, Seen, Surrounds, is_chosen, nothing_seen, placed_edits, seen_after}
 use Rattle.rl_restyle.specs.declared.edit.Macros.{Macros}
 
--- ---- the end of the source begins with no token
+-- ---- lemmas: the end of the source begins with no token
 
 token_some : (w : SourceLexeme) (t : List ℕ) → IsFull (source_text w ++ t)
 token_some (PlainToken l) t = lexeme_full l t
@@ -37,7 +37,7 @@ token_some (StrayToken c) t = tt
 none_at_end : BeginsNoSource []
 none_at_end = λ kind rest b. subst IsFull (sym b.text_is) (token_some b.token rest)
 
--- ---- the edit of one token
+-- ---- lemmas about the edit of one token
 
 -- The parts of a token that determine its edit.
 abbrev Token : Type 0
@@ -51,7 +51,7 @@ seen_same seen v w e =
     let after : Token → Seen = λ p. record {
       last = last_after seen.last seen.end p.0 p.2;
       end = end_of p;
-      calls = calls_after seen.calls p.0 (encode_utf8_all p.1);
+      calls = advance_calls seen.calls p.0 (encode_utf8_all p.1);
     } in
     ap after e
 
@@ -88,7 +88,7 @@ one_edit style macros t seen w e f (front, rest, here, is) (g, r, there, other) 
     go (inr (stays, none)) (inl (c, b)) = absurd (stays c)
     go (inr (stays, none)) (inr (other, nothing)) = none ∙ sym nothing
 
--- Two tokens with equal parts have equal edits.
+-- If two tokens have the same kind, text and byte offset, they have the same edit.
 edit_alike : (style : Style) (macros : Macros) (t : List ℕ) (seen : Seen) (v w : CutSource) (e : Option (List ℕ))
     → told v ≡ told w → IsEditOf style macros t seen v e → IsEditOf style macros t seen w e
 edit_alike style macros t seen v w e same (front, rest, around, is) = (front, rest, there, go is)
@@ -115,7 +115,7 @@ edit_alike style macros t seen v w e same (front, rest, around, is) = (front, re
     go (inl (chosen, r)) = inl (subst Chosen same chosen, subst Written same r)
     go (inr (stays, none)) = inr (λ chosen. stays (subst Chosen (sym same) chosen), none)
 
--- ---- the edits of all tokens
+-- ---- lemmas about the edits of all tokens
 
 same_texts : (style : Style) (macros : Macros) (t : List ℕ) (seen : Seen) (vs ws : List CutSource)
     (es fs : List (Option (List ℕ))) → map told vs ≡ map told ws → AreEdits style macros t seen vs es

@@ -1,4 +1,4 @@
--- The byte offsets of a source's tokens, and the edits in order.
+-- Lemmas about the byte offsets of a source's tokens, and about the edits in order.
 use Rattle.rl_syntax.proofs.Common.{◌≡◌, ℕ, ◌+◌, inl, inr, Bool, true, false, cond, ◌==◌, List, [], ◌∷◌, ◌++◌, Option, Some, None, refl, sym, ◌∙◌, ap, subst, arith, append_assoc, append-nil}
 use Rattle.rl_syntax.specs.Texts.{byte_len}
 use Rattle.rl_lexer.specs.Skipping.{Skipped}
@@ -10,9 +10,9 @@ use Rattle.rl_restyle.specs.Edits.{AreEdits, IsEditOf, Seen, placed_edits, seen_
 use Rattle.rl_restyle.specs.Mirrors.{seen_all}
 use Rattle.rl_restyle.specs.declared.edit.Macros.{Macros}
 
--- ---- ends of a text
+-- ---- lemmas about the ends of a text
 
--- The second text is an end of the first one.
+-- The text `r` is an end of the text `t`.
 abbrev pub Ends : List ℕ → List ℕ → Type 0
 Ends t r = (front : List ℕ) × (t ≡ front ++ r)
 
@@ -38,13 +38,14 @@ line_ends t r (inr (same, none)) = ([], sym same)
 front_ends : (t body : List ℕ) → IsWithoutPreamble t body → Ends t body
 front_ends t body is = ends_more t (without_byte_order_mark t) body (mark_ends t) (line_ends (without_byte_order_mark t) body is)
 
--- The rest of a source from which no token was lexed is the source after white space and comments.
+-- If no token was lexed from a source, the rest is the source after white space and comments.
 pub none_cut : (t r : List ℕ) → IsCutUpTo t [] r → Ends t r
 none_cut t r cut = ends_more t cut.body r (front_ends t cut.body cut.front) (skipped_ends cut.body r cut.are_cuts)
 
--- ---- the last token
+-- ---- lemmas about the last token
 
--- The byte offset of the last token in a text, and that of the rest after it. The text begins at the byte offset `at`.
+-- A record about the last token of a text that begins at the byte offset `at`: the byte offset of the token, and the
+-- byte offset of the rest after it.
 pub record LastAt (at : ℕ) (t : List ℕ) (w : CutSource) (r : List ℕ) : Type 0 where
   pub front : List ℕ
   pub gap : List ℕ
@@ -52,7 +53,7 @@ pub record LastAt (at : ℕ) (t : List ℕ) (w : CutSource) (r : List ℕ) : Typ
   pub place_is : w.at ≡ at + byte_len front
   pub skips : Skipped (gap ++ r) r
 
--- If more text precedes the text of the last token, the token's byte offset stays the same.
+-- If text is added before the text of the last token, the token's byte offset in the file stays the same.
 later : (from at : ℕ) (front t u : List ℕ) (w : CutSource) (r : List ℕ) → t ≡ front ++ u → from ≡ at + byte_len front
     → LastAt from u w r → LastAt at t w r
 later from at front t u w r text place l = record {
@@ -111,7 +112,7 @@ last_at t cuts w r cut =
     ) in
     later cut.at 0 begun.0 t cut.body w r begun.1 from (last_cut cut.at cut.body cuts w r cut.are_cuts)
 
--- ---- edits
+-- ---- lemmas about edits
 
 -- The edits stay the same if equal text is appended to the old and to the new text.
 pub edited_longer : (at : ℕ) (old : List ℕ) (ws : List CutSource) (es : List (Option (List ℕ))) (new x : List ℕ)
@@ -132,8 +133,8 @@ edited_longer at old (w ∷ ws) (e ∷ es) new x (gap, after, new_after, old_is,
     longer : (t g s a : List ℕ) → t ≡ g ++ (s ++ a) → t ++ x ≡ g ++ (s ++ (a ++ x))
     longer t g s a is = ap (λ z. z ++ x) is ∙ append_assoc g (s ++ a) x ∙ ap (λ z. g ++ z) (append_assoc s a x)
 
--- The old and the new text of one more token, with the white space and comments before it, are appended to the old and to the new
--- text. The edit of that token is appended to the edits.
+-- If one more token is read, its old text, with the white space and comments before it, is appended to the old text.
+-- Its new text is appended to the new text, and its edit to the edits.
 pub edited_more : (at : ℕ) (old : List ℕ) (ws : List CutSource) (es : List (Option (List ℕ))) (new gap : List ℕ)
     (w : CutSource) (e : Option (List ℕ)) → IsEdited at old ws es new → w.at ≡ at + byte_len (old ++ gap)
     → IsEdited at (old ++ (gap ++ source_text w.token)) (ws ++ w ∷ []) (es ++ e ∷ [])

@@ -1,4 +1,4 @@
--- The part of a text between two byte offsets.
+-- Lemmas about the part of a text between two byte offsets.
 use Rattle.rl_syntax.proofs.Common.{◌≡◌, ℕ, ◌+◌, ◌-◌, ◌≤◌, List, [], ◌∷◌, ◌++◌, length, length-append, take, drop, slice_range, refl, sym, ◌∙◌, ap, subst, arith, append_assoc, take-append_seam, chars, chars_from_encodes, encode_utf8_all, encodes-append, encodes-chars, IsCharBoundary, IsUtf8, IsUtf8-take}
 use Rattle.std.proofs.lemmas.Str.{IsCharBoundary-at_seam, IsUtf8-past_char}
 use Rattle.std.proofs.Math.Seq.{drop-append_seam}

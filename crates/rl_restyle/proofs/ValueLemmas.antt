@@ -1,4 +1,4 @@
--- The values of rules, and the invariant of the loop over a configuration's entries.
+-- Lemmas about the values of rules, and about the invariant of the loop over a configuration's entries.
 use Rattle.std.proofs.Common.{◌≡◌, ◌≢◌, inl, inr, ℕ, ◌==◌, List, [], ◌∷◌, Option, Some, None, IfSome, if◌then◌else◌, refl, sym, ap, subst, ◌∙◌}
 use Rattle.std.specs.Str.{chars}
 use Rattle.rl_lexer.specs.Cursors.{CursorState, form_view}
@@ -25,9 +25,9 @@ use Rattle.rl_restyle.specs.Values.{IsOfText}
 use Rattle.rl_restyle.specs.Styles.{Setting, setting, value_in, SetsRule, HoldsSettings, HoldsNoSetting, HoldsOneMore, BeginsEntries, style_set_by, SaysStyle, RejectsEntry, RejectsRest, IsNewName, RejectsStyle}
 use Rattle.rl_restyle.specs.Held.{value_at, AreOf, NamesSet}
 
--- ---- the values of rules
+-- ---- lemmas about the values of rules
 
--- The stored values after one more rule is set.
+-- After one more rule is set, the stored values are the values of the earlier entries and the value of the new entry.
 pub set_more : (before : List Setting) (old new : Values) (rule : Rule) (value : Value) → AreOf before old
     → ((other : Rule) → value_at new other ≡ (if rule_number rule == rule_number other then Some value else value_at old other))
     → AreOf (setting rule value ∷ before) new
@@ -44,7 +44,7 @@ is_none : (o : Option Value) → ((o ≡ None → ⊥) → ⊥) → o ≡ None
 is_none None h = refl
 is_none (Some x) h = absurd (h (λ e. absurd (cc)))
 
--- A name without a stored value isn't that of a rule that an earlier entry has set.
+-- If no value is stored for the rule with a name, no earlier entry has set the rule with that name.
 new_text : (before : List Setting) (v : Values) (name : List ℕ) → AreOf before v → (NamesSet (value_at v) name → ⊥)
     → (rule : Rule) → name ≡ rule_name rule → value_in before rule ≡ None
 new_text before v name are not_set rule named = sym (are rule)
@@ -62,7 +62,7 @@ no_name before o none = subst (λ (z : Option DottedName). IsNewName before z) (
 same_style : (f g : Rule → Option Value) → ((rule : Rule) → f rule ≡ g rule) → style_set_by f ≡ style_set_by g
 same_style f g h = rw (h HexDigits, h DropUnderscores, h DropLeadingZeros, h SuffixSeparator, h BinaryGroups, h OctalGroups, h DecimalGroups, h HexadecimalGroups, h MinDigits, h FloatZero, h ExponentLetter, h DropExponentPlus, h EscapeDigits, h FewestEscapeDigits, h DropAsciiEscapes, h NamedEscapes, h DropQuoteEscapes, h FewestHashes, h DropRaw, h EscapeInvisible) refl
 
--- ---- an entry leaves the input text unchanged
+-- ---- lemmas: the cursor over an entry leaves the input text unchanged
 
 mark_same : (c : ℕ) (old new : CursorState) → TakesMark c old new → new.text ≡ old.text
 mark_same c old new m = m.1.same
@@ -81,7 +81,7 @@ entry_same old new entry t =
     separator_same entry.value.token.hi s.following new s.separator ∙ literal_same s.at_literal s.following entry.value s.literal
     ∙ mark_same 61 t.following s.at_literal s.equals ∙ name_same old t.following entry.name t.named
 
--- The parse result of a literal that the cursor consumed is that of the literal's text.
+-- The parse result of a literal that the cursor consumed is the parse result of the literal's text.
 token_found : (form : LexemeForm) (text : List ℕ) (o : Option Found) → IsLiteralToken form text o
     → IfSome o (λ f. IsFound text f)
 token_found LiteralForm text None h = tt
@@ -100,9 +100,10 @@ literal_text old new l (inr n) = λ none.
 pub of_text : (old new : CursorState) (entry : NextEntry) → TakesEntry old entry new → IsOfText entry.value
 of_text old new entry t = literal_text t.sets.at_literal t.sets.following entry.value t.sets.literal
 
--- ---- the loop over the entries
+-- ---- lemmas about the loop over the entries
 
--- The entries up to this position of the cursor set the stored values.
+-- The invariant of the loop over a configuration's entries: the stored values `v` are those that the entries before the
+-- cursor's position set.
 pub record HasRead (text : List ℕ) (t : CursorState) (v : Values) : Type 0 where
   pub start : CursorState
   pub before : List Setting

@@ -1,11 +1,12 @@
--- A source in a style: the literals that are rewritten, and the new text. Texts are lists of characters.
+-- A source that is rewritten in a style: the choice of the literals that are rewritten, their new texts, and the new
+-- source. Texts are lists of characters.
 use Rattle.std.specs.Prelude.{◌≡◌, ◌≢◌, ◌⊎◌, ℕ, Bool, not, ◌&&◌, List, [], ◌∷◌, ◌++◌, Option, Some, None, option_map, encode_utf8_all, String, string_bytes, IsFalse, IsTrue, ⊤}
 use Rattle.std.specs.List.{AllByRecursion}
 use Rattle.std.specs.Str.{chars}
 use Rattle.rl_syntax.specs.Texts.{byte_len}
 use Rattle.rl_lexer.specs.Skipping.{Skipped}
 use Rattle.rl_lexer.specs.Sources.{CutSource, IsCutUpTo, IsLiteralText, SourceError, source_end, source_kind, source_text}
-use Rattle.rl_style.specs.Calls.{CallState, Outside, calls_after, is_in_call}
+use Rattle.rl_style.specs.Calls.{CallState, Outside, advance_calls, is_in_call}
 use Rattle.rl_style.specs.Recut.{IsSound, begins_with_code}
 use Rattle.rl_style.specs.Restylable.{is_field, last_after}
 use Rattle.rl_style.specs.Restyled.{IsEdited, IsEditedSource}
@@ -21,7 +22,7 @@ use Rattle.rl_restyle.specs.declared.edit.Macros.TheVariants.{Skip, All}
 use Rattle.rl_restyle.specs.declared.edit.RestyleError.{RestyleError}
 use Rattle.rl_restyle.specs.declared.edit.RestyleError.TheVariants.{Script, Source, Memory}
 
--- ---- which literals are rewritten
+-- ---- the choice of the literals that are rewritten
 
 -- The context of the next token: the token before it, the byte offset after that token, and the position relative to macro
 -- calls.
@@ -40,15 +41,17 @@ abbrev pub seen_after : Seen → CutSource → Seen
 seen_after seen w = record {
   last = last_after seen.last seen.end (source_kind w.token) w.at;
   end = source_end w;
-  calls = calls_after seen.calls (source_kind w.token) (cut_bytes w);
+  calls = advance_calls seen.calls (source_kind w.token) (cut_bytes w);
 }
 
--- Whether a literal is rewritten. The flags are true if it may be a field of a tuple, and if it is inside a macro call.
+-- Whether a literal is rewritten. The first flag is `true` if the literal may be a field of a tuple, and the second if
+-- it is inside a macro call.
 abbrev pub is_chosen : Macros → Bool → Bool → Bool
 is_chosen Skip field inside = not field && not inside
 is_chosen All field inside = not field
 
--- The token is a literal that is rewritten. `rest` is the text after it, without white space and comments at its beginning.
+-- A condition on a token: it is a literal that is rewritten. `rest` is the text after the token, without white space
+-- and comments at its beginning.
 abbrev pub IsChosen : Macros → Seen → CutSource → List ℕ → Type 0
 IsChosen macros seen w rest =
     IsLiteralText (source_kind w.token) (source_text w.token)
@@ -68,7 +71,7 @@ abbrev pub IsRewritten : Style → List ℕ → List ℕ → Option (List ℕ) �
 IsRewritten style front old (Some new) = Rewrites style front old new × (new ≢ old)
 IsRewritten style front old None = (new : List ℕ) → Rewrites style front old new → new ≡ old
 
--- The new text of a token of the text, or `None` if the token isn't a literal that the style changes.
+-- The new text of a token of a source, or `None` if the token isn't a literal that the style changes.
 abbrev pub IsEditOf : Style → Macros → List ℕ → Seen → CutSource → Option (List ℕ) → Type 0
 IsEditOf style macros t seen w e =
     (front rest : List ℕ) × Surrounds t w front rest
@@ -81,7 +84,8 @@ AreEdits style macros t seen (w ∷ ws) (e ∷ es) =
     IsEditOf style macros t seen w e × AreEdits style macros t (seen_after seen w) ws es
 AreEdits style macros t seen _ _ = ⊥
 
--- The new texts, each with the byte offsets in the old text where the token begins and ends.
+-- The edits of a source: the new texts of tokens, each with the byte offsets in the old text where its token begins and
+-- ends.
 abbrev pub placed_edits : List CutSource → List (Option (List ℕ)) → List (ℕ × ℕ × List ℕ)
 placed_edits (w ∷ ws) (Some new ∷ es) = (w.at, source_end w, new) ∷ placed_edits ws es
 placed_edits (w ∷ ws) (None ∷ es) = placed_edits ws es
@@ -89,8 +93,8 @@ placed_edits _ _ = []
 
 -- ---- a rewritten source
 
--- The new text is the source in the style, and the edits are its changed literals. The source is lexed to its end, and the new
--- text consists of the old tokens, each with its text in the style.
+-- The text `new` is the source `t` rewritten in a style, and `edits` are the changed literals. The source is lexed to
+-- its end, and `new` consists of the old tokens, each with its text in the style.
 pub record Restyles (style : Style) (macros : Macros) (t new : List ℕ) (edits : List (ℕ × ℕ × List ℕ)) : Type 0 where
   pub is_code : IsTrue (begins_with_code t)
   pub cuts : List CutSource
@@ -106,7 +110,7 @@ IsRestyleError t Script = IsFalse (begins_with_code t)
 IsRestyleError t (Source e) = IsTrue (begins_with_code t) × SourceError t e.kind e.at
 IsRestyleError t Memory = ⊤
 
--- ---- the edits as values of the code
+-- ---- the edits, as values of the code
 
 abbrev pub edit_in : {A : Type 0} → Edit A → ℕ × ℕ × List ℕ
 edit_in edit = (edit.lo, edit.hi, chars (string_bytes edit.text))
@@ -124,13 +128,14 @@ IsTextOf style macros source l e =
 
 -- ---- theorems
 
--- A rewritten source is lexed as before, except for the edits. The source contains neither invalid quotes nor stray characters.
+-- A theorem: a rewritten source is lexed as before, except for the edits, if the source contains neither invalid quotes
+-- nor stray characters.
 abbrev pub KeepsTheWholeSource : Type 0
 KeepsTheWholeSource =
     (style : Style) (macros : Macros) (t new : List ℕ) (edits : List (ℕ × ℕ × List ℕ))
     → (r : Restyles style macros t new edits) → AllByRecursion IsSound r.cuts → IsEditedSource new r.cuts r.texts []
 
--- A source has exactly one new text and one list of edits in a style.
+-- A theorem: a source has exactly one new text and one list of edits in a style.
 abbrev pub HasOneText : Type 0
 HasOneText =
     (style : Style) (macros : Macros) (t new other : List ℕ) (edits others : List (ℕ × ℕ × List ℕ))

@@ -10,10 +10,10 @@ use Rattle.rl_restyle.specs.Styles.{Setting, value_in}
 abbrev pub value_at : Values → Rule → Option Value
 value_at v rule = get_or v.values (rule_number rule) None
 
--- The stored values are those of the settings.
+-- The stored values of rules are the values that a list of settings gives the rules.
 abbrev pub AreOf : List Setting → Values → Type 0
 AreOf settings v = (rule : Rule) → value_at v rule ≡ value_in settings rule
 
--- The name is that of a rule that is set.
+-- The name `name` is the name of a rule that is set.
 abbrev pub NamesSet : (Rule → Option Value) → List ℕ → Type 0
 NamesSet look name = (rule : Rule) × (name ≡ rule_name rule) × (look rule ≢ None)

@@ -18,8 +18,8 @@ seen_all seen (w ∷ ws) = seen_all (seen_after seen w) ws
 abbrev pub seen_of : RestylableState → Seen
 seen_of s = record { last = s.last; end = s.end; calls = s.calls }
 
--- A partly rewritten source. `s` is the cursor's state after the last token that was lexed. The new text up to this token is
--- `out`, which replaces the old text before the byte offset `at`, and then the unchanged old text after `at`.
+-- A partly rewritten source. The cursor's state after the last lexed token is `s`. The text `out` replaces the old text
+-- before the byte offset `at`. The old text from `at` up to the last lexed token stays unchanged.
 pub record IsDraft (style : Style) (macros : Macros) (t : List ℕ) (s : RestylableState) (at : ℕ) (out : List ℕ)
     (edits : List (ℕ × ℕ × List ℕ)) : Type 0 where
   pub whole : chars s.tokens.text ≡ t

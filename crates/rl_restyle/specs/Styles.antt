@@ -52,18 +52,19 @@ pub record Setting : Type 0 where
 abbrev pub setting : Rule → Value → Setting
 setting rule value = record { rule = rule; value = value }
 
--- The value of a rule among these settings, or `None` if they don't set it.
+-- The value that a list of settings gives a rule, or `None` if the list doesn't set the rule.
 abbrev pub value_in : List Setting → Rule → Option Value
 value_in [] rule = None
 value_in (s ∷ ss) rule = if rule_number s.rule == rule_number rule then Some s.value else value_in ss rule
 
--- The entry sets the rule of its name to a value. No earlier entry sets this rule.
+-- The entry sets the rule with the entry's name to a value. No earlier entry sets the rule.
 pub record SetsRule (before : List Setting) (entry : NextEntry) (s : Setting) : Type 0 where
   pub named : entry.name.text.now ≡ rule_name s.rule
   pub is_new : value_in before s.rule ≡ None
   pub value : value_of (expected_of s.rule) entry.value ≡ Some s.value
 
--- The entries between two positions of the cursor set these rules. The last entry is the first in the list.
+-- The entries between two positions of the cursor set rules. The list has the settings of these entries in reverse
+-- order: the last entry comes first.
 pub data HoldsSettings (start : CursorState) : List Setting → CursorState → Type 0 where
   HoldsNoSetting : HoldsSettings start [] start
   HoldsOneMore : {before : List Setting} {t new : CursorState} (s : Setting) (entry : NextEntry)
@@ -91,7 +92,7 @@ abbrev pub separator_in : Option Value → Option Separator
 separator_in (Some (SeparatorOf separator)) = Some separator
 separator_in _ = None
 
--- The sizes of digit groups, or `None` if all of its numbers are 0.
+-- The sizes of digit groups and the least number of digits, or `None` if all of these numbers are 0.
 abbrev pub some_groups : DigitGroups → Option DigitGroups
 some_groups g = if (g.binary == 0) && (g.octal == 0) && (g.decimal == 0) && (g.hexadecimal == 0) && (g.least == 0)
     then None else Some g
@@ -105,7 +106,7 @@ groups_set_by look = some_groups (record {
   least = size_in (look MinDigits);
 })
 
--- The style in which each rule has this value, or isn't set.
+-- The style that a function from rules to values describes. A rule isn't set if the function returns `None` for it.
 abbrev pub style_set_by : (Rule → Option Value) → Style
 style_set_by look = record {
   hex_digits = case_in (look HexDigits);
@@ -138,7 +139,7 @@ pub record SaysStyle (text : List ℕ) (style : Style) : Type 0 where
 
 -- ---- errors of a configuration
 
--- The error has this kind, and its range is that of the name.
+-- The error has the kind `kind`. The error's name and range are the text and the range of the entry's name.
 abbrev pub IsAtName : StyleErrorKind → DottedName → StyleError → Type 0
 IsAtName kind name e = (e.kind ≡ kind) × (e.name ≡ Some name.text) × (e.lo ≡ name.lo) × (e.hi ≡ name.hi)
 
@@ -155,16 +156,17 @@ literal_lo l = lo_after l.minus_at l.token.lo
     lo_after None lo = lo
     lo_after (Some at) lo = at
 
--- The error is that the name isn't a rule's.
+-- The error reports that the name of an entry isn't the name of a rule.
 abbrev pub IsUnknown : DottedName → StyleError → Type 0
 IsUnknown name e = ((rule : Rule) → name.text.now ≡ rule_name rule → ⊥) × IsAtName Unknown name e
 
--- The error is that an earlier entry has set the rule with this name.
+-- The error reports that an earlier entry has set the rule with the entry's name.
 abbrev pub IsRepeated : List Setting → DottedName → StyleError → Type 0
 IsRepeated before name e = (rule : Rule) × (name.text.now ≡ rule_name rule) × (value_in before rule ≢ None)
     × IsAtName Repeated name e
 
--- The error is that the entry's literal isn't a value that the rule may have. The rule isn't set before.
+-- The error reports that the literal of an entry isn't a value that the entry's rule may have. No earlier entry has set
+-- the rule.
 pub record IsUnexpected (before : List Setting) (entry : NextEntry) (e : StyleError) : Type 0 where
   pub rule : Rule
   pub named : entry.name.text.now ≡ rule_name rule
@@ -175,17 +177,17 @@ pub record IsUnexpected (before : List Setting) (entry : NextEntry) (e : StyleEr
   pub lo : e.lo ≡ literal_lo entry.value
   pub hi : e.hi ≡ entry.value.token.hi
 
--- The entry is an error: it sets no rule.
+-- The error `e` is the error for an entry that sets no rule.
 abbrev pub RejectsEntry : List Setting → NextEntry → StyleError → Type 0
 RejectsEntry before entry e =
     IsUnknown entry.name e ⊎ IsRepeated before entry.name e ⊎ IsUnexpected before entry e
 
--- No earlier entry has set the rule with this name, or there is no name.
+-- No earlier entry has set the rule with the name. This holds too if there is no name.
 abbrev pub IsNewName : List Setting → Option DottedName → Type 0
 IsNewName before None = ⊤
 IsNewName before (Some name) = (rule : Rule) → name.text.now ≡ rule_name rule → value_in before rule ≡ None
 
--- The error is a repeated name: an earlier entry has set the rule with this name.
+-- The error reports a repeated name: an earlier entry has set the rule with the name.
 abbrev pub RepeatsRule : List Setting → Option DottedName → StyleError → Type 0
 RepeatsRule before None e = ⊥
 RepeatsRule before (Some name) e = IsRepeated before name e
@@ -197,7 +199,7 @@ RejectsRest before r e = RepeatsRule before r.name e
     ⊎ (IsNewName before r.name × (e.kind ≡ Syntax r.error.kind) × (e.name ≡ name_text r.name)
     × (e.lo ≡ r.error.lo) × (e.hi ≡ r.error.hi))
 
--- The error is at this position of the cursor, after entries with the settings `before`.
+-- The error `e` is at the cursor's position `t`. The entries before that position have the settings `before`.
 abbrev pub IsWrongAt : List Setting → CursorState → StyleError → Type 0
 IsWrongAt before t e =
     ((entry : NextEntry) × (new : CursorState) × TakesEntry t entry new × RejectsEntry before entry e)

@@ -1,4 +1,4 @@
--- The values of rules that literals of a configuration represent.
+-- The values of a style's rules, which literals of a configuration represent.
 use Rattle.std.specs.Prelude.{◌≡◌, ℕ, ◌^◌, ◌==◌, nat_lt, Bool, true, false, ◌&&◌, ◌||◌, List, codes, length, Option, Some, None, IfSome, if◌then◌else◌}
 use Rattle.std.specs.Str.{bytes_eq}
 use Rattle.rl_syntax.specs.declared.kind.Kind.{Kind}
@@ -68,6 +68,6 @@ value_of expected.Size l = size_of l
 value_of expected.Case l = by_word case_word (word_of l)
 value_of expected.Separator l = by_word separator_word (word_of l)
 
--- The literal's parse result is that of its text, if it has no minus.
+-- If no minus precedes the literal, the literal's parse result is the parse result of its text.
 abbrev pub IsOfText : NextLiteral → Type 0
 IsOfText l = l.minus_at ≡ None → IfSome l.found (λ f. IsFound l.token.text.now f)

@@ -22,7 +22,7 @@ pub(crate) struct Draft<A: Allocator> {
     pub(crate) at: usize,
 }
 
-/// Appends the old text before the literal, and then the literal's new text `new`.
+/// Appends to the draft the old text before a literal, and then the literal's new text `new`.
 fn put<A: Allocator>(
     draft: &mut Draft<A>,
     source: &str,

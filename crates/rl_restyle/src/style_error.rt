@@ -23,13 +23,13 @@ pub enum Expected {
 /// A kind of error in a style's configuration.
 #[derive(Clone, Copy, PartialEq, Eq, Debug)]
 pub enum StyleErrorKind {
-    /// The text isn't an entry, for this reason.
+    /// The text isn't an entry of a configuration. The field is the reason.
     Syntax(SyntaxErrorKind),
-    /// The name isn't that of a rule.
+    /// The name of an entry isn't the name of a rule.
     Unknown,
-    /// An earlier entry has this name.
+    /// The name of an entry is repeated: an earlier entry has the name.
     Repeated,
-    /// The rule can't have this value. The values that it may have are given.
+    /// The value of an entry isn't one that the rule may have. The field describes the values that the rule may have.
     Expected(Expected),
 }
 

@@ -10,7 +10,7 @@ use crate::slices::between;
 use rl_style::{Restylable, Style, rewrite_into};
 use std::alloc::{AllocError, Allocator};
 
-/// Returns the size of the buffer that [`rewrite_into`] needs for a literal with this text, in bytes.
+/// Returns the size in bytes of the buffer that [`rewrite_into`] needs for a literal with the text `text`.
 fn buffer_len(text: &str) -> Result<usize, AllocError>
     ensures { IfOk result (λ n. n ≡ 4 * length text.now + 1) }
 {

@@ -33,7 +33,7 @@ fn groups_if_any(groups: DigitGroups) -> Option<DigitGroups>
 }
 
 impl Values {
-    /// Creates the state in which no rule is set.
+    /// Creates the values of a style's rules, of which none is set.
     pub(crate) fn new() -> Values
         ensures { (rule : AnyRule) → value_at result rule ≡ None }
     {

@@ -1,4 +1,4 @@
--- A suffix of ASCII characters, recognized by the bytes of its text.
+-- A suffix of ASCII characters is recognized by the bytes of its text.
 use Rattle.rl_strict.proofs.Names.{◌≡◌, ◌<◌, ◌||◌, ◌==◌, ℕ, suc, zero, true, cond, List, [], ◌∷◌, get_or, refl, ap, subst, ◌∙◌, arith, nat_tests, and_parts, or_right, list_all, is_ascii_alphabetic, IsAscii, after_run, chars-IsAscii, is_continue, is_start, suffix_rest, is_suffix_byte}
 use Rattle.rl_syntax.proofs.Common.{chars}
 use Rattle.rl_syntax.proofs.AsciiLemmas.{ascii_xid_continue, ascii_xid_start, continue_is_plain, start_is_plain}
@@ -37,7 +37,8 @@ word_suffix t first each = ap suffix_rest (chars-IsAscii t (all_ascii t each)) �
     go (c ∷ cs) first each = ap (λ b. cond b (after_run is_continue cs) (c ∷ cs)) (starts c first)
         ∙ runs_out cs (and_parts (is_suffix_byte c) (list_all is_suffix_byte cs) each).1
 
--- The bytes of the suffix in the form that the code tests.
+-- If a text begins with an ASCII letter, and all its bytes are ASCII letters, digits or underscores, the identifier at its
+-- beginning is the whole text.
 pub word_bytes : (t b : List ℕ) → b ≡ t → is_ascii_alphabetic (get_or b 0 0) ≡ true → list_all is_suffix_byte b ≡ true
     → suffix_rest (chars t) ≡ []
 word_bytes t b same first each = subst (λ z. suffix_rest (chars z) ≡ []) same (word_suffix b first each)

@@ -1,4 +1,5 @@
--- An invalid quote of a source doesn't parse by `syn`'s grammar, and isn't a literal token.
+-- In a source, single quotes around no character or several characters don't parse by `syn`'s grammar, and aren't a literal
+-- token.
 use Rattle.rl_strict.proofs.Names.{◌≡◌, ℕ, ◌==◌, ◌||◌, true, false, not, List, [], ◌∷◌, ◌++◌, refl, sym, ap, inl, lit<, and_parts, both_ways, list_all, or_parts, subst, is_ascii_digit, Byte, Char, Continuation, CrLf, Hex, HasNoReading, IsUnit, Kind, Named, Plain, QuotedUnit, Unicode, append_cancel_left, first_passes, is_plain, is_single, opener, unit_text, is_continue, is_start, begins_number, int_front, BadQuoteToken, BeginsProper, IsSource, PlainToken, suffix_found, neither_true, not_among, HasNoParts, SingleForm, front_complete, not_both, only_quoted, IsToken}
 use Rattle.rl_lexer.specs.BadQuotes.{BadQuote, ByteQuote, DigitQuote, IsQuoteBody, OtherQuote, RawWordQuote, WordQuote, bad_quote_text, begins_escape, begins_word_or_escape}
 use Rattle.rl_lexer.specs.Lexemes.{BodyPart, CharacterLexeme, EscapedPart, IsLexedSuffix, OneCharacter, PlainPart, body_text}
@@ -45,7 +46,7 @@ start_39 c h = not_among c 39 is_start h (start_ascii 39 (lit< tt))
 word_92 : (c : ℕ) → (is_ascii_digit c || is_start c) ≡ true → (c == 92) ≡ false
 word_92 c h = not_among c 92 (λ d. is_ascii_digit d || is_start d) h (start_ascii 92 (lit< tt))
 
--- An identifier contains no quote.
+-- The second character of an identifier isn't a single quote.
 row_goes_on : (c d : ℕ) (more x : List ℕ) → list_all is_continue more ≡ true → c ∷ more ≡ d ∷ 39 ∷ x → ⊥
 row_goes_on c d [] x each e = absurd (cc)
 row_goes_on c d (k ∷ more) x each e = both_ways (k == 39) (not_among k 39 is_continue (and_parts (is_continue k)
@@ -53,7 +54,8 @@ row_goes_on c d (k ∷ more) x each e = both_ways (k == 39) (not_among k 39 is_c
 
 -- ---- one character between quotes
 
--- One character between quotes is a literal, whatever suffix follows the closing quote.
+-- Any character other than a backslash, between single quotes, begins a valid token, whatever text follows the closing
+-- quote.
 one_proper : (c : ℕ) (after : List ℕ) → (c == 92) ≡ false → BeginsProper (39 ∷ c ∷ 39 ∷ after)
 one_proper c after n =
     let found = suffix_found after in (
@@ -74,7 +76,8 @@ one_byte_proper c after n =
 
 -- ---- identifiers between quotes
 
--- An identifier of more than one character between quotes isn't a literal.
+-- An identifier of more than one character, with a closing single quote after it, doesn't begin with one character and a
+-- closing quote.
 word_bare : (c : ℕ) (more : List ℕ) → list_all is_continue more ≡ true → (more ≡ [] → ⊥)
     → HasNoBare Char (c ∷ (more ++ (39 ∷ [])))
 word_bare c [] each some d x plain e = some refl
@@ -102,7 +105,8 @@ body_bare kind (PlainPart c ∷ EscapedPart k ∷ parts) suffix first is after a
     both_ways (92 == 39) refl (second_is c 92 d (k ∷ (body_text parts ++ (39 ∷ suffix))) x e)
 body_bare kind (EscapedPart c ∷ parts) suffix first is after alone d x plain e = absurd (both_ways true first refl)
 
--- A text between quotes that doesn't begin with an escape doesn't either with the closing quote and a suffix after it.
+-- If the text between two single quotes doesn't begin with an escape, neither does the text with the closing quote and a
+-- suffix after it.
 body_escape : (parts : List BodyPart) (suffix : List ℕ) → first_passes begins_escape (body_text parts) ≡ false
     → first_passes begins_escape (body_text parts ++ (39 ∷ suffix)) ≡ false
 body_escape [] suffix first = refl

@@ -1,9 +1,10 @@
--- The flaw of the digits of a `\u{..}` escape, one digit at a time.
+-- The flaw of the digits of a `\u{..}` escape, computed one digit at a time, is the flaw that the mirror of the code
+-- returns.
 use Rattle.rl_strict.proofs.Names.{◌≡◌, ℕ, ◌+◌, ◌*◌, ◌≤◌, ◌&&◌, false, not, cond, eqb, List, [], ◌∷◌, Option, Some, None, refl, sym, ap, subst, ◌∙◌, inl, inr, arith, option_and_then, digit_value, and_parts, both_ways, cases_Bool, eq-eqb, eqb-true, ne_eqb, not-true, Kind, is_hex_digit, Unclosed, NoHexDigit, TooManyDigits, CodeDigits, code_digits_at, first_code_digits_at, FoundFlaw, code_flaw_at, code_flaw_of, first_digit_flaw_at, found_flaw, is_code, digit_apart, below_six}
 
--- ---- the flaw of the digits
+-- ---- the flaw of the digits of a `\u{..}` escape
 
--- The flaw of the text after `n` digits that represent the number `v`.
+-- The flaw of a `\u{..}` escape, by the text after its first `n` digits. These digits represent the number `v`.
 unfoldable pub digits_flaw_at : Kind → ℕ → ℕ → List ℕ → FoundFlaw
 digits_flaw_at kind v n [] = found_flaw Unclosed []
 digits_flaw_at kind v n (c ∷ cs) =
@@ -15,7 +16,7 @@ digits_flaw_at kind v n (c ∷ cs) =
     (cond (eqb c 125) (found_flaw (code_flaw_of v) (c ∷ cs))
     (cond (eqb c 95) (digits_flaw_at kind v n cs) (found_flaw NoHexDigit (c ∷ cs))))
 
--- If six digits represent a number that isn't allowed, the flaw is at the sixth digit.
+-- If six digits of a `\u{..}` escape represent a number that isn't allowed, the flaw is at the sixth digit.
 no_code_six : (kind : Kind) (v : ℕ) (last t : List ℕ) → is_code kind v ≡ false
     → code_flaw_at kind (code_digits_at v 6 last t) ≡ found_flaw (code_flaw_of v) last
 unfolding code_digits_at
@@ -61,7 +62,7 @@ digits_flaw_is kind (c ∷ cs) v n last few good = elim (cases_Bool (is_hex_digi
       | inr e ↦ ne_eqb (m + 1) 6 (λ same. both_ways (eqb m 5) e (eq-eqb m 5 (omega (arith, same)))) ∙ sym e
     ]
 
--- The flaw of the digits, from the first digit on.
+-- If a text after `\u{` begins with a digit, `code_flaw_at` of its digits is the flaw that `first_digit_flaw_at` returns.
 pub first_flaw_is : (kind : Kind) (t : List ℕ) (d : CodeDigits) → Some d ≡ first_code_digits_at t → code_flaw_at kind d
     ≡ first_digit_flaw_at kind t
 unfolding first_digit_flaw_at

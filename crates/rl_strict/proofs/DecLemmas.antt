@@ -4,7 +4,7 @@ use Rattle.rl_strict.proofs.Names.{◌≡◌, ℕ, suc, zero, ◌+◌, ◌*◌, 
 use Rattle.std.specs.Fmt.{digits_onto, digit_glyph}
 use Rattle.rl_lenient.proofs.PlainNumberLemmas.{onto_digits}
 
--- ---- one digit
+-- ---- the text of one decimal digit
 
 glyph_value : (d : ℕ) → d < 10 → digit_value (digit_glyph false d) ≡ d
 glyph_value d h = eqb-true _ _ (agree_below_at (λ d. eqb (digit_value (digit_glyph false d)) d) (λ d. true) 10 d refl h)

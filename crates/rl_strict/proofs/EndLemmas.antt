@@ -1,13 +1,14 @@
--- Texts as they are read, in a file or not: lemmas on files, and lemmas on texts in which CR LF isn't read as LF.
+-- Lemmas on texts as they are read: with CR LF read as LF in a file, and unchanged outside files.
 use Rattle.rl_strict.proofs.Names.{◌≡◌, ℕ, Bool, true, List, [], ◌++◌, Option, Some, None, refl, sym, ap, ◌∙◌, append_assoc, option_map, replicate, Kind, first_passes, is_single, is_string, begins, has_form, QuotedForm, is_some_text, unit_rest, ClosesForm, FlawKind, LineEnds, Text, File, StopsBefore, IsFileRest, IsRestOf, read_of, strict_unit_flaw_at, suffix_read_at, FoundFlaw, end_flaw_at}
 use Rattle.rl_strict.proofs.FileEscapes.{unit_flaw_read}
 use Rattle.rl_strict.proofs.FileSuffixes.{end_flaw_read, first_read, suffix_place, suffix_read}
 use Rattle.rl_strict.proofs.FileTextLemmas.{form_rest, free_text, lacks_cr, rest_free, rest_self, rest_step}
 use Rattle.rl_strict.proofs.FileUnits.{closer_read, single_in, single_read, stuck_alone}
 
--- ---- ends of texts
+-- ---- ends of texts, which don't begin between a CR and an LF in a file
 
--- An end of a text in a file is an end of the text.
+-- An end of a text that doesn't begin between a CR and an LF is also an end of the text outside files, where CR LF isn't
+-- read as LF.
 pub loose : (t rest : List ℕ) → IsFileRest t rest → IsRestOf Text t rest
 loose t rest r = record { front = r.front; text_is = r.text_is; seam = refl }
 
@@ -23,7 +24,7 @@ step_in Text a b d p q = record {
 }
 step_in File a b d p q = rest_step a b d p q
 
--- The end of a text after a prefix without CR.
+-- If a prefix of a text contains no CR, the text after the prefix doesn't begin between a CR and an LF.
 pub free_in : (how : LineEnds) (t front rest : List ℕ) → t ≡ front ++ rest → lacks_cr front ≡ true → IsRestOf how t rest
 free_in Text t front rest e h = record { front = front; text_is = e; seam = refl }
 free_in File t front rest e h = rest_free t front rest e h
@@ -41,9 +42,10 @@ pub nil_of : (how : LineEnds) (t : List ℕ) → t ≡ [] → read_of how t ≡ 
 nil_of Text t e = e
 nil_of File t e = ap (read_of File) e
 
--- ---- tests of characters
+-- ---- tests of characters of texts as they are read
 
--- A test that has equal results for CR and LF, applied to the first character of a text.
+-- If a test of characters has equal results for CR and LF, its result for a text's first character doesn't change if CR LF
+-- is read as LF.
 pub first_of : (how : LineEnds) (test : ℕ → Bool) → test 13 ≡ test 10 → (t : List ℕ) → first_passes test (read_of how t)
     ≡ first_passes test t
 first_of Text test e t = refl
@@ -52,7 +54,7 @@ first_of File test e t = first_read test e t
 pub some_text_of : (how : LineEnds) (t : List ℕ) → is_some_text (read_of how t) ≡ is_some_text t
 some_text_of how t = first_of how (λ c. true) refl t
 
--- ---- flaws of texts as they are read
+-- ---- flaws of texts as they are read, with CR LF read as LF in a file
 
 abbrev pub read_flaw : LineEnds → FoundFlaw → FoundFlaw
 read_flaw how flaw = (flaw.0, read_of how flaw.1)
@@ -88,7 +90,7 @@ pub unit_flaw_of : (how : LineEnds) (k : Kind) (t : List ℕ) → (is_string k �
 unit_flaw_of Text k t none = same_flaw (strict_unit_flaw_at k t)
 unit_flaw_of File k t none = unit_flaw_read k t none
 
--- ---- characters, escapes and closing delimiters
+-- ---- characters, escapes and closing delimiters of texts as they are read
 
 pub stuck_of : (how : LineEnds) (k : Kind) (t : List ℕ) → is_string k ≡ true → unit_rest k (read_of how t) ≡ None
     → unit_rest k t ≡ None

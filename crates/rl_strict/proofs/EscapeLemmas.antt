@@ -1,16 +1,17 @@
--- The results of the parsers of one character or escape, for each first character, and the ways to complete a text.
-use Rattle.rl_strict.proofs.Names.{◌≡◌, ℕ, suc, ◌+◌, ◌*◌, ◌^◌, ◌<◌, ◌≤◌, ◌||◌, ◌&&◌, Bool, true, false, not, cond, eqb, ltb, List, [], ◌∷◌, ◌++◌, Option, Some, None, refl, sym, ap, subst, ◌∙◌, ◌⊎◌, inl, inr, arith, option_and_then, digit_value, scalar, and_from, and_parts, both_ways, cases_Bool, eqb-true, ltb-true, ltb-false, lt-ltb, eq-eqb, ne_eqb, or_right, IsScalar, pow-suc, and_right, le-ltb, Kind, CStr, content_of, is_hex_digit, holds_characters, is_string, is_single, is_line_end, allows_code, may_be_hex, allows_unicode_escapes, leb, pow-le-pow_right, le-leb, leb-false, IsCompletable, found, number_if, digit_at, hex_at, unicode_at, after_blanks, named_in, named_at, escape_at, unit_at, is_code, holds_more, unicode_sound, below_six, digit_apart, unicode_digits_at, unicode_is}
+-- The parsers of one character or escape: their results for each first character, and texts that complete an incomplete
+-- escape.
+use Rattle.rl_strict.proofs.Names.{◌≡◌, ℕ, suc, ◌+◌, ◌*◌, ◌^◌, ◌<◌, ◌≤◌, ◌||◌, ◌&&◌, Bool, true, false, not, cond, eqb, ltb, List, [], ◌∷◌, ◌++◌, Option, Some, None, refl, sym, ap, subst, ◌∙◌, ◌⊎◌, inl, inr, arith, option_and_then, digit_value, scalar, and_from, and_parts, both_ways, cases_Bool, eqb-true, ltb-true, ltb-false, lt-ltb, eq-eqb, ne_eqb, or_right, IsScalar, pow-suc, and_right, le-ltb, Kind, CStr, content_of, is_hex_digit, decodes_to_chars, is_string, is_single, is_line_end, allows_code, may_be_hex, allows_unicode_escapes, leb, pow-le-pow_right, le-leb, leb-false, IsCompletable, found, number_if, digit_at, hex_at, unicode_at, after_blanks, named_in, named_at, escape_at, unit_at, is_code, holds_more, unicode_sound, below_six, digit_apart, unicode_digits_at, unicode_is}
 
 -- ---- parsers of the beginning of a text
 
 abbrev pub Reader : Type 0 → Type 0
 Reader V = List ℕ → Option (V × List ℕ)
 
--- The result of a parser: a value, and the rest of the text.
+-- The result of a successful parser: a value, and the rest of the text.
 abbrev pub given : {V : Type 0} → V → List ℕ → Option (V × List ℕ)
 given v rest = Some (v, rest)
 
--- The parser reads the whole text, whatever text follows it.
+-- The parser consumes all of the text, and returns one value, whatever text follows.
 abbrev pub Closes : {V : Type 0} → Reader V → List ℕ → Type 0
 Closes {V} reader t = (value : V) × ((r : List ℕ) → reader (t ++ r) ≡ given value r)
 
@@ -18,21 +19,22 @@ Closes {V} reader t = (value : V) × ((r : List ℕ) → reader (t ++ r) ≡ giv
 abbrev pub Fails : {V : Type 0} → Reader V → List ℕ → Type 0
 Fails reader t = reader t ≡ None
 
--- Some text can be read by the parser.
+-- There is a text that the parser consumes whole, whatever text follows.
 abbrev pub Completes : {V : Type 0} → Reader V → Type 0
 Completes reader = IsCompletable (Closes reader) []
 
--- A parser that reads one character, whatever text follows.
+-- If a parser consumes the one character `c`, whatever text follows, there is a text that the parser consumes whole.
 ends_by : {V : Type 0} (reader : Reader V) (value : V) (c : ℕ) → IsScalar c
     → ((r : List ℕ) → reader (c ∷ r) ≡ given value r) → Completes reader
 ends_by reader value c is h = record { ending = c ∷ []; are_characters = (is, tt); is_taken = (value, h) }
 
--- A parser that reads two characters, whatever text follows.
+-- If a parser consumes the characters `c` and `d`, whatever text follows, there is a text that the parser consumes whole.
 ends_by_two : {V : Type 0} (reader : Reader V) (value : V) (c d : ℕ) → IsScalar c → IsScalar d
     → ((r : List ℕ) → reader (c ∷ d ∷ r) ≡ given value r) → Completes reader
 ends_by_two reader value c d is js h = record { ending = c ∷ d ∷ []; are_characters = (is, (js, tt)); is_taken = (value, h) }
 
--- If an inner parser fails, the outer parser fails too.
+-- An outer parser calls an inner parser, and only converts the inner parser's value. If the outer parser fails, the inner
+-- parser has failed.
 pub inner_none : {V W : Type 0} (o : Option (V × List ℕ)) (f : V → W) → option_and_then (λ p. given (f p.0) p.1) o
     ≡ None → o ≡ None
 inner_none None f h = refl
@@ -40,7 +42,7 @@ inner_none (Some p) f h = absurd (cc)
 
 -- ---- the kinds of literals, and the numbers that they allow
 
--- The only number that a kind of literal may reject is 0.
+-- If a kind of literal doesn't allow the number of a character, the number is 0.
 pub only_zero : (kind : Kind) (v : ℕ) → allows_code kind v ≡ false → v ≡ 0
 only_zero CStr v h = elim (cases_Bool (eqb v 0)) [
   | inl a ↦ eqb-true v 0 a
@@ -51,7 +53,7 @@ only_zero kind v h = absurd (cc)
 not_zero : (n : ℕ) → eqb (n + 1) 0 ≡ false
 not_zero n = ne_eqb (n + 1) 0 (λ e. omega (arith, e))
 
--- ---- the two digits of \x
+-- ---- the two digits of a `\x` escape
 
 pub hex_read : (kind : Kind) (c d : ℕ) (r : List ℕ) → is_hex_digit c ≡ true → is_hex_digit d ≡ true → hex_at kind (c ∷ d
     ∷ r) ≡ number_if (may_be_hex kind (digit_value c * 16 + digit_value d)) (digit_value c * 16 + digit_value d) r
@@ -60,12 +62,12 @@ hex_read kind c d r a b = rw (a, b) refl
 
 pub hex_one : (kind : Kind) → Completes (hex_at kind)
 hex_one kind =
-    let allowed : may_be_hex kind 65 ≡ true = and_from (allows_code kind 65) (not (holds_characters kind) || true)
-    (holds_more kind 65 refl) (or_right (not (holds_characters kind)) true refl) in
+    let allowed : may_be_hex kind 65 ≡ true = and_from (allows_code kind 65) (not (decodes_to_chars kind) || true)
+    (holds_more kind 65 refl) (or_right (not (decodes_to_chars kind)) true refl) in
     ends_by_two (hex_at kind) 65 52 49 refl refl (λ r. hex_read kind 52 49 r refl refl
     ∙ ap (λ b. number_if b 65 r) allowed)
 
--- The parser of the second digit of a `\x` escape.
+-- The parser of the second digit of a `\x` escape, whose first digit is already read.
 abbrev pub second : Kind → ℕ → Reader ℕ
 second kind c t = hex_at kind (c ∷ t)
 
@@ -73,17 +75,18 @@ low_allowed : (b : Bool) (v : ℕ) → (b && ltb 7 v) ≡ false → v < 16 → (
 low_allowed false v h small = refl
 low_allowed true v h small = lt-ltb (v * 16 + 1) 128 (let few : v ≤ 7 = ltb-false 7 v h in omega arith)
 
-pub hex_second : (kind : Kind) (c : ℕ) → is_hex_digit c ≡ true → (holds_characters kind && ltb 7 (digit_value c))
+pub hex_second : (kind : Kind) (c : ℕ) → is_hex_digit c ≡ true → (decodes_to_chars kind && ltb 7 (digit_value c))
     ≡ false → Completes (second kind c)
 hex_second kind c h low =
     let v = digit_value c in
     let allowed : may_be_hex kind (v * 16 + 1) ≡ true = and_from (allows_code kind (v * 16 + 1))
-    (not (holds_characters kind) || ltb (v * 16 + 1) 128) (holds_more kind (v * 16 + 1) (not_zero (v * 16)))
-    (low_allowed (holds_characters kind) v low (ltb-true v 16 h)) in
+    (not (decodes_to_chars kind) || ltb (v * 16 + 1) 128) (holds_more kind (v * 16 + 1) (not_zero (v * 16)))
+    (low_allowed (decodes_to_chars kind) v low (ltb-true v 16 h)) in
     ends_by (second kind c) (v * 16 + 1) 49 refl (λ r. hex_read kind c 49 r h refl
     ∙ ap (λ b. number_if b (v * 16 + 1) r) allowed)
 
--- A number that isn't allowed is rejected, whatever text follows it.
+-- If a parser rejects the number of an escape because the kind of literal doesn't allow it, the parser rejects it whatever
+-- text follows.
 pub never : (b : Bool) (n : ℕ) (r s : List ℕ) → number_if b n r ≡ None → number_if b n s ≡ None
 never true n r s h = absurd (cc)
 never false n r s h = refl
@@ -98,17 +101,17 @@ unfolding hex_at
 no_high kind c e h = rw h refl
 
 pub past_hex : (kind : Kind) (c : ℕ) (e : List ℕ) → is_hex_digit c ≡ true
-    → (holds_characters kind && ltb 7 (digit_value c)) ≡ true → hex_at kind (c ∷ e) ≡ None
+    → (decodes_to_chars kind && ltb 7 (digit_value c)) ≡ true → hex_at kind (c ∷ e) ≡ None
 unfolding hex_at
 past_hex kind c [] h high = rw h refl
 past_hex kind c (d ∷ ds) h high =
-    let parts = and_parts (holds_characters kind) (ltb 7 (digit_value c)) high in
+    let parts = and_parts (decodes_to_chars kind) (ltb 7 (digit_value c)) high in
     let n = digit_value c * 16 + digit_value d in
     let big : ltb n 128 ≡ false = le-ltb n 128 (let more : 7 < digit_value c = ltb-true 7 (digit_value c) parts.1 in
     omega arith) in
-    let no_test : (not (holds_characters kind) || ltb n 128) ≡ false = ap (λ b. not b || ltb n 128) parts.0 ∙ big in
+    let no_test : (not (decodes_to_chars kind) || ltb n 128) ≡ false = ap (λ b. not b || ltb n 128) parts.0 ∙ big in
     let never_allowed : may_be_hex kind n ≡ false = and_right (allows_code kind n)
-    (not (holds_characters kind) || ltb n 128) no_test in
+    (not (decodes_to_chars kind) || ltb n 128) no_test in
     go (is_hex_digit d) refl never_allowed
   where
     go : (b : Bool) → is_hex_digit d ≡ b → may_be_hex kind (digit_value c * 16 + digit_value d) ≡ false
@@ -116,9 +119,9 @@ past_hex kind c (d ∷ ds) h high =
     go true e bad = hex_read kind c d ds h e ∙ ap (λ b. number_if b (digit_value c * 16 + digit_value d) ds) bad
     go false e bad = no_low kind c d ds h e
 
--- ---- the digits between braces
+-- ---- the digits between the braces of a `\u{..}` escape
 
--- After `n` digits that represent `v`: the number that all digits represent, if the kind allows it.
+-- The number of a `\u{..}` escape and the text after the escape, if the kind allows the number.
 abbrev pub allowed : Kind → ℕ × List ℕ → Option (ℕ × List ℕ)
 allowed kind p = number_if (allows_unicode_escapes kind && allows_code kind p.0) p.0 p.1
 
@@ -164,7 +167,8 @@ nothing_none : (kind : Kind) (v n : ℕ) → coded kind v n [] ≡ None
 unfolding unicode_digits_at
 nothing_none kind v n = refl
 
--- After six digits whose number isn't allowed, no text completes the escape.
+-- If the first six digits of a `\u{..}` escape represent a number that isn't allowed, no text after them completes the
+-- escape.
 pub full_none : (kind : Kind) (v : ℕ) (t : List ℕ) → is_code kind v ≡ false → coded kind v 6 t ≡ None
 full_none kind v [] bad = nothing_none kind v 6
 full_none kind v (c ∷ cs) bad =
@@ -180,7 +184,7 @@ full_none kind v (c ∷ cs) bad =
       ]
     ]
 
--- The digits so far, or these and one more digit, can be completed by the closing brace.
+-- A number below 0xD800, the first surrogate, is the number of a character.
 pub not_low : (v : ℕ) → scalar v ≡ false → 55296 ≤ v
 not_low v h = elim (cases_Bool (ltb v 55296)) [
   | inl a ↦ let e = rw a at h in absurd (cc)
@@ -206,7 +210,8 @@ grown v n few small bad =
     rw low (and_from (leb 57344 (v * 16 + 1)) (ltb (v * 16 + 1) 1114112) (le-leb 57344 (v * 16 + 1) (omega arith))
     (lt-ltb (v * 16 + 1) 1114112 (omega arith)))
 
--- There are `n` digits, and they represent the number `v`.
+-- The `n` digits of a `\u{..}` escape so far, at most six, represent the number `v`. If there are six digits, the number is
+-- allowed.
 pub record Spelled (kind : Kind) (v n : ℕ) : Type 0 where
   pub unicode : allows_unicode_escapes kind ≡ true
   pub few : n ≤ 6
@@ -264,7 +269,7 @@ spelled_on kind v n c s h short good =
     fifth true h = refl
     fifth false h = absurd (cc)
 
--- ---- a numeric escape
+-- ---- `\x` and `\u{..}` escapes
 
 -- The parser of the text after the opening brace of a `\u{..}` escape.
 abbrev pub braced : Kind → Reader ℕ
@@ -299,7 +304,7 @@ unicode_one kind u = record {
   is_taken = (1, λ r. unicode_on kind (49 ∷ 125 ∷ r) ∙ closed_code kind 1 1 r u (holds_more kind 1 refl));
 }
 
--- In a kind without `\u`, no text after `\u` completes an escape.
+-- If a kind of literal doesn't allow `\u`, no text after `\u` completes an escape.
 pub unicode_never : (kind : Kind) (t : List ℕ) → allows_unicode_escapes kind ≡ false → unicode_at kind t ≡ None
 unfolding unicode_at
 unicode_never kind t h = go (unicode_at kind t) refl
@@ -308,7 +313,7 @@ unicode_never kind t h = go (unicode_at kind t) refl
     go None e = e
     go (Some p) e = let at = unicode_sound kind t p e in absurd (both_ways (allows_unicode_escapes kind) h at.allowed.0)
 
--- ---- an escape
+-- ---- any escape
 
 escaped_n : (kind : Kind) (r : List ℕ) → escape_at kind (110 ∷ r) ≡ found (10 ∷ []) r
 unfolding escape_at

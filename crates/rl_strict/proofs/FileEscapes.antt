@@ -1,9 +1,9 @@
--- Escapes of a literal in a file: the code finds equal results in the file and in the text as rustc reads it.
-use Rattle.rl_strict.proofs.Names.{◌≡◌, ℕ, ◌+◌, ◌*◌, Bool, true, false, not, ◌==◌, ◌&&◌, cond, List, [], ◌∷◌, Option, Some, None, refl, sym, ap, subst, ◌∙◌, digit_value, nat_lt, option_and_then, option_map, scalar, ByteStr, CStr, Kind, Str, after_run, allows_code, content_of, allows_unicode_escapes, holds_characters, is_dropped_blank, is_line_end, is_strict_unit, is_string, Itself, may_be_hex, CodeDigits, brace_at, close_at, closed_at, code_digits, code_digits_at, digit_at, after_blanks, escape_at, first_code_digits_at, found, hex_at, named_at, named_in, number_if, unicode_at, escape_rest, unit_rest, CarriageReturn, EmptyBraces, NoBrace, NoHexDigit, NoUnicode, Nul, HexEscapeOutOfRange, TooManyDigits, UnknownEscape, is_dropped, lf_text, strict_escape_flaw_at, strict_unit_flaw_at, FoundFlaw, character_flaw_of, code_flaw_at, code_flaw_of, escape_flaw_at, first_digit_flaw_at, found_flaw, hex_flaw_at, is_code, low_digit_flaw_at, unclosed_flaw_at, unicode_flaw_at}
+-- Escapes of a literal in a file: the code has equal results for the text as written and for the text with CR LF read as LF.
+use Rattle.rl_strict.proofs.Names.{◌≡◌, ℕ, ◌+◌, ◌*◌, Bool, true, false, not, ◌==◌, ◌&&◌, cond, List, [], ◌∷◌, Option, Some, None, refl, sym, ap, subst, ◌∙◌, digit_value, nat_lt, option_and_then, option_map, scalar, ByteStr, CStr, Kind, Str, after_run, allows_code, content_of, allows_unicode_escapes, decodes_to_chars, is_dropped_blank, is_line_end, is_strict_unit, is_string, Itself, may_be_hex, CodeDigits, brace_at, close_at, closed_at, code_digits, code_digits_at, digit_at, after_blanks, escape_at, first_code_digits_at, found, hex_at, named_at, named_in, number_if, unicode_at, escape_rest, unit_rest, CarriageReturn, EmptyBraces, NoBrace, NoHexDigit, NoUnicode, Nul, HexEscapeOutOfRange, TooManyDigits, UnknownEscape, is_dropped, lf_text, strict_escape_flaw_at, strict_unit_flaw_at, FoundFlaw, character_flaw_of, code_flaw_at, code_flaw_of, escape_flaw_at, first_digit_flaw_at, found_flaw, hex_flaw_at, is_code, low_digit_flaw_at, unclosed_flaw_at, unicode_flaw_at}
 use Rattle.rl_strict.proofs.FileTextLemmas.{by_first, line_of, when_kept}
 use Rattle.rl_strict.proofs.FileSuffixes.{both, lf_flaw}
 
--- ---- one function call after another
+-- ---- a function applied to the result of another function
 
 then_read : {A B : Type 0} (m : A → A) (n : B → B) (o : Option A) (f g : A → Option B) → ((a : A) → g (m a)
     ≡ option_map n (f a)) → option_and_then g (option_map m o) ≡ option_map n (option_and_then f o)
@@ -94,7 +94,8 @@ unicode_read k t =
     ap (option_and_then coded) (closed_read d)
     ∙ then_read lf_pair lf_pair (closed_at d) coded coded (λ w. if_read (allows_unicode_escapes k && allows_code k w.0) w.0 w.1)))
 
--- An escape that isn't an escaped line end.
+-- An escape that isn't an escaped line end has the same value in the text as written and in the text with CR LF read as LF.
+-- The escape ends at the same position in both texts.
 pub escape_read : (k : Kind) (c : ℕ) (cs : List ℕ) → is_line_end c ≡ false → escape_at k (c ∷ lf_text cs)
     ≡ option_map lf_pair (escape_at k (c ∷ cs))
 unfolding escape_at
@@ -129,7 +130,7 @@ escape_read k c cs h =
     named None = refl
     named (Some n) = refl
 
--- ---- the flaw of an invalid escape
+-- ---- the flaw of an invalid escape doesn't change if CR LF is read as LF
 
 low_read : (t : List ℕ) → low_digit_flaw_at (lf_text t) ≡ lf_flaw (low_digit_flaw_at t)
 low_read t = by_first (λ z r. low_digit_flaw_at r ≡ lf_flaw (low_digit_flaw_at z)) refl (λ cs. refl) (λ c cs e. both
@@ -138,7 +139,7 @@ low_read t = by_first (λ z r. low_digit_flaw_at r ≡ lf_flaw (low_digit_flaw_a
 hex_flaw_read : (k : Kind) (t : List ℕ) → hex_flaw_at k (lf_text t) ≡ lf_flaw (hex_flaw_at k t)
 unfolding hex_flaw_at
 hex_flaw_read k t = by_first (λ z r. hex_flaw_at k r ≡ lf_flaw (hex_flaw_at k z)) refl (λ cs. refl) (λ c cs e. both
-    lf_flaw (nat_lt (digit_value c) 16) _ _ _ _ (both lf_flaw (holds_characters k && nat_lt 7 (digit_value c)) _ _ _ _
+    lf_flaw (nat_lt (digit_value c) 16) _ _ _ _ (both lf_flaw (decodes_to_chars k && nat_lt 7 (digit_value c)) _ _ _ _
     (ap (found_flaw HexEscapeOutOfRange) (sym e)) (low_read cs)) (ap (found_flaw NoHexDigit) (sym e))) t
 
 unclosed_read : (v : ℕ) (t : List ℕ) → unclosed_flaw_at v (lf_text t) ≡ lf_flaw (unclosed_flaw_at v t)
@@ -169,7 +170,8 @@ escape_flaw_read k t = by_first (λ z r. escape_flaw_at k r ≡ lf_flaw (escape_
     _ _ _ _ (unicode_flaw_read k cs) (ap (found_flaw NoUnicode) (sym e))) (both lf_flaw (c == 48) _ _ _ _ (ap
     (found_flaw Nul) (sym e)) (ap (found_flaw UnknownEscape) (sym e))))) t
 
--- The flaw of an invalid character or escape. In a string, a text that begins with LF, or with a backslash and LF, is valid.
+-- The flaw of an invalid escape doesn't change if CR LF is read as LF in the text after the backslash. In a string, the text
+-- has to be an invalid escape after CR LF is read as LF.
 strict_escape_read : (k : Kind) (t : List ℕ) → (is_string k ≡ true → escape_rest k (lf_text t) ≡ None)
     → strict_escape_flaw_at k (lf_text t) ≡ lf_flaw (strict_escape_flaw_at k t)
 unfolding strict_escape_flaw_at escape_flaw_at

@@ -1,4 +1,4 @@
--- Numbers in a file: the code finds equal results in the file and in the text as rustc reads it.
+-- Numbers in a file: the code has equal results for the text as written and for the text with CR LF read as LF.
 use Rattle.rl_strict.proofs.Names.{◌≡◌, ℕ, ◌≤◌, Bool, true, false, not, ◌==◌, ◌&&◌, ◌||◌, cond, List, [], ◌∷◌, Option, Some, None, refl, sym, ap, ◌∙◌, arith, both_ways, is_ascii_digit, list_any, or_from, cond_both, first_passes, is_exponent_letter, is_run_part, le-ltb, place_value, without_underscores, and-false, apart, after_digits, after_power_sign, capped, digit_run_at, has_digit_at, has_value, magnitude_at, radix_at, radix_of, is_some_text, FlawKind, BadSuffix, BasedFloat, InvalidDigit, NoDigits, NoExponentDigit, NoFractionDigit, lf_text, is_float_mark, IsStop, Ending, NumberRead, as_float, as_integer, based_read_at, digits_end_at, ended, fraction_end_at, number_read_at, power_end_at, stopped, suffix_end_at, whole_read_at, suffix_rest}
 use Rattle.rl_strict.proofs.FileTextLemmas.{by_first, other_kept, when_kept}
 use Rattle.rl_strict.proofs.FileSuffixes.{both, first_read, front_read, run_read, some_read, suffix_rest_read}
@@ -12,7 +12,7 @@ lf_number n = (n.0, n.1, lf_text n.2)
 
 -- ---- sequences of digits
 
--- Neither CR nor LF is a digit of a base.
+-- A CR is neither an underscore nor a digit, in any base up to 36.
 cr_part : (radix : ℕ) → radix ≤ 36 → is_run_part (has_value radix) 13 ≡ false
 cr_part radix h = or_from (has_value radix 13) (13 == 95) (le-ltb 36 radix h) refl
 
@@ -80,7 +80,7 @@ fraction_read t = by_first (λ z r. fraction_end_at r ≡ lf_ending (fraction_en
     digits_end_at (after_digits 10 z)) (sym e) ∙ ap digits_end_at (after_read 10 ten (c ∷ cs)) ∙ digits_end_read
     (after_digits 10 (c ∷ cs))) (ap (stopped NoFractionDigit) (sym e))) t
 
--- ---- numbers
+-- ---- the parse result of a number in a file
 
 float_read : (e : Ending) → as_float (lf_ending e) ≡ lf_number (as_float e)
 float_read (None, x) = refl
@@ -199,7 +199,7 @@ by_read q h =
     ∙ ap (whole_read_at (capped m)) (after_read 10 ten q.1) ∙ whole_read (capped m) (after_digits 10 q.1))
     (based_read q.0 h q.1)
 
--- The parse result of a text that begins with a digit.
+-- If a text begins with a digit, its parse result as a number doesn't change if CR LF is read as LF.
 pub number_read : (t : List ℕ) → first_passes is_ascii_digit t ≡ true → number_read_at (lf_text t)
     ≡ lf_number (number_read_at t)
 unfolding number_read_at

@@ -1,5 +1,5 @@
--- The parse result of a literal's text, outside files and in a file. A string parses as the text that rustc reads does. Any
--- other literal parses as written.
+-- The parse result of a literal's text. In a file, a string parses as the text with CR LF read as LF. Any other literal
+-- parses as written.
 use Rattle.rl_strict.proofs.Names.{◌≡◌, ℕ, ◌+◌, ◌-◌, ◌≤◌, ◌==◌, Bool, true, false, not, List, ◌∷◌, ◌++◌, length, list_all, refl, sym, ap, subst, ◌∙◌, inl, inr, arith, drop, take, encodes-chars, replicate, IsUtf8, Kind, byte_len, is_plain, is_string, chars, IsTail, tail_length, word_without, IsStrictSuffix, length-drop, Body, CookedForm, RawForm, IsQuotedAt, IsBodyWithin, body_in, suffix_in, found_opener, opener_at, BeginsStrictUnits, front_sound, body_text, placed, LineEnds, Text, File, Reading, AText, Unit, Truth, Number, AnInteger, AFloatNumber, IsFileRest, IsRestOf, lf_text, read_of, is_strict_suffix, raw_stop, IsReadingInFile, IsReadingOf, lf_bytes, plain_of, IsSignedToken, IsNumberRead, suffix_of, IsStrictReading, placed_in, IsToken}
 use Rattle.rl_lenient.proofs.SegmentStarts.{body_long}
 use Rattle.rl_strict.proofs.FilePlaces.{lf_chars, lf_place, lf_same, lf_tail, lf_utf8}
@@ -44,7 +44,7 @@ minus_reads File t u (AnInteger m x) r e text h tail y = subst (IsReadingInFile 
 minus_reads File t u (AFloatNumber x) r e text h tail y = subst (IsReadingInFile true t) (sym e)
     (signed_same (chars t) y, minus_placed t u (AFloatNumber x) (placed_in t (AFloatNumber x)) refl text h tail)
 
--- A literal token without CR LF is the token that rustc reads.
+-- A literal token stays a literal token if CR LF is read as LF.
 pub token_of : (how : LineEnds) (t : List ℕ) → IsToken t → IsToken (read_of how t)
 token_of Text t y = y
 token_of File t y = subst IsToken (sym (token_same t y)) y
@@ -53,7 +53,7 @@ pub signed_of : (how : LineEnds) (t : List ℕ) → IsSignedToken t → IsSigned
 signed_of Text t y = y
 signed_of File t y = subst IsSignedToken (sym (signed_same t y)) y
 
--- The parse result where a minus before a number is allowed.
+-- A parse result of a literal token is also a parse result where a minus before a number is allowed.
 pub reads_signed : (how : LineEnds) (signed : Bool) (t : List ℕ) (r : Reading) → IsReadingOf how false t r
     → IsReadingOf how signed t r
 reads_signed how false t r h = h
@@ -63,7 +63,7 @@ reads_signed File true t other h = (h.0, inl h.1)
 
 -- ---- strings in a file
 
--- The byte offsets of the closing quote and of the suffix that the function `places` returns.
+-- The body of a string ends at the byte offset where the closing quote begins.
 hi_at : (t opened closing : List ℕ) (body : Body) → IsUtf8 t → IsUtf8 opened → IsUtf8 closing → IsBodyWithin t body
     → body.lo + length opened ≡ length t → chars opened ≡ chars (body_in t body) ++ chars closing
     → body.hi + length closing ≡ length t
@@ -88,7 +88,8 @@ suffix_no_line x (inr w) = word_without 10 x (omega arith) refl w.identifier
 suffix_same : (x : List ℕ) → is_strict_suffix (lf_text x) ≡ true → lf_text x ≡ x
 suffix_same x h = unread_same x (suffix_no_line (lf_text x) (strict_suffix_sound (lf_text x) h))
 
--- The byte offsets of the parts of a string in a file, and in the text that rustc reads.
+-- A string in a file: its text, the texts that begin after its opening quote, at its closing quote and at its suffix, and
+-- the byte offsets of its body. All of these texts end where the string ends.
 pub record InFile (t opened closing suffix : List ℕ) (body : Body) : Type 0 where
   pub utf8 : IsUtf8 t
   pub opened_utf8 : IsUtf8 opened
@@ -104,7 +105,7 @@ pub record InFile (t opened closing suffix : List ℕ) (body : Body) : Type 0 wh
   pub lo : body.lo + length opened ≡ length t
   pub plain_is : body.plain ≡ false
 
--- The body of a string in the text that rustc reads.
+-- The byte offsets of a string's body, in the text with CR LF read as LF.
 abbrev BodyRead : List ℕ → List ℕ → List ℕ → List ℕ → Bool → Body
 BodyRead t opened closing suffix plain = record {
   lo = length (lf_bytes t) - length (lf_bytes opened);
@@ -116,7 +117,7 @@ BodyRead t opened closing suffix plain = record {
 lo_at : (t opened : List ℕ) → IsTail t opened → (length t - length opened) + length opened ≡ length t
 lo_at t opened tail = omega (arith, tail_length t opened tail)
 
--- Whether the body of a string is its value, in the text that rustc reads.
+-- Whether the body of a string contains only plain characters, so that the body is the string's value.
 abbrev read_plain : Kind → List ℕ → List ℕ → List ℕ → Bool
 read_plain kind t opened closing = list_all (is_plain kind) (chars (take ((length t - length closing) - (length t - length opened))
     (drop (length t - length opened) t)))
@@ -143,7 +144,7 @@ in_file kind t opened closing suffix body plain s f q =
       },
     )
 
--- The parse result of a string with escapes.
+-- If a string with escapes is closed and has a valid suffix, its parse result has the kind and the byte offsets of the body.
 pub cooked_reads : (how : LineEnds) (kind : Kind) (t inside closing suffix : List ℕ) (body : Body) (plain : Bool) →
     opener_at (chars t) ≡ found_opener CookedForm kind (chars inside) → BeginsStrictUnits kind (read_of how (chars
     inside)) (read_of how (chars closing)) → IsRestOf how (chars inside) (chars closing) → chars closing ≡ 34 ∷ chars
@@ -187,7 +188,7 @@ cooked_reads File kind t inside closing suffix body plain e run rest quote stric
     parts.body_is parts.suffix_is parts.stands refl (lf_utf8 t ut) (lf_utf8 inside ui)
     (lo_at (lf_bytes t) (lf_bytes inside) (lf_tail t inside ut ui opened_in)))
 
--- The parse result of a raw string.
+-- If a raw string is closed and has a valid suffix, its parse result has the kind and the byte offsets of the body.
 pub raw_reads : (how : LineEnds) (kind : Kind) (n : ℕ) (t inside opened closing suffix hashes : List ℕ) (body : Body)
     (plain : Bool) → opener_at (chars t) ≡ found_opener RawForm kind (chars inside) → hashes ≡ replicate n 35 → chars
     inside ≡ hashes ++ (34 ∷ chars opened) → read_of how (chars closing) ≡ raw_stop kind hashes (read_of how (chars

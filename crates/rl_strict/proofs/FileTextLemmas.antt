@@ -1,11 +1,11 @@
--- Texts without each CR before an LF, and ends of these texts.
+-- Lemmas on texts with CR LF read as LF: each CR before an LF is dropped.
 use Rattle.rl_strict.proofs.Names.{◌≡◌, ℕ, Bool, true, false, not, ◌==◌, cond, List, [], ◌∷◌, ◌++◌, refl, sym, ap, subst, ◌∙◌, append_assoc, and_parts, both_ways, eqb-true, flat_map, list_all, list_all-append, not-true, Kind, first_passes, is_string, strict_text, and-false, and_left, form_opener, has_form, BeginsStrictUnits, QuotedForm, CookedForm, is_strict_suffix, ClosesForm, IsToken, StopsBefore, is_dropped, lf_text, IsFileRest, is_seam}
 use Rattle.rl_syntax.proofs.StrictReturns.{strict_holds_no_return}
 use Rattle.rl_strict.proofs.StrictLemmas.{close_token}
 use Rattle.rl_strict.proofs.StrictUnitRows.{breaks_to}
 use Rattle.rl_strict.proofs.StrictCookedFlaws.{cooked_closes}
 
--- ---- the function `lf_text` for a text with one more character in front
+-- ---- `lf_text`, which drops each CR before an LF, for a text with one more character in front
 
 pub when_dropped : (c : ℕ) (cs : List ℕ) → is_dropped c cs ≡ true → lf_text (c ∷ cs) ≡ lf_text cs
 when_dropped c cs is = ap (λ b. cond b (lf_text cs) (c ∷ lf_text cs)) is
@@ -13,18 +13,19 @@ when_dropped c cs is = ap (λ b. cond b (lf_text cs) (c ∷ lf_text cs)) is
 pub when_kept : (c : ℕ) (cs : List ℕ) → is_dropped c cs ≡ false → lf_text (c ∷ cs) ≡ c ∷ lf_text cs
 when_kept c cs is = ap (λ b. cond b (lf_text cs) (c ∷ lf_text cs)) is
 
--- A dropped character is the CR of a CR LF.
+-- If the first character of a text is a CR that is dropped before an LF, the text begins with CR LF.
 pub line_of : (c : ℕ) (cs : List ℕ) → is_dropped c cs ≡ true → (ds : List ℕ) × (c ∷ cs ≡ 13 ∷ 10 ∷ ds)
 line_of c [] h = absurd (both_ways false refl (and_parts (c == 13) false h).1)
 line_of c (d ∷ ds) h =
     let p = and_parts (c == 13) (d == 10) h in
     (ds, ap (λ z. z ∷ d ∷ ds) (eqb-true c 13 p.0) ∙ ap (λ z. 13 ∷ z ∷ ds) (eqb-true d 10 p.1))
 
--- A character other than CR is kept.
+-- A character other than CR is kept if CR LF is read as LF.
 pub other_kept : (c : ℕ) (cs : List ℕ) → (c == 13) ≡ false → is_dropped c cs ≡ false
 other_kept c cs h = and_left (c == 13) (first_passes (λ d. d == 10) cs) h
 
--- The cases of a text as it is read: it is empty, begins with CR LF, or begins with a character that is kept.
+-- To prove a statement about a text and the text with CR LF read as LF, three cases suffice: the text is empty, begins with
+-- CR LF, or begins with a character that is kept.
 pub by_first : (P : List ℕ → List ℕ → Type 0) → P [] [] → ((cs : List ℕ) → P (13 ∷ 10 ∷ cs) (10 ∷ lf_text cs)) → ((c :
     ℕ) (cs : List ℕ) → lf_text (c ∷ cs) ≡ c ∷ lf_text cs → P (c ∷ cs) (c ∷ lf_text cs)) → (t : List ℕ) → P t (lf_text t)
 by_first P end line kept [] = end
@@ -45,7 +46,7 @@ lacks_cr text = list_all (λ c. not (c == 13)) text
 first_kept : (c : ℕ) (cs : List ℕ) → not (c == 13) ≡ true → is_dropped c cs ≡ false
 first_kept c cs h = other_kept c cs (not-true (c == 13) h)
 
--- A text without CR before another text.
+-- If a text without CR precedes another text, reading CR LF as LF changes only the other text.
 pub free_text : (a b : List ℕ) → lacks_cr a ≡ true → lf_text (a ++ b) ≡ a ++ lf_text b
 free_text [] b h = refl
 free_text (c ∷ cs) b h =
@@ -69,9 +70,9 @@ front_free a b h = (and_parts (lacks_cr a) (lacks_cr b) (sym (list_all-append (�
 back_free : (a b : List ℕ) → lacks_cr (a ++ b) ≡ true → lacks_cr b ≡ true
 back_free a b h = (and_parts (lacks_cr a) (lacks_cr b) (sym (list_all-append (λ c. not (c == 13)) a b) ∙ h)).1
 
--- ---- borders between two texts
+-- ---- borders between two texts that aren't between a CR and an LF
 
--- If a border isn't between a CR and an LF, the texts before and after it are read separately.
+-- If the border between two texts isn't between a CR and an LF, CR LF can be read as LF in each of the two texts separately.
 pub seam_text : (a b : List ℕ) → is_seam a b ≡ true → lf_text (a ++ b) ≡ lf_text a ++ lf_text b
 seam_text [] b h = refl
 seam_text (c ∷ []) b h = when_kept c b (not-true (is_dropped c b) h)
@@ -90,7 +91,7 @@ seam_join (c ∷ []) [] b p q = p
 seam_join (c ∷ []) (d ∷ ds) b p q = q
 seam_join (c ∷ d ∷ ds) m b p q = seam_join (d ∷ ds) m b p q
 
--- ---- ends of a text
+-- ---- ends of a text that don't begin between a CR and an LF
 
 pub rest_self : (t : List ℕ) → IsFileRest t t
 rest_self t = record { front = []; text_is = refl; seam = refl }
@@ -102,19 +103,20 @@ rest_step a b d p q = record {
   seam = seam_join p.front q.front d (subst (λ z. is_seam p.front z ≡ true) q.text_is p.seam) q.seam;
 }
 
--- The end of a text after a prefix without CR.
+-- After a prefix without CR, the rest of a text doesn't begin between a CR and an LF.
 pub rest_free : (t front rest : List ℕ) → t ≡ front ++ rest → lacks_cr front ≡ true → IsFileRest t rest
 rest_free t front rest e h = record { front = front; text_is = e; seam = free_seam front rest h }
 
--- The end of a text after a CR LF.
+-- After a CR LF, the rest of a text doesn't begin between a CR and an LF.
 pub rest_line : (t rest : List ℕ) → t ≡ 13 ∷ 10 ∷ rest → IsFileRest t rest
 rest_line t rest e = record { front = 13 ∷ 10 ∷ []; text_is = e; seam = refl }
 
--- The end of a text after a character that is kept.
+-- After a first character other than the CR of a CR LF, the rest of a text doesn't begin between a CR and an LF.
 pub rest_kept : (t rest : List ℕ) (c : ℕ) → t ≡ c ∷ rest → is_dropped c rest ≡ false → IsFileRest t rest
 rest_kept t rest c e h = record { front = c ∷ []; text_is = e; seam = ap not h }
 
--- A text as it is read is its front as it is read, followed by its rest as it is read.
+-- If the rest of a text doesn't begin between a CR and an LF, CR LF can be read as LF in the text before the rest and in the
+-- rest separately.
 pub rest_text : (t rest : List ℕ) (r : IsFileRest t rest) → lf_text t ≡ lf_text r.front ++ lf_text rest
 rest_text t rest r = ap lf_text r.text_is ∙ seam_text r.front rest r.seam
 
@@ -126,7 +128,8 @@ token_free t y = strict_holds_no_return t y.kind y.contents y.suffix y.strict
 pub token_same : (t : List ℕ) → IsToken t → lf_text t ≡ t
 token_same t y = same_text t (token_free t y)
 
--- The prefix of a text that can be completed to a literal token contains no CR.
+-- The longest prefix of a text that can be completed to a literal token contains no CR. So the rest doesn't begin between a
+-- CR and an LF.
 pub stops_rest : (t rest : List ℕ) → StopsBefore IsToken t rest → IsFileRest t rest
 stops_rest t rest s = rest_free t s.front rest s.text_is
     (front_free s.front s.begins.ending (token_free (s.front ++ s.begins.ending) s.begins.is_taken))

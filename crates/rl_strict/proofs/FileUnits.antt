@@ -1,4 +1,4 @@
--- The characters and escapes of a quoted literal in a file, in order, as they are read.
+-- The characters and escapes of a quoted literal in a file, where CR LF is read as LF.
 use Rattle.rl_strict.proofs.Names.{◌≡◌, ℕ, zero, suc, Bool, true, false, not, ◌==◌, ◌&&◌, cond, List, [], ◌∷◌, ◌++◌, Option, Some, None, refl, sym, ap, subst, ◌∙◌, append_cancel_right, list_all, option_map, or_from, replicate, Kind, Str, ByteStr, CStr, Byte, Char, after_run, first_passes, is_dropped_blank, is_plain, is_single, is_strict_unit, is_string, strict_text, StrictUnit, Itself, QuoteEscape, PlainEscape, AsciiEscape, ByteEscape, UnicodeEscape, LineBreak, begins, all_weaker, apart, escape_at, unit_at, BeginsStrictUnits, BreakEnds, SingleForm, run_ends, escape_rest, is_inside, is_strict_suffix, unit_rest, is_dropped, lf_text, IsFileRest}
 use Rattle.rl_strict.proofs.StrictRowLemmas.{is_bare, quoted_single, quoted_string}
 use Rattle.rl_strict.proofs.StrictUnitLemmas.{unit_rest_complete, unit_rest_sound}
@@ -8,7 +8,7 @@ use Rattle.rl_strict.proofs.FileSuffixes.{both, run_rest}
 use Rattle.rl_strict.proofs.FileEscapes.{escape_read, lf_pair}
 use Rattle.rl_strict.proofs.ReadQuoted.{plain_row, single_closes, not_string}
 
--- ---- a CR LF
+-- ---- a CR LF that is read as LF
 
 pub line_read : (t rest : List ℕ) → t ≡ 13 ∷ 10 ∷ rest → lf_text t ≡ 10 ∷ lf_text rest
 line_read t rest e = ap lf_text e
@@ -18,7 +18,8 @@ kept_read t rest c e h = ap lf_text e ∙ when_kept c rest h
 
 -- ---- white space after an escaped line end
 
--- White space that the code skips is white space in the text as it is read.
+-- After an escaped line end, the code skips white space in the text as written. This white space is also skipped in the text
+-- with CR LF read as LF.
 blanks_past : (t : List ℕ) → after_run is_dropped_blank (lf_text (after_run is_dropped_blank t))
     ≡ after_run is_dropped_blank (lf_text t)
 blanks_past [] = refl
@@ -81,7 +82,8 @@ map_map : (o : Option (List ℕ × List ℕ)) → option_map (λ (p : List ℕ �
 map_map None = refl
 map_map (Some p) = refl
 
--- An escape that isn't an escaped line end.
+-- An escape other than an escaped line end ends at the same position in the text as written and in the text with CR LF read
+-- as LF.
 pub other_read : (k : Kind) (c : ℕ) (cs : List ℕ) → (c == 10) ≡ false → (c == 13) ≡ false
     → escape_rest k (c ∷ lf_text cs) ≡ option_map (λ (p : List ℕ × List ℕ). lf_text p.1) (escape_at k (c ∷ cs))
 unfolding unit_at
@@ -92,7 +94,8 @@ other_read k c cs n m =
     ∙ ap (option_map (λ (p : List ℕ × List ℕ). p.1)) (escape_read k c cs (or_from (c == 10) (c == 13) n m))
     ∙ map_map (escape_at k (c ∷ cs))
 
--- The result of the function call for another escape: the escape, or none.
+-- If the code finds an escape other than an escaped line end in the text as written, the text with CR LF read as LF begins
+-- with an escape that ends at the same position.
 pub other_some : (k : Kind) (t cs v rest : List ℕ) (c : ℕ) → t ≡ c ∷ cs → (c == 10) ≡ false → (c == 13) ≡ false
     → Some (v, rest) ≡ escape_at k t → Some (lf_text rest) ≡ escape_rest k (lf_text t)
 other_some k t cs v rest c e n m is = sym (ap (escape_rest k) (kept_read t cs c e (other_kept c cs m))
@@ -103,7 +106,7 @@ pub other_none : (k : Kind) (t cs : List ℕ) (c : ℕ) → t ≡ c ∷ cs → (
 other_none k t cs c e n m is = sym (ap (escape_rest k) (kept_read t cs c e (other_kept c cs m))
     ∙ other_read k c cs n m ∙ ap (option_map (λ (p : List ℕ × List ℕ). lf_text p.1)) (sym (is ∙ ap (escape_at k) e)))
 
--- The text after a character or escape of a string is an end of the text.
+-- After a character or escape of a string, the rest of the text doesn't begin between a CR and an LF.
 pub unit_in : (k : Kind) (t rest : List ℕ) → is_string k ≡ true → unit_rest k t ≡ Some rest → IsFileRest t rest
 unit_in k t rest s h =
     let found = row_rest k t rest s (row_unit k t t rest (row_none k t) (unit_rest_sound k t rest (quoted_string k s) h))
@@ -156,7 +159,7 @@ pub units_more : (k : Kind) (t a b c : List ℕ) → is_string k ≡ true → Be
 units_more k t a b c s r e q = row_join k t b c
     (row_unit k t a b r (unit_rest_sound k a b (quoted_string k s) (sym e))) q
 
--- If the text as it is read begins with no valid character or escape, neither does the text as written.
+-- If a string's text with CR LF read as LF begins with no valid character or escape, neither does the text as written.
 pub stuck_alone : (k : Kind) (t : List ℕ) → is_string k ≡ true → unit_rest k (lf_text t) ≡ None → unit_rest k t ≡ None
 unfolding unit_rest
 stuck_alone k t s h = go (unit_rest k t) refl
@@ -231,7 +234,8 @@ single_escape k t s = by_first (λ z r. escape_rest k r ≡ option_map lf_text (
         go false n false m = ap (option_map (λ (p : List ℕ × List ℕ). p.1)) (escape_read k c cs (or_from (c == 10) (c ==
             13) n m)) ∙ map_map (escape_at k (c ∷ cs)) ∙ same (escape_at k (c ∷ cs))
 
--- The content of a character or byte literal.
+-- The one character or escape of a character or byte literal ends at the same position in the text as written and in the
+-- text with CR LF read as LF.
 pub single_read : (k : Kind) (t : List ℕ) → is_single k ≡ true → unit_rest k (lf_text t)
     ≡ option_map lf_text (unit_rest k t)
 unfolding unit_rest

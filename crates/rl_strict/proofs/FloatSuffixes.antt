@@ -5,9 +5,9 @@ use Rattle.rl_lenient.proofs.Names.{Minus}
 use Rattle.rl_lexer.proofs.LexemeRows.{run_past}
 use Rattle.rl_strict.proofs.NumberEnds.{in_row, part_row, row_part}
 
--- ---- the suffix
+-- ---- the suffixes `f32` and `f64`
 
--- The bytes of `f32` and of `f64` are their characters.
+-- The bytes of the text `f32` are its characters.
 f32_chars : chars (codes "f32") ≡ codes "f32"
 unfolding chars
 f32_chars = refl
@@ -32,7 +32,7 @@ pub other_suffix : (x : List ℕ) → IsUtf8 x → x ≢ codes "f32" → x ≢ c
 other_suffix x u no_f32 no_f64 (inl e) = no_f32 (sym (encodes-chars x u) ∙ ap encode_utf8_all e ∙ f32_bytes)
 other_suffix x u no_f32 no_f64 (inr e) = no_f64 (sym (encodes-chars x u) ∙ ap encode_utf8_all e ∙ f64_bytes)
 
--- The suffix begins with neither a digit nor an underscore.
+-- The suffixes `f32` and `f64` don't begin with a digit.
 no_digit : (x : List ℕ) → IsFloatSuffix x → first_passes is_ascii_digit x ≡ false
 no_digit x (inl e) = ap (first_passes is_ascii_digit) e
 no_digit x (inr e) = ap (first_passes is_ascii_digit) e
@@ -59,7 +59,7 @@ past_sign NoSign (c ∷ cs) digit = ap (λ b. cond b cs (c ∷ cs)) (not_among c
 
 -- ---- the digits of the number
 
--- The text is a float by its suffix if the text after the sign begins with a digit, and the suffix follows the digits.
+-- A text is a float by its suffix if the text after its optional minus is decimal digits and the suffix `f32` or `f64`.
 by_suffix : (t : List ℕ) → first_passes is_ascii_digit (after_minus t) ≡ true
     → IsFloatSuffix (after_digits 10 (after_minus t)) → IsFloatBySuffix t
 by_suffix t digit is_float =
@@ -96,7 +96,7 @@ parts_of t f =
       is_float = subst IsFloatSuffix (sym (ap (after_digits 10) same ∙ rest)) f.is_float;
     }
 
--- ---- the tests of the code
+-- ---- the code's test for a float by its suffix
 
 pub float_decides : (t number rest : List ℕ) (b : Bool) → number ≡ after_minus t → rest ≡ after_digits 10 number
     → first_passes is_ascii_digit number ≡ true → IsTrue b ↔ IsFloatSuffix rest → IsTrue b ↔ IsFloatBySuffix t

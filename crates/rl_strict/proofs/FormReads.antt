@@ -1,4 +1,5 @@
--- The parse result of a text as it is read, by its beginning: opening delimiters, words, numbers, and a minus.
+-- The parse result of a text by its beginning: an opening delimiter, a word, a number, or a minus. In a file, CR LF is read
+-- as LF.
 use Rattle.rl_strict.proofs.Names.{◌≡◌, ◌≢◌, ℕ, Bool, true, false, not, ◌==◌, List, [], ◌∷◌, ◌++◌, None, Some, refl, sym, ap, subst, ◌∙◌, inl, inr, and_parts, both_ways, is_ascii_digit, list_all, Kind, Str, first_passes, truth_text, form_opener, found_opener, opener_at, QuotedForm, CookedForm, RawForm, SingleForm, front_sound, ClosesForm, IsToken, FlawKind, Minus, NoNumber, UnexpectedEnd, LineEnds, Text, File, StopsBefore, IsRestOf, StopsAsRead, is_dropped, lf_text, read_of, IsFlawOf, IsTokenIf, IsSignedToken, IsStrictWordFlaw, IsStop, IsMinusStop, NumberRead, number_read_at, FoundFlaw, found_flaw, end_flaw_at, word_flaw_at, goes_on}
 use Rattle.rl_strict.proofs.EndLemmas.{end_of, first_of, free_in, loose, read_flaw, self_in, step_in}
 use Rattle.rl_strict.proofs.FileNumbers.{file_stop}
@@ -41,13 +42,14 @@ pub inside_in : (how : LineEnds) (t : List ℕ) (form : QuotedForm) (k : Kind) (
 inside_in how t form k inside e =
     free_in how t (form_opener form k) inside (front_sound t (form, k, inside) e).text_is (opener_free form k)
 
--- A quoted literal token, by the text after its opening delimiter.
+-- If the text after an opening delimiter closes a quoted literal, the whole text is a literal token. In a file, CR LF is
+-- read as LF.
 pub opened_token : (how : LineEnds) (t : List ℕ) (form : QuotedForm) (k : Kind) (inside : List ℕ)
     → opener_at t ≡ found_opener form k inside → ClosesForm form k (read_of how inside) → IsToken (read_of how t)
 opened_token how t form k inside e c =
     form_token (read_of how t) form k (read_of how inside) (opener_of how t form k inside e) c
 
--- The flaw of a quoted literal, by the text after its opening delimiter.
+-- The flaw of the text after an opening delimiter is the flaw of the whole text. In a file, CR LF is read as LF.
 pub opened_flaw : (how : LineEnds) (t : List ℕ) (form : QuotedForm) (k : Kind) (inside : List ℕ) (f : FlawKind)
     (piece rest : List ℕ) → opener_at t ≡ found_opener form k inside
     → StopsAsRead how form k f (read_of how inside) inside piece rest → IsFlawOf how false t f piece rest
@@ -63,9 +65,9 @@ opened_flaw how t form k inside f piece rest e h =
       rest_in = step_in how t inside rest cut h.rest_in;
     }
 
--- ---- words
+-- ---- the words `true` and `false`, and texts that begin otherwise
 
--- A text without LF is read as written.
+-- A text without LF contains no CR LF, so it doesn't change if CR LF is read as LF.
 pub unread_same : (t : List ℕ) → list_all (λ c. not (c == 10)) (lf_text t) ≡ true → lf_text t ≡ t
 unread_same [] h = refl
 unread_same (c ∷ cs) h = go (unread_same cs) (is_dropped c cs) refl
@@ -181,7 +183,8 @@ minus_alone_flaw how t number rest k text n same = after_minus how t number rest
     how UnexpectedEnd NoNumber number))) (subst (IsRestOf how number) (sym (ap (λ (z : FoundFlaw). z.1) same ∙ end_place
     UnexpectedEnd NoNumber number)) (self_in how number))
 
--- In a text that begins with no minus, a flaw is also a flaw where a minus before a number is allowed.
+-- If a text doesn't begin with a minus, its flaw as a literal token is also its flaw where a minus before a number is
+-- allowed.
 pub flaw_signed : (how : LineEnds) (signed : Bool) (t piece rest : List ℕ) (k : FlawKind) → (signed ≡ true →
     first_passes (λ c. c == 45) t ≡ false) → IsFlawOf how false t k piece rest → IsFlawOf how signed t k piece rest
 flaw_signed how false t piece rest k none f = f

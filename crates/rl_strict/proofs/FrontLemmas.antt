@@ -1,4 +1,5 @@
--- An unescaped ASCII character between single quotes, recognized by the bytes of its text.
+-- An unescaped ASCII character between single quotes is a literal token, and its value is the character. The code recognizes
+-- this token by its three bytes.
 use Rattle.rl_strict.proofs.Names.{◌≡◌, ◌<◌, ℕ, suc, zero, true, false, List, [], ◌∷◌, length, get_or, refl, sym, ap, subst, ◌∙◌, arith, inl, and_from, both_ways, IsAscii, IsUtf8, Char, chars-IsAscii, Itself, is_allowed_in_single_quotes, is_strict_unit, Body, SingleForm, OfUnit, IsStrictReading, Unit, ClosesUnits, IsToken}
 use Rattle.rl_syntax.proofs.Common.{chars}
 use Rattle.rl_lenient.proofs.BareCharacters.{bare_text}

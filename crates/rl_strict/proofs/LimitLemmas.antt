@@ -11,7 +11,8 @@ use Rattle.rl_strict.proofs.StrictTokens.{token_number, token_reads, truth_no_di
 
 -- ---- the byte offset of the suffix
 
--- The text before an end of the text, in characters and in bytes.
+-- A text is a prefix followed by an end of the text. The number of bytes of the text is the sum of those of the prefix and
+-- the end.
 pub front_of : (t rest : List ℕ) → IsUtf8 t → IsTail t rest → (front : List ℕ) × (chars t ≡ front ++ chars rest)
     × (length t ≡ byte_len front + length rest)
 front_of t rest u tail =
@@ -65,7 +66,7 @@ minus_reads number digit y =
       | inr s ↦ inl (float_minus number suffix contents s)
     ]
 
--- A literal token, or a minus and a number, parses by `syn`'s grammar or is an integer above 128 bits.
+-- A literal token, or a minus and a number, either parses by `syn`'s grammar or is an integer above 128 bits.
 pub either : (t : List ℕ) → IsSignedToken t → HasReading t ⊎ IsPast t
 either t (inl y) = unsigned_reads t y
 either t (inr (number, text, digit, y)) =
@@ -97,7 +98,8 @@ past_none t p = only_number t (number_front t (int_front t p.suffix p.sign p.mag
 pub read_within : (t : List ℕ) → HasReading t → IsPast t → ⊥
 read_within t r p = past_none t p r.0 r.1.0 r.1.1 r.1.2
 
--- An integer with these digits has this magnitude.
+-- If the value of an integer without a minus is the decimal digits of `n`, the integer's magnitude is `n` by `syn`'s
+-- grammar.
 digits_read : (t x : List ℕ) (n : ℕ) → StrictInt t (Digits (dec n)) x → IntReads t NoSign n x
 digits_read t x n s =
     let i = strict_int t x (Digits (dec n)) s in
@@ -132,7 +134,8 @@ within_of t x s n m r h =
     let w = within_reads t x n (record { sign = s; reads = r; within = under n m h }) in
     (Int, (w.0, x, w.1))
 
--- The suffix of an integer above 128 bits, by its parse result.
+-- If the parse result of a text is an integer whose magnitude is `None`, the text is an integer above 128 bits. Its suffix
+-- begins at the byte offset in the parse result.
 pub signed_past : (t : List ℕ) (r : Reading) (at : ℕ) → IsSignedRead t r → oversized_suffix_at r ≡ Some at → IsCharBoundary t at
     × ((past : IsPast (chars t)) × (past.suffix ≡ chars (drop at t)))
 signed_past t (Integer None k) at y e =
@@ -150,7 +153,7 @@ signed_past t (Integer None k) at y e =
     ])
 signed_past t r at y e = absurd (cc)
 
--- If the parse result isn't an integer without magnitude, the text isn't an integer above 128 bits.
+-- If the parse result of a text isn't an integer whose magnitude is `None`, the text isn't an integer above 128 bits.
 pub signed_within : (t : List ℕ) (r : Reading) → IsSignedRead t r → oversized_suffix_at r ≡ None → IsPast (chars t) → ⊥
 signed_within t r y e p = read_within (chars t) (reading t r y e) p
   where

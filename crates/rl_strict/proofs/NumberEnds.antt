@@ -1,14 +1,15 @@
--- The end of parsing a number: after each part of the number, parsing continues with the next part.
+-- The code's parser of numbers, as a function on lists of characters: after each part of a number, parsing continues with
+-- the next part.
 use Rattle.rl_strict.proofs.Names.{◌≡◌, ◌≢◌, ℕ, ◌⊎◌, ◌||◌, ◌&&◌, Bool, true, false, not, ◌==◌, cond, List, [], ◌∷◌, ◌++◌, Option, Some, None, refl, sym, ap, ◌∙◌, inl, inr, append_assoc, and_parts, both_ways, eqb-true, or_from, or_parts, is_ascii_digit, list_all, list_any, after_run, first_passes, is_run_part, is_underscore, Base, Binary, Octal, Decimal, Hexadecimal, radix, prefix, is_exponent_letter, is_some, is_continue, is_start, is_power_sign, IsDigits, IsNumberSuffix, all_same, any_same, apart, digit_is_ten, after_digits, after_power_sign, capped, digit_run_at, has_digit_at, has_value, magnitude_at, radix_at, radix_of, is_some_text, run_first, run_all, run_past, is_number_suffix, is_strict_suffix, BadSuffix, BasedFloat, InvalidDigit, NoDigits, NoExponentDigit, NoFractionDigit, is_float_mark, suffix_rest, Ending, NumberRead, as_float, as_integer, based_read_at, digits_end_at, ended, fraction_end_at, number_read_at, power_end_at, stopped, suffix_end_at, whole_read_at}
 use Rattle.rl_strict.proofs.StrictWordLemmas.{number_suffix_complete}
 
 -- ---- the results of parsing a number
 
--- The result without the magnitude.
+-- The result of parsing a number, without the number's magnitude.
 abbrev pub end_of : NumberRead → Ending
 end_of r = (r.0, r.2)
 
--- The text is read to its end.
+-- Parsing reached the end of the text without a flaw.
 abbrev pub is_read : Ending → Bool
 is_read e = not (is_some e.0)
 
@@ -52,18 +53,19 @@ in_row = is_run_part (has_value 10)
 same_row : (d : List ℕ) → list_all (is_run_part is_ascii_digit) d ≡ list_all in_row d
 same_row = all_same (is_run_part is_ascii_digit) in_row (λ c. ap (λ b. b || (c == 95)) (digit_is_ten c))
 
--- A sequence of digits by the grammar is one by the code's test.
+-- If each character is an ASCII digit or an underscore, each character has a value in base ten or is an underscore.
 pub row_part : (d : List ℕ) → list_all (is_run_part is_ascii_digit) d ≡ true → list_all in_row d ≡ true
 row_part d h = sym (same_row d) ∙ h
 
--- A sequence of digits by the code's test is one by the grammar.
+-- If each character has a value in base ten or is an underscore, each character is an ASCII digit or an underscore.
 pub part_row : (d : List ℕ) → list_all in_row d ≡ true → list_all (is_run_part is_ascii_digit) d ≡ true
 part_row d h = same_row d ∙ h
 
 pub some_value : (d : List ℕ) → list_any is_ascii_digit d ≡ list_any (has_value 10) d
 some_value d = any_same is_ascii_digit (has_value 10) digit_is_ten d
 
--- The digits at the beginning of a text.
+-- If a text begins with a digit, the digits and underscores at its beginning are decimal digits by the definition
+-- `IsDigits`.
 pub front_digits : (t : List ℕ) → first_passes is_ascii_digit t ≡ true → IsDigits (digit_run_at 10 t)
 front_digits t h = (run_first t h, part_row (digit_run_at 10 t) (run_all in_row t))
 
@@ -89,7 +91,8 @@ suffix_whole (c ∷ cs) u = ap (λ b. not b && (cond b (is_some_text cs) (is_sta
     go true = all_run is_continue cs
     go false = refl
 
--- A text is read as a suffix if it passes the test of suffixes.
+-- If a text doesn't begin with an underscore, the parser of suffixes reads it to its end exactly if it passes the test of
+-- suffixes.
 pub suffix_reads : (t : List ℕ) → first_passes is_underscore t ≡ false → is_read (suffix_end_at t) ≡ is_number_suffix t
 unfolding suffix_end_at
 suffix_reads t u = go (is_some_text (suffix_rest t)) ∙ sym (suffix_whole t u)
@@ -109,7 +112,7 @@ is_sign c = is_power_sign (c ∷ [])
 abbrev pub IsSign : List ℕ → Type 0
 IsSign sign = (sign ≡ []) ⊎ ((sign ≡ 43 ∷ []) ⊎ (sign ≡ 45 ∷ []))
 
--- A sign at the beginning of the text, if it has one, and the text after it.
+-- A text is an optional sign and the rest. Without a sign, the rest doesn't begin with a sign.
 pub record SignCut (t rest : List ℕ) : Type 0 where
   pub sign : List ℕ
   pub is_sign_of : IsSign sign
@@ -125,7 +128,7 @@ sign_cut (c ∷ cs) = go (c == 43) refl (c == 45) refl
     go false a true b = record { sign = 45 ∷ []; is_sign_of = inr (inr refl); text_is = ap (λ z. z ∷ cs) (eqb-true c 45 b); bare = λ e. absurd (cc) }
     go false a false b = record { sign = []; is_sign_of = inl refl; text_is = refl; bare = λ e. or_from (c == 43) (c == 45) a b }
 
--- A sign before a text that begins with no sign is skipped.
+-- After the letter of an exponent, `after_power_sign` skips the sign, if there is one.
 sign_past : (sign z : List ℕ) → IsSign sign → (sign ≡ [] → first_passes is_sign z ≡ false)
     → after_power_sign (sign ++ z) ≡ z
 sign_past sign z (inl e) n = ap (λ s. after_power_sign (s ++ z)) e ∙ bare z (n e)
@@ -136,7 +139,7 @@ sign_past sign z (inl e) n = ap (λ s. after_power_sign (s ++ z)) e ∙ bare z (
 sign_past sign z (inr (inl e)) n = ap (λ s. after_power_sign (s ++ z)) e
 sign_past sign z (inr (inr e)) n = ap (λ s. after_power_sign (s ++ z)) e
 
--- A sequence with a digit doesn't begin with a sign.
+-- If digits and underscores include a digit, they don't begin with a sign.
 pub row_bare : (run x : List ℕ) → list_all in_row run ≡ true → list_any (has_value 10) run ≡ true
     → first_passes is_sign (run ++ x) ≡ false
 row_bare [] x each some = absurd (cc)
@@ -144,7 +147,7 @@ row_bare (c ∷ cs) x each some =
     let p = and_parts (in_row c) (list_all in_row cs) each in
     or_from (c == 43) (c == 45) (apart in_row c 43 p.0 refl) (apart in_row c 45 p.0 refl)
 
--- The result after the digits of an exponent, by whether there is a digit.
+-- The result of parsing the text after the digits of an exponent. The first argument tells whether there is a digit.
 abbrev pub power_tail : Bool → List ℕ → Ending
 power_tail some y = cond some (suffix_end_at y) (stopped NoExponentDigit y)
 
@@ -200,13 +203,13 @@ whole_digits (c ∷ cs) h =
     go true = float_end (power_end_at cs)
     go false = int_end None (suffix_end_at (c ∷ cs))
 
--- If the text can't continue a float, a suffix follows the whole part.
+-- If neither a dot nor the letter of an exponent follows a number's whole part, parsing continues with the suffix.
 pub whole_plain : (x : List ℕ) → first_passes is_float_mark x ≡ false → whole_end_at x ≡ suffix_end_at x
 whole_plain x h =
     let p = each_fails (λ c. c == 46) is_exponent_letter x h in
     whole_digits x p.0 ∙ digits_plain x p.1
 
--- The end of parsing doesn't depend on the magnitude.
+-- After a number's whole part, the position where parsing stops doesn't depend on the number's magnitude.
 whole_end : (m : Option ℕ) (y : List ℕ) → end_of (whole_read_at m y) ≡ whole_end_at y
 unfolding whole_read_at
 whole_end m [] = int_end m (suffix_end_at []) ∙ sym (int_end None (suffix_end_at []))
@@ -221,7 +224,7 @@ whole_end m (c ∷ cs) = go (c == 46) (is_exponent_letter c)
 
 -- ---- a number
 
--- A decimal number.
+-- In a decimal number, parsing skips the digits of the whole part, and continues with the text after them.
 pub decimal_is : (t w x : List ℕ) → radix_at t ≡ (10, t) → t ≡ w ++ x → IsDigits w → first_passes in_row x ≡ false
     → number_end_at t ≡ whole_end_at x
 unfolding number_read_at
@@ -233,7 +236,8 @@ decimal_is t w x at text d stops =
 
 -- ---- the text after the whole part of a decimal number
 
--- A letter that would make a base prefix of the whole part, which is `0`.
+-- Whether the whole part of a number is `0` and the character after it is the letter of a base prefix, for example the `x`
+-- of `0x`.
 abbrev pub names : List ℕ → ℕ → Bool
 names [] c = false
 names (a ∷ []) c = a == 48 && not (radix_of c == 10)
@@ -248,7 +252,7 @@ not_named true r cs u h = go (r == 10) refl h
     go true e k = refl
     go false e k = let same : false ≡ true = sym e ∙ ap (λ z. z == 10) k in absurd (cc)
 
--- The text after a decimal whole part doesn't begin with such a letter of a base.
+-- If a number is decimal, the character after its whole part doesn't make a base prefix of `0`, as the `x` of `0x` does.
 pub names_none : (w z : List ℕ) → (radix_at (w ++ z)).0 ≡ 10 → first_passes (names w) z ≡ false
 unfolding radix_at
 names_none w [] h = refl
@@ -256,7 +260,7 @@ names_none [] (c ∷ cs) h = refl
 names_none (a ∷ []) (c ∷ cs) h = not_named (a == 48) (radix_of c) cs (a ∷ c ∷ cs) h
 names_none (a ∷ b ∷ ws) (c ∷ cs) h = refl
 
--- If the whole part and the letter after it aren't a base prefix, the number is decimal.
+-- If the whole part and the character after it aren't a base prefix, the number is decimal.
 ten_stays : (w z x : List ℕ) → first_passes is_ascii_digit w ≡ true → (radix_at (w ++ z)).0 ≡ 10
     → first_passes (names w) x ≡ false → radix_at (w ++ x) ≡ (10, w ++ x)
 unfolding radix_at
@@ -266,7 +270,7 @@ ten_stays (a ∷ []) z (c ∷ cs) d h k = ap (λ b. cond {A = ℕ × List ℕ} b
 ten_stays (a ∷ b ∷ ws) z x d h k = ap (λ t. cond {A = ℕ × List ℕ} t (radix_of b, ws ++ x) (10, a ∷ b ∷ (ws ++ x)))
     (not_named (a == 48) (radix_of b) (ws ++ z) (a ∷ b ∷ (ws ++ z)) h)
 
--- A character that would continue a decimal whole part, or make a base prefix of it.
+-- Whether the character continues a decimal whole part, or makes a base prefix of it.
 abbrev pub ten_first : List ℕ → ℕ → Bool
 ten_first w c = in_row c || names w c
 
@@ -284,8 +288,8 @@ of_base b = has_value (radix b)
 abbrev pub in_base : Base → ℕ → Bool
 in_base b = is_run_part (of_base b)
 
--- The result after the digits of a number with a base prefix, by three tests: a decimal digit follows; there are no digits; a
--- dot or an exponent follows.
+-- The result of parsing the text after the digits of a number with a base prefix, by three tests. The first test is whether
+-- a decimal digit follows. The second is whether there are no digits. The third is whether a dot or an exponent follows.
 abbrev pub row_tail : Bool → Bool → Bool → List ℕ → Ending
 row_tail digit none mark y = cond digit (stopped InvalidDigit y)
     (cond none (stopped NoDigits y) (cond mark (stopped BasedFloat y) (suffix_end_at y)))
@@ -313,7 +317,7 @@ based_end b t = go (first_passes is_ascii_digit y) (not (has_digit_at (radix b) 
     go false false true = refl
     go false false false = int_end m (suffix_end_at y)
 
--- A number with a base prefix is parsed as the text after the prefix, in this base.
+-- If a number begins with a base prefix, the text after the prefix is parsed in this base.
 number_based : (b : Base) (x : List ℕ) → b ≢ Decimal → number_end_at (prefix b ++ x)
     ≡ end_of (based_read_at (radix b) x)
 unfolding number_read_at radix_at
@@ -322,7 +326,7 @@ number_based Octal x n = refl
 number_based Hexadecimal x n = refl
 number_based Decimal x n = absurd (n refl)
 
--- The result for a number with a base prefix, after the prefix and a sequence of digits.
+-- After a base prefix and a sequence of digits, parsing continues with the text after the digits.
 pub based_is : (b : Base) (run x : List ℕ) → b ≢ Decimal → list_all (in_base b) run ≡ true
     → first_passes (in_base b) x ≡ false → number_end_at ((prefix b ++ run) ++ x) ≡ row_end b run x
 based_is b run x n each stops =
@@ -330,7 +334,8 @@ based_is b run x n each stops =
     ap number_end_at (append_assoc (prefix b) run x) ∙ number_based b (run ++ x) n ∙ based_end b (run ++ x)
     ∙ ap (λ z. row_end b z (after_digits (radix b) (run ++ x))) p.0 ∙ ap (row_end b run) p.1
 
--- After a complete sequence of digits, a suffix follows.
+-- After the digits of a base, parsing continues with the suffix, unless there is no digit, or a decimal digit, a dot or the
+-- letter of an exponent follows.
 pub row_plain : (b : Base) (run x : List ℕ) → list_any (of_base b) run ≡ true → first_passes is_ascii_digit x ≡ false
     → first_passes is_float_mark x ≡ false → row_end b run x ≡ suffix_end_at x
 row_plain b run x some digit mark =

@@ -1,4 +1,4 @@
--- A number of Rust's grammar is parsed to its end.
+-- The code's parser of numbers reads each number of Rust's grammar to its end.
 use Rattle.rl_strict.proofs.Names.{◌≡◌, ◌≢◌, ℕ, ◌||◌, Bool, true, false, not, ◌==◌, List, [], ◌∷◌, ◌++◌, refl, sym, ap, subst, ◌∙◌, inl, inr, append_assoc, append-nil, and_parts, not-true, is_ascii_digit, is_ascii_hexdigit, list_all, list_any, first_passes, is_underscore, Base, Binary, Octal, Decimal, Hexadecimal, radix, prefix, is_exponent_letter, Contents, AllowsSuffix, IsDigits, IsDecimalText, IsNumberSuffix, StrictInt, IsStrictExponent, StrictFloat, foreign_dot, letter_no_part, no_part, suffix_no_part, suffix_without, suffix_of_strict, digit_is_ten, hex_is_sixteen, passes_same, has_value, letter_no_dot, not_based, is_float_mark, digits_end_at, fraction_end_at, suffix_end_at}
 use Rattle.rl_strict.proofs.StrictLemmas.{IsStrictNumber}
 use Rattle.rl_strict.proofs.NumberEnds.{Passes, based_is, both_fail, decimal_is, digits_plain, digits_power, each_fails, fraction_is, in_row, is_read, number_end_at, power_is, row_bare, row_part, row_plain, some_value, suffix_is_read, whole_digits, whole_dot, whole_plain}
@@ -31,7 +31,7 @@ exponent_is e x p s =
     ∙ digits_power p.letter (p.sign ++ (p.run ++ x)) p.is_letter
     ∙ power_is p.sign p.run x true p.is_sign (λ e. row_bare p.run x each some) each some (no_row x s)
 
--- A test that fails for the letter of an exponent fails for the first character of the exponent.
+-- An exponent begins with its letter. So a test that fails for this letter fails for the exponent's first character.
 exponent_front : (test : ℕ → Bool) (e x : List ℕ) (p : IsStrictExponent e) → test p.letter ≡ false
     → first_passes test (e ++ x) ≡ false
 exponent_front test e x p h = ap (λ z. first_passes test (z ++ x)) p.text ∙ h

@@ -1,4 +1,5 @@
--- A text in a file has at most one flaw. Each byte offset in the text as it is read is exactly one byte offset in the file.
+-- A literal's text in a file has at most one flaw. Each byte offset in the text with CR LF read as LF is exactly one byte
+-- offset in the file.
 use Rattle.rl_strict.proofs.Names.{◌≡◌, ℕ, ◌<◌, ◌==◌, Bool, false, true, not, List, [], ◌∷◌, ◌++◌, length, refl, sym, ap, subst, ◌∙◌, inl, inr, arith, and-false, length-le-encodes, byte_len, byte_len-append, Flaw, ExplainsInFile, ExplainsSignedInFile, ExplainsSignedValueInFile, ExplainsValueInFile, IsPlaceInFile, is_dropped, is_seam, lf_text, IsExplainedOnce, IsSignedToken}
 use Rattle.rl_strict.proofs.FileStrings.{signed_same}
 use Rattle.rl_strict.proofs.FileTextLemmas.{by_first, seam_text, when_dropped, when_kept}
@@ -7,7 +8,7 @@ use Rattle.rl_strict.proofs.OneStrictFlaw.{After, Before, Meets, Same, flaw_same
 
 -- ---- borders between two texts
 
--- If two texts are read together as they are separately, the border isn't between a CR and an LF.
+-- If CR LF can be read as LF in two adjacent texts separately, the border between the texts isn't between a CR and an LF.
 pub whole_seam : (a b : List ℕ) → lf_text (a ++ b) ≡ lf_text a ++ lf_text b → is_seam a b ≡ true
 whole_seam [] b e = refl
 whole_seam (c ∷ []) b e = go (is_dropped c b) refl
@@ -29,7 +30,8 @@ whole_seam (c ∷ d ∷ ds) b e = go (whole_seam (d ∷ ds) b) (is_dropped c (d 
         sym (when_kept c (d ∷ (ds ++ b)) h) ∙ e ∙ ap (λ z. z ++ lf_text b) (when_kept c (d ∷ ds) h) in
         back (cc)
 
--- Whether a border is between a CR and an LF depends only on the first character after it.
+-- Whether a border between two texts is between a CR and an LF depends only on the text before the border and the first
+-- character after it.
 seam_first : (a : List ℕ) (c : ℕ) (x y : List ℕ) → is_seam a (c ∷ x) ≡ is_seam a (c ∷ y)
 seam_first [] c x y = refl
 seam_first (d ∷ []) c x y = refl
@@ -40,7 +42,7 @@ seam_first (d ∷ e ∷ es) c x y = seam_first (e ∷ es) c x y
 abbrev ReadsSome : List ℕ → List ℕ → Type 0
 ReadsSome text read = (c : ℕ) (cs : List ℕ) → text ≡ c ∷ cs → 0 < byte_len read
 
--- A nonempty text isn't empty as it is read.
+-- A nonempty text has at least one byte after CR LF is read as LF.
 reads_some : (c : ℕ) (cs : List ℕ) → 0 < byte_len (lf_text (c ∷ cs))
 reads_some c cs = by_first ReadsSome (λ d ds e. absurd (cc)) (λ ds d es e. some 10 (lf_text ds))
     (λ d ds kept f fs e. some d (lf_text ds)) (c ∷ cs) c cs refl
@@ -48,7 +50,8 @@ reads_some c cs = by_first ReadsSome (λ d ds e. absurd (cc)) (λ ds d es e. som
     some : (d : ℕ) (ds : List ℕ) → 0 < byte_len (d ∷ ds)
     some d ds = omega (arith, length-le-encodes (d ∷ ds))
 
--- A longer prefix of a text has more bytes as it is read.
+-- A longer prefix of a text has more bytes after CR LF is read as LF, if the shorter prefix doesn't end between a CR and an
+-- LF.
 pub more_read : (front : List ℕ) (c : ℕ) (more rest : List ℕ) → is_seam front (c ∷ (more ++ rest)) ≡ true
     → byte_len (lf_text front) < byte_len (lf_text (front ++ (c ∷ more)))
 more_read front c more rest h =
@@ -64,7 +67,7 @@ not_longer t read at other p q c more e h =
     ap (λ z. byte_len (lf_text z)) e in
     omega (arith, less, longer, p.read_is, q.read_is)
 
--- A byte offset in the text as it is read is exactly one byte offset in the text as written.
+-- A byte offset in the text with CR LF read as LF is exactly one byte offset in the text as written.
 pub place_once : (t : List ℕ) (r s at other : ℕ) → r ≡ s → IsPlaceInFile t r at → IsPlaceInFile t s other → at ≡ other
 place_once t r s at other same p other_place =
     let q = subst (λ z. IsPlaceInFile t z other) (sym same) other_place in
@@ -77,7 +80,8 @@ place_once t r s at other same p other_place =
 
 -- ---- flaws in a file
 
--- A flaw in a file, and the flaw of the text as it is read.
+-- The flaw `flaw` of a text in a file has the kind of the flaw `read`. Its byte offsets are the positions of those of
+-- `read`, which count in the text with CR LF read as LF.
 record InFile (t : List ℕ) (read flaw : Flaw) : Type 0 where
   pub kind : flaw.kind ≡ read.kind
   pub from : IsPlaceInFile t read.from flaw.from

@@ -1,12 +1,14 @@
--- A text has at most one flaw where a minus before a number is allowed, and at most one flaw as an integer above 128 bits.
+-- At most one flaw explains why a text is neither a literal token nor a minus and a number. At most one flaw explains why a
+-- text is an integer above 128 bits.
 use Rattle.rl_strict.proofs.Names.{◌≡◌, ℕ, ◌+◌, ◌==◌, false, List, [], ◌∷◌, ◌++◌, refl, sym, ap, subst, ◌∙◌, inl, inr, append_cancel_right, both_ways, is_ascii_digit, byte_len, first_passes, front_passes, int_once, IsToken, Flaw, FlawKind, NoNumber, UnexpectedEnd, IsCompletable, StopsBefore, first_len, ExplainsValue, IsLimitFlaw, IsExplainedOnce, ExplainsSigned, IsMinusFlawOf, IsSignedFlawOf, IsSignedToken, LacksNumber}
 use Rattle.rl_strict.proofs.OneStrictFlaw.{Explained, explained_once, flaw_same, kinds_once, number_once}
 use Rattle.rl_strict.proofs.ReadNumbers.{one_digit}
 use Rattle.rl_strict.proofs.SignedFlaws.{unsigned}
 
--- ---- without a minus
+-- ---- texts without a minus
 
--- If a text without a minus can be completed to a literal token or to a minus and a number, it can be completed to a token.
+-- If a text without a minus can be completed to a literal token or to a minus and a number, it can be completed to a literal
+-- token.
 completed : (front : List ℕ) → first_passes (λ c. c == 45) front ≡ false → IsCompletable IsSignedToken front
     → IsCompletable IsToken front
 completed [] n b = record { ending = 49 ∷ []; are_characters = (refl, tt); is_taken = one_digit 49 refl }
@@ -25,9 +27,9 @@ unsigned_stops t rest n s = record {
   stuck = λ c cs e h y. s.stuck c cs e h (inl y);
 }
 
--- ---- after a minus
+-- ---- texts that begin with a minus
 
--- The minus is before the flaw.
+-- If a text begins with a minus, the longest prefix that can be completed contains the minus.
 number_cut : (t number rest : List ℕ) → t ≡ 45 ∷ number → StopsBefore IsSignedToken t rest
     → (front : List ℕ) × (number ≡ front ++ rest)
 number_cut t number rest e s = go s.front (sym e ∙ s.text_is) s.stuck
@@ -37,7 +39,7 @@ number_cut t number rest e s = go s.front (sym e ∙ s.text_is) s.stuck
     go [] h stuck = absurd (stuck 45 number (49 ∷ []) (sym h) (inr (49 ∷ [], refl, refl, one_digit 49 refl)))
     go (c ∷ cs) h stuck = let same : 45 ∷ number ≡ c ∷ (cs ++ rest) = h in (cs, cc)
 
--- The kind of flaw if no digit follows the minus, by the rest of the text.
+-- The kind of flaw if no digit follows a minus, by the text after the minus.
 lack_of : List ℕ → FlawKind
 lack_of [] = UnexpectedEnd
 lack_of (c ∷ cs) = NoNumber
@@ -109,7 +111,8 @@ limit_once t a b p q =
     let hi = p.hi_is ∙ ap (λ z. z + first_len x.suffix) lo ∙ ap (λ z. b.lo + first_len z) suffix ∙ sym q.hi_is in
     flaw_same a b (p.kind_is ∙ sym q.kind_is) (p.from_is ∙ sym q.from_is) lo hi
 
--- At most one flaw explains why a text has no value, since a text that isn't a token isn't an integer above 128 bits.
+-- At most one flaw explains why a text has no value, since a text that isn't a literal token isn't an integer above 128
+-- bits.
 pub value_once : (t : List ℕ) → IsExplainedOnce ExplainsValue t
 value_once t a b p q = go p q
   where

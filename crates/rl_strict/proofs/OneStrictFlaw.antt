@@ -9,19 +9,20 @@ use Rattle.rl_strict.proofs.ReadNumbers.{goes_on}
 
 -- ---- the position of the flaw
 
--- Two ways to split one text into a front and a rest: the fronts are equal, or one is a prefix of the other.
+-- The relation between two ways to split one text into a front and a rest: the fronts are equal, or one is a prefix of the
+-- other.
 pub data Meets (f g r s : List ℕ) : Type 0 where
   Same : f ≡ g → r ≡ s → Meets f g r s
   Before : (c : ℕ) (more : List ℕ) → g ≡ f ++ (c ∷ more) → r ≡ c ∷ (more ++ s) → Meets f g r s
   After : (c : ℕ) (more : List ℕ) → f ≡ g ++ (c ∷ more) → s ≡ c ∷ (more ++ r) → Meets f g r s
 
--- The relation between two ways to split a text also holds with one more character in front.
+-- If two fronts of a text are equal, or one is a prefix of the other, this stays true with one more character before both.
 meets_on : (c : ℕ) (f g r s : List ℕ) → Meets f g r s → Meets (c ∷ f) (c ∷ g) r s
 meets_on c f g r s (Same a b) = Same (ap (λ z. c ∷ z) a) b
 meets_on c f g r s (Before d more a b) = Before d more (ap (λ z. c ∷ z) a) b
 meets_on c f g r s (After d more a b) = After d more (ap (λ z. c ∷ z) a) b
 
--- If one text is split in two ways, the fronts are equal, or one is a prefix of the other.
+-- If a text is split into a front and a rest in two ways, the fronts are equal, or one is a prefix of the other.
 pub meets : (f g r s : List ℕ) → f ++ r ≡ g ++ s → Meets f g r s
 meets [] [] r s e = Same refl e
 meets [] (c ∷ g) r s e = Before c g refl e
@@ -31,13 +32,13 @@ meets (c ∷ f) (d ∷ g) r s e =
     let same : c ≡ d = (let h : c ∷ (f ++ r) ≡ d ∷ (g ++ s) = e in cc) in
     subst (λ z. Meets (c ∷ f) (z ∷ g) r s) same (meets_on c f g r s (meets f g r s more))
 
--- A text that can be completed doesn't stop being completable before its end.
+-- The longest prefix of a text that can be completed isn't shorter than another prefix that can be completed.
 not_before : (takes : List ℕ → Type 0) (text r s : List ℕ) (a : StopsBefore takes text r) (b : StopsBefore takes text s)
     (c : ℕ) (more : List ℕ) → b.front ≡ a.front ++ (c ∷ more) → r ≡ c ∷ (more ++ s) → ⊥
 not_before takes text r s a b c more e h = a.stuck c (more ++ s) (more ++ b.begins.ending) h
     (subst takes (ap (λ z. z ++ b.begins.ending) e ∙ append_assoc a.front (c ∷ more) b.begins.ending) b.begins.is_taken)
 
--- A text has exactly one longest prefix that can be completed.
+-- A text has at most one longest prefix that can be completed.
 pub stops_once : (takes : List ℕ → Type 0) (text r s : List ℕ) (a : StopsBefore takes text r) (b : StopsBefore takes
     text s) → (a.front ≡ b.front) × (r ≡ s)
 stops_once takes text r s a b = go (meets a.front b.front r s (sym a.text_is ∙ b.text_is))
@@ -62,14 +63,14 @@ opener_same t f g k l x y a b =
     let e : Some p ≡ Some q = sym a ∙ b in
     cc
 
--- ---- prefixes of words
+-- ---- prefixes of the words `true`, `false`, `b` and `c`
 
--- A prefix of a word (`true`, `false`, `b` or `c`) begins neither a number nor a quoted literal.
+-- A prefix of a word (`true`, `false`, `b` or `c`) doesn't begin as a number or as a quoted literal.
 pub record IsFront (front : List ℕ) : Type 0 where
   pub no_opener : opener_at front ≡ None
   pub no_number : first_passes is_number_front front ≡ false
 
--- Prefixes of `true` and `false`.
+-- A prefix of `true` or `false` doesn't begin as a number or as a quoted literal.
 pub truth_front : (b : Bool) (front more : List ℕ) → truth_text b ≡ front ++ more → IsFront front
 unfolding opener_at
 truth_front b [] more e = record { no_opener = refl; no_number = refl }
@@ -80,25 +81,25 @@ truth_front false (c ∷ cs) more e =
     let same : 102 ≡ c = cc in
     subst (λ z. IsFront (z ∷ cs)) same (record { no_opener = refl; no_number = refl })
 
--- The prefix `b`.
+-- The text `b` doesn't begin as a number or as a quoted literal.
 letter_front : IsFront (98 ∷ [])
 unfolding opener_at
 letter_front = record { no_opener = refl; no_number = refl }
 
--- The prefix `c`.
+-- The text `c` doesn't begin as a number or as a quoted literal.
 other_front : IsFront (99 ∷ [])
 unfolding opener_at
 other_front = record { no_opener = refl; no_number = refl }
 
--- Any prefix of a word.
+-- A text that is `b`, `c`, or a prefix of `true` or `false` doesn't begin as a number or as a quoted literal.
 pub begins_front : (front : List ℕ) → BeginsWord front → IsFront front
 begins_front front (inl e) = subst IsFront (sym e) letter_front
 begins_front front (inr (inl e)) = subst IsFront (sym e) other_front
 begins_front front (inr (inr w)) = truth_front w.truth front w.more w.word_is
 
--- ---- flaws
+-- ---- the fields of a flaw
 
--- Creates a flaw from its fields.
+-- Creates a flaw from its kind and its three byte offsets.
 make : FlawKind → ℕ → ℕ → ℕ → Flaw
 make kind from lo hi = record { kind = kind; from = from; lo = lo; hi = hi }
 
@@ -111,7 +112,7 @@ flaw_same a b kind from lo hi =
     ∙ ap (λ z. make b.kind b.from z a.hi) lo
     ∙ ap (λ z. make b.kind b.from b.lo z) hi
 
--- ---- quoted literals
+-- ---- the flaw of a quoted literal
 
 form_once : (form : QuotedForm) (kind : Kind) (k l : FlawKind) (inside pa pb rest : List ℕ) → has_form form kind ≡ true
     → StrictQuotedFlaw form kind k inside pa rest → StrictQuotedFlaw form kind l inside pb rest → (k ≡ l) × (pa ≡ pb)
@@ -131,7 +132,7 @@ quoted_once k l t pa pb rest p q =
     form_once p.form p.kind k l p.inside pa pb rest p.is_form p.spoils
     (subst (λ z. StrictQuotedFlaw z.0 z.1 l z.2 pb rest) same q.spoils)
 
--- The text before the flaw begins with the opening delimiter.
+-- The text before the flaw of a quoted literal begins with the literal's opening delimiter.
 front_opened : (k : FlawKind) (t front piece rest : List ℕ) → t ≡ front ++ rest → HasStrictQuotedFlaw k t piece rest
     → opener_at front ≡ None → ⊥
 front_opened k t front piece rest e q none =
@@ -142,7 +143,7 @@ front_opened k t front piece rest e q none =
     let h = sym none ∙ ap opener_at is ∙ front_complete q.form q.kind m q.is_form in
     absurd (cc)
 
--- ---- numbers
+-- ---- the flaw of a number
 
 pub number_once : (k l : FlawKind) (front rest : List ℕ) → IsStrictNumberFlaw k front rest → IsStrictNumberFlaw l front
     rest → k ≡ l
@@ -154,9 +155,10 @@ number_once k l front rest p q =
     in
     cc
 
--- ---- words
+-- ---- the flaw of a text that begins neither as a number nor as a quoted literal
 
--- The kind of flaw, by the text before the flaw and the text from the flaw on.
+-- The kind of flaw of a text that begins neither as a number nor as a quoted literal. The arguments are the text before the
+-- flaw and the text from the flaw on.
 word_of : List ℕ → List ℕ → FlawKind
 word_of [] [] = Empty
 word_of (c ∷ cs) [] = UnexpectedEnd
@@ -179,7 +181,8 @@ word_is Minus [] (d ∷ ds) (e, h) = sym (ap (λ b. cond b Minus NotALiteral) h)
 word_is Minus (c ∷ cs) (d ∷ ds) (e, h) = absurd (cc)
 word_is k front rest h = absurd h
 
--- The text before the flaw is a prefix of a word.
+-- If a text begins neither with a digit nor as a quoted literal, the text before its flaw doesn't begin as a number or as a
+-- quoted literal.
 word_front : (k : FlawKind) (front rest : List ℕ) → IsStrictWordFlaw k front rest → IsFront front
 word_front Empty front rest (e, h) = subst IsFront (sym e)
     (truth_front true [] (truth_text true) refl)
@@ -189,7 +192,7 @@ word_front UnexpectedEnd front rest (w, some, h) = begins_front front w
 word_front NotALiteral front rest (w, some, h) = begins_front front w
 word_front k front rest h = absurd h
 
--- A prefix of a word doesn't begin with a digit.
+-- A prefix of a word (`true`, `false`, `b` or `c`) doesn't begin with a digit.
 no_digit : (front : List ℕ) → IsFront front → first_passes is_ascii_digit front ≡ false
 no_digit [] f = refl
 no_digit (c ∷ cs) f = (or_parts (c == 45) (is_ascii_digit c) f.no_number).1
@@ -234,8 +237,8 @@ kinds_once k l t pa pb rest s p q = go p q
 
 -- ---- at most one flaw
 
--- The conditions on a flaw: its range is where the text's longest completable prefix ends, and its kind describes the error in
--- the piece and the rest.
+-- A flaw explains a text if its range is where the text's longest completable prefix ends, and its kind describes the error
+-- in the piece and the rest.
 pub record Explained (takes : List ℕ → Type 0) (says : FlawKind → List ℕ → List ℕ → Type 0) (text : List ℕ)
     (flaw : Flaw) : Type 0 where
   pub place : IsPlaced takes text flaw.lo flaw.hi
@@ -245,7 +248,7 @@ pub record Explained (takes : List ℕ → Type 0) (says : FlawKind → List ℕ
   pub from_is : flaw.from ≡ byte_len before
   pub kind : says flaw.kind piece place.rest
 
--- If at most one kind and one piece are possible at each position, at most one flaw explains the text.
+-- If at most one kind and one piece of a flaw are possible at each position of a text, at most one flaw explains the text.
 pub explained_once : (takes : List ℕ → Type 0) (says : FlawKind → List ℕ → List ℕ → Type 0) (text : List ℕ)
     → ((k l : FlawKind) (pa pb rest : List ℕ) → StopsBefore takes text rest → says k pa rest → says l pb rest
     → (k ≡ l) × (pa ≡ pb)) → (a b : Flaw) → Explained takes says text a → Explained takes says text b → a ≡ b

@@ -1,14 +1,14 @@
--- At one position, a raw string has at most one flaw and one piece.
+-- At each position, a raw string has at most one kind of flaw. The piece of text that the flaw shows is determined too.
 use Rattle.rl_strict.proofs.Names.{◌≡◌, ◌≢◌, ℕ, ◌&&◌, Bool, true, false, not, ◌==◌, cond, List, [], ◌∷◌, ◌++◌, replicate, refl, sym, ap, ◌∙◌, inl, inr, arith, append_assoc, append_cancel_right, nat_lt, and_parts, both_ways, eqb-true, or_from, list_all, zero, suc, append_cancel_left, Kind, first_passes, after_run, is_hash, or_left, begins, apart, hashes_past, begins_front, FlawKind, UnexpectedEnd, NoQuote, Unclosed, Nul, NotAscii, TooManyHashes, CarriageReturn, RawForm, IsUnopened, is_quote, IsOpen, StrictQuotedFlaw, StrictRawFlaw, is_raw_character, raw_stop, raw_character_flaw_of, spoiled_flaw_of}
 use Rattle.rl_strict.proofs.OneStrictUnit.{suffix_once}
 use Rattle.rl_strict.proofs.StrictRawFlaws.{ends_at, many_hashes, walk_halt}
 use Rattle.rl_strict.proofs.StrictRawLemmas.{NoCloser, inside_allowed, no_closer_at}
 
--- A quote follows the hashes.
+-- The text is any number of hashes, a quote, and more text.
 abbrev pub HasQuote : List ℕ → Type 0
 HasQuote t = (hashes : ℕ) × (inside : List ℕ) × (t ≡ replicate hashes 35 ++ (34 ∷ inside))
 
--- If a quote follows the hashes, no other character follows them.
+-- If hashes precede a character that is neither a hash nor a quote, the text isn't hashes and a quote.
 pub no_quote : (n m : ℕ) (rest z : List ℕ) → first_passes is_hash rest ≡ false → first_passes is_quote rest ≡ false
     → replicate n 35 ++ rest ≡ replicate m 35 ++ (34 ∷ z) → ⊥
 no_quote zero zero rest z h q e = both_ways (first_passes is_quote rest) q (ap (first_passes is_quote) e)
@@ -17,20 +17,21 @@ no_quote (suc n) zero rest z h q e = both_ways true (sym (ap (first_passes is_qu
 no_quote (suc n) (suc m) rest z h q e = no_quote n m rest z h q
     (let same : 35 ∷ (replicate n 35 ++ rest) ≡ 35 ∷ (replicate m 35 ++ (34 ∷ z)) = e in cc)
 
--- If the text has only hashes before another character, no quote follows the hashes.
+-- After a raw string's prefix, a text with only hashes before another character isn't hashes and a quote.
 pub unopened_quote : (t rest : List ℕ) → IsUnopened t rest → HasQuote t → ⊥
 unopened_quote t rest u (m, z, e) = no_quote u.hashes m rest z u.no_hash u.no_quote (sym u.text_is ∙ e)
 
 -- ---- the hashes, and the text after the opening quote
 
--- A quote follows the hashes of an unclosed raw string.
+-- In an unclosed raw string, a quote follows the hashes.
 open_quote : (k : Kind) (n : ℕ) (t rest : List ℕ) → IsOpen k n t rest → HasQuote t
 open_quote k n t rest o = (n, o.body ++ rest, o.text_is)
 
 abbrev hashes : ℕ → List ℕ
 hashes n = replicate n 35
 
--- Two unclosed raw strings in one text have equal numbers of hashes.
+-- Two ways to read the hashes and the opening quote of a raw string agree: the hashes and the texts after the opening quote
+-- are equal.
 record SameOpen (n m : ℕ) (x y : List ℕ) : Type 0 where
   hashes_are : hashes n ≡ hashes m
   inside_is : x ≡ y
@@ -46,7 +47,7 @@ open_same n m x y e =
 
 -- ---- the first closing delimiter
 
--- The code finds the closing delimiter after a text that contains none.
+-- If a raw string's content has only allowed characters and no closing delimiter, the code's loop skips all of it.
 walk_finds : (k : Kind) (n : ℕ) (body z : List ℕ) → list_all (is_raw_character k) body ≡ true
     → NoCloser (replicate n 35) body → first_passes is_hash z ≡ false → z ≡ raw_stop k (replicate n 35) z
     → raw_stop k (replicate n 35) (body ++ z) ≡ z
@@ -60,7 +61,7 @@ walk_finds k n (c ∷ cs) z each none no_hash ends_raw_content =
     ap (λ b. cond b (c ∷ (cs ++ z)) (raw_stop k (replicate n 35) (cs ++ z))) goes
     ∙ walk_finds k n cs z p.1 (λ f r e. none (c ∷ f) r (ap (λ q. c ∷ q) e)) no_hash ends_raw_content
 
--- The code stops at a closing delimiter.
+-- At a closing delimiter of a raw string, the code's loop stops.
 closer_halts : (k : Kind) (n : ℕ) (suffix : List ℕ) → 34 ∷ (replicate n 35 ++ suffix)
     ≡ raw_stop k (replicate n 35) (34 ∷ (replicate n 35 ++ suffix))
 closer_halts k n suffix =
@@ -68,7 +69,7 @@ closer_halts k n suffix =
     walk_halt k h (34 ∷ (h ++ suffix)) (h ++ suffix) 34 refl
     (or_left (begins h (h ++ suffix)) (not (is_raw_character k 34)) (begins_front h suffix))
 
--- The closing quote is the one that the code finds.
+-- The closing delimiter of a raw string is the closing delimiter at which the code's loop stops.
 closing_found : (k : Kind) (n : ℕ) (t closing suffix : List ℕ) (o : IsOpen k n t closing) → closing
     ≡ 34 ∷ (replicate n 35 ++ suffix) → raw_stop k (replicate n 35) (o.body ++ closing) ≡ closing
 closing_found k n t closing suffix o e =
@@ -86,7 +87,7 @@ closing_once k n m t ca cb sa sb a b e f =
     ∙ ap (raw_stop k (replicate m 35)) same.inside_is
     ∙ closing_found k m t cb sb b f
 
--- A flaw in the content isn't after a closing delimiter.
+-- In a raw string, a flaw of the content isn't after a closing delimiter.
 not_closed : (k : Kind) (n m : ℕ) (t rest closing front : List ℕ) → IsOpen k n t rest → IsOpen k m t closing → closing
     ≡ 34 ∷ (replicate m 35 ++ (front ++ rest)) → ⊥
 not_closed k n m t rest closing front a b e =
@@ -99,17 +100,17 @@ not_closed k n m t rest closing front a b e =
 
 -- ---- the kinds of flaws before the closing delimiter
 
--- The kind of flaw of an unclosed raw string, by the rest of the text.
+-- The kind of flaw of an unclosed raw string, by the text from the flaw on.
 open_kind : Kind → List ℕ → FlawKind
 open_kind k [] = Unclosed
 open_kind k (c ∷ cs) = raw_character_flaw_of k c
 
--- The kind of flaw if no quote follows the hashes, by the rest of the text.
+-- The kind of flaw if no quote follows a raw string's hashes, by the text from the flaw on.
 unopened_kind : List ℕ → FlawKind
 unopened_kind [] = UnexpectedEnd
 unopened_kind (c ∷ cs) = NoQuote
 
--- The cases of a flaw: only hashes, unclosed content, or too many hashes.
+-- The three cases of a raw string's flaw before a closing delimiter: only hashes, unclosed content, or too many hashes.
 data Told (k : Kind) (f : FlawKind) (t piece rest : List ℕ) : Type 0 where
   Hashes : IsUnopened t rest → f ≡ unopened_kind rest → piece ≡ rest → Told k f t piece rest
   Contents : (n : ℕ) → IsOpen k n t rest → f ≡ open_kind k rest → piece ≡ rest → Told k f t piece rest
@@ -177,9 +178,9 @@ not_both k f m t piece rest closing front (Hashes u a p) o e = unopened_open k m
 not_both k f m t piece rest closing front (Contents n x a p) o e = not_closed k n m t rest closing front x o e
 not_both k f m t piece rest closing front (Many x h a p) o e = many_open k m t rest closing x h o
 
--- ---- any flaw
+-- ---- at most one flaw of a raw string at each position
 
--- Two closing delimiters with equal hashes at one position have equal texts after them.
+-- If two closing delimiters of a raw string have equal hashes and begin at one position, the texts after them are equal.
 suffix_same : (n m : ℕ) (ca cb sa sb : List ℕ) → hashes n ≡ hashes m → ca ≡ cb → ca
     ≡ 34 ∷ (replicate n 35 ++ sa) → cb ≡ 34 ∷ (replicate m 35 ++ sb) → sa ≡ sb
 suffix_same n m ca cb sa sb h c a b =

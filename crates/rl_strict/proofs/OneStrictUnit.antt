@@ -1,4 +1,5 @@
--- At one position, a string with escapes and a character or byte literal have at most one flaw and one piece.
+-- At each position, a string with escapes has at most one kind of flaw, and so has a character or byte literal. The piece of
+-- text that the flaw shows is determined too.
 use Rattle.rl_strict.proofs.Names.{◌≡◌, ℕ, ◌⊎◌, ◌&&◌, Bool, true, false, ◌==◌, cond, List, [], ◌∷◌, ◌++◌, Option, Some, None, refl, sym, ap, subst, ◌∙◌, inl, inr, append_assoc, append-nil, append_cancel_right, and_from, and_parts, both_ways, eqb-true, flat_map, list_all, Kind, first_passes, is_single, is_string, is_line_end, StrictUnit, strict_text, is_strict_unit, and_right, FlawKind, Unclosed, UnknownEscape, NoUnicode, Nul, MustEscape, NoCharacter, TwoCharacters, BadSuffix, CarriageReturn, TextAfterQuote, ExtraHash, UnderscoreSuffix, QuotedForm, CookedForm, SingleForm, BeginsStrictUnit, BeginsStrictUnits, BreaksEnd, HasNoStrictUnit, StrictCloserFlaw, StrictQuotedFlaw, StrictUnitFlaw, SuffixFlaw, form_quote, is_raw_form, suffix_piece, unit_rest, character_flaw_of, HasStrictUnits, not_both}
 use Rattle.rl_strict.proofs.OneUnitFlaw.{at_end, flaw_of, must_escape, spoils}
 use Rattle.rl_strict.proofs.StrictRowLemmas.{quote_stops, quoted_string}
@@ -11,23 +12,24 @@ use Rattle.rl_strict.proofs.ReadQuoted.{not_string}
 abbrev is_bad_return : Kind → ℕ → Bool
 is_bad_return kind c = c == 13 && is_string kind
 
--- The kind of flaw, by the text before the flaw and the character at the flaw.
+-- The kind of flaw of a character or escape, by the text before the flaw and the character at the flaw.
 abbrev strict_flaw_of : Kind → List ℕ → ℕ → FlawKind
 strict_flaw_of kind [] c = cond (is_bad_return kind c) CarriageReturn (character_flaw_of c)
 strict_flaw_of kind (a ∷ []) c = cond (is_bad_return kind c) CarriageReturn (flaw_of (a ∷ []) c)
 strict_flaw_of kind front c = flaw_of front c
 
--- The text before the flaw determines the kind of flaw.
+-- The kind of flaw of a character or escape is the one that the text before the flaw and the character at the flaw
+-- determine.
 record Told (kind : Kind) (k : FlawKind) (t : List ℕ) (c : ℕ) (cs : List ℕ) : Type 0 where
   front : List ℕ
   text_is : t ≡ front ++ (c ∷ cs)
   kind_is : k ≡ strict_flaw_of kind front c
 
--- In a character or byte literal, the flaw of a CR isn't `CarriageReturn`.
+-- The test for a CR that a string can't contain fails in a character or byte literal.
 single_return : (kind : Kind) (c : ℕ) → is_single kind ≡ true → is_bad_return kind c ≡ false
 single_return kind c o = and_right (c == 13) (is_string kind) (not_string kind o)
 
--- The kinds of flaws that both grammars have don't apply to a CR in a string.
+-- In a string, the kind of flaw of a CR isn't `MustEscape`, which `character_flaw_of` returns for a CR.
 no_must : (kind : Kind) (k : FlawKind) (t : List ℕ) (c : ℕ) (cs : List ℕ) → StrictUnitFlaw kind k t (c ∷ cs)
     → is_bad_return kind c ≡ true → k ≡ character_flaw_of c → ⊥
 no_must kind k t c cs h bad e =
@@ -53,7 +55,8 @@ no_unknown kind k t a c cs h bad e =
         both_ways (is_string kind && is_line_end b.first) b.no_line_end (and_from (is_string kind)
         (is_line_end b.first) p.1 (ap is_line_end (sym same ∙ eqb-true c 13 p.0)))
 
--- A kind of flaw that both grammars have.
+-- If the kind of flaw is the one that `flaw_of` returns, it is also the one that `strict_flaw_of` returns. The function
+-- `strict_flaw_of` adds the flaws of CRs in strings.
 shared_told : (kind : Kind) (k : FlawKind) (t : List ℕ) (c : ℕ) (cs : List ℕ) (front : List ℕ)
     → StrictUnitFlaw kind k t (c ∷ cs) → t ≡ front ++ (c ∷ cs) → k ≡ flaw_of front c → Told kind k t c cs
 shared_told kind k t c cs [] h text e = record { front = []; text_is = text; kind_is = go (is_bad_return kind c) refl }
@@ -94,7 +97,7 @@ told kind NoCharacter t c cs (o, e, h) = record {
 }
 told kind k t c cs h = let p = spoils kind k t c cs h in shared_told kind k t c cs p.front h p.text_is p.kind_is
 
--- The kind of flaw at the end of the text.
+-- If a quoted literal's text ends inside a character or escape, the kind of flaw is `Unclosed`.
 strict_end : (kind : Kind) (k : FlawKind) (t : List ℕ) → StrictUnitFlaw kind k t [] → k ≡ Unclosed
 strict_end kind CarriageReturn t (s, e, h) = absurd (cc)
 strict_end kind MustEscape t (s, e, h) = absurd (cc)
@@ -110,7 +113,7 @@ unit_once kind k l t (c ∷ cs) p q =
     let same : a.front ≡ b.front = append_cancel_right a.front b.front (c ∷ cs) (sym a.text_is ∙ b.text_is) in
     a.kind_is ∙ ap (λ z. strict_flaw_of kind z c) same ∙ sym b.kind_is
 
--- The flaw is inside the invalid character or escape.
+-- The flaw of a character or escape isn't before the character or escape.
 pub strict_unit_cut : (kind : Kind) (k : FlawKind) (t rest : List ℕ) → StrictUnitFlaw kind k t rest → (m : List ℕ)
     × (t ≡ m ++ rest)
 strict_unit_cut kind k t [] h = (t, sym (append-nil t))
@@ -118,7 +121,7 @@ strict_unit_cut kind k t (c ∷ cs) h = let a = told kind k t c cs h in (a.front
 
 -- ---- sequences of characters and escapes
 
--- If a text begins with no valid character or escape, the code skips none.
+-- If a text begins with no valid character or escape, `unit_rest` returns `None`.
 pub none_left : (k : Kind) (t : List ℕ) → HasStrictUnits k → HasNoStrictUnit k t → unit_rest k t ≡ None
 none_left k t q none = go (unit_rest k t) refl
   where
@@ -128,7 +131,7 @@ none_left k t q none = go (unit_rest k t) refl
         let f = unit_rest_sound k t r q e in
         absurd (none r (record { unit = f.unit; is_unit = f.is_unit; ends = f.may_end; text_is = f.text_is }))
 
--- The text after the first character or escape.
+-- If a text begins with a sequence of valid characters and escapes, `unit_rest` returns the text after the first one.
 first_left : (k : Kind) (u : StrictUnit) (us : List StrictUnit) (s : List ℕ) → list_all (is_strict_unit k) (u ∷ us) ≡
     true → BreaksEnd (u ∷ us) s → unit_rest k (flat_map strict_text (u ∷ us) ++ s) ≡ Some (flat_map strict_text us ++ s)
 first_left k u us s each ends =
@@ -158,7 +161,7 @@ pub rows_once : (k : Kind) (t s r : List ℕ) → BeginsStrictUnits k t s → Be
     → unit_rest k r ≡ None → s ≡ r
 rows_once k t s r a b p q = rows_meet k a.units b.units s r a.each a.ends b.each b.ends p q (sym a.text_is ∙ b.text_is)
 
--- The text after one character or escape.
+-- If a text begins with a valid character or escape, `unit_rest` returns the text after it.
 pub unit_left : (k : Kind) (t r : List ℕ) → BeginsStrictUnit k t r → unit_rest k t ≡ Some r
 unit_left k t r u = ap (unit_rest k) u.text_is ∙ unit_rest_complete k u.unit r u.is_unit u.ends
 
@@ -169,7 +172,7 @@ empty_front : List ℕ → Bool
 empty_front [] = true
 empty_front (c ∷ cs) = false
 
--- The kind of flaw after a closing delimiter.
+-- The kind of flaw after a closing delimiter, by the text between the delimiter and the flaw, and the text from the flaw on.
 suffix_kind : QuotedForm → List ℕ → List ℕ → FlawKind
 suffix_kind form front [] = UnderscoreSuffix
 suffix_kind form front (c ∷ cs) = cond (is_raw_form form && (empty_front front && c == 35)) ExtraHash
@@ -212,7 +215,7 @@ suffix_told form BadSuffix front (c ∷ cs) (f, some, n, q, x) = go (is_raw_form
     go false e = sym (ap (λ z. cond z TextAfterQuote BadSuffix) q)
 suffix_told form k front rest h = absurd h
 
--- Two flaws after one closing quote have one kind and one piece.
+-- Two flaws at one position after a closing quote have one kind and one piece.
 pub suffix_once : (form : QuotedForm) (k l : FlawKind) (ca cb fa fb pa pb rest : List ℕ) → SuffixFlaw form k fa rest
     → SuffixFlaw form l fb rest → ca ≡ cb → fa ++ rest ≡ fb ++ rest → pa ≡ suffix_piece k ca (fa ++ rest) → pb
     ≡ suffix_piece l cb (fb ++ rest) → (k ≡ l) × (pa ≡ pb)
@@ -262,7 +265,7 @@ cooked_once kind k l t pa pb rest s (inr a) (inr b) =
 
 -- ---- character and byte literals
 
--- Two ways to read one character or escape at the beginning of a text leave one rest.
+-- If a text begins with a character or escape, the text after this character or escape is determined.
 left_once : (k : Kind) (t r s : List ℕ) → BeginsStrictUnit k t r → BeginsStrictUnit k t s → r ≡ s
 left_once k t r s a b =
     let both : Some r ≡ Some s = sym (unit_left k t r a) ∙ unit_left k t s b in

@@ -1,15 +1,15 @@
--- At one position, a character or escape of a quoted literal has at most one flaw.
+-- A character or escape of a quoted literal has at most one kind of flaw at each position.
 use Rattle.rl_strict.proofs.Names.{◌≡◌, ℕ, ◌+◌, ◌*◌, ◌||◌, ◌&&◌, Bool, true, false, not, cond, eqb, ltb, List, [], ◌∷◌, ◌++◌, None, refl, sym, ap, subst, ◌∙◌, arith, digit_value, list_all, and_parts, eqb-true, lt-ltb, ne_eqb, not-true, or_parts, le-ltb, Kind, first_passes, is_underscore, is_hex_digit, apart, is_among, FlawKind, Unclosed, UnknownEscape, NoUnicode, NoHexDigit, NoBrace, EmptyBraces, TooManyDigits, HexEscapeOutOfRange, UnicodeEscapeOutOfRange, Surrogate, Nul, NotAscii, MustEscape, NoCharacter, IsBraced, digit_count, number_of, FirstDigit, SecondDigit, AfterBrace, AfterDigits, IsNoCode, HasNoCode, AtBrace, AtSixth, AsItIs, ByLetter, ByDigits, ByNumber, UnitFlaw, escape_at, hex_at, unit_at, unicode_at, character_flaw_of, code_flaw_of, unit_nil, unicode_digits_at, unicode_is}
 use Rattle.rl_lenient.proofs.Names.{Zero}
 
 -- ---- the kind of flaw, by the text before the flaw and the character at the flaw
 
--- The kind of flaw after digits between braces.
+-- The kind of flaw in a `\u{..}` escape, by the digits before the flaw and the character at the flaw.
 abbrev pub digits_flaw : List ℕ → ℕ → FlawKind
 digits_flaw ds c = cond (is_hex_digit c) (cond (eqb (digit_count ds) 6) TooManyDigits
     (code_flaw_of (number_of (ds ++ (c ∷ []))))) (cond (eqb c 125) (code_flaw_of (number_of ds)) NoHexDigit)
 
--- The kind of flaw after any prefix of a character or escape.
+-- The kind of flaw in a character or escape, by the text before the flaw and the character at the flaw.
 abbrev pub flaw_of : List ℕ → ℕ → FlawKind
 flaw_of [] c = character_flaw_of c
 flaw_of (a ∷ []) c = cond (eqb c 117) NoUnicode (cond (eqb c 48) Nul UnknownEscape)
@@ -18,7 +18,8 @@ flaw_of (a ∷ b ∷ d ∷ []) c = cond (eqb b 120) (cond (is_hex_digit c) Nul N
     (cond (eqb c 125) EmptyBraces NoHexDigit)
 flaw_of (a ∷ b ∷ d ∷ e ∷ ds) c = digits_flaw (e ∷ ds) c
 
--- The text before the flaw isn't a complete character or escape, and it determines the kind of flaw.
+-- The text before the flaw isn't a complete character or escape. This text and the character at the flaw determine the kind
+-- of flaw.
 pub record Spoils (kind : Kind) (k : FlawKind) (t : List ℕ) (c : ℕ) (cs : List ℕ) : Type 0 where
   pub front : List ℕ
   pub text_is : t ≡ front ++ (c ∷ cs)
@@ -56,7 +57,7 @@ no_digit kind = refl
 abbrev is_part : ℕ → Bool
 is_part c = is_underscore c || is_hex_digit c
 
--- Digits without the closing brace aren't an escape.
+-- After `\u{`, digits without a closing brace aren't accepted as the number of an escape.
 not_closed : (v n : ℕ) (ds : List ℕ) → list_all is_part ds ≡ true → unicode_digits_at v n ds ≡ None
 unfolding unicode_digits_at
 not_closed v n [] h = refl
@@ -80,9 +81,9 @@ no_end kind (c ∷ cs) first each =
     let p = and_parts (is_part c) (list_all is_part cs) each in
     rw (unicode_is kind (123 ∷ c ∷ cs), first, not_closed (digit_value c) 1 cs p.1) refl
 
--- ---- the kinds of flaws
+-- ---- the flaws of a character or escape, kind by kind
 
--- The kind of flaw of a number that isn't allowed.
+-- If a kind of literal can't contain the character with a number, the reason is the one that the code returns.
 code_of : (kind : Kind) (k : FlawKind) (n : ℕ) → IsNoCode kind k n → k ≡ code_flaw_of n
 code_of kind UnicodeEscapeOutOfRange n h = rw (lt-ltb 1114111 n h) refl
 code_of kind Surrogate n h = rw (
@@ -93,13 +94,15 @@ code_of kind Surrogate n h = rw (
 code_of kind Nul n h = ap code_flaw_of (sym h.1)
 code_of kind k n h = absurd h
 
--- The flaw after digits between braces.
+-- If the digits of an unclosed `\u{..}` escape and the character at the flaw determine the kind of flaw, the escape is
+-- incomplete before the flaw.
 after_digits_spoils : (kind : Kind) (k : FlawKind) (t ds : List ℕ) (c : ℕ) (cs : List ℕ) → IsBraced ds t (c ∷ cs) → k
     ≡ digits_flaw ds c → Spoils kind k t c cs
 after_digits_spoils kind k t [] c cs b is = let h = b.begins in absurd (cc)
 after_digits_spoils kind k t (d ∷ ds) c cs b is = record { front = 92 ∷ 117 ∷ 123 ∷ d ∷ ds; text_is = b.text_is; no_unit = no_end kind (d ∷ ds) b.begins b.each; kind_is = is }
 
--- The flaw of a number that isn't allowed.
+-- If the number of a `\u{..}` escape isn't allowed, the text before the flaw and the character at the flaw determine the
+-- kind of flaw.
 code_spoils : (kind : Kind) (k : FlawKind) (t : List ℕ) (c : ℕ) (cs : List ℕ) → HasNoCode kind k t (c ∷ cs)
     → Spoils kind k t c cs
 code_spoils kind k t c cs (AtBrace ds b few brace is) =
@@ -112,7 +115,7 @@ code_spoils kind k t c cs (AtSixth ds sixth after b five rest digit is) =
     after_digits_spoils kind k t ds c cs b (subst (λ z. k ≡ digits_flaw ds z) (sym same)
     (rw (digit, count) (code_of kind k (number_of (ds ++ (sixth ∷ []))) is)))
 
--- The flaw of a NUL.
+-- If a C string contains a NUL, the text before the flaw and the character at the flaw determine the kind of flaw, `Nul`.
 nul_spoils : (kind : Kind) (t : List ℕ) (c : ℕ) (cs : List ℕ) → UnitFlaw kind Nul t (c ∷ cs) → Spoils kind Nul t c cs
 nul_spoils kind t c cs (k, AsItIs e zero) = record { front = []; text_is = e; no_unit = unit_nil kind; kind_is = rw zero refl }
 nul_spoils kind t c cs (k, ByLetter e zero) = record { front = 92 ∷ []; text_is = e; no_unit = no_escape kind; kind_is = ap (flaw_of (92 ∷ [])) (sym (eqb-true c 48 zero)) }
@@ -122,7 +125,8 @@ nul_spoils kind t c cs (k, ByDigits high low after e rest h l zero) =
     record { front = 92 ∷ 120 ∷ high ∷ []; text_is = e; no_unit = no_low kind high h; kind_is = rw digit refl }
 nul_spoils kind t c cs (k, ByNumber n) = code_spoils kind Nul t c cs n
 
--- The flaw of a missing digit.
+-- If an escape lacks a hexadecimal digit, the text before the flaw and the character at the flaw determine the kind of flaw,
+-- `NoHexDigit`.
 digit_spoils : (kind : Kind) (t : List ℕ) (c : ℕ) (cs : List ℕ) → UnitFlaw kind NoHexDigit t (c ∷ cs)
     → Spoils kind NoHexDigit t c cs
 digit_spoils kind t c cs (FirstDigit e h) = record { front = 92 ∷ 120 ∷ []; text_is = e; no_unit = no_hex kind; kind_is = rw (not-true (is_hex_digit c) h) refl }
@@ -135,7 +139,7 @@ digit_spoils kind t c cs (AfterDigits ds b h) =
     let q = or_parts (is_hex_digit c) (eqb c 125) p.0 in
     after_digits_spoils kind NoHexDigit t ds c cs b (rw (q.0, q.1) refl)
 
--- The flaw of a character that must be written as an escape.
+-- For an unescaped LF, CR or tab, the code returns the kind of flaw `MustEscape`.
 pub must_escape : (c : ℕ) → is_among (10 ∷ 13 ∷ 9 ∷ []) c ≡ true → MustEscape ≡ character_flaw_of c
 must_escape c h = go (eqb c 10) (eqb c 13) (eqb c 9) refl refl refl h
   where
@@ -149,7 +153,7 @@ must_escape c h = go (eqb c 10) (eqb c 13) (eqb c 9) refl refl refl h
     go false false true a b d h = at 9 d refl
     go false false false a b d h = absurd (cc)
 
--- The flaw of a non-ASCII character.
+-- For an unescaped non-ASCII character, the code returns the kind of flaw `NotAscii`.
 not_ascii : (c : ℕ) → not (ltb c 128) ≡ true → NotAscii ≡ character_flaw_of c
 not_ascii c h = rw (
   apart (λ x. not (ltb x 128)) c 0 h refl,
@@ -158,7 +162,7 @@ not_ascii c h = rw (
       (ltb c 128) h,
 ) refl
 
--- Each kind of flaw at a character.
+-- If a flaw is at a character, the text before the flaw and this character determine the kind of flaw.
 pub spoils : (kind : Kind) (k : FlawKind) (t : List ℕ) (c : ℕ) (cs : List ℕ) → UnitFlaw kind k t (c ∷ cs)
     → Spoils kind k t c cs
 spoils kind Unclosed t c cs h = absurd (cc)
@@ -186,7 +190,7 @@ spoils kind MustEscape t c cs (k, e, b) = record { front = []; text_is = e; no_u
 spoils kind NoCharacter t c cs (k, e, b) = record { front = []; text_is = e; no_unit = unit_nil kind; kind_is = ap character_flaw_of (sym (eqb-true c 39 b)) }
 spoils kind k t c cs h = absurd h
 
--- At the end of the text, the flaw is the missing closing quote.
+-- If the text ends before a character or escape is complete, the kind of flaw is the missing closing quote, `Unclosed`.
 pub at_end : (kind : Kind) (k : FlawKind) (t : List ℕ) → UnitFlaw kind k t [] → k ≡ Unclosed
 at_end kind Unclosed t h = refl
 at_end kind UnknownEscape t (e, b) = let r = b.rest_is in absurd (cc)

@@ -1,25 +1,25 @@
--- The parse result of a text is the one that the grammars define for the whole text.
+-- Lemmas from the text after an opening delimiter or a minus to the parse result of the whole text.
 use Rattle.rl_strict.proofs.Names.{◌≡◌, ℕ, Bool, true, false, List, ◌∷◌, refl, sym, ap, subst, ◌∙◌, inl, inr, both_ways, is_ascii_digit, IsTrue, IsUtf8, ◌↔◌, Kind, Str, Char, first_passes, is_string, Result, Ok, Err, IfOk, IfErr, is_ok, chars, IsTail, cut_boundary, cut_drop, Body, QuotedForm, CookedForm, SingleForm, IsFound, IsQuotedAt, found_opener, opener_at, front_complete, front_sound, OfUnit, quoted_found, no_unit, ClosesForm, IsToken, FlawKind, StopsIn, Flaw, Reading, Number, ExplainsStrictly, IsFloatRead, IsIntegerRead, IsNumberRead, IsStop, suffix_of, IsFlawAt, IsMinusStop, IsStrictReading, IsSignedRead, placed_in, NoNumber, UnexpectedEnd, end_flaw_at, found_flaw}
 use Rattle.rl_strict.proofs.StrictLemmas.{close_token, told_token}
 use Rattle.rl_strict.specs.declared.read_numbers.Number.TheVariants.{Integer, Float}
 use Rattle.rl_strict.proofs.SignedFlaws.{no_digit, number_of, number_stops}
 use Rattle.rl_strict.proofs.StrictTokens.{stops_token, strict_quoted_has}
 
--- A quote at the beginning of a text identifies the form.
+-- If a text begins with `"`, its opening delimiter is that of a string with escapes.
 pub string_opens : (t inside : List ℕ) → t ≡ 34 ∷ inside → opener_at t ≡ found_opener CookedForm Str inside
 string_opens t inside e = ap opener_at e ∙ front_complete CookedForm Str inside refl
 
 pub character_opens : (t inside : List ℕ) → t ≡ 39 ∷ inside → opener_at t ≡ found_opener SingleForm Char inside
 character_opens t inside e = ap opener_at e ∙ front_complete SingleForm Char inside refl
 
--- A text is a literal token if its part after the opening delimiter ends the literal.
+-- A text is a literal token if the text after its opening delimiter closes the literal.
 pub form_token : (t : List ℕ) (form : QuotedForm) (kind : Kind) (inside : List ℕ) → opener_at t
     ≡ found_opener form kind inside → ClosesForm form kind inside → IsToken t
 form_token t form kind inside h c =
     let told = front_sound t (form, kind, inside) h in
     close_token form kind t inside told.has told.text_is c
 
--- A text isn't a literal token if its part after the opening delimiter doesn't end the literal.
+-- A flaw in the text after an opening delimiter is a flaw of the whole text.
 pub form_flaw : (t : List ℕ) (form : QuotedForm) (kind : Kind) (inside : List ℕ) (k : FlawKind) (piece rest : List ℕ)
     → opener_at t ≡ found_opener form kind inside → StopsIn form kind k inside piece rest → IsFlawAt t k piece rest
 form_flaw t form kind inside k piece rest h s =
@@ -31,7 +31,8 @@ form_flaw t form kind inside k piece rest h s =
       says = inl (strict_quoted_has t form kind inside k piece rest h s.has);
     }
 
--- The parse result of a string.
+-- The parse result of a string, which is the byte offsets of its parts, is the result of `find`, which parses by `syn`'s
+-- grammar.
 pub text_found : (t : List ℕ) (kind : Kind) (body : Body) → is_string kind ≡ true → IsUtf8 t → IsQuotedAt kind t body
     → IsFound t (OfUnit kind body 0)
 text_found t kind body s u q = quoted_found t kind body 0 (OfUnit kind body 0) u q (no_unit kind q.value s) refl

@@ -9,7 +9,7 @@ use Rattle.rl_strict.proofs.StrictNumberKinds.{digit_kind}
 use Rattle.rl_strict.proofs.StrictTokens.{token_number}
 use Rattle.rl_strict.proofs.Stops.{Stops}
 
--- ---- function calls
+-- ---- results of the functions that parse a number's parts
 
 pub empty_end : (t : List ℕ) → is_some_text t ≡ false → ended t ≡ suffix_end_at t
 unfolding suffix_end_at suffix_rest
@@ -41,7 +41,7 @@ one_digit c h = number_is_token (c ∷ []) h (ap is_read (decimal_is (c ∷ []) 
     (h, and_from (is_ascii_digit c || (c == 95)) true (or_left (is_ascii_digit c) (c == 95) h) refl) refl
     ∙ whole_plain [] refl))
 
--- A number doesn't stop at its first character.
+-- If a text begins with a digit, the text before its flaw as a number begins with a digit too.
 pub goes_on : (t front rest : List ℕ) → t ≡ front ++ rest → ((c : ℕ) (cs e : List ℕ) → rest ≡ c ∷ cs
     → IsToken (front ++ (c ∷ e)) → ⊥) → first_passes is_ascii_digit t ≡ true → first_passes is_ascii_digit front ≡ true
 goes_on t (c ∷ cs) rest e stuck h = sym (ap (first_passes is_ascii_digit) e) ∙ h
@@ -49,13 +49,15 @@ goes_on t [] [] e stuck h = absurd (both_ways false refl (sym (ap (first_passes 
 goes_on t [] (c ∷ cs) e stuck h = absurd
     (stuck c cs [] refl (one_digit c (sym (ap (first_passes is_ascii_digit) e) ∙ h)))
 
--- The text before a position, with the character there, begins as the whole text does, whatever text follows.
+-- If the first character of a text passes a test, it still passes if the text after any character is replaced by another
+-- text.
 starts : (test : ℕ → Bool) (front rest t : List ℕ) (c : ℕ) (cs e : List ℕ) → t ≡ front ++ rest → rest ≡ c ∷ cs
     → first_passes test t ≡ true → first_passes test (front ++ (c ∷ e)) ≡ true
 starts test [] rest t c cs e a b k = sym (ap (first_passes test) (a ∙ b)) ∙ k
 starts test (x ∷ xs) rest t c cs e a b k = sym (ap (first_passes test) a) ∙ k
 
--- The result of the parser satisfies the definition of the flaw's kind.
+-- If the parser of numbers stops with a kind of flaw, the definition of this kind holds for the text before the flaw and the
+-- text from the flaw on.
 kind_says : (k : FlawKind) (front rest : List ℕ) → first_passes is_ascii_digit front ≡ true
     → (k ≡ BadSuffix → Passes number_end_at front × (rest ≢ [])) → number_end_at (front ++ rest) ≡ stopped k rest
     → Says k front rest → IsStrictNumberFlaw k front rest
@@ -103,7 +105,7 @@ number_stop t k rest d code f = record {
     digit : first_passes is_ascii_digit s.front ≡ true
     digit = goes_on t s.front rest s.text_is stuck d
 
--- ---- results of function calls
+-- ---- the parse result or the flaw of a number, from the result of the mirror
 
 judged : (t : List ℕ) (r : NumberRead) → first_passes is_ascii_digit t ≡ true → r ≡ number_read_at t
     → ReadJudged t number_end_at [] t r

@@ -11,7 +11,7 @@ use Rattle.rl_strict.proofs.StrictWordLemmas.{strict_suffix_sound}
 use Rattle.rl_lenient.proofs.RawLemmas.{opens, raw_found}
 use Rattle.rl_strict.proofs.StrictCookedFlaws.{cooked_unclosed, no_front, single_closed, single_open, single_unclosed, string_closed, string_open, unquoted_ends}
 
--- ---- the suffix
+-- ---- the suffix of a quoted literal
 
 pub judged_by : (form : QuotedForm) (t : List ℕ) (o : Option FoundFlaw) → o ≡ suffix_read_at form t → Judges form t o
 judged_by form t o e = subst (Judges form t) (sym e) (suffix_judged form t)
@@ -27,7 +27,7 @@ empty_read form (c ∷ cs) h = absurd (both_ways true h refl)
 
 -- ---- a string with escapes
 
--- A sequence of plain characters is a sequence of valid characters of the literal.
+-- If a string's text begins with plain characters, it begins with a sequence of valid characters of Rust's grammar.
 pub plain_row : (k : Kind) (t run rest : List ℕ) → is_string k ≡ true → t ≡ run ++ rest → list_all (is_plain k) run
     ≡ true → BeginsStrictUnits k t rest
 plain_row k t run rest s e each = row_run k t t rest run (row_none k t) e (bare_run k run s each)
@@ -113,7 +113,8 @@ cooked_at kind t inside closing suffix body front s r quote cut suffix_is stands
 
 -- ---- a character or byte literal
 
--- A text that begins with a character that must be escaped has no valid character at its beginning.
+-- If the content of a character or byte literal begins with a character that must be escaped, the content begins with no
+-- valid character.
 pub bad_front : (k : Kind) (c : ℕ) (cs : List ℕ) → is_single k ≡ true → (c == 92) ≡ false → is_allowed_in_single_quotes c ≡ false
     → unit_rest k (c ∷ cs) ≡ None
 unfolding unit_rest
@@ -130,7 +131,7 @@ not_string Byte s = refl
 not_string Char s = refl
 not_string kind s = absurd (cc)
 
--- After an escape of a character or byte literal, both grammars leave one text.
+-- An escape of a character or byte literal ends at the same position in both grammars, Rust's and `syn`'s.
 escape_same : (k : Kind) (cs : List ℕ) → is_single k ≡ true → option_map (λ p. p.1) (escape_at k cs) ≡ escape_rest k cs
 unfolding unit_at escape_at
 escape_same k [] s = refl
@@ -155,7 +156,8 @@ escape_same k (d ∷ ds) s = go (d == 10) refl (d == 13) refl
         subst At (sym (eqb-true d 13 f)) (ends 13 refl refl refl)
     go false e false f = refl
 
--- After a backslash, or a character that is allowed unescaped, both grammars have equal results.
+-- If the content of a character or byte literal begins with a backslash, or with a character that is allowed unescaped, the
+-- content ends at the same position in both grammars, Rust's and `syn`'s.
 pub good_front : (k : Kind) (c : ℕ) (cs : List ℕ) → is_single k ≡ true → (c == 92) ≡ true ⊎ is_allowed_in_single_quotes c ≡ true
     → option_map (λ p. p.1) (unit_at k (c ∷ cs)) ≡ unit_rest k (c ∷ cs)
 unfolding unit_rest unit_at
@@ -184,7 +186,7 @@ good_front k c cs s (inr g) = go k s (c == 92) refl
         byte false false t = refl
     go kind s false e = absurd (cc)
 
--- ---- results of function calls
+-- ---- results of the code's functions for a character or escape
 
 pub rest_is : {I : Type 0} (value rest : I → List ℕ) (r : Option I) (u : Option (List ℕ × List ℕ))
     → option_map (λ i. (value i, rest i)) r ≡ u → option_map rest r ≡ option_map (λ (p : List ℕ × List ℕ). p.1) u
@@ -259,7 +261,7 @@ single_quoted kind t inside closing suffix v body front s unit quote cut suffix_
 
 -- ---- a raw string
 
--- If a text can't continue at a flaw, it isn't one of the texts that satisfy `takes`.
+-- If the longest prefix of a text that can be completed ends before the text's end, the text doesn't satisfy `takes`.
 pub stuck_none : (takes : List ℕ → Type 0) (t rest cs : List ℕ) (c : ℕ) → StopsBefore takes t rest → rest ≡ c ∷ cs
     → takes t → ⊥
 stuck_none takes t rest cs c s e y = s.stuck c cs cs e (subst takes (s.text_is ∙ ap (λ z. s.front ++ z) e) y)

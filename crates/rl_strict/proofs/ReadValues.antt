@@ -1,4 +1,4 @@
--- The values of parsed texts, and integers above 128 bits.
+-- A parsed text has a value, unless it is an integer above 128 bits that isn't a float by its suffix.
 use Rattle.rl_strict.proofs.Names.{◌≡◌, ℕ, Bool, true, false, List, Option, Some, None, IfNone, IfSome, refl, sym, subst, inl, inr, IsUtf8, IsPast, chars, Flaw, LineEnds, Text, File, Reading, AText, Unit, Integer, AFloat, Truth, ExplainsLimit, IsFloatBySuffix, oversized_suffix_at, read_of, ExplainsOf, ExplainsValueOf, HasValueOf, IsReadingOf, IsTokenIf, ReadsOf, lf_bytes, IsSignedToken, IsSignedRead}
 use Rattle.rl_strict.proofs.FilePlaces.{lf_chars}
 use Rattle.rl_strict.proofs.LimitLemmas.{either, signed_within}
@@ -11,7 +11,7 @@ signed_read : (signed : Bool) (t : List ℕ) (r : Reading) → ReadsOf signed t 
 signed_read false t r h = inl h
 signed_read true t r h = h
 
--- ---- an integer above 128 bits is read as written
+-- ---- an integer above 128 bits contains no CR LF
 
 pub past_read : (how : LineEnds) (signed : Bool) (t : List ℕ) (r : Reading) (at : ℕ) → IsReadingOf how signed t r
     → oversized_suffix_at r ≡ Some at → (read_of how (chars t) ≡ chars t) × IsSignedRead t r

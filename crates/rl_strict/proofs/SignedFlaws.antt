@@ -7,14 +7,14 @@ use Rattle.rl_strict.proofs.Stops.{Flawed, raised}
 
 -- ---- the text after a minus
 
--- The text after a minus is a number.
+-- In a negative number, the text after the minus is a number: it begins with a digit, and is a literal token.
 pub number_of : (t : List ℕ) → IsSignedToken (45 ∷ t) → (first_passes is_ascii_digit t ≡ true) × IsToken t
 number_of t (inl c) = absurd (minus_no_token t c)
 number_of t (inr (n, e, d, c)) =
     let same : n ≡ t = cc in
     (subst (λ z. first_passes is_ascii_digit z ≡ true) same d, subst IsToken same c)
 
--- ---- the position where the number stops
+-- ---- the position where the number after a minus stops
 
 pub number_stops : (t rest : List ℕ) → first_passes is_ascii_digit t ≡ true → StopsBefore IsToken t rest
     → StopsBefore IsSignedToken (45 ∷ t) rest
@@ -28,7 +28,7 @@ number_stops t rest d s = raised IsToken IsSignedToken (45 ∷ []) t rest s
     ))
     (λ c cs e h y. (number_of (s.front ++ (c ∷ e)) y).1)
 
--- The flaw of the text after a minus.
+-- The flaw of a text that begins with a minus. The argument is the text after the minus.
 abbrev pub AfterMinus : List ℕ → FoundFlaw → Type 0
 AfterMinus t flaw = Flawed IsSignedToken (45 ∷ t) flaw.1 (IsMinusFlawOf flaw.0 t flaw.1)
 
@@ -51,13 +51,13 @@ no_digit t flaw n same = subst (AfterMinus t) (sym same) (no_digit_flaw t n)
 
 -- ---- texts without a minus
 
--- A text that begins with no minus is a literal token or a negative number only if it is a token.
+-- If a text that begins with no minus is a literal token or a negative number, it is a literal token.
 pub unsigned : (t : List ℕ) → first_passes (λ c. c == 45) t ≡ false → IsSignedToken t → IsToken t
 unsigned t n (inl c) = c
 unsigned t n (inr (m, e, d, c)) = absurd (both_ways (first_passes (λ c. c == 45) t) n
     (ap (first_passes (λ c. c == 45)) e))
 
--- ---- bytes
+-- ---- the number of bytes of a text with a minus, before and after the flaw
 
 pub signed_bytes : (t number rest : List ℕ) → chars t ≡ 45 ∷ chars number → IsUtf8 t → IsUtf8 rest
     → (s : StopsBefore IsSignedToken (45 ∷ chars number) (chars rest)) → length t ≡ byte_len s.front + length rest

@@ -1,19 +1,21 @@
--- The position where a text can't continue, in the one form that the lemmas share.
+-- The end of the longest prefix of a text that can be completed, as a record for all lemmas of this crate.
 use Rattle.rl_strict.proofs.Names.{◌≡◌, ℕ, List, ◌∷◌, ◌++◌, sym, ap, subst, ◌∙◌, append_assoc, IsCompletable, StopsBefore}
 
--- The text before the rest can be completed, and with the rest's first character it fails.
+-- The text before the rest can be completed to a text that satisfies `closes`. With the rest's first character, every longer
+-- text satisfies `fails`.
 pub record Stops (closes fails : List ℕ → Type 0) (text rest : List ℕ) : Type 0 where
   pub front : List ℕ
   pub text_is : text ≡ front ++ rest
   pub begins : IsCompletable closes front
   pub stuck : (c : ℕ) (cs e : List ℕ) → rest ≡ c ∷ cs → fails (front ++ (c ∷ e))
 
--- A text can't continue before the rest, and a statement about it holds.
+-- The longest prefix of the text that can be completed to a text that satisfies `takes` ends before the rest. The statement
+-- `says` holds too.
 pub record Flawed (takes : List ℕ → Type 0) (text rest : List ℕ) (says : Type 0) : Type 0 where
   pub stops : StopsBefore takes text rest
   pub has : says
 
--- A text with another text before it stops at the end of its longest completable prefix too.
+-- If the text `pre` is put before a text, the longest prefix that can be completed still ends before `rest`.
 unfoldable pub lifted : {closes fails more less : List ℕ → Type 0} (pre t rest : List ℕ) (s : Stops closes fails t rest)
     → (closes (s.front ++ s.begins.ending) → more (pre ++ (s.front ++ s.begins.ending))) → ((c : ℕ) (cs e : List ℕ) →
     rest ≡ c ∷ cs → fails (s.front ++ (c ∷ e)) → less (pre ++ (s.front ++ (c ∷ e)))) → Stops more less (pre ++ t) rest
@@ -28,12 +30,13 @@ lifted {more} {less} pre t rest s good bad = record {
   stuck = λ c cs e h. subst less (sym (append_assoc pre s.front (c ∷ e))) (bad c cs e h (s.stuck c cs e h));
 }
 
--- A text that fails doesn't satisfy `takes`.
+-- `StopsBefore` follows from `Stops`, if the texts that fail are the texts that don't satisfy `takes`.
 unfoldable pub stops_before : (takes : List ℕ → Type 0) (t rest : List ℕ) → Stops takes (λ z. takes z → ⊥) t rest
     → StopsBefore takes t rest
 stops_before takes t rest s = record { front = s.front; text_is = s.text_is; begins = s.begins; stuck = s.stuck }
 
--- A text with another text before it stops in the second grammar where it stops in the first one.
+-- If the text `pre` is put before a text, and completed texts satisfy `more` in place of `takes`, the longest prefix that
+-- can be completed still ends before `rest`.
 unfoldable pub raised : (takes more : List ℕ → Type 0) (pre t rest : List ℕ) (s : StopsBefore takes t rest) → (takes
     (s.front ++ s.begins.ending) → more (pre ++ (s.front ++ s.begins.ending))) → ((c : ℕ) (cs e : List ℕ) → rest ≡ c ∷
     cs → more (pre ++ (s.front ++ (c ∷ e))) → takes (s.front ++ (c ∷ e))) → StopsBefore more (pre ++ t) rest

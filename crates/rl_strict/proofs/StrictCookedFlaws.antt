@@ -17,19 +17,19 @@ no_unit k t none r u =
     let n : None ≡ Some r = sym none ∙ ap (unit_rest k) u.text_is ∙ unit_rest_complete k u.unit r u.is_unit u.ends in
     absurd (cc)
 
--- The text doesn't begin with a quote.
+-- If a text isn't the character `q` followed by another text, it doesn't begin with `q`.
 pub no_front : (q : ℕ) (t : List ℕ) → ((x : List ℕ) → t ≢ q ∷ x) → first_passes (λ c. c == q) t ≡ false
 no_front q [] n = refl
 no_front q (c ∷ cs) n = false_from_ne_true (c == q) (λ h. n cs (ap (λ z. z ∷ cs) (eqb-true c q h)))
 
--- A text that doesn't begin with the closing quote doesn't end the literal.
+-- If a text doesn't begin with the closing quote, it isn't the closing quote and a suffix.
 pub unquoted_ends : (q : ℕ) (t : List ℕ) → first_passes (λ c. c == q) t ≡ false → ends_quoted q t ≡ false
 unquoted_ends q [] n = refl
 unquoted_ends q (c ∷ cs) n = and_left (c == q) (is_strict_suffix cs) n
 
 -- ---- a closed string
 
--- After its characters and escapes, a string is closed by a quote and a suffix.
+-- A closing quote and a suffix are the end of a string.
 pub quote_closes : (k : Kind) (t : List ℕ) → is_string k ≡ true → unit_rest k t ≡ None → ends_quoted 34 t ≡ true
     → ClosesUnits k t
 quote_closes k t s none h = (units_end k (ends_quoted 34 t) t t s none ((λ c. c), (λ c. c)) refl).0 h
@@ -57,7 +57,7 @@ cooked_text : (k : Kind) (t closing suffix : List ℕ) (r : BeginsStrictUnits k 
 cooked_text k t closing suffix r e = r.text_is ∙ ap (λ z. flat_map strict_text r.units ++ z) e
     ∙ sym (append_assoc (flat_map strict_text r.units) (34 ∷ []) suffix)
 
--- A string is closed if and only if a suffix follows its closing quote.
+-- Characters and escapes, a closing quote and a suffix are the end of a string.
 pub cooked_closes : (k : Kind) (t closing suffix : List ℕ) → is_string k ≡ true → BeginsStrictUnits k t closing
     → closing ≡ 34 ∷ suffix → is_strict_suffix suffix ≡ true → ClosesUnits k t
 unfolding string_closer
@@ -82,7 +82,7 @@ string_closed k f t closing suffix piece rest s r e found spoiled =
 
 -- ---- an unclosed string
 
--- Characters, followed by one more character.
+-- If a text consists of valid characters, it does so with one more character at its end.
 one_more : (q : ℕ) (e : List ℕ) → IsScalar q → AllByRecursion IsScalar e → AllByRecursion IsScalar (e ++ (q ∷ []))
 one_more q [] s a = (s, tt)
 one_more q (c ∷ cs) s a = (a.0, one_more q cs s a.1)
@@ -118,7 +118,8 @@ string_open k f t piece rest s r none unquoted same =
         → ClosesUnits k z → ClosesUnits k (flat_map strict_text r.units ++ z)
     quoted z opened c = (row_closes k r.units z s r.each (breaks_to r.units piece z opened r.ends)).0 c
 
-    -- A character or escape is incomplete, or none has begun. After its completion a quote closes the string.
+    -- The text before the flaw is complete characters and escapes, and perhaps an incomplete one. A completed escape and a
+    -- quote then close the string.
     begins : (front : List ℕ) → piece ≡ front ++ rest → IsCompletable (IsUnitText k) front
         → IsCompletable (ClosesUnits k) (flat_map strict_text r.units ++ front)
     begins [] text done = record {
@@ -142,14 +143,14 @@ string_open k f t piece rest s r none unquoted same =
 
 -- ---- a character or byte literal
 
--- The character or escape ends independently of the text after it.
+-- In a character or byte literal, the end of a character or escape doesn't depend on the text after it.
 single_ends : (k : Kind) (u : StrictUnit) (r : List ℕ) → is_single k ≡ true → is_strict_unit k u ≡ true → BreakEnds u r
 single_ends Byte (LineBreak blanks) r s h = absurd (cc)
 single_ends Char (LineBreak blanks) r s h = absurd (cc)
 single_ends k (LineBreak blanks) r s h = absurd (cc)
 single_ends k other r s h = tt
 
--- After its character or escape, the literal is closed by a quote and a suffix.
+-- In a character or byte literal, `unit_rest` returns the text after a valid character or escape.
 single_quote : (k : Kind) (u : StrictUnit) (r : List ℕ) → is_single k ≡ true → is_strict_unit k u ≡ true
     → unit_rest k (strict_text u ++ r) ≡ Some r
 single_quote k u r s h = unit_rest_complete k u r h (single_ends k u r s h)
@@ -182,7 +183,7 @@ single_closed k f t closing suffix piece rest s h e found spoiled =
     (u.text_is ∙ ap (λ z. strict_text u.unit ++ z) e ∙ sym (append_assoc (strict_text u.unit) (39 ∷ []) suffix))
     (front_unit k t closing u, e) found spoiled
 
--- The flaw if no quote follows the character or escape.
+-- If no quote follows the one character or escape of a character or byte literal, the literal can't continue there.
 single_unquoted : (k : Kind) (t rest : List ℕ) → is_single k ≡ true → StrictFront k t rest
     → first_passes (λ c. c == 39) rest ≡ false → StopsBefore (ClosesForm SingleForm k) t rest
 unfolding is_strict_suffix
@@ -210,7 +211,8 @@ single_unclosed k f t closing piece rest s h none same whole =
     go [] u stops q = record { stops = stops; has = inl (inr (u, refl), whole) }
     go (c ∷ cs) u stops q = record { stops = stops; has = inl (inr (u, (λ n. absurd (cc)), q), whole) }
 
--- The flaw if the content doesn't begin with a valid character or escape.
+-- If the content of a character or byte literal begins with no valid character or escape, the literal has the flaw that the
+-- code returns.
 pub single_open : (k : Kind) (f : FlawKind) (t piece rest : List ℕ) → is_single k ≡ true → unit_rest k t ≡ None
     → found_flaw f rest ≡ strict_unit_flaw_at k t → piece ≡ t → FlawInside SingleForm k f t piece rest
 unfolding is_strict_suffix

@@ -2,7 +2,7 @@
 use Rattle.rl_strict.proofs.Names.{◌≡◌, ℕ, List, [], ◌∷◌, ◌+◌, ◌++◌, length, replicate, refl, sym, ap, ◌∙◌, inl, inr, append_assoc, flat_map, IsUtf8, encode_utf8_all, encodes-append, encodes-chars, byte_len, Kind, strict_text, chars, FlawKind, UnexpectedEnd, NoQuote, Unclosed, Nul, NotAscii, TwoCharacters, TooManyHashes, CarriageReturn, TextAfterQuote, ExtraHash, QuotedForm, CookedForm, RawForm, SingleForm, StopsBefore, form_opener, ClosedFlaw, IsClosed, IsOpen, OpenFlaw, StrictCloserFlaw, StrictQuotedFlaw, StrictRawFlaw, suffix_piece, IsStrictFlawOf, IsToken, length-append}
 use Rattle.rl_strict.proofs.OneStrictUnit.{strict_unit_cut}
 
--- The number of bytes of a prefix, and of the text after it.
+-- The number of bytes of a text is the sum of those of a prefix and of the text after the prefix.
 pub cut_bytes : (t rest front : List ℕ) → IsUtf8 t → IsUtf8 rest → chars t ≡ front ++ chars rest → length t
     ≡ byte_len front + length rest
 cut_bytes t rest front ut ur cut =
@@ -12,7 +12,7 @@ cut_bytes t rest front ut ur cut =
     ∙ length-append (encode_utf8_all front) (encode_utf8_all (chars rest))
     ∙ ap (λ z. byte_len front + length z) (encodes-chars rest ur)
 
--- The number of bytes of the text before an end of the text.
+-- The number of bytes of a text is the sum of those of its longest completable prefix and of the rest.
 pub front_bytes : (t rest : List ℕ) → IsUtf8 t → IsUtf8 rest → (s : StopsBefore IsToken (chars t) (chars rest)) → length
     t ≡ byte_len s.front + length rest
 front_bytes t rest ut ur s = cut_bytes t rest s.front ut ur s.text_is
@@ -25,7 +25,7 @@ Tail t piece = (before : List ℕ) × (t ≡ before ++ piece)
 tail_more : (a b c : List ℕ) → Tail a b → Tail b c → Tail a c
 tail_more a b c (p, e) (q, h) = (p ++ q, e ∙ ap (λ z. p ++ z) h ∙ sym (append_assoc p q c))
 
--- The piece is an end of the text after the opening delimiter.
+-- If a flaw's piece is an end of the text after the opening delimiter, it is an end of the whole text.
 inside_tail : (t before inside piece : List ℕ) → t ≡ before ++ inside → Tail inside piece → Tail t piece
 inside_tail t before inside piece e k = tail_more t inside piece (before, e) k
 
@@ -47,7 +47,8 @@ open_tail CookedForm kind k t before inside piece rest e r h = inside_tail t bef
 open_tail SingleForm kind k t before inside piece rest e r h = (before, e ∙ ap (λ z. before ++ z) (sym h.1))
 open_tail RawForm kind k t before inside piece rest e r h = raw_tail kind k t before inside piece rest e r h
 
--- The closing quote, and the suffix after the closing delimiter, begin ends of the text.
+-- In a closed quoted literal, the text from the closing quote on and the suffix are ends of the text after the opening
+-- delimiter.
 closing_tail : (form : QuotedForm) (kind : Kind) (inside closing suffix : List ℕ)
     → IsClosed form kind inside closing suffix → Tail inside closing × Tail closing suffix
 closing_tail CookedForm kind inside closing suffix h = ((flat_map strict_text h.0.units, h.0.text_is), (34 ∷ [], h.1))

@@ -11,12 +11,12 @@ IsStrictNumber text =
 
 -- ---- the opening delimiters are equal in both grammars
 
--- The opening quotes are equal in both grammars.
+-- The opening delimiter of each kind of literal is equal in both grammars, Rust's and `syn`'s.
 opener_is : (k : Kind) → opener k ≡ strict_opener k
 opener_is Str = refl
 opener_is other = refl
 
--- The prefixes of raw strings are equal in both grammars.
+-- The prefix of each kind of raw string is equal in both grammars, Rust's and `syn`'s.
 raw_opener_is : (k : Kind) → raw_opener k ≡ strict_raw_opener k
 raw_opener_is Str = refl
 raw_opener_is other = refl
@@ -54,7 +54,7 @@ units_token k t inside q text c =
       }));
     }
 
--- The parts of a raw string, concatenated from the right.
+-- Concatenating the parts of a raw string from the left gives the text that concatenating them from the right gives.
 raw_text : (o h i x : List ℕ) → ((((o ++ h) ++ (34 ∷ i)) ++ (34 ∷ h)) ++ x) ≡ o ++ (h ++ (34 ∷ (i ++ (34 ∷ (h ++ x)))))
 raw_text o h i x = simp append_assoc
 
@@ -105,28 +105,29 @@ pub record Opened (t : List ℕ) : Type 0 where
 abbrev pub Seen : List ℕ → Type 0
 Seen t = Opened t ⊎ (IsStrictNumber t ⊎ ((b : Bool) × (t ≡ truth_text b)))
 
--- The text after the opening quote of a literal with escapes.
+-- In a literal token with escapes, the text after the opening quote is characters and escapes, the closing quote and a
+-- suffix.
 units_closed : (k : Kind) (t : List ℕ) (v : Contents) (x : List ℕ) (s : StrictCooked t k v x)
     → ClosesUnits k (flat_map strict_text s.units ++ (strict_closer k ++ x))
 units_closed k t v x s = record { units = s.units; suffix = x; count = s.count; each = s.each; blanks_end = s.blanks_end; is_suffix = s.suffix; text_is = refl }
 
--- The opening quote of a literal with escapes, and the text after it.
+-- A literal token with escapes begins with its opening quote. Characters and escapes, the closing quote and a suffix follow.
 units_text : (k : Kind) (t : List ℕ) (v : Contents) (x : List ℕ) (s : StrictCooked t k v x) → t ≡ opener k
     ++ (flat_map strict_text s.units ++ (strict_closer k ++ x))
 units_text k t v x s = s.text ∙ between (strict_opener k) (flat_map strict_text s.units) (strict_closer k) x
     ∙ ap (λ z. z ++ (flat_map strict_text s.units ++ (strict_closer k ++ x))) (sym (opener_is k))
 
--- A string with escapes.
+-- A string with escapes is an opening delimiter and the text that ends the literal.
 string_seen : (k : Kind) (t : List ℕ) (v : Contents) (x : List ℕ) → has_form CookedForm k ≡ true → StrictCooked t k v x
     → Seen t
 string_seen k t v x h s = inl (record { form = CookedForm; kind = k; inside = flat_map strict_text s.units ++ (strict_closer k ++ x); has = h; text_is = units_text k t v x s; closes = units_closed k t v x s })
 
--- A character or byte literal.
+-- A character or byte literal is an opening delimiter and the text that ends the literal.
 single_seen : (k : Kind) (t : List ℕ) (v : Contents) (x : List ℕ) → has_form SingleForm k ≡ true → StrictCooked t k v x
     → Seen t
 single_seen k t v x h s = inl (record { form = SingleForm; kind = k; inside = flat_map strict_text s.units ++ (strict_closer k ++ x); has = h; text_is = units_text k t v x s; closes = units_closed k t v x s })
 
--- A raw string.
+-- A raw string is an opening delimiter and the text that ends the literal.
 raw_seen : (k : Kind) (t : List ℕ) (v : Contents) (x : List ℕ) → has_form RawForm k ≡ true → StrictRaw t k v x → Seen t
 raw_seen k t v x has s =
     let h : List ℕ = replicate s.hashes 35 in
@@ -155,7 +156,7 @@ raw_seen k t v x has s =
       };
     })
 
--- The words `true` and `false` are equal in both definitions.
+-- The texts of `true` and `false` are equal in the definitions of both grammars, Rust's and `syn`'s.
 pub truth_words : (b : Bool) → (if b then codes "true" else codes "false") ≡ truth_text b
 truth_words true = refl
 truth_words false = refl
@@ -176,9 +177,9 @@ seen t Int v x s = inr (inl (v, x, inl s))
 seen t Float v x s = inr (inl (v, x, inr s))
 seen t BoolKind v x s = inr (inr (s.truth, s.text ∙ truth_words s.truth))
 
--- ---- the beginning of a text identifies the case
+-- ---- the beginning of a literal token identifies its form
 
--- A quoted literal doesn't begin as a number.
+-- A text that begins as a number has no opening delimiter.
 number_front : (t : List ℕ) → begins_number t ≡ true → opener_at t ≡ None
 unfolding opener_at
 number_front [] h = absurd (cc)
@@ -196,7 +197,7 @@ number_none : (t : List ℕ) → IsStrictNumber t → opener_at t ≡ None
 number_none t (v, x, inl s) = let i = strict_int t x v s in number_front t (int_front t x NoSign i.magnitude i.reads)
 number_none t (v, x, inr s) = let f = float_strict_reads t x v s in number_front t (float_front t f.numeral x f.reads)
 
--- A quoted literal has the form that its opening delimiter identifies.
+-- The text after a quoted literal's opening delimiter ends a literal of the form and the kind that the delimiter identifies.
 opened_told : (t : List ℕ) (p : QuotedForm × Kind × List ℕ) (o : Opened t) → opener_at t ≡ Some p
     → ClosesForm p.0 p.1 p.2
 opened_told t p o h =
@@ -205,7 +206,7 @@ opened_told t p o h =
     let same : (o.form, o.kind, o.inside) ≡ p = cc in
     subst (λ (q : QuotedForm × Kind × List ℕ). ClosesForm q.0 q.1 q.2) same o.closes
 
--- If a text begins with an opening delimiter, it is a literal token if and only if the literal is closed.
+-- A text with an opening delimiter is a literal token if and only if the text after the delimiter ends the literal.
 pub told_token : (t : List ℕ) (p : QuotedForm × Kind × List ℕ) (b : Bool) → Some p ≡ opener_at t
     → IsTrue b ↔ ClosesForm p.0 p.1 p.2 → IsTrue b ↔ IsToken t
 told_token t p b h same =

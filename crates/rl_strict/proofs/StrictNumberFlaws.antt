@@ -9,19 +9,21 @@ use Rattle.rl_strict.proofs.StrictSuffixFlaws.{goes_on_first, suffix_cut, suffix
 
 -- ---- a flaw after a prefix of a number
 
--- The definition of a kind of flaw in digits.
+-- The kind of flaw describes the error in the digits of a number. The arguments are the text before the flaw and the text
+-- from the flaw on. For `BadSuffix`, nothing is required.
 abbrev pub Says : FlawKind → List ℕ → List ℕ → Type 0
 Says BadSuffix front rest = ⊤
 Says k front rest = IsDigitFlaw k front rest
 
--- After the text `before`, parsing stops in this text and finds the flaw.
+-- The flaw of a number after its prefix `before`: parsing the text `t` stops before `rest` with the kind of flaw `k`.
 pub record TailFlaw (read : List ℕ → Ending) (before t : List ℕ) (k : FlawKind) (rest : List ℕ) : Type 0 where
   pub stops : Stops (Passes read) (Fails read) t rest
   pub fits : stops.front ≡ [] → stops.begins.ending ≡ []
   pub whole : k ≡ BadSuffix → Passes read stops.front × (rest ≢ [])
   pub says : Says k (before ++ stops.front) rest
 
--- If parsing comes to the text's end, a statement about the suffix holds. Otherwise there is a flaw.
+-- The result of parsing a part of a number is correct. At the text's end, the statement `good` holds about the suffix.
+-- Otherwise the text has the flaw that parsing returned.
 abbrev pub NextFlaw : (List ℕ → Type 0) → (List ℕ → Ending) → List ℕ → List ℕ → Ending → Type 0
 NextFlaw good read before t (None, x) = good x
 NextFlaw good read before t (Some k, rest) = TailFlaw read before t k rest
@@ -30,13 +32,13 @@ no_end : (a b : List ℕ) → a ++ b ≡ [] → b ≡ []
 no_end [] b e = e
 no_end (c ∷ cs) b e = absurd (cc)
 
--- A text that can be completed is empty, or begins as the whole text does.
+-- If the first character of a text fails a test, so does that of each completed prefix of the text.
 begins_so : (first : ℕ → Bool) (front rest ending t : List ℕ) → t ≡ front ++ rest → (front ≡ [] → ending ≡ [])
     → first_passes first t ≡ false → first_passes first (front ++ ending) ≡ false
 begins_so first [] rest ending t e fits h = ap (first_passes first) (fits refl)
 begins_so first (x ∷ xs) rest ending t e fits h = sym (ap (first_passes first) e) ∙ h
 
--- The flaw of a text with another text before it.
+-- The flaw of a part of a number is also the flaw of a longer part, if parsing skips the text before the part.
 tail_lifted : (inner outer : List ℕ → Ending) (first : ℕ → Bool) (before pre t : List ℕ) (k : FlawKind) (rest : List ℕ)
     → first_passes first t ≡ false → ((x : List ℕ) → first_passes first x ≡ false → outer (pre ++ x) ≡ inner x)
     → TailFlaw inner (before ++ pre) t k rest → TailFlaw outer before (pre ++ t) k rest
@@ -57,7 +59,8 @@ tail_lifted inner outer first before pre t k rest ok same f =
       says = subst (λ z. Says k z rest) (append_assoc before pre s.front) f.says;
     }
 
--- A suffix or a flaw of a text with another text before it.
+-- If the result of parsing a part of a number is correct, so is that of parsing a longer part, if parsing skips the text
+-- before the part.
 through : (good more : List ℕ → Type 0) (inner outer : List ℕ → Ending) (first : ℕ → Bool) (before pre t u : List ℕ)
     (e : Ending) → u ≡ pre ++ t → first_passes first t ≡ false
     → ((x : List ℕ) → first_passes first x ≡ false → outer (pre ++ x) ≡ inner x) → ((x : List ℕ) → good x → more x)
@@ -72,7 +75,7 @@ judged_more : (good more : List ℕ → Type 0) (read : List ℕ → Ending) (be
 judged_more good more read before t (None, x) says h = says x h
 judged_more good more read before t (Some k, rest) says h = h
 
--- ---- a suffix
+-- ---- the suffix of a number
 
 abbrev SuffixOf : List ℕ → List ℕ → Type 0
 SuffixOf t x = IsNumberSuffix x × (t ≡ x)
@@ -115,14 +118,14 @@ unfolding suffix_end_at
 suffix_judged before t u = cond_both (is_some_text (suffix_rest t)) _ _ (NextFlaw (SuffixOf t) suffix_end_at before t)
     (suffix_flaw before t u) (λ none. (number_suffix_sound t (suffix_whole t u ∙ ap not none), refl))
 
--- After a complete sequence of digits and underscores, no underscore follows.
+-- After all digits and underscores are skipped, no underscore follows.
 no_mark : (test : ℕ → Bool) (t : List ℕ) → first_passes (λ c. test c || is_underscore c) t ≡ false
     → first_passes is_underscore t ≡ false
 no_mark test t h = (each_fails test is_underscore t h).1
 
--- ---- an exponent
+-- ---- the exponent of a float
 
--- Digits that an exponent may follow.
+-- The text is a whole part with an optional fraction, so an exponent may follow.
 record BeforePower (before : List ℕ) : Type 0 where
   digits : List ℕ
   fraction : List ℕ
@@ -130,7 +133,7 @@ record BeforePower (before : List ℕ) : Type 0 where
   is_fraction : IsStrictFraction fraction
   before_is : before ≡ digits ++ fraction
 
--- The letter of an exponent and the text after it are an exponent and a suffix.
+-- The text is an exponent and a suffix of a number.
 abbrev PowerOf : List ℕ → List ℕ → Type 0
 PowerOf t x = (e : List ℕ) × IsStrictExponent e × IsNumberSuffix x × (t ≡ e ++ x)
 
@@ -139,7 +142,7 @@ sign_passes sign (inl e) = ap is_power_sign e
 sign_passes sign (inr (inl e)) = ap is_power_sign e
 sign_passes sign (inr (inr e)) = ap is_power_sign e
 
--- A sequence without a digit consists of underscores.
+-- Digits and underscores without a digit are underscores only.
 underscores : (r : ℕ) (run : List ℕ) → list_all (λ c. has_value r c || is_underscore c) run ≡ true
     → list_any (has_value r) run ≡ false → list_all is_underscore run ≡ true
 underscores r [] each none = refl
@@ -149,7 +152,7 @@ underscores r (c ∷ cs) each none =
     and_from (is_underscore c) (list_all is_underscore cs) (sym (ap (λ b. b || is_underscore c) n.0) ∙ p.0)
     (underscores r cs p.1 n.1)
 
--- A sequence of digits with another end begins with no sign if the text after the exponent's sign begins with none.
+-- Whether digits and the text after them begin with a sign depends only on the digits and the next character.
 row_sign : (run y : List ℕ) (c : ℕ) (cs e : List ℕ) → y ≡ c ∷ cs → first_passes is_sign (run ++ y) ≡ false
     → first_passes is_sign (run ++ (c ∷ e)) ≡ false
 row_sign [] y c cs e h n = sym (ap (first_passes is_sign) h) ∙ n
@@ -161,7 +164,8 @@ empty_sign [] [] y n h = h refl
 empty_sign [] (r ∷ rs) y n h = absurd (cc)
 empty_sign (s ∷ ss) run y n h = absurd (cc)
 
--- The flaw of an exponent without digits.
+-- If an exponent has no digit, parsing stops after the exponent's letter, sign and underscores with the flaw
+-- `NoExponentDigit`.
 power_empty : (before cs sign run y : List ℕ) (c : ℕ) → BeforePower before → is_exponent_letter c ≡ true → IsSign sign
     → list_all in_row run ≡ true → list_any (has_value 10) run ≡ false → first_passes in_row y ≡ false
     → cs ≡ sign ++ (run ++ y) → (sign ≡ [] → first_passes is_sign (run ++ y) ≡ false)
@@ -209,7 +213,7 @@ power_empty before cs sign run y c b l s each none stops text bare =
       );
     }
 
--- The result for the letter of an exponent and the text after it.
+-- The result of parsing an exponent is correct: an exponent and a suffix, or the flaw.
 power_judged : (before cs : List ℕ) (c : ℕ) → BeforePower before → is_exponent_letter c ≡ true
     → NextFlaw (PowerOf (c ∷ cs)) digits_end_at before (c ∷ cs) (power_end_at cs)
 unfolding power_end_at
@@ -261,7 +265,7 @@ power_judged before cs c b l = cond_both (has_digit_at 10 u) _ _ (NextFlaw (Powe
 
 -- ---- the text after digits
 
--- After digits: a suffix only, or an exponent and a suffix.
+-- The text after a number's digits is a suffix only, or an exponent and a suffix.
 abbrev DigitsOf : List ℕ → List ℕ → Type 0
 DigitsOf t x = (IsNumberSuffix x × (first_passes is_exponent_letter x ≡ false) × (t ≡ x)) ⊎ PowerOf t x
 
@@ -291,7 +295,7 @@ float_of : (t numeral x : List ℕ) → (IsDotAlone numeral x ⊎ (IsPointed num
     → IsDecimalText t → IsNumberSuffix x → t ≡ numeral ++ x → FloatOf t x
 float_of t numeral x form n s text = (_, record { numeral = numeral; form = form; no_prefix = n; suffix = s; text = text; contents = refl })
 
--- The flaw of a float without a digit after its dot.
+-- If no digit follows the dot of a float, parsing stops after the dot with the flaw `NoFractionDigit`.
 no_fraction : (before whole : List ℕ) (c : ℕ) (cs : List ℕ) → IsDigits whole → before ≡ whole ++ (46 ∷ [])
     → is_ascii_digit c ≡ false → TailFlaw fraction_end_at before (c ∷ cs) NoFractionDigit (c ∷ cs)
 unfolding fraction_end_at
@@ -309,7 +313,7 @@ no_fraction before whole c cs w e n = record {
   says = (whole, w, append-nil before ∙ e, (λ y. absurd (cc)), n);
 }
 
--- The result for the text after a whole part and a dot.
+-- The result of parsing the text after a float's dot is correct: a float and its suffix, or the flaw.
 fraction_judged : (t before d z : List ℕ) → IsDigits d → IsDecimalText t → before ≡ d ++ (46 ∷ []) → t ≡ d ++ (46 ∷ z)
     → NextFlaw (FloatOf t) fraction_end_at before z (fraction_end_at z)
 unfolding fraction_end_at
@@ -356,7 +360,8 @@ fraction_judged t before d (c ∷ cs) h n e text =
 abbrev IntOf : List ℕ → Option ℕ → List ℕ → Type 0
 IntOf t m x = (n : ℕ) × StrictInt t (Digits (dec n)) x × (m ≡ capped n)
 
--- The result of parsing a number: an integer, a float, or the flaw.
+-- The result of parsing a number is correct: the text is an integer with the magnitude and the suffix, or a float with the
+-- suffix, or has the flaw.
 abbrev pub ReadJudged : List ℕ → (List ℕ → Ending) → List ℕ → List ℕ → NumberRead → Type 0
 ReadJudged t read before u (None, Some m, x) = IntOf t m x
 ReadJudged t read before u (None, None, x) = FloatOf t x
@@ -377,7 +382,8 @@ first_some : (d : List ℕ) → first_passes is_ascii_digit d ≡ true → list_
 first_some [] h = absurd (both_ways false refl h)
 first_some (c ∷ cs) h = or_left (has_value 10 c) (list_any (has_value 10) cs) (sym (digit_is_ten c) ∙ h)
 
--- A decimal integer, from its parts.
+-- Decimal digits and a suffix that begins with neither `e` nor `E` are a decimal integer. Its magnitude is the number that
+-- the digits represent, or `None` above 128 bits.
 int_of : (t d x : List ℕ) (m : Option ℕ) → IsDigits d → IsDecimalText t → IsNumberSuffix x → first_passes
     is_exponent_letter x ≡ false → t ≡ d ++ x → m ≡ capped (place_value 10 (without_underscores d)) → IntOf t m x
 int_of t d x m h n s p text is = (
@@ -402,7 +408,7 @@ never_first : (t : List ℕ) → first_passes (λ c. false) t ≡ false
 never_first [] = refl
 never_first (c ∷ cs) = refl
 
--- The result after the whole part.
+-- The result of parsing the text after a decimal number's whole part is correct: an integer, a float, or the flaw.
 whole_judged : (t d y : List ℕ) (m : Option ℕ) → IsDigits d → IsDecimalText t → t ≡ d ++ y → first_passes in_row y ≡
     false → m ≡ capped (place_value 10 (without_underscores d)) → ReadJudged t whole_end_at d y (whole_read_at m y)
 unfolding whole_read_at
@@ -445,7 +451,8 @@ whole_judged t d y m h n text stops is = go y text stops
         tests false b true l = power c cs text b l
         tests false b false l = plain (c ∷ cs) text stops (both_fail (λ c. c == 46) is_exponent_letter (c ∷ cs) b l)
 
--- The result for a text with another text before it.
+-- If the result of parsing a part of a number is correct, so is the result with the text before this part, which parsing
+-- skips.
 read_through : (t : List ℕ) (inner outer : List ℕ → Ending) (first : ℕ → Bool) (pre y u : List ℕ) (r : NumberRead) → u ≡
     pre ++ y → first_passes first y ≡ false → ((x : List ℕ) → first_passes first x ≡ false → outer (pre ++ x) ≡ inner x)
     → ReadJudged t inner pre y r → ReadJudged t outer [] u r
@@ -454,7 +461,7 @@ read_through t inner outer first pre y u (None, None, x) text ok same h = h
 read_through t inner outer first pre y u (Some k, m, x) text ok same h = subst (λ z. TailFlaw outer [] z k x) (sym text)
     (tail_lifted inner outer first [] pre y k x ok same h)
 
--- The result for a decimal number.
+-- The result of parsing a decimal number is correct: an integer, a float, or the flaw.
 decimal_judged : (t : List ℕ) → first_passes is_ascii_digit t ≡ true → IsDecimalText t
     → ReadJudged t number_end_at [] t (whole_read_at (capped (magnitude_at 10 t)) (after_digits 10 t))
 decimal_judged t d n =
@@ -476,7 +483,7 @@ one_of : (b : Base) → of_base b 49 ≡ true
 one_of Binary = refl
 one_of other = refl
 
--- One more digit completes any sequence of digits after a base prefix.
+-- A base prefix, digits and underscores of the base, and one more digit are a number.
 based_one : (b : Base) (w : List ℕ) → b ≢ Decimal → list_all (in_base b) w ≡ true
     → Passes number_end_at ((prefix b ++ w) ++ (49 ∷ []))
 unfolding suffix_end_at suffix_rest
@@ -496,7 +503,8 @@ some_prefix Octal w n e = absurd (cc)
 some_prefix Hexadecimal w n e = absurd (cc)
 some_prefix Decimal w n e = n refl
 
--- One of the three tests stops the parser.
+-- After a base prefix and digits, parsing stops with a flaw if a decimal digit follows, if there are no digits, or if a dot
+-- or an exponent follows.
 row_stuck : (digit none mark : Bool) (y : List ℕ) → (digit || (none || mark)) ≡ true
     → is_read (row_tail digit none mark y) ≡ false
 row_stuck true none mark y h = refl
@@ -504,7 +512,8 @@ row_stuck false true mark y h = refl
 row_stuck false false true y h = refl
 row_stuck false false false y h = absurd (cc)
 
--- A flaw of the digits after a base prefix.
+-- After a base prefix and digits, the text has a flaw if a decimal digit follows, if there are no digits, or if a dot or an
+-- exponent follows.
 based_flaw : (b : Base) (w y : List ℕ) (k : FlawKind) → b ≢ Decimal → list_all (in_base b) w ≡ true
     → first_passes (in_base b) y ≡ false → (k ≡ BadSuffix → ⊥)
     → (first_passes is_ascii_digit y || (not (list_any (of_base b) w) || first_passes is_float_mark y)) ≡ true
@@ -537,7 +546,7 @@ no_more_digits : (b : Base) (x : List ℕ) → first_passes (in_base b) x ≡ fa
 no_more_digits Hexadecimal x h e = passes_same is_ascii_hexdigit (has_value 16) hex_is_sixteen x ∙ hex_stops x h
 no_more_digits kind x h e = absurd (omega arith)
 
--- A character that continues the digits after a base prefix, or at which one of the tests stops the parser.
+-- Whether the character continues the digits after a base prefix, or is a decimal digit, a dot or the letter of an exponent.
 abbrev based_first : Base → ℕ → Bool
 based_first b c = in_base b c || (is_ascii_digit c || is_float_mark c)
 
@@ -651,7 +660,7 @@ pub number_judged : (t : List ℕ) → first_passes is_ascii_digit t ≡ true
 unfolding number_read_at
 number_judged t d = let b = based t in subst (ReadBy t) (sym b.at) (by_base b.base t b.rest d b.text_is b.front)
 
--- A text that is parsed to its end is a literal token.
+-- If a text begins with a digit and the parser of numbers reads it to its end, it is a literal token.
 pub number_is_token : (t : List ℕ) → first_passes is_ascii_digit t ≡ true → Passes number_end_at t → IsToken t
 number_is_token t d h = go (number_read_at t) (number_judged t d) h
   where

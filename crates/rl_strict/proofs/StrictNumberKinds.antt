@@ -1,10 +1,11 @@
--- The definitions of the kinds of flaws in numbers agree with the parser, so each kind excludes the others.
+-- The definition of each kind of flaw in a number agrees with the parser of numbers. So each kind excludes the others.
 use Rattle.rl_strict.proofs.Names.{◌≡◌, ◌≢◌, ℕ, Bool, true, false, not, ◌==◌, cond, List, [], ◌∷◌, ◌++◌, refl, sym, ap, ◌∙◌, inl, inr, append_assoc, and_parts, both_ways, and_from, or_cases, or_from, or_right, eqb-true, is_ascii_digit, list_all, list_any, and_right, false_from_ne_true, first_passes, is_underscore, Base, Binary, Decimal, is_exponent_letter, is_power_sign, IsDigits, apart, letter_no_part, has_value, radix_at, radix_of, letter_no_dot, FlawKind, NoExponentDigit, NoDigits, InvalidDigit, BasedFloat, NoFractionDigit, EndsInPower, IsBasedRun, IsDigitFlaw, IsStrictFraction, is_float_mark, power_end_at, stopped}
 use Rattle.rl_strict.proofs.NumberEnds.{IsSign, based_is, decimal_is, digits_power, each_fails, fraction_is, fraction_none, in_base, in_row, is_sign, names, number_end_at, of_base, power_is, row_part, row_tail, whole_digits, whole_dot, whole_end_at}
 
 -- ---- numbers with a base prefix
 
--- The result after a base prefix and a sequence of digits, by three tests of the digits and the text after them.
+-- The result of parsing a number with a base prefix, by three tests after its digits. The first test is whether a decimal
+-- digit follows. The second is whether there are no digits. The third is whether a dot or an exponent follows.
 row_is : (b : Base) (run front rest : List ℕ) (digit none mark : Bool) → IsBasedRun b run front → first_passes (in_base
     b) rest ≡ false → first_passes is_ascii_digit rest ≡ digit → not (list_any (of_base b) run) ≡ none → first_passes
     is_float_mark rest ≡ mark → number_end_at (front ++ rest) ≡ row_tail digit none mark rest
@@ -26,7 +27,7 @@ no_digits b (c ∷ cs) h =
     mark Binary = refl
     mark other = refl
 
--- A decimal digit isn't an underscore, and neither is a dot or an exponent's letter.
+-- If a test fails for the underscore, a text whose first character passes the test doesn't begin with an underscore.
 no_underscore : (test : ℕ → Bool) (rest : List ℕ) → test 95 ≡ false → first_passes test rest ≡ true
     → first_passes is_underscore rest ≡ false
 no_underscore test [] n h = refl
@@ -48,7 +49,7 @@ mark_no_digit (c ∷ cs) h = false_from_ne_true (is_ascii_digit c) (λ d.
 
 -- ---- decimal numbers
 
--- A dot or an exponent's letter is in no sequence of digits, and in no base prefix.
+-- A dot or an exponent's letter is neither a decimal digit nor an underscore.
 never_row : (c : ℕ) → is_float_mark c ≡ true → in_row c ≡ false
 never_row c h = elim (or_cases (c == 46) (is_exponent_letter c) h) [
   | inl a ↦ ap in_row (eqb-true c 46 a)
@@ -85,7 +86,7 @@ row_no_base (a ∷ b ∷ ws) c cs d mark = ap (λ t. cond {A = ℕ × List ℕ} 
         let high : (b == 120) ≡ false = apart in_row b 120 h refl in
         rw (low, middle, high) refl
 
--- The result after a whole part that a dot or an exponent's letter follows.
+-- If a dot or an exponent's letter follows a decimal whole part, parsing continues with this dot or letter.
 whole_is : (w : List ℕ) (c : ℕ) (cs : List ℕ) → IsDigits w → is_float_mark c ≡ true → number_end_at (w ++ (c ∷ cs))
     ≡ whole_end_at (c ∷ cs)
 whole_is w c cs d mark = decimal_is (w ++ (c ∷ cs)) w (c ∷ cs) (row_no_base w c cs d mark) refl d (never_row c mark)
@@ -98,7 +99,8 @@ sign_of (c ∷ []) h = elim (or_cases (c == 43) (c == 45) h) [
 ]
 sign_of (c ∷ d ∷ cs) h = absurd (cc)
 
--- A sequence of underscores doesn't begin with a sign.
+-- Any number of underscores, with a text after them, don't begin with a sign. If there are no underscores, the text itself
+-- must not begin with a sign.
 marks_no_sign : (us rest : List ℕ) → list_all is_underscore us ≡ true → (us ≡ [] → first_passes is_sign rest ≡ false)
     → first_passes is_sign (us ++ rest) ≡ false
 marks_no_sign [] rest h n = n refl
@@ -159,7 +161,7 @@ fraction_kind front (c ∷ cs) whole d e some n =
     ap number_end_at (ap (λ z. z ++ (c ∷ cs)) e ∙ append_assoc whole (46 ∷ []) (c ∷ cs))
     ∙ whole_is whole 46 (c ∷ cs) d refl ∙ whole_dot (c ∷ cs) ∙ fraction_none c cs n
 
--- The parser finds the flaw that the definition of its kind describes.
+-- If the definition of a kind of flaw in a number's digits holds, the parser of numbers stops there with this kind.
 pub digit_kind : (k : FlawKind) (front rest : List ℕ) → IsDigitFlaw k front rest
     → number_end_at (front ++ rest) ≡ stopped k rest
 digit_kind NoDigits front rest (b, run, r, marks, none) =

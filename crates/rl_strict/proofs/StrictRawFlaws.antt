@@ -5,20 +5,20 @@ use Rattle.rl_strict.proofs.StrictSuffixFlaws.{Closer, FlawInside, SuffixSpoiled
 
 -- ---- the content of a raw string
 
--- Allowed characters of a raw string, followed by its closing delimiter, by a character that isn't allowed, or by the text's
--- end.
+-- The code's loop over a raw string has skipped allowed characters that contain no closing delimiter, and the rest follows.
 record RawWalk (k : Kind) (hashes t rest : List ℕ) : Type 0 where
   body : List ℕ
   text_is : t ≡ body ++ rest
   each : list_all (is_raw_character k) body ≡ true
   none : NoCloser hashes body
 
--- The loop over a raw string's content ends at this text.
+-- The code's loop over a raw string's content stops at the beginning of the text: a closing delimiter, or a character that
+-- isn't allowed.
 abbrev pub ends_at : Kind → List ℕ → List ℕ → Bool
 ends_at k hashes [] = false
 ends_at k hashes (c ∷ cs) = (c == 34 && begins hashes cs) || not (is_raw_character k c)
 
--- The loop of the code reads the content of a raw string.
+-- The code's loop over a raw string skips only allowed characters that contain no closing delimiter.
 raw_walk : (k : Kind) (hashes t : List ℕ) → RawWalk k hashes t (raw_stop k hashes t)
 unfolding raw_stop
 raw_walk k hashes [] = record { body = []; text_is = refl; each = refl; none = λ f r e. nothing_inside f (hashes ++ r) e }
@@ -52,7 +52,7 @@ raw_halts k hashes (d ∷ ds) cs c e = go (raw_halts k hashes ds cs c) (ends_at 
     go rec true h e = sym (ap (ends_at k hashes) e) ∙ h
     go rec false h e = rec e
 
--- ---- iterations of the loop
+-- ---- iterations of the loop over a raw string's content
 
 pub walk_halt : (k : Kind) (hashes t cs : List ℕ) (c : ℕ) → t ≡ c ∷ cs → ends_at k hashes (c ∷ cs) ≡ true → t
     ≡ raw_stop k hashes t
@@ -86,7 +86,7 @@ unfolding raw_stop
 walk_on k hashes t cs s c e h same =
     sym (ap (λ b. cond b (c ∷ cs) (raw_stop k hashes cs)) h) ∙ ap (raw_stop k hashes) (sym e) ∙ same
 
--- The test whether a closing delimiter begins here.
+-- The code's test of a closing delimiter passes exactly if the text begins with a quote and the raw string's hashes.
 pub closer_test : {R : Type 0} (o : Option R) (text : R → List ℕ) (hashes after : List ℕ) (c : ℕ) (b : Bool)
     → IfSome o (λ r. (c ≡ 34) × (after ≡ hashes ++ text r)) → IfNone o ((c == 34 && begins hashes after) ≡ false) → b
     ≡ is_some o → b ≡ (c == 34 && begins hashes after)
@@ -94,7 +94,7 @@ closer_test (Some r) text hashes after c b some none is = is ∙ sym (and_from (
     == 34) some.0) (ap (begins hashes) some.1 ∙ begins_front hashes (text r)))
 closer_test None text hashes after c b some none is = is ∙ sym none
 
--- A sequence of hashes with one more hash.
+-- If a hash follows `n` hashes, the text begins with `n + 1` hashes.
 pub hash_more : (n : ℕ) (t a z : List ℕ) (c : ℕ) → t ≡ replicate n 35 ++ a → a ≡ c ∷ z → c ≡ 35 → t
     ≡ replicate (n + 1) 35 ++ z
 hash_more n t a z c e is hash = e ∙ ap (λ x. replicate n 35 ++ x) (is ∙ ap (λ x. x ∷ z) hash) ∙ go n
@@ -116,7 +116,8 @@ many_hashes (suc m) (suc n) e r h =
     let less = many_hashes m n e r rest in
     omega (arith, less)
 
--- The text after hashes and a quote ends a raw string if and only if the whole text does.
+-- If hashes, a quote and a text close a raw string, the text passes the code's test of the content, the closing delimiter
+-- and the suffix.
 raw_bad : (k : Kind) (n : ℕ) (x : List ℕ) → ClosesRaw k (replicate n 35 ++ (34 ∷ x)) → ends_raw k (replicate n 35) x
     ≡ true
 raw_bad k n x c =
@@ -132,7 +133,7 @@ raw_good : (k : Kind) (n : ℕ) (x : List ℕ) → is_string k ≡ true → n < 
     → ClosesRaw k (replicate n 35 ++ (34 ∷ x))
 raw_good k n x s few h = record { hashes = n; few = few; rest = x; closes = raw_sound k (replicate n 35) x s h; text_is = refl }
 
--- The kind of flaw of a character that isn't allowed in a raw string.
+-- If a character of a raw string isn't allowed, the kind of flaw is the one that the code returns for the character.
 held_kind : (k : Kind) (n : ℕ) (t rest : List ℕ) (c : ℕ) (cs : List ℕ) → is_string k ≡ true → IsOpen k n t rest → rest
     ≡ c ∷ cs → is_raw_character k c ≡ false → StrictRawFlaw k (raw_character_flaw_of k c) t rest rest
 held_kind k n t rest c cs s o at not_held = cond_both (c == 13) _ _ (λ f. StrictRawFlaw k f t rest rest)
@@ -163,7 +164,7 @@ hashes_characters : (m : ℕ) → AllByRecursion IsScalar (replicate m 35 ++ [])
 hashes_characters zero = tt
 hashes_characters (suc m) = (refl, hashes_characters m)
 
--- The parts of an unclosed raw string.
+-- An unclosed raw string after its prefix: `n` hashes, a quote, the content, and the rest where the code's loop stops.
 module _ (k : Kind) (n : ℕ) (inside rest : List ℕ) (s : is_string k ≡ true) (few : n < 256)
     (w : RawWalk k (replicate n 35) inside rest) where
   abbrev hs : List ℕ
@@ -186,7 +187,7 @@ module _ (k : Kind) (n : ℕ) (inside rest : List ℕ) (s : is_string k ≡ true
       let a = inside_sound k w.body s w.each in
       record { few = few; body = w.body; allowed = a.0; no_carriage_return = a.1; no_closer = w.none; text_is = ap (λ z. hs ++ (34 ∷ z)) w.text_is }
 
-  -- The closing delimiter after the content.
+  -- If the content of a raw string has the closing delimiter and a suffix after it, the raw string is closed.
   good : (z : List ℕ) → first_passes is_hash z ≡ false → ends_raw k hs z ≡ true → ClosesRaw k (before ++ z)
   good z no_hash h = subst (ClosesRaw k) (sym (joined z)) (raw_good k n (w.body ++ z) s few
       (past_body k n w.body z w.each w.none no_hash ∙ h))
@@ -195,7 +196,7 @@ module _ (k : Kind) (n : ℕ) (inside rest : List ℕ) (s : is_string k ≡ true
   bad z no_hash h c = both_ways (ends_raw k hs z) h (sym (past_body k n w.body z w.each w.none no_hash)
       ∙ raw_bad k n (w.body ++ z) (subst (ClosesRaw k) (joined z) c))
 
-  -- A quote and the hashes close the raw string.
+  -- After a raw string's content, a quote, the hashes and a suffix close the raw string.
   closed_at : (x : List ℕ) → is_strict_suffix x ≡ true → ClosesRaw k (before ++ (34 ∷ (hs ++ x)))
   closed_at x h = good (34 ∷ (hs ++ x)) refl (raw_close k hs x ∙ h)
 
@@ -209,14 +210,14 @@ module _ (k : Kind) (n : ℕ) (inside rest : List ℕ) (s : is_string k ≡ true
     stuck = stuck;
   }
 
-  -- The flaw at the text's end.
+  -- If the code's loop over a raw string reaches the text's end, the flaw is `Unclosed`.
   ended : rest ≡ [] → FlawInside RawForm k Unclosed whole rest rest
   ended e = record {
     stops = stops_at (λ c cs r h y. let bad_end : c ∷ cs ≡ [] = sym h ∙ e in absurd (cc));
     has = inl ((n, opened), e, refl);
   }
 
-  -- The flaw at a character that isn't allowed.
+  -- After a raw string's character that isn't allowed, no text closes the raw string.
   stuck_at : (c : ℕ) (cs : List ℕ) → rest ≡ c ∷ cs → is_raw_character k c ≡ false → (d : ℕ) (ds e : List ℕ) → rest
       ≡ d ∷ ds → ClosesRaw k (before ++ (d ∷ e)) → ⊥
   stuck_at c cs at not_held d ds e h y =
@@ -250,7 +251,7 @@ module _ (k : Kind) (n : ℕ) (inside rest : List ℕ) (s : is_string k ≡ true
     has = inl (held_kind k n whole rest c cs s opened at not_held);
   }
 
-  -- The closing delimiter of a raw string.
+  -- After a raw string's content, a quote and the hashes close the raw string, whatever suffix follows.
   closer : Closer RawForm k
   closer = record {
     before = before ++ (34 ∷ hs);
@@ -267,13 +268,13 @@ module _ (k : Kind) (n : ℕ) (inside rest : List ℕ) (s : is_string k ≡ true
 
 -- ---- the flaw after the opening quote, by the result of the code
 
--- The hashes, their number, and the text where the loop ends.
+-- Where the code's loop stops, it has skipped only allowed characters that contain no closing delimiter.
 found_walk : (k : Kind) (n : ℕ) (hashes inside rest : List ℕ) → hashes ≡ replicate n 35 → rest ≡ raw_stop k hashes
     inside → RawWalk k (replicate n 35) inside rest
 found_walk k n hashes inside rest e at = subst (RawWalk k (replicate n 35) inside)
     (sym (at ∙ ap (λ z. raw_stop k z inside) e)) (raw_walk k (replicate n 35) inside)
 
--- The flaw of a raw string, stated with the values that the code has.
+-- A flaw of a raw string stays its flaw if its kind, piece, hashes and rest are replaced by equal ones of the code.
 as_found : (k : Kind) (f g : FlawKind) (n : ℕ) (hashes inside p q r z : List ℕ) → hashes ≡ replicate n 35 → f ≡ g
     → q ≡ p → z ≡ r → FlawInside RawForm k g (replicate n 35 ++ (34 ∷ inside)) p r
     → FlawInside RawForm k f (hashes ++ (34 ∷ inside)) q z
@@ -318,13 +319,13 @@ raw_closed k f n hashes inside rest suffix q z c cs s few e at is quote more fou
 
 -- ---- the flaw before the opening quote
 
--- The text after hashes that no further hash follows.
+-- If no hash follows `n` hashes, skipping hashes returns the text after the `n` hashes.
 pub hash_run : (n : ℕ) (z : List ℕ) → first_passes is_hash z ≡ false → after_run is_hash (replicate n 35 ++ z) ≡ z
 hash_run zero [] h = refl
 hash_run zero (c ∷ cs) h = ap (λ b. cond b (after_run is_hash cs) (c ∷ cs)) h
 hash_run (suc n) z h = hash_run n z h
 
--- Hashes that may begin a raw string.
+-- At most 255 hashes can begin a raw string: two quotes and further hashes complete it.
 hashes_begin : (k : Kind) (n : ℕ) → is_string k ≡ true → n < 256 → ClosesRaw k (replicate n 35
     ++ (34 ∷ (34 ∷ (replicate n 35 ++ []))))
 unfolding is_strict_suffix
@@ -340,7 +341,7 @@ hashes_stop k n t rest s few text stuck = record {
   stuck = stuck;
 }
 
--- The flaw if the text ends after the hashes.
+-- If a raw string's text ends after at most 255 hashes, the flaw at the text's end is `UnexpectedEnd`.
 pub raw_unfinished : (k : Kind) (f : FlawKind) (n : ℕ) (t rest q z : List ℕ) → is_string k ≡ true → n ≤ 255 → t
     ≡ replicate n 35 ++ rest → rest ≡ [] → f ≡ UnexpectedEnd → q ≡ rest → z ≡ rest → FlawInside RawForm k f t q z
 raw_unfinished k f n t rest q z s few text end kind piece place =
@@ -355,7 +356,7 @@ raw_unfinished k f n t rest q z s few text end kind piece place =
     } in
     same_flaw RawForm k f UnexpectedEnd t rest q rest z kind piece place there
 
--- The flaw if another character than a quote follows the hashes.
+-- If a raw string's hashes precede a character other than a quote, the flaw at the character is `NoQuote`.
 pub raw_no_quote : (k : Kind) (f : FlawKind) (n : ℕ) (t rest q z cs : List ℕ) (c : ℕ) → is_string k ≡ true → n ≤ 255 → t
     ≡ replicate n 35 ++ rest → rest ≡ c ∷ cs → (c == 35) ≡ false → (c == 34) ≡ false → f ≡ NoQuote → q ≡ rest → z ≡ rest
     → FlawInside RawForm k f t q z
@@ -379,7 +380,7 @@ raw_no_quote k f n t rest q z cs c s few text is no_hash no_quote kind piece pla
         ∙ hashes_past y.hashes y.rest in
         both_ways (c == 34) no_quote (ap (λ x. x == 34) same ∙ ap (first_passes (λ x. x == 34)) quote)
 
--- The flaw of more than 255 hashes.
+-- If a raw string begins with more than 255 hashes, the flaw is `TooManyHashes`. Its piece begins at the first hash.
 pub raw_many_hashes : (k : Kind) (f : FlawKind) (n : ℕ) (t rest q z cs : List ℕ) (c : ℕ) → is_string k ≡ true → n ≤ 255
     → t ≡ replicate n 35 ++ rest → (n < 255 → first_passes is_hash rest ≡ false) → rest ≡ c ∷ cs → (c == 35) ≡ true → f
     ≡ TooManyHashes → q ≡ t → z ≡ rest → FlawInside RawForm k f t q z
@@ -445,7 +446,8 @@ raw_end_none k n hashes inside rest s few e at end y =
     (subst (ClosesRaw k) (ap (λ y. y ++ (34 ∷ inside)) e ∙ cut k n inside rest s less w
     ∙ ap (λ z. before k n inside rest s less w ++ z) end) y)
 
--- The content of a raw string: the text between the opening quote and the closing delimiter.
+-- The content of a raw string is the text between the opening quote and the position where the code's loop stops. It has
+-- only allowed characters.
 pub raw_body : (k : Kind) (n : ℕ) (hashes inside rest : List ℕ) → hashes ≡ replicate n 35 → rest
     ≡ raw_stop k hashes inside → (body : List ℕ) × (inside ≡ body ++ rest) × (list_all (is_raw_character k) body ≡ true)
 raw_body k n hashes inside rest e at =

@@ -5,7 +5,7 @@ use Rattle.rl_strict.proofs.StrictWordLemmas.{strict_suffix_complete, strict_suf
 
 -- ---- the content of each kind of literal
 
--- A string ends with its quote.
+-- The closing quote of a string is `"`.
 string_ends : (k : Kind) → is_string k ≡ true → strict_closer k ≡ 34 ∷ []
 string_ends Str h = refl
 string_ends ByteStr h = refl
@@ -19,7 +19,7 @@ string_count ByteStr us h = tt
 string_count CStr us h = tt
 string_count kind us h = absurd (cc)
 
--- A character or byte literal ends with its quote.
+-- The closing quote of a character or byte literal is `'`.
 single_ends : (k : Kind) → is_single k ≡ true → strict_closer k ≡ 39 ∷ []
 single_ends Byte h = refl
 single_ends Char h = refl
@@ -47,7 +47,7 @@ quote_stops kind x h = absurd (cc)
 
 -- ---- the white space of an escaped line end
 
--- If the first character of a text fails a test, so does that of its prefix.
+-- If the first character of a text fails a test, so does the first character of each prefix.
 pub passes_front : (test : ℕ → Bool) (a b : List ℕ) → first_passes test (a ++ b) ≡ false → first_passes test a ≡ false
 passes_front test [] b h = refl
 passes_front test (c ∷ cs) b h = h
@@ -58,12 +58,14 @@ pub passes_seam : (test : ℕ → Bool) (a b : List ℕ) → first_passes test a
 passes_seam test [] b h k = k
 passes_seam test (c ∷ cs) b h k = h
 
--- An escaped line end that ends before the whole text also ends before a part of the text.
+-- An escaped line end skips white space. If a text may follow an escaped line end, each prefix of the text may follow it
+-- too.
 may_end_front : (u : StrictUnit) (a b : List ℕ) → MayEnd u (a ++ b) → MayEnd u a
 may_end_front (LineBreak blanks) a b m = passes_front is_dropped_blank a b m
 may_end_front other a b m = tt
 
--- An escaped line end that ends before characters and escapes also ends before these and a quote.
+-- An escaped line end skips white space. If characters and escapes may follow an escaped line end, they may also follow it
+-- with a text after them that doesn't begin with white space.
 may_end_seam : (u : StrictUnit) (us : List StrictUnit) (b : List ℕ) → first_passes is_dropped_blank b ≡ false
     → BlanksEnd (u ∷ us) → MayEnd u (flat_map strict_text us ++ b)
 may_end_seam (LineBreak blanks) us b n m = passes_seam is_dropped_blank (flat_map strict_text us) b m.0 n
@@ -71,12 +73,12 @@ may_end_seam other us b n m = tt
 
 -- ---- the closing quote and the suffix
 
--- A closing quote and a suffix pass the code's test.
+-- A closing quote and a suffix pass the code's test of a literal's end.
 quote_complete : (quote : ℕ) (x : List ℕ) → (quote == quote) ≡ true → IsStrictSuffix x → ends_quoted quote (quote ∷ x)
     ≡ true
 quote_complete quote x e s = and_from (quote == quote) (is_strict_suffix x) e (strict_suffix_complete x s)
 
--- A text that passes the code's test is a closing quote and a suffix.
+-- A text that passes the code's test of a literal's end is a closing quote and a suffix.
 quote_sound : (quote : ℕ) (t : List ℕ) → ends_quoted quote t ≡ true → (x : List ℕ) × IsStrictSuffix x × (t ≡ quote ∷ x)
 quote_sound quote [] h = absurd (cc)
 quote_sound quote (c ∷ cs) h =
@@ -85,7 +87,7 @@ quote_sound quote (c ∷ cs) h =
 
 -- ---- sequences of characters and escapes
 
--- The text after the first of several characters and escapes.
+-- If a text begins with a sequence of characters and escapes, `unit_rest` returns the text after the first one.
 row_after : (k : Kind) (u : StrictUnit) (us : List StrictUnit) (q : ℕ) (x t : List ℕ)
     → list_all (is_strict_unit k) (u ∷ us) ≡ true → BlanksEnd (u ∷ us) → is_dropped_blank q ≡ false → t
     ≡ flat_map strict_text (u ∷ us) ++ (q ∷ x) → unit_rest k t ≡ Some (flat_map strict_text us ++ (q ∷ x))
@@ -94,12 +96,12 @@ row_after k u us q x t each b n text =
     ap (unit_rest k) (text ∙ append_assoc (strict_text u) (flat_map strict_text us) (q ∷ x))
     ∙ unit_rest_complete k u (flat_map strict_text us ++ (q ∷ x)) p.0 (may_end_seam u us (q ∷ x) n b)
 
--- The characters and escapes of a string, with the closing quote.
+-- If a string's text is characters and escapes, the closing delimiter and a suffix, the closing delimiter is `"`.
 string_text : (k : Kind) (t x : List ℕ) (us : List StrictUnit) → is_string k ≡ true → t ≡ flat_map strict_text us
     ++ (strict_closer k ++ x) → t ≡ flat_map strict_text us ++ (34 ∷ x)
 string_text k t x us s e = e ∙ ap (λ z. flat_map strict_text us ++ (z ++ x)) (string_ends k s)
 
--- After the first character or escape, the text ends as before.
+-- If a text ends a string, the text after its first character or escape ends a string too.
 row_down : (k : Kind) (t r x : List ℕ) (us : List StrictUnit) → is_string k ≡ true → unit_rest k t ≡ Some r
     → list_all (is_strict_unit k) us ≡ true → BlanksEnd us → IsStrictSuffix x → t ≡ flat_map strict_text us ++ (34 ∷ x)
     → ClosesUnits k r
@@ -140,7 +142,8 @@ row_up k t r s f c =
 pub quoted_string : (k : Kind) → is_string k ≡ true → HasStrictUnits k
 quoted_string k h = string_count k (Itself 0 ∷ []) h
 
--- One iteration of the loop over characters and escapes.
+-- In the loop over characters and escapes, each iteration preserves this: the remaining text ends a string if and only if
+-- the whole text does.
 pub units_step : (k : Kind) (t r s : List ℕ) → is_string k ≡ true → unit_rest k t ≡ Some r
     → (ClosesUnits k t ↔ ClosesUnits k s) → ClosesUnits k r ↔ ClosesUnits k s
 units_step k t r s h e same = (
@@ -154,7 +157,7 @@ units_step k t r s h e same = (
 abbrev pub is_bare : Kind → ℕ → Bool
 is_bare k c = is_strict_unit k (Itself c)
 
--- An unescaped character of a string by `syn`'s grammar is one by Rust's grammar.
+-- A kind of string isn't `Char`, the kind of character literals.
 pub no_char : (k : Kind) → is_string k ≡ true → k ≡ Char → ⊥
 no_char k h e = both_ways (is_string k) (ap is_string e) h
 
@@ -165,7 +168,7 @@ bare_run k (c ∷ cs) h each =
     let b = and_parts (is_plain k c) (list_all (is_plain k) cs) each in
     and_from (is_bare k c) (list_all (is_bare k) cs) (sym (plain_is_bare k c (no_char k h)) ∙ b.0) (bare_run k cs h b.1)
 
--- If the text begins with no character or escape, it begins with the literal's end.
+-- If a text ends a string and begins with no character or escape, it is a closing quote and a suffix.
 stuck_down : (k : Kind) (t x : List ℕ) (us : List StrictUnit) → is_string k ≡ true → unit_rest k t ≡ None
     → list_all (is_strict_unit k) us ≡ true → BlanksEnd us → IsStrictSuffix x → t ≡ flat_map strict_text us ++ (34 ∷ x)
     → ends_quoted 34 t ≡ true
@@ -173,7 +176,8 @@ stuck_down k t x [] s h each b i e = ap (ends_quoted 34) e ∙ quote_complete 34
 stuck_down k t x (u ∷ us) s h each b i e = absurd (let n : None ≡ Some (flat_map strict_text us ++ (34 ∷ x)) = sym h
     ∙ row_after k u us 34 x t each b refl e in (cc))
 
--- If no further character or escape follows, a quote and a suffix must follow.
+-- If no further character or escape of a string follows, the whole text ends a string if and only if a quote and a suffix
+-- follow.
 pub units_end : (k : Kind) (b : Bool) (t s : List ℕ) → is_string k ≡ true → unit_rest k t ≡ None
     → (ClosesUnits k t ↔ ClosesUnits k s) → b ≡ ends_quoted 34 t → IsTrue b ↔ ClosesUnits k s
 units_end k b t s h e same is = (
@@ -192,7 +196,7 @@ units_end k b t s h e same is = (
 
 -- ---- one character or escape
 
--- The text after the one character or escape of a character or byte literal.
+-- In a character or byte literal, `unit_rest` skips the one character or escape, up to the closing quote.
 one_after : (k : Kind) (t : List ℕ) (c : ClosesUnits k t) → is_single k ≡ true → unit_rest k t ≡ Some (39 ∷ c.suffix)
 one_after k t c s =
     let o = one_unit c.units (single_length k c.units s c.count) in
@@ -220,7 +224,7 @@ one_closes k t r x s f i e = record {
       ∙ ap (λ z. z ++ (strict_closer k ++ x)) (sym (append-nil (strict_text f.unit)));
 }
 
--- After a character or escape, a quote and a suffix must follow.
+-- A text ends a character or byte literal if and only if a quote and a suffix follow its character or escape.
 pub one_end : (k : Kind) (b : Bool) (t r : List ℕ) → is_single k ≡ true → unit_rest k t ≡ Some r → b ≡ ends_quoted 39 r
     → IsTrue b ↔ ClosesUnits k t
 one_end k b t r s e is = (

@@ -1,17 +1,19 @@
--- The position where the suffix of a quoted literal can't continue, and the ways to complete its beginning.
+-- The position where a text can't continue as the suffix of a quoted literal, and texts that complete the beginning of a
+-- suffix.
 use Rattle.rl_strict.proofs.Names.{Option, Some, None, ◌≡◌, ℕ, ◌||◌, ◌&&◌, Bool, true, false, not, ◌==◌, cond, List, [], ◌∷◌, ◌++◌, refl, sym, ap, subst, ◌∙◌, inl, inr, arith, append-nil, and_from, and_parts, both_ways, cases_Bool, eqb-true, list_all, list_all-append, AllByRecursion, is_xid_continue, is_xid_start, and_right, cond_both, after_run, first_passes, IsScalar, Kind, and_left, is_xid_start-ascii, is_xid_continue-ascii, is_continue, is_start, is_white, FlawKind, BadSuffix, TextAfterQuote, ExtraHash, UnderscoreSuffix, QuotedForm, StopsBefore, IsClosed, StrictQuotedFlaw, SuffixFlaw, form_quote, goes_on_with_suffix, is_raw_form, is_suffix_front, suffix_piece, ClosesForm, run, is_some_text, is_strict_suffix, begins_hash, suffix_rest, FoundFlaw, found_flaw, is_lone_underscore, suffix_end_read, suffix_read_at, run_all, run_ends, run_join, all_breaks}
 use Rattle.rl_strict.proofs.Stops.{Flawed, Stops, lifted, stops_before}
 
 -- ---- the first characters of a suffix
 
--- The first characters of a suffix are at the text's beginning, and the rest doesn't continue them.
+-- A text is the first characters of a suffix, and a rest that doesn't continue the suffix.
 pub record SuffixCut (t rest : List ℕ) : Type 0 where
   pub front : List ℕ
   pub text_is : t ≡ front ++ rest
   pub is_front : is_suffix_front front ≡ true
   pub ends : goes_on_with_suffix front rest ≡ false
 
--- The code splits the text at this position.
+-- `suffix_rest` returns the text after the first characters of a suffix. The text that it returns doesn't continue the
+-- suffix.
 pub suffix_cut : (t : List ℕ) → SuffixCut t (suffix_rest t)
 unfolding suffix_rest
 suffix_cut [] = record { front = []; text_is = refl; is_front = refl; ends = refl }
@@ -26,7 +28,7 @@ suffix_cut (c ∷ cs) = go (is_start c) refl
     }
     go false e = record { front = []; text_is = refl; is_front = refl; ends = e }
 
--- Whether the rest continues the suffix depends only on its first character.
+-- Whether the rest of a text continues a suffix depends only on the rest's first character.
 pub goes_on_first : (x cs e : List ℕ) (c : ℕ) → goes_on_with_suffix x (c ∷ cs) ≡ false → goes_on_with_suffix x (c ∷ e)
     ≡ false
 goes_on_first [] cs e c h = h
@@ -34,11 +36,12 @@ goes_on_first (d ∷ ds) cs e c h = h
 
 -- ---- the completion of a suffix
 
--- A letter continues an identifier.
+-- The letter `a` continues an identifier.
 letter_continues : is_continue 97 ≡ true
 letter_continues = and_from (is_xid_continue 97) (not (is_white 97)) (is_xid_continue-ascii 97 (omega arith)) refl
 
--- The text that completes the first characters to a suffix.
+-- The ending that completes the first characters of a suffix to a suffix: the letter `a`, or no ending if there are no first
+-- characters.
 pub suffix_ending : List ℕ → List ℕ
 suffix_ending [] = []
 suffix_ending (c ∷ cs) = 97 ∷ []
@@ -64,7 +67,7 @@ suffix_begins (c ∷ cs) h =
     ∙ and_from (list_all is_continue cs) (list_all is_continue (97 ∷ [])) p.1
     (and_from (is_continue 97) true letter_continues refl))
 
--- Only `_` isn't a suffix by itself.
+-- If the first characters of a suffix are not a suffix by themselves, they are `_`.
 pub only_underscore : (x : List ℕ) → is_suffix_front x ≡ true → is_strict_suffix x ≡ false → x ≡ 95 ∷ []
 unfolding is_strict_suffix
 only_underscore [] h n = absurd (cc)
@@ -97,7 +100,8 @@ no_start_no_suffix c e h =
           (ap (λ b. cond b (is_some_text e) (is_start c)) a ∙ h)
     ]
 
--- A character that doesn't continue the first characters makes the suffix invalid.
+-- If a character doesn't continue the first characters of a suffix, no suffix begins with these characters and the
+-- character.
 pub suffix_stuck : (x : List ℕ) (c : ℕ) (e : List ℕ) → goes_on_with_suffix x (c ∷ e) ≡ false
     → is_strict_suffix (x ++ (c ∷ e)) ≡ false
 unfolding is_strict_suffix
@@ -111,12 +115,13 @@ hash_no_start = and_left (35 == 95 || is_xid_start 35) (not (is_white 35)) (is_x
 
 -- ---- the flaw after a closing delimiter
 
--- The text after the closing delimiter can't continue there, for the reason that the code gives.
+-- The text after a closing delimiter isn't a suffix. Its longest prefix that can be completed to a suffix ends before the
+-- rest, and the flaw's kind describes the error.
 pub record SuffixSpoiled (form : QuotedForm) (k : FlawKind) (t rest : List ℕ) : Type 0 where
   pub stops : Stops (λ x. is_strict_suffix x ≡ true) (λ x. is_strict_suffix x ≡ false) t rest
   pub spoils : SuffixFlaw form k stops.front rest
 
--- The flaw of one more hash.
+-- A text that begins with one more hash after a raw string's closing delimiter isn't a suffix.
 hash_no_suffix : (form : QuotedForm) (t : List ℕ) → begins_hash form t ≡ true → is_strict_suffix t ≡ false
 hash_no_suffix form [] h = absurd (both_ways false refl (and_parts (is_raw_form form) false h).1)
 hash_no_suffix form (c ∷ cs) h =
@@ -139,7 +144,8 @@ hash_spoils form t h =
       spoils = (p.0, refl, p.1);
     }
 
--- The text can't continue where the first characters of the suffix end.
+-- If the rest doesn't continue a suffix, the longest prefix of the text that can be completed to a suffix ends before the
+-- rest.
 cut_stops : (t rest : List ℕ) (k : SuffixCut t rest)
     → Stops (λ x. is_strict_suffix x ≡ true) (λ x. is_strict_suffix x ≡ false) t rest
 cut_stops t rest k = record {
@@ -155,12 +161,14 @@ lone_is [] h = absurd (cc)
 lone_is (c ∷ []) h = ap (λ z. z ∷ []) (eqb-true c 95 h)
 lone_is (c ∷ d ∷ ds) h = absurd (cc)
 
--- The text is a suffix, or can't continue, for the reason that the code gives.
+-- The code's result for the text after a closing delimiter is correct: no flaw if the text is a suffix, and its flaw
+-- otherwise.
 abbrev pub Judges : QuotedForm → List ℕ → Option FoundFlaw → Type 0
 Judges form t None = is_strict_suffix t ≡ true
 Judges form t (Some f) = (is_strict_suffix t ≡ false) × SuffixSpoiled form f.0 t f.1
 
--- The result of the code, by the text after the first characters.
+-- The code's result for a suffix is correct, if no further hash follows the closing delimiter: no flaw, or the flaw at the
+-- end of the suffix's first characters.
 judged_end : (form : QuotedForm) (t rest : List ℕ) → SuffixCut t rest → begins_hash form t ≡ false
     → Judges form t (suffix_end_read form t rest)
 unfolding cut_stops is_strict_suffix
@@ -211,26 +219,27 @@ suffix_judged form t = go (begins_hash form t) refl
     go true h = (hash_no_suffix form t h, hash_spoils form t h)
     go false h = judged_end form t (suffix_rest t) (suffix_cut t) h
 
--- ---- the flaw in the literal
+-- ---- the flaw of a suffix is a flaw of the whole literal
 
--- The text after the opening delimiter can't continue there, and has this flaw.
+-- The text after an opening delimiter isn't the end of a literal, and has the flaw with this kind, piece and rest.
 abbrev pub FlawInside : QuotedForm → Kind → FlawKind → List ℕ → List ℕ → List ℕ → Type 0
 FlawInside form kind k inside piece rest =
     Flawed (ClosesForm form kind) inside rest (StrictQuotedFlaw form kind k inside piece rest)
 
--- A flaw with equal kind, piece and rest is the flaw of the text too.
+-- A flaw of a quoted literal stays its flaw if its kind, piece and rest are replaced by equal ones.
 pub same_flaw : (form : QuotedForm) (kind : Kind) (k l : FlawKind) (inside p q r z : List ℕ) → k ≡ l → q ≡ p → z ≡ r
     → FlawInside form kind l inside p r → FlawInside form kind k inside q z
 same_flaw form kind k l inside p q r z is piece place h = subst (λ y. FlawInside form kind y inside q z) (sym is) (subst
     (λ y. FlawInside form kind l inside y z) (sym piece) (subst (FlawInside form kind l inside p) (sym place) h))
 
--- The text before the suffix closes the literal, whatever suffix follows.
+-- The text from the end of an opening delimiter to the end of the closing delimiter. With a suffix after this text the
+-- literal is closed, and with any other text it isn't.
 pub record Closer (form : QuotedForm) (kind : Kind) : Type 0 where
   pub before : List ℕ
   pub good : (x : List ℕ) → is_strict_suffix x ≡ true → ClosesForm form kind (before ++ x)
   pub bad : (x : List ℕ) → is_strict_suffix x ≡ false → ClosesForm form kind (before ++ x) → ⊥
 
--- The flaw of the literal is that of its suffix.
+-- If a quoted literal is closed, the flaw of its suffix is the flaw of the literal.
 pub closed_flaw : (form : QuotedForm) (kind : Kind) (k : FlawKind) (inside closing suffix piece rest : List ℕ) (c :
     Closer form kind) → inside ≡ c.before ++ suffix → IsClosed form kind inside closing suffix → SuffixSpoiled form k
     suffix rest → piece ≡ suffix_piece k closing suffix → FlawInside form kind k inside piece rest

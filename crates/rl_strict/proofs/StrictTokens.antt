@@ -1,5 +1,5 @@
--- A text that begins neither as a number nor as a quoted literal is a literal token only if it is `true` or `false`. A position
--- in the text after an opening delimiter is a position in the whole text.
+-- A text that begins neither as a number nor as a quoted literal is a literal token only if it is `true` or `false`. If the
+-- text after an opening delimiter can't continue at a position, the whole text can't either.
 use Rattle.rl_strict.proofs.Names.{◌≡◌, ◌≢◌, ℕ, Bool, true, false, ◌==◌, List, [], ◌∷◌, ◌++◌, None, refl, sym, ap, subst, ◌∙◌, inl, inr, both_ways, or_right, is_ascii_digit, IsTrue, Reads, Kind, Str, ByteStr, CStr, Byte, Char, Int, Float, BoolKind, first_passes, HasReading, truth_text, Strict, number_front, strict_float, strict_int, exponent_text, fraction_text, passes_more, FlawKind, QuotedForm, StopsBefore, form_opener, HasStrictQuotedFlaw, StrictQuotedFlaw, ClosesForm, IsToken, is_number_front, found_opener, opener_at, front_complete, front_sound, front_not_quoted}
 use Rattle.rl_syntax.proofs.Agreeing.{strict_reads}
 use Rattle.rl_strict.proofs.Stops.{raised}
@@ -17,7 +17,7 @@ number_digit t (v, x, inr s) =
     ap (first_passes is_ascii_digit) f.text_is
     ∙ passes_more is_ascii_digit (f.whole ++ more) x (passes_more is_ascii_digit f.whole more f.first)
 
--- Only a number begins with a digit.
+-- A text that begins with a digit begins as a number.
 pub digit_front : (t : List ℕ) → first_passes is_ascii_digit t ≡ true → first_passes is_number_front t ≡ true
 digit_front [] h = absurd (cc)
 digit_front (c ∷ cs) h = or_right (c == 45) (is_ascii_digit c) h

@@ -1,5 +1,5 @@
--- If a text begins with no valid character or escape of Rust's grammar, it can't continue at the position that the code finds,
--- and has the flaw of the code's kind.
+-- If a text begins with no valid character or escape of Rust's grammar, it has the flaw that the code returns: the kind and
+-- the position are right.
 use Rattle.rl_strict.proofs.Names.{◌≡◌, ◌≢◌, ℕ, ◌||◌, ◌&&◌, Bool, true, false, not, ◌==◌, cond, ltb, List, [], ◌∷◌, ◌++◌, Option, Some, None, refl, sym, ap, subst, ◌∙◌, inl, inr, and_parts, both_ways, cases_Bool, eqb-true, cond_both, Kind, Str, ByteStr, CStr, Byte, Char, first_passes, Letter, Named, LowerN, letter_text, is_string, is_line_end, Itself, is_dropped_blank, is_strict_unit, after_run, and_left, FlawKind, UnknownEscape, Nul, NotAscii, MustEscape, NoCharacter, CarriageReturn, UnitFlaw, StrictUnitFlaw, escape_at, unit_at, escape_rest, unit_rest, FoundFlaw, found_flaw, character_flaw_of, escape_flaw_at, strict_escape_flaw_at, strict_unit_flaw_at, plain_is_bare, holds_more, unit_complete, goes_on, IsCompletable}
 use Rattle.std.proofs.Common.{option_map}
 use Rattle.rl_strict.proofs.EscapeLemmas.{Closes, Fails, IsQuotedKind, by_escape}
@@ -8,7 +8,7 @@ use Rattle.rl_strict.proofs.UnitFlawLemmas.{HasUnitFlaw, IsOpen, byte_has, escap
 use Rattle.rl_strict.proofs.Stops.{Stops}
 use Rattle.rl_strict.proofs.StrictRowLemmas.{no_char}
 
--- ---- the character or escape at the beginning
+-- ---- a character or escape at the beginning of a text
 
 -- The text is a complete character or escape, whatever text follows.
 abbrev pub IsUnitText : Kind → List ℕ → Type 0
@@ -21,7 +21,8 @@ mapped_none : (o : Option (List ℕ × List ℕ)) → option_map (λ p. p.1) o �
 mapped_none None h = refl
 mapped_none (Some p) h = absurd (cc)
 
--- The text can't continue at the flaw's position, and the flaw's kind describes the error.
+-- The longest prefix of the text that can be completed to a character or escape ends at the flaw, and the flaw's kind
+-- describes the error.
 pub record HasStrictUnitFlaw (k : Kind) (t : List ℕ) (flaw : FoundFlaw) : Type 0 where
   pub stops : Stops (IsUnitText k) (BeginsNone k) t flaw.1
   pub has : StrictUnitFlaw k flaw.0 t flaw.1
@@ -40,7 +41,7 @@ bare_a kind (inr h) = absurd (cc)
 strict_one : (k : Kind) → IsQuotedKind k → IsCompletable (IsUnitText k) []
 strict_one k q = record { ending = 97 ∷ []; are_characters = (refl, tt); is_taken = λ r. itself_past k 97 r (bare_a k q) }
 
--- A line feed written as `\n`.
+-- `unit_rest` returns the text after the escape `\n`.
 newline_past : (k : Kind) (r : List ℕ) → unit_rest k (92 ∷ 110 ∷ r) ≡ Some r
 unfolding unit_rest
 newline_past k r = ap (option_map (λ p. p.1)) (unit_complete k (Named LowerN) r (holds_more k 10 refl) tt)
@@ -55,7 +56,7 @@ bare_none k c e a h =
     ap (λ b. cond b (escape_rest k e) (cond (is_strict_unit k (Itself c)) (Some e) None)) a
     ∙ ap (λ b. cond b (Some e) None) h
 
--- A character that isn't allowed unescaped isn't a valid character.
+-- If no valid character or escape begins with a character other than a backslash, the character isn't allowed unescaped.
 none_bare : (k : Kind) (c : ℕ) (e : List ℕ) → (c == 92) ≡ false → unit_rest k (c ∷ e) ≡ None
     → is_strict_unit k (Itself c) ≡ false
 unfolding unit_rest
@@ -65,7 +66,7 @@ none_bare k c e a h = go (is_strict_unit k (Itself c)) refl
     go true y = let n : None ≡ Some e = sym h ∙ itself_past k c e y in absurd (cc)
     go false y = y
 
--- An escape other than an escaped line end is one of `syn`'s grammar.
+-- An escape other than an escaped line end ends at the same position in both grammars, Rust's and `syn`'s.
 escape_same : (k : Kind) (t : List ℕ) → first_passes (λ c. c == 10) t ≡ false → first_passes (λ c. c == 13) t ≡ false
     → unit_rest k (92 ∷ t) ≡ option_map (λ p. p.1) (escape_at k t)
 unfolding unit_rest escape_at
@@ -78,14 +79,14 @@ escape_same k (d ∷ e) n m =
 
 -- ---- the kinds of flaws
 
--- The kinds of flaws other than that of a CR.
+-- The flaw of a character or escape in `syn`'s grammar is its flaw in Rust's grammar.
 shared : (k : Kind) (f : FlawKind) (t rest : List ℕ) → UnitFlaw k f t rest → StrictUnitFlaw k f t rest
 shared k CarriageReturn t rest u = absurd u
 shared k f t rest u = u
 
--- ---- an escape
+-- ---- the flaw of an escape
 
--- A text after a backslash that begins with no line end has one flaw in both grammars.
+-- If no line end follows a backslash, the flaw of the escape in `syn`'s grammar is its flaw in Rust's grammar.
 escape_flaw : (k : Kind) (t : List ℕ) (flaw : FoundFlaw) → first_passes (λ c. c == 10) t ≡ false → first_passes (λ c. c
     == 13) t ≡ false → HasUnitFlaw k (escape_at k) (92 ∷ []) t flaw → HasStrictUnitFlaw k (92 ∷ t) flaw
 escape_flaw k t flaw n m h = record {
@@ -123,7 +124,7 @@ return_no_letter : (l : Letter) → 13 ≢ letter_text l
 return_no_letter LowerN e = absurd (cc)
 return_no_letter other e = absurd (cc)
 
--- The flaw directly after the backslash.
+-- If no escape begins with a backslash and the character after it, the flaw is at this character.
 after_backslash : (k : Kind) (d : ℕ) (ds : List ℕ) (flaw : FlawKind) → ((e : List ℕ) → unit_rest k (92 ∷ d ∷ e) ≡ None)
     → StrictUnitFlaw k flaw (92 ∷ d ∷ ds) (d ∷ ds) → HasStrictUnitFlaw k (92 ∷ d ∷ ds) (found_flaw flaw (d ∷ ds))
 after_backslash k d ds flaw none has = record {
@@ -138,7 +139,7 @@ after_backslash k d ds flaw none has = record {
   has = has;
 }
 
--- Character and byte literals allow no escaped line end.
+-- In a character or byte literal, an escaped line end isn't allowed: the flaw at its LF is `UnknownEscape`.
 feed_spoils : (k : Kind) (ds : List ℕ) → is_string k ≡ false → HasStrictUnitFlaw k (92 ∷ 10 ∷ ds)
     (found_flaw UnknownEscape (10 ∷ ds))
 unfolding unit_rest
@@ -172,7 +173,7 @@ return_spoils k ds s = after_backslash k 13 ds UnknownEscape (λ e. refl) (
   },
 )
 
--- If an escaped line end isn't allowed, the literal isn't a string.
+-- If a backslash and an LF aren't a valid escape, the literal isn't a string.
 no_break : (k : Kind) (ds : List ℕ) → unit_rest k (92 ∷ 10 ∷ ds) ≡ None → is_string k ≡ false
 unfolding unit_rest
 no_break k ds h = go (is_string k) h
@@ -224,7 +225,8 @@ strict_escape_spoils k (d ∷ ds) none = cond_both (d == 13 && is_string k) _ _ 
 
 -- ---- a character that isn't allowed unescaped
 
--- The flaw in a character literal.
+-- If a character literal can't contain an unescaped character, the kind of flaw is the one that the code returns for the
+-- character.
 char_has : (c : ℕ) (cs : List ℕ) → is_strict_unit Char (Itself c) ≡ false → (c == 92) ≡ false
     → StrictUnitFlaw Char (character_flaw_of c) (c ∷ cs) (c ∷ cs)
 char_has c cs p b = zero (c == 0) refl
@@ -278,9 +280,9 @@ bare_return ByteStr s = refl
 bare_return CStr s = refl
 bare_return kind s = absurd (cc)
 
--- ---- a character or escape
+-- ---- the flaw of a character or escape
 
--- The flaw at the first character.
+-- If no valid character or escape begins with a character, the flaw is at this character.
 at_front : (k : Kind) (c : ℕ) (cs : List ℕ) (flaw : FlawKind) → IsQuotedKind k → ((e : List ℕ) → unit_rest k (c ∷ e)
     ≡ None) → StrictUnitFlaw k flaw (c ∷ cs) (c ∷ cs) → HasStrictUnitFlaw k (c ∷ cs) (found_flaw flaw (c ∷ cs))
 at_front k c cs flaw q none has = record {

@@ -10,7 +10,8 @@ pub record StrictFront (k : Kind) (t r : List ℕ) : Type 0 where
   pub may_end : MayEnd unit r
   pub text_is : t ≡ strict_text unit ++ r
 
--- An escape at the beginning of the text.
+-- If a text begins with an escape of `syn`'s grammar that is also one of Rust's grammar, it begins with a character or
+-- escape of Rust's grammar.
 escape_front : (k : Kind) (t : List ℕ) (u : QuotedUnit) (r : List ℕ) → Back k u → t ≡ unit_text u ++ r
     → StrictFront k t r
 escape_front k t u r e h = record { unit = e.unit; is_unit = e.is_unit; may_end = no_break_ends e.unit r e.no_break; text_is = h ∙ ap (λ z. z ++ r) e.text_is }
@@ -41,7 +42,7 @@ lenient_front k (Continuation d run) c cs r q n m u e =
     absurd (both_ways (is_line_end c) (or_from (c == 10) (c == 13) n m)
     (ap (λ z. first_passes is_line_end (following z)) e ∙ u.1))
 
--- An escaped line end at the beginning of the text.
+-- If `unit_rest` accepts a backslash and an LF, the text begins with an escaped line end of Rust's grammar.
 line_front : (k : Kind) (cs r : List ℕ) → cond (is_string k) (Some (after_run is_dropped_blank cs)) None ≡ Some r
     → StrictFront k (92 ∷ 10 ∷ cs) r
 line_front k cs r h =
@@ -54,13 +55,13 @@ line_front k cs r h =
       text_is = ap (λ z. 92 ∷ 10 ∷ z) (run_join is_dropped_blank cs ∙ ap (λ z. run is_dropped_blank cs ++ z) p.1);
     }
 
--- An optional value before a function was applied to it.
+-- If an optional value has a value after a conversion, it has one before.
 mapped_some : (o : Option (List ℕ × List ℕ)) (r : List ℕ) → option_map (λ p. p.1) o ≡ Some r → (p : List ℕ × List ℕ)
     × (o ≡ Some p) × (p.1 ≡ r)
 mapped_some None r h = absurd (cc)
 mapped_some (Some p) r h = (p, refl, cc)
 
--- Any escape at the beginning of the text.
+-- If the code finds an escape after a backslash, the text begins with an escape of Rust's grammar.
 after_backslash : (k : Kind) (cs r : List ℕ) → HasStrictUnits k → escape_rest k cs ≡ Some r → StrictFront k (92 ∷ cs) r
 after_backslash k [] r q h = absurd (cc)
 after_backslash k (c ∷ cs) r q h =
@@ -80,7 +81,7 @@ after_backslash k (c ∷ cs) r q h =
           ]
     ]
 
--- The text that `unit_rest` returns follows a character or escape of Rust's grammar.
+-- If `unit_rest` returns a text, a character or escape of Rust's grammar precedes the returned text.
 pub unit_rest_sound : (k : Kind) (t r : List ℕ) → HasStrictUnits k → unit_rest k t ≡ Some r → StrictFront k t r
 unfolding unit_rest
 unit_rest_sound k [] r q h = absurd (cc)
@@ -102,7 +103,7 @@ bare_backslash : (k : Kind) → is_strict_unit k (Itself 92) ≡ false
 bare_backslash Str = refl
 bare_backslash other = refl
 
--- An unescaped character is skipped.
+-- `unit_rest` returns the text after an unescaped character that the kind allows.
 pub itself_past : (k : Kind) (c : ℕ) (r : List ℕ) → is_strict_unit k (Itself c) ≡ true → unit_rest k (c ∷ r) ≡ Some r
 unfolding unit_rest
 itself_past k c r h =
@@ -110,7 +111,8 @@ itself_past k c r h =
     ap (λ b. cond b (escape_rest k r) (cond (is_strict_unit k (Itself c)) (Some r) None)) n
     ∙ ap (λ b. cond b (Some r) None) h
 
--- An escape other than an escaped line end is parsed as in `syn`'s grammar.
+-- For an escape other than an escaped line end, `unit_rest` returns the text after it, as the parser of `syn`'s grammar
+-- does.
 escape_past : (k : Kind) (s : StrictUnit) (c : ℕ) (cs r : List ℕ) → is_strict_unit k s ≡ true → MayFollow s r
     → strict_text s ≡ 92 ∷ c ∷ cs → (c == 10) ≡ false → (c == 13) ≡ false → unit_rest k (strict_text s ++ r) ≡ Some r
 unfolding unit_rest
@@ -129,7 +131,7 @@ escape_past k s c cs r h f e n m =
 letter_no_line : (c : ℕ) → is_plain_letter c ≡ true → ((c == 10) ≡ false) × ((c == 13) ≡ false)
 letter_no_line c h = (apart is_plain_letter c 10 h refl, apart is_plain_letter c 13 h refl)
 
--- The letter of an escape such as `\n`.
+-- In a valid escape such as `\n`, the character after the backslash is one of the known letters.
 plain_letter : (k : Kind) (c : ℕ) → is_strict_unit k (PlainEscape c) ≡ true → is_plain_letter c ≡ true
 plain_letter CStr c h = (and_parts (is_plain_letter c) (not (c == 48)) h).0
 plain_letter _ c h = h
@@ -146,7 +148,7 @@ line_of ByteStr blanks h = (refl, h)
 line_of CStr blanks h = (refl, h)
 line_of kind blanks h = absurd (cc)
 
--- An escaped line end is skipped with the white space after it.
+-- `unit_rest` returns the text after an escaped line end and the white space that follows it.
 line_past : (k : Kind) (blanks r : List ℕ) → is_strict_unit k (LineBreak blanks) ≡ true
     → first_passes is_dropped_blank r ≡ false → unit_rest k (92 ∷ 10 ∷ (blanks ++ r)) ≡ Some r
 unfolding unit_rest
@@ -155,7 +157,7 @@ line_past k blanks r h n =
     ap (λ b. cond b (Some (after_run is_dropped_blank (blanks ++ r))) None) p.0
     ∙ ap Some (run_past is_dropped_blank blanks r p.1 n).1
 
--- Each character or escape of Rust's grammar is skipped.
+-- `unit_rest` returns the text after each character or escape of Rust's grammar.
 pub unit_rest_complete : (k : Kind) (u : StrictUnit) (r : List ℕ) → is_strict_unit k u ≡ true → MayEnd u r
     → unit_rest k (strict_text u ++ r) ≡ Some r
 unit_rest_complete k (Itself c) r h m = itself_past k c r h

@@ -5,7 +5,8 @@ use Rattle.rl_strict.proofs.StrictUnitLemmas.{StrictFront, unit_rest_complete}
 
 -- ---- escaped line ends before other texts
 
--- A test of the first character that fails for one text fails for another one, also with equal text before both.
+-- Suppose that the first character of `b` fails a test if the first character of `a` does. Then this also holds with the
+-- text `xs` before `a` and `b`.
 seam : (test : ℕ → Bool) (xs a b : List ℕ) → (first_passes test a ≡ false → first_passes test b ≡ false)
     → first_passes test (xs ++ a) ≡ false → first_passes test (xs ++ b) ≡ false
 seam test [] a b f h = f h
@@ -21,7 +22,7 @@ pub breaks_to : (us : List StrictUnit) (a b : List ℕ) → (first_passes is_dro
 breaks_to [] a b f h = tt
 breaks_to (u ∷ us) a b f h = (break_to u (flat_map strict_text us) a b f h.0, breaks_to us a b f h.1)
 
--- ---- sequences made longer
+-- ---- two sequences of characters and escapes, one after the other
 
 breaks_join : (us vs : List StrictUnit) (b c : List ℕ) → b ≡ flat_map strict_text vs ++ c → BreaksEnd us b
     → BreaksEnd vs c → BreaksEnd (us ++ vs) c
@@ -47,7 +48,7 @@ row_join k a b c r s = record {
       ∙ ap (λ z. z ++ c) (sym (flat_map-append strict_text r.units s.units));
 }
 
--- A sequence with one more character or escape.
+-- A sequence of characters and escapes, with one more character or escape after it, is a sequence of characters and escapes.
 pub row_unit : (k : Kind) (a b c : List ℕ) → BeginsStrictUnits k a b → StrictFront k b c → BeginsStrictUnits k a c
 row_unit k a b c r f = row_join k a b c r (record {
   units = f.unit ∷ [];
@@ -56,7 +57,7 @@ row_unit k a b c r f = row_join k a b c r (record {
   text_is = f.text_is ∙ ap (λ z. z ++ c) (sym (append-nil (strict_text f.unit)));
 })
 
--- A sequence with unescaped characters appended.
+-- Unescaped characters that the kind allows are a sequence of characters and escapes.
 itself_row : (k : Kind) (run c : List ℕ) → list_all (λ z. is_strict_unit k (Itself z)) run ≡ true
     → BeginsStrictUnits k (run ++ c) c
 itself_row k [] c h = row_none k c

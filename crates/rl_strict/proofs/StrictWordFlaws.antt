@@ -7,23 +7,24 @@ use Rattle.rl_strict.proofs.StrictRowLemmas.{quote_stops}
 use Rattle.rl_strict.proofs.StrictTokens.{no_token, token_reads}
 use Rattle.rl_strict.proofs.WordFlawLemmas.{truth_characters, word_place}
 
--- A text can't continue there, and has this flaw.
+-- The longest prefix of the text that can be completed to a literal token ends at the flaw, and the flaw's kind describes
+-- the error.
 abbrev pub IsStrictFlaw : (FlawKind → List ℕ → List ℕ → Type 0) → List ℕ → FoundFlaw → Type 0
 IsStrictFlaw says t flaw = Flawed IsToken t flaw.1 (HasKind (says flaw.0) t flaw.1)
 
--- A flaw with equal kind and rest is a flaw of the text too.
+-- A flaw of a text stays its flaw if its kind and rest are replaced by equal ones.
 pub moved : (says : FlawKind → List ℕ → List ℕ → Type 0) (t : List ℕ) (flaw : FoundFlaw) (k : FlawKind) (rest : List ℕ)
     → k ≡ flaw.0 → rest ≡ flaw.1 → IsStrictFlaw says t flaw → IsStrictFlaw says t (k, rest)
 moved says t flaw k rest kind place f = subst (λ z. IsStrictFlaw says t (z, rest)) (sym kind)
     (subst (λ z. IsStrictFlaw says t (flaw.0, z)) (sym place) f)
 
--- ---- the completion of a word
+-- ---- the completion of the words `true` and `false`
 
 by_truth : (b : Bool) (front more : List ℕ) → truth_text b ≡ front ++ more → AllByRecursion IsScalar more
     → IsCompletable IsToken front
 by_truth b front more e all = record { ending = more; are_characters = all; is_taken = truth_token (front ++ more) b (sym e) }
 
--- The remaining part of a word consists of characters.
+-- If a word consists of valid characters, the part of the word after any prefix does too.
 left_characters : (front more : List ℕ) → AllByRecursion IsScalar (front ++ more) → AllByRecursion IsScalar more
 left_characters [] more a = a
 left_characters (c ∷ cs) more a = left_characters cs more a.1
@@ -94,7 +95,7 @@ truth_other e false h = both_ways false refl (sym (ap (first_passes (λ z. z == 
 pub minus_no_token : (e : List ℕ) → IsToken (45 ∷ e) → ⊥
 minus_no_token e y = no_token (45 ∷ e) (front_not_quoted (45 ∷ e) refl) refl (truth_other e) y
 
--- The flaw of a text that begins with a minus.
+-- A text that begins with a minus has the flaw `Minus` at its beginning.
 pub strict_minus : (t : List ℕ) (k : FlawKind) (rest : List ℕ) → first_passes (λ c. c == 45) t ≡ true → k ≡ Minus → rest
     ≡ t → IsStrictFlaw IsStrictWordFlaw t (k, rest)
 strict_minus t k rest m kind place =

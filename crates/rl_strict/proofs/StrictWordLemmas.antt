@@ -20,7 +20,7 @@ all_apart f g (c ∷ cs) h =
     let r = all_apart f g cs p.1 in
     (and_from (f c) (list_all f cs) q.0 r.0, and_from (g c) (list_all g cs) q.1 r.1)
 
--- The first character of an identifier.
+-- The first character of an identifier passes the code's test of a suffix's first character.
 word_front : (c : ℕ) (cs : List ℕ) → is_start c ≡ true → c ∷ cs ≢ 95 ∷ []
     → cond (c == 95) (is_some_text cs) (is_start c) ≡ true
 word_front c cs s n = elim (cases_Bool (c == 95)) [
@@ -51,7 +51,7 @@ abbrev following : List ℕ → List ℕ
 following [] = []
 following (c ∷ cs) = cs
 
--- An identifier, from its first character and the other characters.
+-- A first character and further characters of an identifier are an identifier, unless they are `_` alone.
 word_of : (c : ℕ) (cs : List ℕ) → is_start c ≡ true → list_all is_continue cs ≡ true → c ∷ cs ≢ 95 ∷ []
     → IsWord (c ∷ cs)
 word_of c cs s h n =

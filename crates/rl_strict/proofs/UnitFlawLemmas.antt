@@ -1,6 +1,6 @@
--- If a text begins with no valid character or escape of a quoted literal, it can't continue at the position that the code
--- finds, and has the flaw of the code's kind.
-use Rattle.rl_strict.proofs.Names.{◌≡◌, ◌≢◌, ℕ, suc, ◌+◌, ◌*◌, ◌<◌, ◌≤◌, ◌||◌, ◌&&◌, Bool, true, false, not, cond, eqb, ltb, List, [], ◌∷◌, ◌++◌, length, Option, Some, None, refl, sym, ap, subst, ◌∙◌, inl, inr, arith, append_assoc, option_and_then, list_all, digit_value, scalar, and_from, and_parts, both_ways, cases_Bool, eqb-true, ltb-true, ltb-false, lt-ltb, not-true, not_from_false, list_all-append, pow-suc, cond_both, Kind, Str, ByteStr, CStr, Byte, first_passes, is_underscore, Letter, Named, LowerN, LowerR, LowerT, Backslash, Apostrophe, Quote, letter_text, letter_value, hex_value, content_of, place_value, without_underscores, is_hex_digit, holds_characters, is_string, is_plain, is_line_end, allows_code, may_be_hex, allows_unicode_escapes, apart, FlawKind, Unclosed, UnknownEscape, NoUnicode, NoHexDigit, NoBrace, EmptyBraces, TooManyDigits, HexEscapeOutOfRange, UnicodeEscapeOutOfRange, Surrogate, Nul, NotAscii, MustEscape, NoCharacter, IsBraced, digit_count, number_of, FirstDigit, SecondDigit, AfterBrace, AfterDigits, IsNoCode, HasNoCode, AtBrace, AtSixth, AsItIs, ByLetter, ByDigits, ByNumber, UnitFlaw, found, number_if, hex_at, unicode_at, after_blanks, named_at, escape_at, FoundFlaw, found_flaw, low_digit_flaw_at, hex_flaw_at, is_code, code_flaw_of, first_digit_flaw_at, unicode_flaw_at, escape_flaw_at, character_flaw_of, holds_more, two_digits, unit_complete, digit_apart, passes_more}
+-- If a text begins with no valid character or escape of a quoted literal in `syn`'s grammar, it has the flaw that the code
+-- returns: the kind and the position are right.
+use Rattle.rl_strict.proofs.Names.{◌≡◌, ◌≢◌, ℕ, suc, ◌+◌, ◌*◌, ◌<◌, ◌≤◌, ◌||◌, ◌&&◌, Bool, true, false, not, cond, eqb, ltb, List, [], ◌∷◌, ◌++◌, length, Option, Some, None, refl, sym, ap, subst, ◌∙◌, inl, inr, arith, append_assoc, option_and_then, list_all, digit_value, scalar, and_from, and_parts, both_ways, cases_Bool, eqb-true, ltb-true, ltb-false, lt-ltb, not-true, not_from_false, list_all-append, pow-suc, cond_both, Kind, Str, ByteStr, CStr, Byte, first_passes, is_underscore, Letter, Named, LowerN, LowerR, LowerT, Backslash, Apostrophe, Quote, letter_text, letter_value, hex_value, content_of, place_value, without_underscores, is_hex_digit, decodes_to_chars, is_string, is_plain, is_line_end, allows_code, may_be_hex, allows_unicode_escapes, apart, FlawKind, Unclosed, UnknownEscape, NoUnicode, NoHexDigit, NoBrace, EmptyBraces, TooManyDigits, HexEscapeOutOfRange, UnicodeEscapeOutOfRange, Surrogate, Nul, NotAscii, MustEscape, NoCharacter, IsBraced, digit_count, number_of, FirstDigit, SecondDigit, AfterBrace, AfterDigits, IsNoCode, HasNoCode, AtBrace, AtSixth, AsItIs, ByLetter, ByDigits, ByNumber, UnitFlaw, found, number_if, hex_at, unicode_at, after_blanks, named_at, escape_at, FoundFlaw, found_flaw, low_digit_flaw_at, hex_flaw_at, is_code, code_flaw_of, first_digit_flaw_at, unicode_flaw_at, escape_flaw_at, character_flaw_of, holds_more, two_digits, unit_complete, digit_apart, passes_more}
 use Rattle.rl_lenient.proofs.Names.{Zero}
 use Rattle.std.proofs.Common.{length-append}
 use Rattle.rl_strict.proofs.EscapeLemmas.{Closes, Completes, Fails, Reader, given, inner_none, only_zero, hex_read, hex_one, second, hex_second, never, no_low, no_high, past_hex, allowed, coded, closed_code, closed_bad, digit_on, digit_past, underscore_on, other_none, full_none, not_low, not_high, Spelled, room, closing, spelled_on, braced, braced_first, braced_none, first_spelled, braced_one, unicode_on, no_unicode_brace, unicode_one, unicode_never, escape_n, by_hex, by_unicode, same_escape, by_escape}
@@ -9,7 +9,8 @@ use Rattle.rl_strict.proofs.CodeDigitFlaws.{digits_flaw_at, digits_flaw_is}
 
 -- ---- parsers of the beginning of a text
 
--- The text can't continue at the flaw's position. The text before it determines the flaw's kind.
+-- The longest prefix of the text that the parser can still accept ends at the flaw, and the flaw's kind describes the error
+-- in the text with `before` in front.
 pub record HasUnitFlaw {V : Type 0} (kind : Kind) (reader : Reader V) (before text : List ℕ) (flaw : FoundFlaw) : Type 0
   where
     pub stops : Stops (Closes reader) (Fails reader) text flaw.1
@@ -19,7 +20,7 @@ at_end : {V : Type 0} {kind : Kind} {reader : Reader V} {before : List ℕ} → 
     → HasUnitFlaw kind reader before [] (found_flaw Unclosed [])
 at_end k = record { stops = record { front = []; text_is = refl; begins = k; stuck = λ c cs e h. absurd (cc) }; has = refl }
 
--- If the text has this first character, the parser fails there.
+-- If the parser rejects every text that begins with a character, the flaw is at this character.
 here : {V : Type 0} {kind : Kind} {reader : Reader V} {before : List ℕ} (c : ℕ) (cs : List ℕ) (flaw : FlawKind)
     → Completes reader → ((e : List ℕ) → reader (c ∷ e) ≡ None) → UnitFlaw kind flaw (before ++ (c ∷ cs)) (c ∷ cs)
     → HasUnitFlaw kind reader before (c ∷ cs) (found_flaw flaw (c ∷ cs))
@@ -33,7 +34,8 @@ here {reader} c cs flaw k none has = record {
   has = has;
 }
 
--- The flaw after this first character is that of the text after it.
+-- If an outer parser skips a character and converts the value of an inner parser, the flaw of the text after the character
+-- is the flaw of the whole text.
 next : {V W : Type 0} {kind : Kind} {before cs : List ℕ} {flaw : FoundFlaw} (inner : Reader V) (outer : Reader W)
     (f : V → W) (c x : ℕ) → c ≡ x → ((u : List ℕ) → outer (x ∷ u) ≡ option_and_then (λ p. given (f p.0) p.1) (inner u))
     → outer (c ∷ cs) ≡ None → (inner cs ≡ None → HasUnitFlaw kind inner (before ++ (x ∷ [])) cs flaw)
@@ -56,7 +58,8 @@ kept : {V : Type 0} (o : Option (V × List ℕ)) → o ≡ option_and_then (λ p
 kept None = refl
 kept (Some p) = refl
 
--- The flaw after this first character is that of the text after it, and the parse result is equal too.
+-- If an outer parser skips a character and returns the result of an inner parser, the flaw of the text after the character
+-- is the flaw of the whole text.
 next_same : {V : Type 0} {kind : Kind} {before cs : List ℕ} {flaw : FoundFlaw} (inner outer : Reader V) (c x : ℕ) → c ≡
     x → ((u : List ℕ) → outer (x ∷ u) ≡ inner u) → outer (c ∷ cs) ≡ None → (inner cs ≡ None → HasUnitFlaw kind inner
     (before ++ (x ∷ [])) cs flaw) → HasUnitFlaw kind outer before (c ∷ cs) flaw
@@ -73,7 +76,7 @@ pub left_false : (a b : Bool) → b ≡ true → (a && b) ≡ false → a ≡ fa
 left_false true b h e = absurd (both_ways b e h)
 left_false false b h e = refl
 
--- ---- the two digits of \x
+-- ---- the two digits of a `\x` escape
 
 rejected : (b : Bool) (n : ℕ) (r : List ℕ) → number_if b n r ≡ None → b ≡ false
 rejected true n r h = absurd (cc)
@@ -84,7 +87,7 @@ small_enough : (b : Bool) (v d : ℕ) → (b && ltb 7 v) ≡ false → d < 16 �
 small_enough false v d h digit = refl
 small_enough true v d h digit = lt-ltb (v * 16 + d) 128 (let few : v ≤ 7 = ltb-false 7 v h in omega arith)
 
-low_spoils : (kind : Kind) (c : ℕ) (t : List ℕ) → is_hex_digit c ≡ true → (holds_characters kind && ltb 7 (digit_value
+low_spoils : (kind : Kind) (c : ℕ) (t : List ℕ) → is_hex_digit c ≡ true → (decodes_to_chars kind && ltb 7 (digit_value
     c)) ≡ false → second kind c t ≡ None → HasUnitFlaw kind (second kind c) (92 ∷ 120 ∷ c ∷ []) t (low_digit_flaw_at t)
 low_spoils kind c [] h low none = at_end (hex_second kind c h low)
 low_spoils kind c (d ∷ ds) h low none = cond_both (is_hex_digit d) _ _
@@ -98,10 +101,10 @@ low_spoils kind c (d ∷ ds) h low none = cond_both (is_hex_digit d) _ _
     both e =
         let stuck : number_if (may_be_hex kind n) n ds ≡ None = sym (hex_read kind c d ds h e) ∙ none in
         let bad : may_be_hex kind n ≡ false = rejected (may_be_hex kind n) n ds stuck in
-        let fits : (not (holds_characters kind) || ltb n 128) ≡ true = small_enough (holds_characters kind)
+        let fits : (not (decodes_to_chars kind) || ltb n 128) ≡ true = small_enough (decodes_to_chars kind)
         (digit_value c) (digit_value d) low (ltb-true (digit_value d) 16 e) in
         let rejects : allows_code kind n ≡ false = left_false (allows_code kind n)
-        (not (holds_characters kind) || ltb n 128) fits bad in
+        (not (decodes_to_chars kind) || ltb n 128) fits bad in
         let value : hex_value c d ≡ 0 = sym (two_digits (digit_value c) (digit_value d)) ∙ only_zero kind n rejects in
         here d ds Nul (hex_second kind c h low) (λ r. hex_read kind c d r h e ∙ never (may_be_hex kind n) n ds r stuck)
         (c_string kind n rejects, ByDigits c d ds refl refl h e value)
@@ -117,18 +120,18 @@ unfolding hex_flaw_at
 hex_spoils kind [] none = at_end (hex_one kind)
 hex_spoils kind (c ∷ cs) none =
     let P : FoundFlaw → Type 0 = HasUnitFlaw kind (hex_at kind) (92 ∷ 120 ∷ []) (c ∷ cs) in
-    let high = holds_characters kind && ltb 7 (digit_value c) in
+    let high = decodes_to_chars kind && ltb 7 (digit_value c) in
     cond_both (is_hex_digit c) _ _ P
     (λ e. cond_both high _ _ P
     (λ h.
-    let parts = and_parts (holds_characters kind) (ltb 7 (digit_value c)) h in
+    let parts = and_parts (decodes_to_chars kind) (ltb 7 (digit_value c)) h in
     here c cs HexEscapeOutOfRange (hex_one kind) (λ r. past_hex kind c r e h)
     (parts.0, refl, and_from (is_hex_digit c) (ltb 7 (digit_value c)) e parts.1))
     (λ h. next_same (second kind c) (hex_at kind) c c refl (λ u. refl) none (low_spoils kind c cs e h)))
     (λ e. here c cs NoHexDigit (hex_one kind) (λ r. no_high kind c r e)
     (FirstDigit refl (not_from_false (is_hex_digit c) e)))
 
--- ---- the number that the digits represent
+-- ---- the number that the digits of a `\u{..}` escape represent
 
 place_more : (xs : List ℕ) (c : ℕ) → place_value 16 (xs ++ (c ∷ [])) ≡ place_value 16 xs * 16 + digit_value c
 place_more [] c = omega arith
@@ -187,7 +190,8 @@ code_has kind v text rest bad has = past (ltb 1114111 v) refl
 abbrev is_part : ℕ → Bool
 is_part c = is_underscore c || is_hex_digit c
 
--- The digits between braces so far, the number that they represent, and their count.
+-- The digits and underscores `ds` after `\u{` represent the number `v`, are `n` digits, and can still become an escape of
+-- the kind.
 record Stands (kind : Kind) (ds : List ℕ) (v n : ℕ) : Type 0 where
   pub begins : first_passes is_hex_digit ds ≡ true
   pub each : list_all is_part ds ≡ true
@@ -219,11 +223,11 @@ stands_underscore kind ds v n c s e = record {
   spelled = s.spelled;
 }
 
--- The text `\u{` with these digits after it.
+-- The text that is `\u{` and then digits.
 abbrev braced_front : List ℕ → List ℕ
 braced_front ds = 92 ∷ 117 ∷ 123 ∷ ds
 
--- The flaw of the text after a character, for any digits before the character.
+-- After `\u{` and any digits, if the text `cs` doesn't complete the escape, its flaw is the one that the code returns.
 abbrev NextSpoils : Kind → List ℕ → Type 0
 NextSpoils kind cs = (ds : List ℕ) (v n : ℕ) → Stands kind ds v n → coded kind v n cs ≡ None
     → HasUnitFlaw kind (coded kind v n) (braced_front ds) cs (digits_flaw_at kind v n cs)
@@ -344,9 +348,9 @@ unicode_spoils kind (c ∷ cs) u none = cond_both (eqb c 123) _ _
     (λ e. here c cs NoBrace (unicode_one kind u) (λ r. no_unicode_brace kind c r e)
     (refl, not_from_false (eqb c 123) e))
 
--- ---- an escape
+-- ---- the flaw of an escape
 
--- The letter of an invalid escape isn't one whose value the kind allows.
+-- If an escape is invalid, the character after its backslash isn't the letter of an escape whose value the kind allows.
 not_letter : (kind : Kind) (c : ℕ) (cs : List ℕ) (letter : Letter) → escape_at kind (c ∷ cs) ≡ None
     → allows_code kind (letter_value letter) ≡ true → c ≢ letter_text letter
 not_letter kind c cs letter none allowed is =
@@ -440,7 +444,7 @@ escape_spoils kind (c ∷ cs) none = cond_both (eqb c 120) _ _ P by_x (λ a. con
 abbrev Alone : Kind → ℕ → List ℕ → FlawKind → Type 0
 Alone kind c cs flaw = UnitFlaw kind flaw (c ∷ cs) (c ∷ cs)
 
--- The flaw of a non-ASCII character.
+-- In a byte or byte string, a non-ASCII character has the flaw that the code returns.
 high_has : (kind : Kind) (c : ℕ) (cs : List ℕ) → allows_unicode_escapes kind ≡ false → ltb c 128 ≡ false
     → Alone kind c cs (character_flaw_of c)
 high_has kind c cs u h =
@@ -448,7 +452,8 @@ high_has kind c cs u h =
     let other = λ (k : ℕ) (low : not (ltb k 128) ≡ false). apart (λ x. not (ltb x 128)) c k high low in
     rw (other 0 refl, other 39 refl, h) (u, refl, high)
 
--- The flaw of a character in a string, other than its closing quote.
+-- In a string, a character that isn't allowed unescaped has the flaw that the code returns. The character isn't `"`, a
+-- backslash or a CR.
 pub string_has : (kind : Kind) (c : ℕ) (cs : List ℕ) → is_string kind ≡ true → is_plain kind c ≡ false → eqb c 34 ≡
     false → eqb c 92 ≡ false → eqb c 13 ≡ false → Alone kind c cs (character_flaw_of c)
 string_has Str c cs s p q b r = let e : true ≡ false = rw (q, b, r) at p in absurd (cc)
@@ -487,8 +492,8 @@ byte_has c cs p b = zero (eqb c 0) refl
     zero true e = let h : true ≡ false = ap (is_plain Byte) (sym (eqb-true c 0 e)) ∙ p in absurd (cc)
     zero false e = apostrophe (eqb c 39) refl
 
--- ---- a character or escape
+-- ---- the flaw of a character or escape
 
--- The text doesn't begin with the closing quote of a string.
+-- If the kind is a kind of string, the text doesn't begin with the closing quote `"`.
 abbrev pub IsOpen : Kind → List ℕ → Type 0
 IsOpen kind t = is_string kind ≡ true → first_passes (λ c. eqb c 34) t ≡ false

@@ -1,4 +1,4 @@
--- The characters and escapes of a quoted literal, in order, as they are read.
+-- The characters and escapes of a quoted literal, in order. In a file, CR LF is read as LF.
 use Rattle.rl_strict.proofs.Names.{◌≡◌, ℕ, Bool, true, false, ◌==◌, cond, List, [], ◌∷◌, Option, Some, None, refl, sym, ap, subst, ◌∙◌, arith, ltb-false, option_map, is_ascii, Kind, after_run, first_passes, is_dropped_blank, is_string, escape_at, unit_at, escape_rest, unit_rest, LineEnds, Text, File, IsRestOf, drops, lf_text, read_of}
 use Rattle.rl_syntax.proofs.LowBytes.{not_equal}
 use Rattle.rl_lenient.proofs.AsciiLemmas.{no_escape}
@@ -8,7 +8,7 @@ use Rattle.rl_strict.proofs.EndLemmas.{first_of, free_in, loose, nil_of, step_in
 use Rattle.rl_strict.proofs.WalkForms.{quote_read}
 use Rattle.rl_strict.proofs.FileUnits as file
 
--- ---- the first character
+-- ---- the first character of a text, which may be the CR of a CR LF
 
 pub line_of : (how : LineEnds) (t rest : List ℕ) → how ≡ File → t ≡ 13 ∷ 10 ∷ rest → read_of how t
     ≡ 10 ∷ read_of how rest
@@ -31,7 +31,7 @@ pub kept_in : (how : LineEnds) (t rest : List ℕ) (c : ℕ) → t ≡ c ∷ res
 kept_in Text t rest c e h = record { front = c ∷ []; text_is = e; seam = refl }
 kept_in File t rest c e h = rest_kept t rest c e h
 
--- A non-ASCII character is kept in the text as it is read.
+-- A non-ASCII character isn't the CR of a CR LF, so it is kept if CR LF is read as LF.
 kept_past : (how : LineEnds) (c : ℕ) (cs : List ℕ) → first_passes is_ascii (c ∷ cs) ≡ false → drops how c cs ≡ false
 kept_past Text c cs n = refl
 kept_past File c cs n = other_kept c cs (not_equal c 13 (omega arith) (omega (arith, ltb-false c 128 n)))
@@ -107,7 +107,8 @@ pub return_of : (how : LineEnds) (k : Kind) (t line : List ℕ) → t ≡ 13 ∷
     → None ≡ escape_rest k (read_of how t)
 return_of how k t line e h = sym (ap (escape_rest k) (kept_read how t line 13 e h))
 
--- The result of the function call for an escape.
+-- After a backslash, an escape other than an escaped line end ends at the same position in both grammars, Rust's and
+-- `syn`'s.
 left_of : (k : Kind) (c : ℕ) (cs : List ℕ) → (c == 10) ≡ false → (c == 13) ≡ false → escape_rest k (c ∷ cs)
     ≡ option_map (λ (p : List ℕ × List ℕ). p.1) (escape_at k (c ∷ cs))
 unfolding unit_at
@@ -153,7 +154,7 @@ no_escaped how k (c ∷ cs) h n kept = sym (ap (unit_rest k) (kept_permissions h
     ∙ ap (λ b. cond b (escape_rest k (read_of how cs)) (cond (is_bare k c) (Some (read_of how cs)) None)) n
     ∙ ap (λ b. cond b (Some (read_of how cs)) None) h)
 
--- A non-ASCII character that isn't allowed unescaped begins no valid character or escape.
+-- If a non-ASCII character isn't allowed unescaped, no valid character or escape begins with it.
 pub past_escaped : (how : LineEnds) (k : Kind) (t : List ℕ) → first_passes (is_bare k) t ≡ false
     → first_passes is_ascii t ≡ false → None ≡ unit_rest k (read_of how t)
 past_escaped how k [] h n = no_escaped how k [] h refl (λ c following e. absurd (cc))

@@ -1,4 +1,4 @@
--- Quoted literals as they are read: the position where their valid content ends, and the reason.
+-- The position where the valid content of a quoted literal ends, and the reason. In a file, CR LF is read as LF.
 use Rattle.rl_strict.proofs.Names.{◌≡◌, ◌≢◌, ℕ, ◌<◌, ◌≤◌, true, false, not, ◌==◌, ◌&&◌, ◌||◌, List, [], ◌∷◌, ◌++◌, Some, None, refl, sym, ap, subst, ◌∙◌, both_ways, list_all, option_map, replicate, is_apostrophe, Kind, first_passes, is_hash, is_plain, is_single, is_string, begins, apart, is_some_text, QuotedForm, CookedForm, RawForm, SingleForm, BeginsStrictUnits, is_inside, is_raw_character, is_strict_suffix, unit_rest, ClosesForm, FlawKind, TextAfterQuote, ExtraHash, NoQuote, TooManyHashes, TwoCharacters, Unclosed, UnexpectedEnd, LineEnds, Text, File, chars, IsRestOf, StopsAsRead, read_of, StopsIn, suffix_piece, raw_character_flaw_of, raw_stop, strict_unit_flaw_at, suffix_read_at, FoundFlaw, found_flaw, end_flaw_at}
 use Rattle.rl_strict.proofs.StrictUnitRows.{row_join, row_none}
 use Rattle.rl_lenient.proofs.PlainLemmas.{no_run, one_run}
@@ -12,17 +12,18 @@ use Rattle.rl_strict.proofs.StrictRawFlaws.{raw_closed, raw_closes, raw_end_none
 use Rattle.rl_strict.proofs.StrictSuffixFlaws.{Judges}
 use Rattle.rl_strict.proofs.StrictRowLemmas.{quote_stops}
 
--- The flaw that a function call returned.
+-- A flaw that a function call returned: its kind, and the text that begins at it.
 abbrev pub flaw_of : FlawAt → FoundFlaw
 flaw_of f = found_flaw f.kind (chars f.rest.now)
 
--- The flaw that a function call returned, with its text as it is read.
+-- A flaw that a function call returned: its kind, and the text that begins at it. In a file, CR LF is read as LF in this
+-- text.
 abbrev pub flaw_read : LineEnds → FlawAt → FoundFlaw
 flaw_read how f = found_flaw f.kind (read_of how (chars f.rest.now))
 
 -- ---- the text after the closing delimiter
 
--- The suffix as it is read.
+-- If the code finds no flaw after a closing delimiter, the text there is a suffix, also if CR LF is read as LF.
 judged_none : (how : LineEnds) (form : QuotedForm) (t : List ℕ) → None ≡ suffix_read_at form t → Judges form (read_of how t) None
 judged_none how form t e = judged_by form (read_of how t) None (sym (suffix_of how form t ∙ ap (option_map (read_flaw how)) (sym e)))
 
@@ -42,7 +43,7 @@ piece_place how ExtraHash closing suffix r = self_in how closing
 piece_place how TextAfterQuote closing suffix r = self_in how closing
 piece_place how k closing suffix r = r
 
--- A flaw after the closing delimiter of a literal is the flaw of the whole text as it is read.
+-- A flaw after the closing delimiter of a literal is the flaw of the whole text. In a file, CR LF is read as LF.
 after_closer : (how : LineEnds) (form : QuotedForm) (k : Kind) (whole t closing suffix : List ℕ) (f : FlawAt) → IsRestOf
     how t closing → IsRestOf how closing suffix → Some (flaw_of f) ≡ suffix_read_at form suffix → chars f.piece.now ≡
     suffix_piece f.kind closing suffix → (Judges form (read_of how suffix) (Some (flaw_read how f)) → read_of how (chars
@@ -57,7 +58,8 @@ after_closer how form k whole t closing suffix f r q e piece says = record {
       (step_in how closing suffix (chars f.rest.now) q (suffix_in how form suffix (flaw_of f) e));
 }
 
--- A quote is read as a quote.
+-- If a text begins with a quote, it still does if CR LF is read as LF, and the text after the quote doesn't begin between a
+-- CR and an LF.
 pub quote_read : (how : LineEnds) (t suffix : List ℕ) (q : ℕ) → t ≡ q ∷ suffix → (q == 13) ≡ false → (read_of how t ≡ q ∷ read_of how suffix)
     × IsRestOf how t suffix
 quote_read how t suffix q e h =
@@ -82,7 +84,7 @@ cooked_bad how k t closing suffix f s run r quote e piece =
     (read_of how t) (read_of how closing) (read_of how suffix) (read_of how (chars f.piece.now))
     (read_of how (chars f.rest.now)) s run q.0 judged is)
 
--- The text as it is read doesn't begin with a quote.
+-- If a text doesn't begin with a quote, it doesn't either if CR LF is read as LF.
 unquoted_read : (how : LineEnds) (q : ℕ) (t : List ℕ) → (13 == q) ≡ (10 == q) → (q == q) ≡ true → ((x : List ℕ) → t ≢ q ∷ x)
     → (x : List ℕ) → read_of how t ≢ q ∷ x
 unquoted_read how q t h same none x e = both_ways (first_passes (λ c. c == q) (read_of how t))
@@ -151,7 +153,8 @@ single_unclosed how k f t closing piece rest s unit none same is = record {
 
 -- ---- a raw string
 
--- The hashes of a raw string, and the text after them.
+-- The hashes of a raw string don't change if CR LF is read as LF, and the text after them doesn't begin between a CR and an
+-- LF.
 pub hashes_text : (how : LineEnds) (n : ℕ) (t rest : List ℕ) → t ≡ replicate n 35 ++ rest → (read_of how t ≡ replicate n 35 ++ read_of how rest)
     × IsRestOf how t rest
 hashes_text how n t rest e = (
@@ -159,7 +162,7 @@ hashes_text how n t rest e = (
   (free_in how) t (replicate n 35) rest e (hashes_free n),
 )
 
--- The suffix after the closing delimiter of a raw string.
+-- The hashes of a raw string's closing delimiter don't change if CR LF is read as LF. The suffix follows them.
 closer_text : (how : LineEnds) (n : ℕ) (hashes after suffix : List ℕ) → hashes ≡ replicate n 35 → after ≡ hashes ++ suffix
     → read_of how after ≡ hashes ++ read_of how suffix
 closer_text how n hashes after suffix h e = ap (read_of how) e ∙ free_of how hashes suffix (ap lacks_cr h ∙ hashes_free n)
@@ -177,7 +180,7 @@ raw_good how k n c hashes t closing after suffix s few h at is c_is text flaw = 
     (read_of how closing) (read_of how suffix) c (read_of how after) s few h at is c_is
     (closer_text how n hashes after suffix h text) (judged_none how RawForm suffix flaw)
 
--- The text after the closing delimiter of a raw string.
+-- If a quote and the hashes follow a raw string's content, they still do if CR LF is read as LF. The suffix follows them.
 pub raw_quote : (how : LineEnds) (n c : ℕ) (hashes closing after suffix : List ℕ) → hashes ≡ replicate n 35
     → read_of how closing ≡ c ∷ read_of how after → c ≡ 34 → after ≡ hashes ++ suffix
     → read_of how closing ≡ 34 ∷ (hashes ++ read_of how suffix)
@@ -204,12 +207,13 @@ raw_bad how k n c hashes t closing after suffix f s few h at r is more c_is text
     (read_of how suffix) (read_of how (chars f.piece.now)) (read_of how (chars f.rest.now)) c (read_of how after) s
     few h at is c_is back judged.1 as_read))
 
--- The text as it is read doesn't begin with the closing delimiter.
+-- If a text doesn't begin with the closing delimiter of a raw string, it doesn't either if CR LF is read as LF.
 pub no_closer_read : (how : LineEnds) (n c : ℕ) (hashes after : List ℕ) → hashes ≡ replicate n 35
     → (c == 34 && begins hashes after) ≡ false → (c == 34 && begins hashes (read_of how after)) ≡ false
 no_closer_read how n c hashes after h e = ap (λ b. c == 34 && b) (closer_of how n hashes after h) ∙ e
 
--- The flaw of a raw string that ends before its closing delimiter.
+-- If a raw string's text ends before a closing delimiter, the flaw at the text's end is `Unclosed`. In a file, CR LF is read
+-- as LF.
 pub raw_unclosed : (how : LineEnds) (k : Kind) (f : FlawKind) (n : ℕ) (hashes t closing piece rest : List ℕ)
     → is_string k ≡ true → n ≤ 255 → hashes ≡ replicate n 35 → read_of how closing ≡ raw_stop k hashes (read_of how t)
     → IsRestOf how t closing → closing ≡ [] → f ≡ Unclosed → piece ≡ closing → rest ≡ closing
@@ -226,7 +230,7 @@ raw_unclosed how k f n hashes t closing piece rest s few h at r end kind is plac
       rest_in = subst (IsRestOf how t) (sym place) r;
     }
 
--- The flaw of a raw string at a character that isn't allowed in it.
+-- If a raw string contains a character that isn't allowed, the flaw is at this character. In a file, CR LF is read as LF.
 pub raw_held : (how : LineEnds) (k : Kind) (f : FlawKind) (n c : ℕ) (hashes t closing after piece rest : List ℕ)
     → is_string k ≡ true → n ≤ 255 → hashes ≡ replicate n 35 → read_of how closing ≡ raw_stop k hashes (read_of how t)
     → IsRestOf how t closing → read_of how closing ≡ c ∷ read_of how after → (c == 34 && begins hashes after) ≡ false
@@ -243,7 +247,8 @@ raw_held how k f n c hashes t closing after piece rest s few h at r more none ki
       rest_in = subst (IsRestOf how t) (sym place) r;
     }
 
--- The flaw of a raw string whose text ends after its hashes.
+-- If a raw string's text ends after at most 255 hashes, the flaw at the text's end is `UnexpectedEnd`. In a file, CR LF is
+-- read as LF.
 pub raw_short : (how : LineEnds) (k : Kind) (f : FlawKind) (n : ℕ) (t after piece rest : List ℕ) → is_string k ≡ true → n ≤ 255
     → t ≡ replicate n 35 ++ after → after ≡ [] → f ≡ UnexpectedEnd → piece ≡ after → rest ≡ after
     → StopsAsRead how RawForm k f (read_of how t) t piece rest
@@ -258,7 +263,7 @@ raw_short how k f n t after piece rest s few e end kind is place =
       rest_in = subst (IsRestOf how t) (sym place) text.1;
     }
 
--- The flaw of a raw string with too many hashes.
+-- If a raw string begins with more than 255 hashes, the flaw is `TooManyHashes`. In a file, CR LF is read as LF.
 pub raw_many : (how : LineEnds) (k : Kind) (f : FlawKind) (n c : ℕ) (t after more piece rest : List ℕ) → is_string k ≡ true → n ≤ 255
     → t ≡ replicate n 35 ++ after → (n < 255 → first_passes is_hash after ≡ false) → after ≡ c ∷ more
     → (c == 35) ≡ true → f ≡ TooManyHashes → piece ≡ t → rest ≡ after → StopsAsRead how RawForm k f (read_of how t) t piece rest
@@ -273,7 +278,7 @@ raw_many how k f n c t after more piece rest s few e last is_more hash kind is p
       rest_in = subst (IsRestOf how t) (sym place) text.1;
     }
 
--- The flaw of a raw string without a quote after its hashes.
+-- A nonempty text has a first character.
 front_some : (r : List ℕ) → is_some_text r ≡ true → (c : ℕ) × (cs : List ℕ) × (r ≡ c ∷ cs)
 front_some [] h = absurd (both_ways false refl h)
 front_some (c ∷ cs) h = (c, cs, refl)
@@ -299,7 +304,8 @@ raw_bare how k f n c t after more piece rest s few e is_more hash quote kind is 
 
 -- ---- sequences of characters
 
--- A sequence of unescaped characters.
+-- If a string's text begins with plain characters, it begins with a sequence of valid characters of Rust's grammar. In a
+-- file, CR LF is read as LF.
 pub run_of : (how : LineEnds) (k : Kind) (t run rest : List ℕ) → is_string k ≡ true → t ≡ run ++ rest
     → list_all (is_plain k) run ≡ true → BeginsStrictUnits k (read_of how t) (read_of how rest)
 run_of Text k t run rest s e h = plain_row k t run rest s e h
@@ -320,7 +326,7 @@ pub units_in : (how : LineEnds) (k : Kind) (t run following closing : List ℕ) 
     → list_all (is_plain k) run ≡ true → IsRestOf how following closing → IsRestOf how t closing
 units_in how k t run following closing s e h more = step_in how t following closing (run_in how k t run following s e h) more
 
--- The opening delimiter of a raw string.
+-- If a quote follows a raw string's hashes, the text is the hashes, the quote, and the text after the quote.
 pub opened_text : (t hashes rest opened : List ℕ) (c : ℕ) → t ≡ hashes ++ rest → rest ≡ c ∷ opened → c ≡ 34
     → t ≡ hashes ++ (34 ∷ opened)
 opened_text t hashes rest opened c text is quote = text ∙ ap (λ z. hashes ++ z) (is ∙ ap (λ z. z ∷ opened) quote)
@@ -336,7 +342,7 @@ pub plain_not : (how : LineEnds) (k : Kind) (t run following rest : List ℕ) (r
 plain_not how k t run following rest r text stops more body cut = no_run (is_plain k) body run following rest r.front
     (sym cut ∙ text) r.text_is stops more
 
--- The text from the hashes on, by the text after the opening quote.
+-- The hashes and the opening quote of a raw string don't change if CR LF is read as LF.
 pub opened_read : (how : LineEnds) (n : ℕ) (hashes inside opened : List ℕ) → hashes ≡ replicate n 35
     → inside ≡ hashes ++ (34 ∷ opened) → read_of how inside ≡ hashes ++ (34 ∷ read_of how opened)
 opened_read how n hashes inside opened h e = ap (read_of how) e ∙ free_of how hashes (34 ∷ opened) (ap lacks_cr h ∙
@@ -404,7 +410,8 @@ no_quote_unit k t closing e none rest other =
 
 -- ---- the content of a raw string
 
--- The code stops in the text as written where it stops in the text as it is read.
+-- Whether the code's loop over a raw string stops at a character doesn't change if CR LF is read as LF in the text after the
+-- character.
 pub halts_of : (how : LineEnds) (n : ℕ) (k : Kind) (c : ℕ) (hashes after : List ℕ) → hashes ≡ replicate n 35
     → ((c == 34 && begins hashes (read_of how after)) || not (is_raw_character k c))
     ≡ ((c == 34 && begins hashes after) || not (is_raw_character k c))

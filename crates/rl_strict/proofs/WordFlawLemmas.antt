@@ -3,7 +3,8 @@ use Rattle.rl_strict.proofs.Names.{◌≡◌, ◌≢◌, ℕ, Bool, true, false,
 use Rattle.rl_lenient.proofs.Names.{Truth}
 use Rattle.rl_strict.proofs.Stops.{Flawed}
 
--- The text has a flaw of this kind at this position.
+-- The longest prefix of the text that can be completed to a literal of `syn`'s grammar ends at the flaw, and the flaw's kind
+-- describes the error.
 abbrev pub IsFlaw : (FlawKind → List ℕ → List ℕ → Type 0) → List ℕ → FoundFlaw → Type 0
 IsFlaw says t flaw = Flawed HasReading t flaw.1 (HasKind (says flaw.0) t flaw.1)
 
@@ -45,7 +46,7 @@ other_first c cs t f v x r = go r.truth r.text_is
 
 -- ---- common prefixes with the words `true` and `false`
 
--- The common prefix of the text and the word, and the remaining part of each.
+-- The common prefix of a text and a word, and the remaining part of each.
 record Common (word t : List ℕ) : Type 0 where
   front : List ℕ
   left : List ℕ
@@ -90,13 +91,15 @@ pub truth_characters : (b : Bool) → AllByRecursion IsScalar (truth_text b)
 truth_characters true = (refl, (refl, (refl, (refl, tt))))
 truth_characters false = (refl, (refl, (refl, (refl, (refl, tt)))))
 
--- The text begins with the first letter of the word `true` or `false`.
+-- The common prefix of the text and the word `true` or `false` begins neither a number nor a quoted literal. Only this word
+-- completes it to `true` or `false`.
 record WordFront (b : Bool) (t : List ℕ) (k : Common (truth_text b) t) : Type 0 where
   no_opener : (e : List ℕ) → opener_at (k.front ++ e) ≡ None
   no_number : (e : List ℕ) → first_passes is_number_front (k.front ++ e) ≡ false
   only : (e : List ℕ) (d : Bool) → k.front ++ e ≡ truth_text d → d ≡ b
 
--- The flaw if the text ends inside the word, or another character follows.
+-- Suppose that the longest prefix of a nonempty text that can be completed to a literal is a prefix of a word (`true`,
+-- `false`, `b` or `c`). Then the flaw is `UnexpectedEnd` at the text's end, or `NotALiteral` at a character.
 ends : (t front rest : List ℕ) → StopsBefore HasReading t rest → t ≡ front ++ rest → t ≢ [] → BeginsWord front
     → IsFlaw IsWordFlaw t (end_flaw_at UnexpectedEnd NotALiteral rest)
 ends t front [] stops cut some begins = record {
@@ -144,9 +147,9 @@ unfolding opener_at common
 false_flaw cs = letters_flaw false (102 ∷ cs) (common (truth_text false) (102 ∷ cs))
     (record { no_opener = λ e. refl; no_number = λ e. refl; only = λ e d h. false_first _ d h }) (λ n. absurd (cc))
 
--- ---- texts that begin otherwise
+-- ---- texts that begin with neither `t` nor `f`
 
--- An opening delimiter is identified by its own characters.
+-- The form and the kind of a quoted literal, and the text after its opening delimiter.
 abbrev Opened : Type 0
 Opened = QuotedForm × Kind × List ℕ
 
@@ -157,7 +160,7 @@ picks false true r x y z u v w h = absurd (cc)
 picks false false true x y z u v w h = absurd (cc)
 picks false false false x y z u v w h = refl
 
--- A character that begins a prefix (`b` or `c`).
+-- The character `b` or `c`, which may begin the opening delimiter of a quoted literal.
 record IsPrefix (c : ℕ) : Type 0 where
   reads : HasReading (c ∷ 34 ∷ 34 ∷ [])
   no_number : is_number_front c ≡ false
@@ -268,7 +271,8 @@ word_flaw (c ∷ cs) number none = cond_both (c == 98 || c == 99) _ _ P prefixed
         let prefix = or_parts (c == 98) (c == 99) e in
         no_front_flaw c cs prefix.0 prefix.1 t f none number
 
--- The flaw that the code returns.
+-- If a text begins neither as a number nor as a quoted literal, the flaw that the code returns satisfies the definition of
+-- its kind.
 pub word_place : (t : List ℕ) (flaw : FoundFlaw) → first_passes is_number_front t ≡ false → opener_at t ≡ None → flaw
     ≡ word_flaw_at t → IsFlaw IsWordFlaw t flaw
 word_place t flaw number none same = subst (IsFlaw IsWordFlaw t) (sym same) (word_flaw t number none)

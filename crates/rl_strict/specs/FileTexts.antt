@@ -8,8 +8,9 @@ use Rattle.rl_strict.specs.Limits.{ExplainsLimit}
 use Rattle.rl_strict.specs.SignedFlaws.{ExplainsSigned}
 use Rattle.rl_strict.specs.StrictFlaws.{ExplainsStrictly}
 
--- The byte offset `at` of the text as written is the same position as the byte offset `read` of the text that rustc reads,
--- without each CR before an LF. No offset is between a CR and its LF: before an LF it is the offset of the CR.
+-- In a file, the byte offset `at` in the text as written is the position of the byte offset `read` in the text that rustc
+-- reads, without each CR before an LF. No position is between a CR and its LF: before a CR LF, `at` is the byte offset of
+-- the CR.
 pub record IsPlaceInFile (text : List ℕ) (read at : ℕ) : Type 0 where
   pub front : List ℕ
   pub rest : List ℕ
@@ -18,8 +19,8 @@ pub record IsPlaceInFile (text : List ℕ) (read at : ℕ) : Type 0 where
   pub read_is : read ≡ byte_len (lf_text front)
   pub at_is : at ≡ byte_len front
 
--- The text as rustc reads it isn't a literal token. The flaw is the reason, with its byte offsets in the text as written in the
--- file.
+-- In a file, the text as rustc reads it, with CR LF read as LF, isn't a literal token. The flaw is the reason, with its byte
+-- offsets in the text as written.
 pub record ExplainsInFile (text : List ℕ) (flaw : Flaw) : Type 0 where
   pub read : Flaw
   pub explains : ExplainsStrictly (lf_text text) read
@@ -29,8 +30,8 @@ pub record ExplainsInFile (text : List ℕ) (flaw : Flaw) : Type 0 where
   pub hi : IsPlaceInFile text read.hi flaw.hi
   pub ordered : flaw.lo ≤ flaw.hi
 
--- The text as rustc reads it is neither a literal token nor a minus and a number. The flaw is the reason, with its byte offsets
--- in the text as written in the file.
+-- In a file, the text as rustc reads it, with CR LF read as LF, is neither a literal token nor a minus and a number. The
+-- flaw is the reason, with its byte offsets in the text as written.
 pub record ExplainsSignedInFile (text : List ℕ) (flaw : Flaw) : Type 0 where
   pub read : Flaw
   pub explains : ExplainsSigned (lf_text text) read
@@ -40,12 +41,12 @@ pub record ExplainsSignedInFile (text : List ℕ) (flaw : Flaw) : Type 0 where
   pub hi : IsPlaceInFile text read.hi flaw.hi
   pub ordered : flaw.lo ≤ flaw.hi
 
--- The literal's text in a file has no value: as rustc reads it, it isn't a literal token, or it is an integer above 128 bits,
--- which has no CR. A minus and an integer above 128 bits isn't a literal token.
+-- The text of a literal in a file has no value. Either it isn't a literal token, with CR LF read as LF, or it is an integer
+-- above 128 bits, which contains no CR. A minus and an integer above 128 bits isn't a literal token.
 abbrev pub ExplainsValueInFile : List ℕ → Flaw → Type 0
 ExplainsValueInFile text flaw = ExplainsInFile text flaw ⊎ (IsToken (lf_text text) × ExplainsLimit text flaw)
 
--- The literal's text in a file has no value, where a minus before a number is allowed: as rustc reads it, it is neither a
--- literal token nor a minus and a number, or it is an integer above 128 bits.
+-- The text of a literal in a file has no value, where a minus before a number is allowed. Either it is neither a literal
+-- token nor a minus and a number, with CR LF read as LF, or it is an integer above 128 bits.
 abbrev pub ExplainsSignedValueInFile : List ℕ → Flaw → Type 0
 ExplainsSignedValueInFile text flaw = ExplainsSignedInFile text flaw ⊎ ExplainsLimit text flaw

@@ -7,7 +7,7 @@ use Prim.Native.Char.{code}
 use Rattle.rl_syntax.specs.declared.kind.Kind.{Kind}
 use Rattle.rl_syntax.specs.declared.kind.Kind.TheVariants.{CStr}
 use Rattle.rl_syntax.specs.Texts.{first_passes, is_among, is_underscore}
-use Rattle.rl_syntax.specs.Quoted.{Letter, letter_text, hex_value, is_hex_digit, is_line_end, is_single, is_string, allows_unicode_escapes, holds_characters}
+use Rattle.rl_syntax.specs.Quoted.{Letter, letter_text, hex_value, is_hex_digit, is_line_end, is_single, is_string, allows_unicode_escapes, decodes_to_chars}
 use Rattle.rl_syntax.specs.Spelling.{place_value, without_underscores}
 use Rattle.rl_syntax.specs.Classes.{is_hash}
 use Rattle.rl_lexer.specs.Sources.{is_apostrophe}
@@ -26,7 +26,7 @@ is_brace c = c == code "}"
 
 -- ---- flaws of escapes and characters
 
--- The rest begins with a character that begins no escape after a backslash.
+-- The rest follows a backslash, and begins with a character that begins no escape.
 pub record BeginsNoEscape (kind : Kind) (rest : List ℕ) : Type 0 where
   pub first : ℕ
   pub after : List ℕ
@@ -36,7 +36,7 @@ pub record BeginsNoEscape (kind : Kind) (rest : List ℕ) : Type 0 where
   pub no_u : first ≢ code "u"
   pub no_line_end : IsFalse (is_string kind && is_line_end first)
 
--- The text is `\u{`, the digits and underscores `digits`, and the rest.
+-- The text is `\u{`, then `digits`, which are hexadecimal digits and underscores, and then the rest.
 pub record IsBraced (digits text rest : List ℕ) : Type 0 where
   pub begins : Begins is_hex_digit digits
   pub each : IsTrue (list_all (λ c. is_underscore c || is_hex_digit c) digits)
@@ -48,7 +48,8 @@ digit_count digits = length (without_underscores digits)
 abbrev pub number_of : List ℕ → ℕ
 number_of digits = place_value 16 (without_underscores digits)
 
--- A hexadecimal digit is missing after \x or after the opening brace of `\u{..}`.
+-- A hexadecimal digit is missing after `\x`, after the opening brace of `\u{..}`, or after its digits. `text` begins at the
+-- escape, and `rest` where a digit is missing.
 pub data MissesDigit (text rest : List ℕ) : Type 0 where
   FirstDigit : text ≡ codes "\\x" ++ rest → Begins (λ c. not (is_hex_digit c)) rest
       → MissesDigit text rest
@@ -60,15 +61,15 @@ pub data MissesDigit (text rest : List ℕ) : Type 0 where
       → Begins (λ c. not (is_hex_digit c || is_brace c || is_underscore c)) rest
       → MissesDigit text rest
 
--- The reason why a literal of the kind can't contain the character with this number.
+-- The kind of flaw is the reason why a literal of the kind `Kind` can't contain the character with this number.
 abbrev pub IsNoCode : Kind → FlawKind → ℕ → Type 0
 IsNoCode kind UnicodeEscapeOutOfRange number = 0x10FFFF < number
 IsNoCode kind Surrogate number = (0xD800 ≤ number) × (number ≤ 0xDFFF)
 IsNoCode kind Nul number = (kind ≡ CStr) × (number ≡ 0)
 IsNoCode kind _ number = ⊥
 
--- The number of a `\u{..}` escape isn't allowed in a literal of the kind. The flaw is at the closing brace after up to five
--- digits, or at the sixth digit.
+-- The number that the digits of a `\u{..}` escape represent isn't allowed in a literal of the kind. The flaw is at the
+-- closing brace after up to five digits, or at the sixth digit.
 pub data HasNoCode (kind : Kind) (flaw : FlawKind) (text rest : List ℕ) : Type 0 where
   AtBrace : (digits : List ℕ) → IsBraced digits text rest → digit_count digits ≤ 5
       → Begins is_brace rest → IsNoCode kind flaw (number_of digits) → HasNoCode kind flaw text rest
@@ -76,7 +77,8 @@ pub data HasNoCode (kind : Kind) (flaw : FlawKind) (text rest : List ℕ) : Type
       → digit_count digits ≡ 5 → rest ≡ sixth ∷ after → IsTrue (is_hex_digit sixth)
       → IsNoCode kind flaw (number_of (digits ++ (sixth ∷ []))) → HasNoCode kind flaw text rest
 
--- The escape or character is a NUL: unescaped, `\0`, `\x00`, or `\u{0}`.
+-- The escape or character is a NUL: unescaped, `\0`, `\x00`, or `\u{0}`. `text` begins at the escape or character, and
+-- `rest` at the flaw.
 pub data IsNul (kind : Kind) (text rest : List ℕ) : Type 0 where
   AsItIs : text ≡ rest → Begins (λ c. c == 0) rest → IsNul kind text rest
   ByLetter : text ≡ codes "\\" ++ rest → Begins (λ c. c == code "0") rest → IsNul kind text rest
@@ -98,7 +100,7 @@ UnitFlaw kind TooManyDigits text rest =
     (digits : List ℕ) × IsBraced digits text rest × (digit_count digits ≡ 6)
     × Begins is_hex_digit rest
 UnitFlaw kind HexEscapeOutOfRange text rest =
-    IsTrue (holds_characters kind) × (text ≡ codes "\\x" ++ rest)
+    IsTrue (decodes_to_chars kind) × (text ≡ codes "\\x" ++ rest)
     × Begins (λ c. is_hex_digit c && nat_lt 7 (digit_value c)) rest
 UnitFlaw kind UnicodeEscapeOutOfRange text rest = HasNoCode kind UnicodeEscapeOutOfRange text rest
 UnitFlaw kind Surrogate text rest = HasNoCode kind Surrogate text rest

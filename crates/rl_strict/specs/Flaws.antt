@@ -11,8 +11,8 @@ pub record IsCompletable (takes : List ℕ → Type 0) (text : List ℕ) : Type 
   pub are_characters : AllByRecursion IsScalar ending
   pub is_taken : takes (text ++ ending)
 
--- The part of the text before the rest can be completed to a text that satisfies `takes`. With the rest's first character, if
--- there is one, it can't be completed.
+-- The text is a front and the rest. The front can be completed to a text that satisfies `takes`. With the rest's first
+-- character after it, if there is one, it can't be completed.
 pub record StopsBefore (takes : List ℕ → Type 0) (text rest : List ℕ) : Type 0 where
   pub front : List ℕ
   pub text_is : text ≡ front ++ rest
@@ -24,15 +24,15 @@ abbrev pub first_len : List ℕ → ℕ
 first_len [] = 0
 first_len (c ∷ cs) = length (encode_utf8 c)
 
--- The byte offset `lo` is the end of the longest prefix of the text that can be completed. The byte offset `hi` is after the
--- character at `lo`, or both are the text's end.
+-- The byte offset `lo` is the end of the text's longest prefix that can be completed to a text that satisfies `takes`. The
+-- byte offset `hi` is after the character at `lo`. If no character follows, `lo` and `hi` are the text's end.
 pub record IsPlaced (takes : List ℕ → Type 0) (text : List ℕ) (lo hi : ℕ) : Type 0 where
   pub rest : List ℕ
   pub stops : StopsBefore takes text rest
   pub lo_is : lo ≡ byte_len stops.front
   pub hi_is : hi ≡ lo + first_len rest
 
--- The relation `says` holds between the text before the rest and the rest.
+-- If the text is a front followed by the rest, the relation `says` holds between the front and the rest.
 abbrev pub HasKind : (List ℕ → List ℕ → Type 0) → List ℕ → List ℕ → Type 0
 HasKind says text rest = (front : List ℕ) → text ≡ front ++ rest → says front rest
 

@@ -1,4 +1,5 @@
--- How a text begins, and so which function parses it.
+-- The beginnings of texts that the parser of literal tokens distinguishes. Each beginning identifies the function that
+-- parses the text.
 use Rattle.std.specs.Prelude.{◌≡◌, ◌<◌, ◌==◌, ◌||◌, ◌∷◌, ℕ, List, [], IsTrue, IsFalse}
 use Rattle.std.specs.Char.{is_ascii_digit}
 use Rattle.std.specs.Str.{chars}

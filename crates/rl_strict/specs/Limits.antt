@@ -16,8 +16,9 @@ abbrev pub oversized_suffix_at : Reading → Option ℕ
 oversized_suffix_at (Integer None suffix_at) = Some suffix_at
 oversized_suffix_at _ = None
 
--- The text is an integer above 128 bits, and the flaw is of this kind. `lo` is the byte offset where the suffix begins, and
--- `hi` the one after the suffix's first character. Without a suffix, both are the text's end.
+-- The text is an integer above 128 bits, and the flaw is of the kind `TooLarge`. The byte offset `lo` is where the suffix
+-- begins, and `hi` is the byte offset after the suffix's first character. Without a suffix, `lo` and `hi` are the text's
+-- end.
 pub record IsLimitFlaw (text : List ℕ) (flaw : Flaw) : Type 0 where
   pub past : IsPast text
   pub number : List ℕ
@@ -39,11 +40,12 @@ pub record IsFloatBySuffix (text : List ℕ) : Type 0 where
   pub is_float : IsFloatSuffix suffix
   pub text_is : text ≡ sign_text sign ++ (digits ++ suffix)
 
--- The text is a literal token, or a minus and a number, and it is an integer above 128 bits that its suffix doesn't make a
--- float.
+-- The text is a literal token, or a minus and a number. It is an integer above 128 bits, and its suffix doesn't make it a
+-- float. The flaw is that of the integer.
 abbrev pub ExplainsLimit : List ℕ → Flaw → Type 0
 ExplainsLimit text flaw = IsSignedToken text × IsLimitFlaw text flaw × (IsFloatBySuffix text → ⊥)
 
--- The text has no value: it is neither a literal token nor a minus and a number, or it is an integer above 128 bits.
+-- The text has no value, and the flaw is the reason: the text is neither a literal token nor a minus and a number, or it is
+-- an integer above 128 bits.
 abbrev pub ExplainsValue : List ℕ → Flaw → Type 0
 ExplainsValue text flaw = ExplainsSigned text flaw ⊎ ExplainsLimit text flaw

@@ -31,18 +31,18 @@ abbrev pub read_of : LineEnds → List ℕ → List ℕ
 read_of Text text = text
 read_of File text = lf_text text
 
--- The character `c` isn't read: it is a CR before an LF, in a file.
+-- In a file, the character `c` is the CR of a CR LF, so it isn't read. The text argument is the text after `c`.
 abbrev pub drops : LineEnds → ℕ → List ℕ → Bool
 drops Text c following = false
 drops File c following = is_dropped c following
 
--- The border between the front and the rest isn't between a CR and an LF.
+-- The border between two texts, a front and a rest, isn't between a CR and an LF.
 abbrev pub is_seam : List ℕ → List ℕ → Bool
 is_seam [] rest = true
 is_seam (c ∷ []) rest = not (is_dropped c rest)
 is_seam (c ∷ d ∷ ds) rest = is_seam (d ∷ ds) rest
 
--- In a file, the border between the front and the rest isn't between a CR and an LF.
+-- In a file, the border between two texts, a front and a rest, isn't between a CR and an LF.
 abbrev pub is_seam_of : LineEnds → List ℕ → List ℕ → Bool
 is_seam_of Text front rest = true
 is_seam_of File front rest = is_seam front rest
@@ -56,15 +56,16 @@ pub record IsRestOf (ends : LineEnds) (text rest : List ℕ) : Type 0 where
 abbrev pub IsFileRest : List ℕ → List ℕ → Type 0
 IsFileRest text rest = IsRestOf File text rest
 
--- The text `whole` after an opening delimiter, as it is read, isn't the end of a literal of the form. The flaw's kind
--- describes the error in the piece and the rest as they are read. Both are ends of `text`, the text as written.
+-- The text `whole` after an opening delimiter isn't the end of a literal of the form. The flaw's kind describes the error in
+-- the piece and the rest, with CR LF read as LF in a file. The piece and the rest are ends of `text`, which is the text as
+-- written.
 pub record StopsAsRead (ends : LineEnds) (form : QuotedForm) (kind : Kind) (flaw : FlawKind) (whole text piece rest : List ℕ) : Type 0 where
   pub stops : StopsIn form kind flaw whole (read_of ends piece) (read_of ends rest)
   pub piece_in : IsRestOf ends text piece
   pub rest_in : IsRestOf ends text rest
 
--- The flaw is at the piece where a literal's valid content ends, or after its closing delimiter. If no text follows the valid
--- content, the flaw is the missing closing quote.
+-- The flaw is at its piece, where the valid content of a quoted literal ends, or it is after the closing delimiter. If no
+-- text follows the valid content, the flaw is the missing closing quote.
 abbrev pub IsOfStretch : QuotedForm → List ℕ → FlawAt → Type 0
 IsOfStretch form closing found =
     ((found.piece.now ≡ closing) × (chars closing ≡ [] → found.kind ≡ Unclosed))

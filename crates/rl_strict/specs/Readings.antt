@@ -23,12 +23,12 @@ use Rattle.rl_strict.specs.StrictShapes.{IsToken}
 
 -- ---- parse results
 
--- The text is a literal token. If the flag is true, a minus and a number is allowed too.
+-- The text is a literal token. If the flag is true, it may also be a minus and a number.
 abbrev pub IsTokenIf : Bool → List ℕ → Type 0
 IsTokenIf false = IsToken
 IsTokenIf true = IsSignedToken
 
--- The parse result of a literal token. If the flag is true, a minus and a number is allowed too.
+-- The parse result of a literal token. If the flag is true, the text may also be a minus and a number.
 abbrev pub ReadsOf : Bool → List ℕ → Reading → Type 0
 ReadsOf false text reading = IsStrictReading text reading
 ReadsOf true text reading = IsSignedRead text reading
@@ -46,8 +46,8 @@ pub record IsBodyInFile (text : List ℕ) (read body : Body) : Type 0 where
   pub suffix_is : suffix_in text body ≡ suffix_in (lf_bytes text) read
   pub plain_is : body.plain ≡ false
 
--- The parse result of a literal's text in a file. A string parses as the text does that rustc reads. No other literal contains
--- a CR LF, so it parses as written.
+-- The parse result of a literal's text in a file. A string parses as the text that rustc reads, with CR LF read as LF. No
+-- other literal contains a CR LF, so it parses as written.
 abbrev pub IsReadingInFile : Bool → List ℕ → Reading → Type 0
 IsReadingInFile signed text (Text kind body) =
     (read : Body) × IsStrictReading (lf_bytes text) (Text kind read) × IsBodyInFile text read body
@@ -58,22 +58,22 @@ abbrev pub IsReadingOf : LineEnds → Bool → List ℕ → Reading → Type 0
 IsReadingOf InText signed text reading = ReadsOf signed text reading
 IsReadingOf InFile signed text reading = IsReadingInFile signed text reading
 
--- Whether the body is known to be the literal's value. In a file it isn't.
+-- Whether the body is known to be the literal's value. In a file, this is never known.
 abbrev pub plain_of : LineEnds → Bool → Bool
 plain_of InText plain = plain
 plain_of InFile plain = false
 
 -- ---- flaws of a text
 
--- The flaw's kind describes the error in the text, whose piece and rest are given. If the flag is true, a minus and a number
--- is allowed too.
+-- The flaw's kind describes the error in the text. The last two arguments are the text from the flaw's piece on, and the
+-- text from the flaw on. If the flag is true, the text may also be a minus and a number.
 abbrev pub SaysOf : Bool → FlawKind → List ℕ → List ℕ → List ℕ → Type 0
 SaysOf false kind text piece rest = IsStrictFlawOf kind text piece rest
 SaysOf true kind text piece rest = IsSignedFlawOf kind text piece rest
 
--- The text as it is read isn't a literal token (nor a minus and a number, if the flag is true). Its longest prefix that can be
--- completed ends before the rest, and the flaw's kind describes the error in the text from the piece on. The piece and the
--- rest are ends of the text as written.
+-- The text as it is read isn't a literal token (nor a minus and a number, if the flag is true). In a file, CR LF is read as
+-- LF. The text's longest prefix that can be completed ends before the rest. The flaw's kind describes the error in the text
+-- from the flaw's piece on. The piece and the rest are ends of the text as written.
 pub record IsFlawOf (ends : LineEnds) (signed : Bool) (text : List ℕ) (kind : FlawKind) (piece rest : List ℕ) : Type 0 where
   pub none : IsTokenIf signed (read_of ends text) → ⊥
   pub stops : StopsBefore (IsTokenIf signed) (read_of ends text) (read_of ends rest)
@@ -81,18 +81,19 @@ pub record IsFlawOf (ends : LineEnds) (signed : Bool) (text : List ℕ) (kind : 
   pub piece_in : IsRestOf ends text piece
   pub rest_in : IsRestOf ends text rest
 
--- The byte offset `at` is where the rest of the text begins.
+-- The rest of the text begins at the byte offset `at`. In a file, the rest doesn't begin between a CR and an LF.
 pub record IsRestPlace (ends : LineEnds) (text rest : List ℕ) (at : ℕ) : Type 0 where
   pub is_rest : IsRestOf ends text rest
   pub at_is : at ≡ byte_len is_rest.front
 
--- The byte offset `at` is after the first character of the rest as it is read, or is the text's end.
+-- The byte offset `at` is after the first character of the rest, or is the text's end. In a file, a CR LF is one character.
 pub record IsPlaceAfter (ends : LineEnds) (text rest : List ℕ) (at : ℕ) : Type 0 where
   pub after : List ℕ
   pub place : IsRestPlace ends text after at
   pub after_is : read_of ends after ≡ drop 1 (read_of ends rest)
 
--- The flaw explains why the text isn't a literal token, nor, if the flag is true, a minus and a number.
+-- The flaw explains why the text isn't a literal token. If the flag is true, the flaw explains why the text is neither a
+-- literal token nor a minus and a number.
 abbrev pub ExplainsOf : LineEnds → Bool → List ℕ → Flaw → Type 0
 ExplainsOf InText false text flaw = ExplainsStrictly text flaw
 ExplainsOf InText true text flaw = ExplainsSigned text flaw
@@ -101,11 +102,11 @@ ExplainsOf InFile true text flaw = ExplainsSignedInFile text flaw
 
 -- ---- texts with a value
 
--- The text as it is read, in a file or not, has a value in Rust.
+-- The text has a value in Rust. In a file, CR LF is read as LF.
 abbrev pub HasValueOf : LineEnds → List ℕ → Type 0
 HasValueOf ends text = HasReading (read_of ends text) ⊎ IsFloatBySuffix (read_of ends text)
 
--- The flaw explains why the text has no value. If the flag is true, a minus and a number is allowed.
+-- The flaw explains why the text has no value. If the flag is true, a minus before a number is allowed.
 abbrev pub ExplainsValueOf : LineEnds → Bool → List ℕ → Flaw → Type 0
 ExplainsValueOf InText false text flaw = ExplainsStrictly text flaw ⊎ (IsToken text × ExplainsLimit text flaw)
 ExplainsValueOf InText true text flaw = ExplainsValue text flaw

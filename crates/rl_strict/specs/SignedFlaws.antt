@@ -17,7 +17,8 @@ IsSignedToken text =
     IsToken text
     ⊎ ((number : List ℕ) × (text ≡ codes "-" ++ number) × IsTrue (first_passes is_ascii_digit number) × IsToken number)
 
--- A minus isn't followed by a digit: the text ends there, or another character follows.
+-- No digit follows a minus. The kind of flaw is `UnexpectedEnd` if the text ends there, and `NoNumber` if another character
+-- follows.
 abbrev pub LacksNumber : FlawKind → List ℕ → Type 0
 LacksNumber NoNumber rest = rest ≢ []
 LacksNumber UnexpectedEnd rest = rest ≡ []
@@ -28,14 +29,16 @@ IsMinusFlawOf kind number rest =
     (IsTrue (first_passes is_ascii_digit number) × HasKind (IsStrictNumberFlaw kind) number rest)
     ⊎ (IsFalse (first_passes is_ascii_digit number) × (number ≡ rest) × LacksNumber kind rest)
 
--- The flaw's kind describes the error in a text that begins with a minus, or in one that doesn't.
+-- The flaw's kind describes the error in a text that may be a literal token, or a minus and a number. The last two arguments
+-- are the text from the flaw's piece on, and the text from the flaw on.
 abbrev pub IsSignedFlawOf : FlawKind → List ℕ → List ℕ → List ℕ → Type 0
 IsSignedFlawOf kind text piece rest =
     (IsFalse (first_passes (λ c. c == code "-") text) × IsStrictFlawOf kind text piece rest)
     ⊎ ((number : List ℕ) × (text ≡ codes "-" ++ number) × IsMinusFlawOf kind number rest × (piece ≡ text))
 
 -- The text is neither a literal token nor a minus and a number. The flaw's range is where the longest prefix ends that can
--- become one, and its kind describes the error in the text from the piece on.
+-- be completed to a literal token or to a minus and a number. The flaw's kind describes the error in the text from the
+-- flaw's piece on.
 pub record ExplainsSigned (text : List ℕ) (flaw : Flaw) : Type 0 where
   pub no_token : IsSignedToken text → ⊥
   pub place : IsPlaced IsSignedToken text flaw.lo flaw.hi

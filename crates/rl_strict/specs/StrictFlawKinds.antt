@@ -28,7 +28,7 @@ StrictUnitFlaw kind flaw text rest = UnitFlaw kind flaw text rest
 
 -- ---- flaws after the closing quote
 
--- The closing quote of a literal of the form.
+-- The closing quote of a literal of the form: `'` or `"`.
 abbrev pub form_quote : QuotedForm → ℕ
 form_quote SingleForm = code "'"
 form_quote _ = code "\""
@@ -38,12 +38,13 @@ abbrev pub is_raw_form : QuotedForm → Bool
 is_raw_form RawForm = true
 is_raw_form _ = false
 
--- The text is empty, or begins a suffix. It may be `_` alone.
+-- The text can become a suffix: it is empty, an identifier, or `_` alone.
 abbrev pub is_suffix_front : List ℕ → Bool
 is_suffix_front [] = true
 is_suffix_front (c ∷ cs) = is_start c && list_all is_continue cs
 
--- The rest begins with a character that continues the suffix, whose beginning is the first argument.
+-- Whether the rest begins with a character that continues a suffix. The first argument is the beginning of the suffix,
+-- before the rest.
 abbrev pub goes_on_with_suffix : List ℕ → List ℕ → Bool
 goes_on_with_suffix [] rest = first_passes is_start rest
 goes_on_with_suffix (c ∷ cs) rest = first_passes is_continue rest
@@ -52,8 +53,8 @@ goes_on_with_suffix (c ∷ cs) rest = first_passes is_continue rest
 abbrev pub IsExtraHash : QuotedForm → List ℕ → List ℕ → Type 0
 IsExtraHash form front rest = IsTrue (is_raw_form form) × (front ≡ []) × Begins is_hash rest
 
--- The text after the closing delimiter has a flaw before the rest. In the order of the equations: one more hash; the quote once
--- more; the suffix `_` alone; a character that no suffix contains.
+-- The text after the closing delimiter has a flaw before the rest. In the order of the equations, the flaws are: one more
+-- hash, the quote once more, the suffix `_` alone, and a character that can't continue the suffix.
 abbrev pub SuffixFlaw : QuotedForm → FlawKind → List ℕ → List ℕ → Type 0
 SuffixFlaw form ExtraHash front rest = IsExtraHash form front rest
 SuffixFlaw form TextAfterQuote front rest = IsTrue (is_suffix_front front) × Begins (λ c. c == form_quote form) rest
@@ -63,7 +64,8 @@ SuffixFlaw form BadSuffix front rest =
     × IsFalse (first_passes (λ c. c == form_quote form) rest) × (IsExtraHash form front rest → ⊥)
 SuffixFlaw form _ front rest = ⊥
 
--- The piece of a flaw after the closing quote: the text from the closing quote, or the suffix.
+-- The text from the piece of a flaw on, for a flaw after the closing delimiter. The piece begins at the closing quote if one
+-- more hash or quote follows. For other flaws, the piece begins at the suffix.
 abbrev pub suffix_piece : FlawKind → List ℕ → List ℕ → List ℕ
 suffix_piece ExtraHash closing suffix = closing
 suffix_piece TextAfterQuote closing suffix = closing
@@ -71,8 +73,8 @@ suffix_piece _ closing suffix = suffix
 
 -- ---- flaws of raw strings
 
--- The raw string isn't closed before the rest. Each character between its opening quote and the rest is allowed in a raw string
--- of the kind.
+-- The raw string isn't closed before the rest. Each character between its opening quote and the rest is allowed in a raw
+-- string of the kind. The text begins at the hashes.
 pub record IsOpen (kind : Kind) (hashes : ℕ) (text rest : List ℕ) : Type 0 where
   pub few : hashes < 256
   pub body : List ℕ
@@ -81,7 +83,7 @@ pub record IsOpen (kind : Kind) (hashes : ℕ) (text rest : List ℕ) : Type 0 w
   pub no_closer : (front after : List ℕ) → body ≢ front ++ (code "\"" ∷ (replicate hashes (code "#") ++ after))
   pub text_is : text ≡ replicate hashes (code "#") ++ (code "\"" ∷ (body ++ rest))
 
--- The raw string isn't closed before the rest, and the rest begins with a character that passes the test.
+-- The raw string isn't closed before the rest. The rest begins with a character that passes the test.
 abbrev pub IsSpoiledBy : Kind → (ℕ → Bool) → List ℕ → List ℕ → Type 0
 IsSpoiledBy kind test text rest = (hashes : ℕ) × IsOpen kind hashes text rest × Begins test rest
 
@@ -100,7 +102,8 @@ StrictRawFlaw kind _ text piece rest = ⊥
 
 -- ---- flaws of each form of literal
 
--- The flaw after the one character or escape of a character or byte literal: the text ends, or another character follows.
+-- The flaw after the one character or escape of a character or byte literal: the text ends, or a character other than the
+-- closing quote follows.
 abbrev pub StrictCloserFlaw : Kind → FlawKind → List ℕ → List ℕ → Type 0
 StrictCloserFlaw kind Unclosed text rest = BeginsStrictUnit kind text rest × (rest ≡ [])
 StrictCloserFlaw kind TwoCharacters text rest =

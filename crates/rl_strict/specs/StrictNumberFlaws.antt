@@ -1,5 +1,5 @@
--- The meaning of each kind of flaw in a text that begins as a number or as a word of Rust's grammar. `front` is the text before
--- the flaw, and `rest` the text that begins at the flaw.
+-- The meaning of each kind of flaw in a text that begins as a number of Rust's grammar, or as neither a number nor a quoted
+-- literal. `front` is the text before the flaw, and `rest` the text that begins at the flaw.
 use Rattle.std.specs.Prelude.{◌≡◌, ◌≢◌, ◌⊎◌, ℕ, ◌==◌, ◌||◌, Bool, IsTrue, IsFalse, List, [], ◌∷◌, ◌++◌, codes}
 use Rattle.std.specs.Char.{is_ascii_digit}
 use Rattle.std.specs.List.{list_all, list_any}
@@ -17,7 +17,7 @@ use Rattle.rl_strict.specs.StrictShapes.{IsToken}
 abbrev pub is_float_mark : ℕ → Bool
 is_float_mark c = c == code "." || is_exponent_letter c
 
--- The front is the prefix of a base other than ten, and `run`: digits of the base and underscores.
+-- The front is the prefix of a base other than ten, followed by `run`: digits of the base and underscores.
 pub record IsBasedRun (base : Base) (run front : List ℕ) : Type 0 where
   pub not_decimal : base ≢ Decimal
   pub each : IsTrue (list_all (is_run_part (is_digit base)) run)
@@ -41,8 +41,9 @@ pub record EndsInPower (front : List ℕ) : Type 0 where
   pub all_underscores : IsTrue (list_all is_underscore underscores)
   pub front_is : front ≡ whole ++ (fraction ++ (letter ∷ (sign ++ underscores)))
 
--- A number's digits are missing or invalid. In the order of the equations: no digit after the prefix of a base; a digit that
--- the base doesn't have; a dot or an exponent after digits of a base; no digit after the dot; no digit in the exponent.
+-- A number's digits are missing or invalid. In the order of the equations, the flaws are: no digit after the prefix of a
+-- base, a digit that the base doesn't have, a dot or an exponent after digits of a base, no digit after the dot, and no
+-- digit in the exponent.
 abbrev pub IsDigitFlaw : FlawKind → List ℕ → List ℕ → Type 0
 IsDigitFlaw NoDigits front rest =
     (base : Base) × (run : List ℕ) × IsBasedRun base run front × IsTrue (list_all is_underscore run)
@@ -61,8 +62,8 @@ IsDigitFlaw NoExponentDigit front rest =
     × (power.sign ++ power.underscores ≡ [] → IsFalse (first_passes (λ c. is_power_sign (c ∷ [])) rest))
 IsDigitFlaw kind front rest = ⊥
 
--- A flaw of a number: `IsDigitFlaw` holds, or the front is a number with an optional suffix, and the character after it can't
--- continue them.
+-- The flaw of a number. Either the number's digits are missing or invalid (`IsDigitFlaw`), or the front is a number with an
+-- optional suffix, and the character after the front can't continue it.
 abbrev pub IsStrictNumberFlaw : FlawKind → List ℕ → List ℕ → Type 0
 IsStrictNumberFlaw BadSuffix front rest =
     IsToken front × (rest ≢ []) × ((kind : FlawKind) → IsDigitFlaw kind front rest → ⊥)
@@ -78,15 +79,15 @@ pub record BeginsTruth (text : List ℕ) : Type 0 where
 abbrev pub BeginsWord : List ℕ → Type 0
 BeginsWord text = (text ≡ codes "b") ⊎ (text ≡ codes "c") ⊎ BeginsTruth text
 
--- The flaws of texts that begin neither as a number, nor with a minus, nor as a quoted literal. In the order of the equations:
--- the text is empty; the text ends too soon; a character can't continue the text to a literal.
+-- The flaws of texts that begin neither as a number, nor with a minus, nor as a quoted literal. In the order of the
+-- equations, the flaws are: the text is empty, the text ends too soon, and a character can't continue the text to a literal.
 abbrev pub IsWordFlaw : FlawKind → List ℕ → List ℕ → Type 0
 IsWordFlaw Empty front rest = (front ≡ []) × (rest ≡ [])
 IsWordFlaw UnexpectedEnd front rest = BeginsWord front × (front ≢ []) × (rest ≡ [])
 IsWordFlaw NotALiteral front rest = BeginsWord front × (rest ≢ [])
 IsWordFlaw kind front rest = ⊥
 
--- The flaws of texts that begin neither with a digit nor as a quoted literal: a minus, and those of `IsWordFlaw`.
+-- The flaws of texts that begin neither with a digit nor as a quoted literal: a minus, and the flaws of `IsWordFlaw`.
 abbrev pub IsStrictWordFlaw : FlawKind → List ℕ → List ℕ → Type 0
 IsStrictWordFlaw Minus front rest = (front ≡ []) × Begins (λ c. c == code "-") rest
 IsStrictWordFlaw NotALiteral front rest =

@@ -24,7 +24,7 @@ IsIntegerRead text magnitude suffix = (n : ℕ) × Strict text Int (Digits (dec 
 abbrev pub IsFloatRead : List ℕ → List ℕ → Type 0
 IsFloatRead text suffix = (v : Contents) × Strict text FloatKind v suffix
 
--- The number's suffix, which is the end of the text.
+-- The suffix of a parsed number, which is the end of the number's text.
 abbrev pub suffix_of : Number → List ℕ
 suffix_of (Integer magnitude suffix) = suffix.now
 suffix_of (Float suffix) = suffix.now
@@ -34,8 +34,8 @@ abbrev pub IsNumberRead : List ℕ → Number → Type 0
 IsNumberRead text (Integer magnitude suffix) = IsIntegerRead text magnitude (chars suffix.now)
 IsNumberRead text (Float suffix) = IsFloatRead text (chars suffix.now)
 
--- The text isn't a literal token, its longest completable prefix ends before the rest, and the flaw's kind describes the error
--- there.
+-- The text isn't a literal token. Its longest prefix that can be completed to a literal token ends before the rest. The
+-- flaw's kind describes the error there.
 pub record IsStop (t : List ℕ) (k : FlawKind) (rest : List ℕ) : Type 0 where
   pub none : IsToken t → ⊥
   pub stops : StopsBefore IsToken t rest

@@ -17,8 +17,8 @@ pub record IsTokenOf (text : List ℕ) (token : SpannedText) : Type 0 where
   pub bytes : token.text ≡ encode_utf8_all text
   pub characters : chars token.text ≡ text
 
--- A condition on the tokens of a text: the text of a literal token is that of a literal that the lexer finds in some
--- text. An identifier token may have any text.
+-- A condition on the tokens of a text: the text of a literal token is the text of a literal that the lexer finds in
+-- some text. An identifier token may have any text.
 abbrev pub IsCutToken : SpannedText → Type 0
 IsCutToken token = (text : List ℕ) × IsLexedLiteral text × IsTokenOf text token
 
@@ -61,7 +61,8 @@ flat_is_cut file w after is scalar = go (form_of w.lexeme) refl
     go (DelimiterForm c) form = delimiter (is_opener c) c
     go (MarkForm c) form = tt
 
--- If all characters of a text are valid, so are those of the text after white space and comments.
+-- If all characters of a text are Unicode scalar values, so are the characters that remain after white space and
+-- comments are skipped.
 skipped_scalars : (t r : List ℕ) → Skipped t r → scalars t ≡ true → scalars r ≡ true
 skipped_scalars t r (inl s) h = (scalars_parts s.front r (ap scalars (sym s.text) ∙ h)).1
 skipped_scalars t r (inr s) h = ap scalars s.nothing

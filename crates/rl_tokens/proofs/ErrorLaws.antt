@@ -38,7 +38,7 @@ no_lexeme_at r none = go (lexeme_at r) refl
         let (l, is, same, form) = lexeme_at-found r p h in
         absurd (none p.1 (lexeme_text l, (l, is, refl), same))
 
--- The text begins with `//` or `/*`. No lexeme begins such a text.
+-- A condition on a text: it begins with `//` or `/*`. No lexeme begins a text that begins with these characters.
 abbrev SlashAndMark : List ℕ → Type 0
 SlashAndMark r = (t : List ℕ) × (r ≡ 47 ∷ t) × (first_passes (λ d. d == 47 || d == 42) t ≡ true)
 

@@ -4,13 +4,15 @@ use Rattle.rl_syntax.specs.declared.span.Span.{Span}
 use Rattle.rl_tokens.specs.declared.token.Delimiter.{Delimiter}
 use Rattle.rl_tokens.specs.Trees.{Tree, Trees, GroupTree, IdentTree, PunctTree, LiteralTree, NoTrees, MoreTrees, inside_of, FlatToken, Opening, Closing, FlatIdent, FlatPunct, FlatLiteral, opener_span, closer_span, flat, flat_inside, flat_trees}
 
--- The flat tokens are those at the end of a level of token trees: there are none, or a closing delimiter is first.
+-- A condition on a list of flat tokens: the list is empty, or begins with a closing delimiter. So a list of token trees
+-- ends before these tokens.
 abbrev EndsLevel : List FlatToken → Type 0
 EndsLevel [] = Unit {0}
 EndsLevel (Closing d s ∷ fs) = Unit {0}
 EndsLevel _ = ⊥
 
--- The flat tokens at the end of a level of token trees don't begin with those of a token tree.
+-- A list of flat tokens that is empty or begins with a closing delimiter doesn't begin with the flat form of a token
+-- tree.
 not_end : (t : Tree) (fs xs : List FlatToken) → EndsLevel xs → xs ≡ flat t ++ fs → ⊥
 not_end t fs [] ends e = head_some t fs e
   where
@@ -106,7 +108,7 @@ flat_same (MoreTrees (GroupTree d inside s) ts) (MoreTrees (IdentTree j) us) xs 
 flat_same (MoreTrees (GroupTree d inside s) ts) (MoreTrees (PunctTree j) us) xs ys p q e = absurd (cc)
 flat_same (MoreTrees (GroupTree d inside s) ts) (MoreTrees (LiteralTree j) us) xs ys p q e = absurd (cc)
 
--- Two lists of token trees that are equal as the inside of a group are equal.
+-- If the insides of two groups are equal, the lists of token trees from which they are built are equal.
 inside_same : (xs ys : List Tree) → inside_of xs ≡ inside_of ys → xs ≡ ys
 inside_same [] [] e = refl
 inside_same [] (y ∷ ys) e = absurd (cc)

@@ -1,4 +1,5 @@
--- The end of the lexer's loop: the whole text is lexed, or the text's first error is at the current position.
+-- Lemmas about the end of the lexer's loop: the whole text is lexed, or the text's first error is at the current
+-- position.
 use Rattle.rl_syntax.proofs.Common.{◌≡◌, ℕ, ◌+◌, ◌⊎◌, inl, inr, List, [], ◌++◌, length, Some, Result, Ok, Err, refl, sym, ◌∙◌, ap, subst, arith, chars-nil, IfOk, chars, IsUtf8}
 use Rattle.rl_tokens.specs.declared.token.TokenStream.{TokenStream}
 use Rattle.rl_tokens.specs.declared.nest.TreeBuilder.{TreeBuilder}
@@ -42,7 +43,7 @@ leaves_here text rest file nest place is is_rest has here begins = record {
   rest_place = rest_place text rest place is is_rest here;
 }
 
--- If no text remains and no group is open, the whole text is lexed into the builder's token trees.
+-- If no text remains and no group is open, the whole text is lexed into the token trees of the builder.
 pub all_cut : {A : Type 0} (text rest : List ℕ) (file : ℕ) (nest : TreeBuilder A) (trees : List Tree)
     → HasCut text rest file nest → rest ≡ [] → groups_of nest ≡ [] → flat_trees trees ≡ flat_builder nest
     → Lexes (chars text) file trees
@@ -63,7 +64,7 @@ ends_open text rest file nest e is has nothing ends =
     (error_found text rest file nest UnclosedGroup e.at (length text) is u has (omega (arith, ap length nothing))
     (ap chars nothing ∙ chars-nil, ends.some_open) (ends.place (length text)))
 
--- If the next token can't be added to the builder, the text has an error at the token.
+-- If the next token can't be added to the builder of token trees, the text has an error at the token.
 closes_wrong : (groups : List OpenGroup) (l : Lexeme) (after : List ℕ) → ClosesWrong groups (form_of l)
     → ErrorAt UnmatchedClose groups (lexeme_text l ++ after)
 closes_wrong groups (DelimiterLexeme c) after h = h
@@ -100,7 +101,7 @@ rejected_token text from to file nest l e is same has next at_is h =
     (omega (arith, next.place, ap length same, at_is)) next.begins next.is_lexeme
     (subst (λ (f : LexemeForm). RejectsForm (groups_of nest) f e.kind) (sym next.is_cut.form_is) h)
 
--- If no token begins the remaining text, the cursor doesn't move, and its error is the text's first error.
+-- If the remaining text begins with no token, the cursor doesn't move, and its error is the text's first error.
 pub error_told : {A : Type 0} (text : List ℕ) (old new : CursorState) (file : ℕ) (nest : TreeBuilder A) (e : LexError)
     → old.text ≡ text → new ≡ old → HasCut text old.rest file nest → IsFirstError new e.kind e.at
     → Rejects (chars text) e.kind e.at
@@ -111,7 +112,7 @@ error_told text old new file nest e same stays has first =
     error_rejects (chars text) e.kind e.at (subst (λ (t : List ℕ). HasFirstError (chars t) e.kind e.at) same
     (here has.cuts (groups_of nest) cuts has.are_open))
 
--- If no token begins the remaining text and the cursor returns no error, no text remains.
+-- If the remaining text begins with no token and the cursor returns no error, no text remains.
 pub told_end : (old new : CursorState) → new ≡ old → BeginsNoLexeme (chars old.rest) → (new.rest ≡ [])
     ⊎ BeginsLexeme (chars new.rest) → old.rest ≡ []
 told_end old new stays none (inl nothing) = ap (λ (t : CursorState). t.rest) (sym stays) ∙ nothing

@@ -14,8 +14,8 @@ use Rattle.rl_lexer.proofs.LexemeFronts.{low_among}
 use Rattle.rl_lexer.proofs.CutLemmas.{open_more}
 use Rattle.rl_tokens.proofs.BorrowedTokens.{flat_borrowed}
 
--- The invariant: the text is lexed up to the remaining text `rest`, and the builder `nest` has the lexed tokens and the
--- open groups.
+-- The invariant of the lexer's loop: the text is lexed up to the remaining text `rest`, and `nest`, the builder of
+-- token trees, has the lexed tokens and the open groups.
 pub record HasCut {A : Type 0} (text rest : List ℕ) (file : ℕ) (nest : TreeBuilder A) : Type 0 where
   pub cuts : List LexedToken
   pub are_cuts : LexesUpTo 0 (chars text) cuts (chars rest)
@@ -24,7 +24,8 @@ pub record HasCut {A : Type 0} (text rest : List ℕ) (file : ℕ) (nest : TreeB
   pub file_is : nest.file ≡ file
   pub following : IsTail text rest
 
--- Lemmas: a lexed token fits its form, as the builder requires.
+-- Lemmas: the text and the byte range of a lexed token are those that the builder of token trees requires for a token
+-- of its form.
 start_continues : (c : ℕ) → is_start c ≡ true → (c == 95 || is_xid_start c) ≡ true
 start_continues c h = (and_parts (c == 95 || is_xid_start c) (not (is_white c)) h).0
 

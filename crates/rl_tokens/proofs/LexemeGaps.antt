@@ -1,5 +1,5 @@
--- Every lexeme except a punctuation character is the same lexeme if a separator or the end of the text follows it
--- instead.
+-- Every lexeme except a punctuation character stays the same lexeme if the text after it is replaced by a separator, or
+-- by the end of the text.
 use Rattle.rl_syntax.proofs.Common.{◌≡◌, ℕ, ◌<◌, Bool, true, false, not, ◌&&◌, ◌||◌, ◌==◌, cond, List, [], ◌∷◌, ◌++◌, drop, replicate, refl, sym, ◌∙◌, ap, subst, arith, append_assoc, lit<, and_parts, nat_tests, list_all, is_xid_start, is_xid_continue, is_ascii_digit, is_xid_continue-ascii}
 use Rattle.rl_syntax.specs.Texts.{is_white, is_underscore, first_passes, is_run_part, is_start, is_continue, begins_char}
 use Rattle.rl_lexer.specs.Lexemes.{is_base_letter, begins_dot, LexedFraction, NoLexedFraction, LexedDot, lexed_fraction_text, lexed_sign_text, LexedExponent, NoLexedExponent, LexedPower, lexed_exponent_text, IsRun, IsLexedSuffix, IsLexedFraction, IsLexedExponent, QuotedLexeme, RawLexeme, CharacterLexeme, BasedLexeme, DecimalLexeme, IdentifierLexeme, DelimiterLexeme, MarkLexeme, IsLexeme}
@@ -66,7 +66,8 @@ base_solid = or_solid (λ c. c == 120 || c == 111) (λ c. c == 98)
 letter_solid : Solid (λ c. c == 101 || c == 69)
 letter_solid = or_solid (λ c. c == 101) (λ c. c == 69) (code_solid 101 refl refl) (code_solid 69 refl refl)
 
--- If a test fails for the character after a text, it also fails for a separator in its place.
+-- Suppose that a test fails for the first character of each separator. If the test fails for the first character of two
+-- joined texts, it still fails if a separator replaces the second text.
 passes_gap : (test : ℕ → Bool) (s after gap : List ℕ) → Solid test → BeginsGap gap → first_passes test (s ++ after)
     ≡ false → first_passes test (s ++ gap) ≡ false
 passes_gap test [] after gap solid is h = gap_fails test gap solid is
@@ -80,7 +81,7 @@ suffix_gap : (x after gap : List ℕ) → BeginsGap gap → IsLexedSuffix x afte
 suffix_gap [] after gap is h = gap_fails is_start gap start_solid is
 suffix_gap (c ∷ x) after gap is (h, r) = (h, record { each = r.each; ends = gap_fails is_continue gap continue_solid is })
 
--- Lemmas about exponents before separators.
+-- Lemmas about the exponent of a number that is followed by a separator.
 run_gap : (u test : ℕ → Bool) (s after gap : List ℕ) → Solid u → Solid test → BeginsGap gap
     → first_passes test (after_run u (s ++ after)) ≡ false → first_passes test (after_run u (s ++ gap)) ≡ false
 run_gap u test [] after [] su st is h = refl
@@ -130,7 +131,7 @@ exponent_gap (c ∷ p ∷ q) after gap is (h, r) e =
     (ap (λ s. (c == 101 || c == 69) && first_passes is_ascii_digit (after_run is_underscore s))
     (sym (no_sign p (q ++ after) a b)) ∙ e)
 
--- Lemmas about the part of a float from its dot on, before separators.
+-- Lemmas about the part of a float from its dot on, followed by a separator.
 not_dot : (c : ℕ) (t : List ℕ) → (c == 46) ≡ false → begins_dot (c ∷ t) ≡ false
 not_dot c t h = ap (λ b. b && not (first_passes (λ d. d == 46 || is_start d) t)) h
 
@@ -198,7 +199,7 @@ decimal_gap d more f e x after gap is (id, not_based, run, fraction, exponent, s
       suffix_gap x after gap is suffix,
     )
 
--- Lemmas about identifiers before separators.
+-- Lemmas about identifiers that are followed by a separator.
 hash_none : (k : ℕ) (x gap : List ℕ) → list_all is_continue x ≡ true → BeginsGap gap → Solid (λ c. c == k)
     → is_continue k ≡ false → begins_char k (x ++ gap) ≡ false
 hash_none k [] [] run is solid no_cont = refl

@@ -1,4 +1,5 @@
--- Texts that may follow a literal in a printed list of literals, and tests that their first characters fail.
+-- Lemmas about the texts that may follow a literal in a printed list of literals, and about tests that their first
+-- characters fail.
 use Rattle.rl_syntax.proofs.Common.{◌≡◌, ℕ, ◌<◌, inl, inr, Bool, true, false, not, ◌&&◌, ◌||◌, ◌==◌, List, [], ◌∷◌, ◌++◌, refl, ◌∙◌, ap, lit<, and_parts, IsTrue, ⊤, codes, list_all, is_ascii_digit, is_ascii_alphanumeric, and_from, or_from, is_xid_start, is_xid_continue}
 use Rattle.rl_syntax.specs.Texts.{is_white, is_among, first_passes, is_run_part, is_start, is_continue}
 use Rattle.rl_lexer.specs.Lexemes.{is_base_letter, IsLexedSuffix, IsLexeme}
@@ -85,8 +86,8 @@ clear_base = clear_or (λ c. c == 120 || c == 111) (λ c. c == 98)
 pub clear_exponent : Clear (λ c. c == 101 || c == 69)
 clear_exponent = clear_or (λ c. c == 101) (λ c. c == 69) (clear_code 101 refl refl) (clear_code 69 refl refl)
 
--- A text that may follow a literal doesn't begin with a character that passes the test. The test fails for each
--- character with which a text after a literal may begin.
+-- Suppose that a test fails for each character with which a text after a literal may begin. Then a text that may follow
+-- a literal doesn't begin with a character that passes the test.
 pub ends_fails : (test : ℕ → Bool) (after : List ℕ) → Clear test → EndsLiteral after → first_passes test after ≡ false
 ends_fails test [] clear is = refl
 ends_fails test (c ∷ t) clear is = clear c is
@@ -108,7 +109,7 @@ gap_ends (c ∷ t) is = go (is_white c) (c == 47) is
     go false true h = refl
     go false false h = absurd (cc)
 
--- Lemmas about suffixes.
+-- Lemmas about the suffixes of literals.
 all_both : (f g : ℕ → Bool) (cs : List ℕ) → list_all f cs ≡ true → list_all g cs ≡ true → list_all (λ c. f c && g c) cs
     ≡ true
 all_both f g [] a b = refl

@@ -71,7 +71,7 @@ flat_open-push file (x ∷ xs) o =
     ∙ sym (append_assoc f (p ∷ flat_open file xs) (flat_trees (stream_view o.before)
     ++ (Opening o.delimiter (record { file = file; lo = o.at; hi = o.at + 1 }) ∷ [])))
 
--- If the builder's code for an opening delimiter has run, one more group is open.
+-- After the builder of token trees has handled an opening delimiter, one more group is open.
 pub opens_group : {A : Type 0} (old new : TreeBuilder A) (o : GroupBuilder A) → new.opened.items ≡ old.opened.items
     ++ o ∷ [] → o.before ≡ old.trees → trees_of new.trees ≡ [] → new.file ≡ old.file → length old.opened.items < 128
     → OpensGroup old new o.delimiter o.at
@@ -130,8 +130,8 @@ other_closer Bracket Parenthesis h = refl
 other_closer Bracket Brace h = refl
 other_closer Bracket Bracket h = absurd (h refl)
 
--- If the builder's code for a closing delimiter has run, the innermost group is closed, and is the last token tree of
--- the group or text around it.
+-- After the builder of token trees has handled a closing delimiter, the innermost group is closed. It is the last token
+-- tree of the group around it, or of the text.
 pub closes_group : {A : Type 0} (old between new : TreeBuilder A) (o : GroupBuilder A) (g : Group A) (d : Delimiter)
     (lo hi : ℕ) → old.opened.items ≡ between.opened.items ++ o ∷ [] → o.before ≡ between.trees → between.file ≡ old.file
     → o.delimiter ≡ d → delimiter_of g ≡ d → stream_of g ≡ old.trees → group_span g
@@ -181,7 +181,7 @@ wrong_closer old xs o d popped_is other =
     ∙ ap (λ gs. closes gs (closer_of d)) (groups-push xs o)
     ∙ other_closer o.delimiter d other
 
--- If a group is open at the end, the text ends inside the innermost open group.
+-- If a group is still open when the builder of token trees is finished, the text ends inside the innermost open group.
 pub ends_in_group : {A : Type 0} (old : TreeBuilder A) (xs : List (GroupBuilder A)) (o : GroupBuilder A)
     → old.opened.items ≡ xs ++ o ∷ [] → EndsInGroup (groups_of old) (record { kind = UnclosedGroup; at = o.at })
 ends_in_group old xs o popped_is =
@@ -193,7 +193,8 @@ ends_in_group old xs o popped_is =
       place = λ at. ap (λ gs. innermost gs at) (sym groups_are);
     }
 
--- If a token that isn't a group is appended, the builder has one more token, and the same groups are open.
+-- If a token that isn't a group is appended to the builder of token trees, the builder has one more token, and the open
+-- groups stay the same.
 pub takes_leaf : {A : Type 0} (old new : TreeBuilder A) (t : TokenTree A) (f : FlatToken) → flat (tree_view t) ≡ f ∷ []
     → TakesTree old new t → (groups_of new ≡ groups_of old) × (flat_builder new ≡ flat_builder old ++ f ∷ [])
     × (new.file ≡ old.file)

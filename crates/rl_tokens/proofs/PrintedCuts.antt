@@ -17,8 +17,8 @@ use Rattle.rl_lexer.proofs.LexemeFronts.{lexeme_at-past, stray_class, class47, a
 use Rattle.rl_tokens.proofs.LexemeGaps.{and_false, digit_solid}
 use Rattle.rl_lexer.proofs.CutLemmas.{byte_len-append}
 
--- A list of characters without white space doesn't contain a white space character. So no lexeme begins with white space or a
--- comment (`trivia_none`).
+-- If no character of a list is white space, a white space character isn't in the list. So no lexeme begins with white
+-- space or a comment (`trivia_none`).
 not_white_among : (codes : List ℕ) (c : ℕ) → list_all (λ k. not (is_white k)) codes ≡ true → is_white c ≡ true
     → is_among codes c ≡ false
 not_white_among codes c all w = false_unless (is_among codes c)
@@ -41,8 +41,8 @@ lexeme_stops : (l : Lexeme) (after : List ℕ) → IsLexeme l after → BeginsTr
 lexeme_stops l after is trivia = none-some (form_of l, after)
     (sym (trivia_none (lexeme_text l ++ after) trivia) ∙ lexeme_at-past l after is)
 
--- The text `t`, which begins at the byte offset `at`, is lexed into the token trees `trees`, whatever groups are open.
--- The open groups stay the same.
+-- A relation of a text and its token trees: `t`, which begins at the byte offset `at`, is lexed into `trees`, whatever
+-- groups are open before it. The open groups stay the same.
 record CutInto (file at : ℕ) (t : List ℕ) (trees : List Tree) : Type 0 where
   pub cuts : List LexedToken
   pub are_cuts : LexesUpTo at t cuts []
@@ -58,8 +58,8 @@ last_cut file at last is = record {
   flat_is = refl;
 }
 
--- A text of a separator, a token other than a delimiter, and more text is lexed into the token and the token trees of
--- that text.
+-- A text consists of a separator, a token other than a delimiter, and a remaining text. It is lexed into the token,
+-- followed by the token trees of the remaining text.
 token_cut : (file at : ℕ) (gap : List ℕ) (l : Lexeme) (after : List ℕ) (tree : Tree) (trees : List Tree) → IsTrivia gap
     → IsLexeme l after → ((groups : List OpenGroup) (n : ℕ) → after_form groups (form_of l) n ≡ Some groups) → flat tree
     ≡ flat_token file (record { lexeme = l; at = at + byte_len gap }) ∷ []
@@ -80,7 +80,7 @@ token_cut file at gap l after tree trees is_gap is_lexeme neutral is_flat rest =
       ∙ ap (λ f. f ++ flat_trees trees) (sym is_flat);
 }
 
--- Lemmas about the flat form of the token trees of items.
+-- Lemmas about the flat form of the token trees of the items of a printed list.
 literal_flat : (file at : ℕ) (l : Lexeme) (text : List ℕ) → form_of l ≡ LiteralForm → text ≡ lexeme_text l
     → flat (LiteralTree (token_at file at text)) ≡ flat_token file (record { lexeme = l; at = at }) ∷ []
 literal_flat file at l text form same =
@@ -99,8 +99,8 @@ minus_flat : (file at : ℕ) → flat (PunctTree (record { ch = 45; span = recor
     ≡ flat_token file (record { lexeme = MarkLexeme 45; at = at }) ∷ []
 minus_flat file at = ap (λ n. flat (PunctTree (record { ch = 45; span = record { file = file; lo = at; hi = at + n } }))) (sym minus_len)
 
--- The text `text` is that of a literal, and is one lexeme before each text of the family `ends`, which are the texts
--- that may follow it.
+-- A condition on the text of a literal: the lexer finds it as one lexeme before each text of the family `ends`, the
+-- texts that may follow it.
 pub record LexedBefore (ends : List ℕ → Type 0) (text : List ℕ) : Type 0 where
   pub lexeme : Lexeme
   pub is_lexeme : (after : List ℕ) → ends after → IsLexeme lexeme after
@@ -112,13 +112,15 @@ abbrev pub word_lexeme : Bool → Lexeme
 word_lexeme true = IdentifierLexeme 116 (114 ∷ 117 ∷ 101 ∷ [])
 word_lexeme false = IdentifierLexeme 102 (97 ∷ 108 ∷ 115 ∷ 101 ∷ [])
 
--- The item's literal or word is one lexeme before each text of the family `ends`.
+-- A condition on an item of a printed list: the lexer finds its literal, or its word `true` or `false`, as one lexeme
+-- before each text of the family `ends`.
 abbrev pub LexedItem : (List ℕ → Type 0) → Item → Type 0
 LexedItem ends (WordItem truth) = (after : List ℕ) → ends after → IsLexeme (word_lexeme truth) after
 LexedItem ends (LiteralItem text) = LexedBefore ends text
 LexedItem ends (MinusItem text) = LexedBefore ends text
 
--- The text after each item of a printed list of literals is in the family `ends`.
+-- A condition on a printed list of literals: after each item, the rest of the list's text is in the family `ends` of
+-- texts.
 abbrev pub EndsEach : (List ℕ → Type 0) → List Entry → List ℕ → Type 0
 EndsEach ends [] last = ⊤
 EndsEach ends (e ∷ es) last = ends (printed_text es last) × EndsEach ends es last

@@ -10,7 +10,7 @@ use Rattle.rl_syntax.specs.Reading.{Contents}
 use Rattle.rl_syntax.specs.Strict.{Strict}
 use Rattle.rl_syntax.specs.Quoted.{is_number}
 use Rattle.rl_syntax.specs.Printed.{Item, WordItem, LiteralItem, MinusItem, item_text, Entry, printed_text, IsStrictItem, IsApart}
-use Rattle.rl_tokens.specs.PrintedTrees.{IsLexedLiteral, IsLexedItem, PrintedLexes, ReprintedLexes}
+use Rattle.rl_tokens.specs.PrintedTrees.{IsLexedLiteral, IsLexedItem, PrintedLiteralsLexToTheirTrees, ReprintedLiteralsLexToThemselves}
 use Rattle.rl_tokens.proofs.LexemeGaps.{stays_before_gap}
 use Rattle.rl_tokens.proofs.PrintedCuts.{LexedBefore, LexedItem, EndsEach, entries_lex}
 use Rattle.rl_tokens.proofs.LiteralEnds.{EndsLiteral, gap_ends, word_ends}
@@ -53,8 +53,8 @@ filled_gap gap rest is some = gap_begins gap rest is (λ h. absurd (some h))
 last_begins : (last : List ℕ) → IsTrivia last → BeginsGap last
 last_begins last is = subst (λ (x : List ℕ). BeginsGap x) (append-nil last) (gap_begins last [] is (λ h. tt))
 
--- The separator and the item of an entry, with any text after them, are in the family `ends` of texts that may follow
--- an item.
+-- A condition on an entry of a printed list, a separator and an item: the entry followed by any text is in the family
+-- `ends`, the texts that may follow an item.
 abbrev Follows : (List ℕ → Type 0) → Entry → Type 0
 Follows ends e = (rest : List ℕ) → ends (e.gap ++ (item_text e.item ++ rest))
 
@@ -107,8 +107,8 @@ item_follows e (gap, is) (inr begins) rest = go e.gap gap
         (filled_gap (c ∷ g) (item_text e.item ++ rest) is (λ h. cc))
 
 -- Proof that a printed list of literals by Rust's grammar is lexed into the token trees of its items.
-pub printed_lexes : PrintedLexes
-printed_lexes t entries last file printed =
+pub printed_literals_lex_to_their_trees : PrintedLiteralsLexToTheirTrees
+printed_literals_lex_to_their_trees t entries last file printed =
     entries_lex EndsLiteral file t entries last printed.text
     (all_from (λ (e : Entry). IsTrivia e.gap × IsStrictItem e.item)
     (λ (e : Entry). IsTrivia e.gap × LexedItem EndsLiteral e.item) strict_item entries printed.items)
@@ -118,7 +118,7 @@ printed_lexes t entries last file printed =
     (gap_ends last (last_begins last printed.last_gap)))
     printed.last_gap
 
--- A lexed literal is the same lexeme if a separator follows it.
+-- A lexed literal stays the same lexeme if the text after it is replaced by a separator.
 literal_keeps : (l : Lexeme) → form_of l ≡ LiteralForm → KeepsItsEnd l
 literal_keeps (QuotedLexeme p parts x) form = tt
 literal_keeps (RawLexeme p n body x) form = tt
@@ -138,8 +138,8 @@ item_stays (LiteralItem text) is = cut_stays text is
 item_stays (MinusItem text) is = cut_stays text is
 
 -- Proof that a printed list of literals that were lexed from any text is lexed into the token trees of its items.
-pub reprinted_lexes : ReprintedLexes
-reprinted_lexes t entries last file printed =
+pub reprinted_literals_lex_to_themselves : ReprintedLiteralsLexToThemselves
+reprinted_literals_lex_to_themselves t entries last file printed =
     entries_lex BeginsGap file t entries last printed.text
     (all_from (λ (e : Entry). IsTrivia e.gap × IsLexedItem e.item)
     (λ (e : Entry). IsTrivia e.gap × LexedItem BeginsGap e.item) (λ e is. (is.0, item_stays e.item is.1)) entries

@@ -70,8 +70,8 @@ no_exponent : (s : List ℕ) → first_passes is_letter s ≡ false → begins_e
 no_exponent [] h = refl
 no_exponent (c ∷ t) h = ap (λ b. b && first_passes is_ascii_digit (after_run (λ c. c == 95) (after_sign t))) h
 
--- If the first character of two joined texts fails a test that texts after a literal fail, it also fails the test
--- before such a text.
+-- If two joined texts don't begin with a character that passes a test, they don't begin with one either if a text that
+-- may follow a literal is appended. The test fails for each character with which such a text may begin.
 fails_tail2 : (test : ℕ → Bool) (e x after : List ℕ) → Clear test → EndsLiteral after → first_passes test (e ++ x)
     ≡ false → first_passes test (e ++ (x ++ after)) ≡ false
 fails_tail2 test e x after clear ends h = ap (first_passes test) (sym (append_assoc e x after))
@@ -194,7 +194,7 @@ power_facts e s =
     let (sign, same) = sign_of s.sign s.is_sign in
     record { letter = s.letter; sign = sign; run = s.run; is_letter = s.is_letter; power = p; text = s.text ∙ ap (λ z. s.letter ∷ (z ++ s.run)) same ∙ ap (λ z. s.letter ∷ (lexed_sign_text sign ++ z)) p.text }
 
--- Lemmas about integers.
+-- Lemmas about integer literals by Rust's grammar.
 decimal_int : (t x : List ℕ) (v : Contents) (s : StrictInt t v x) → s.prefix ≡ [] → IsDigits s.run → IsDecimalText t
     → LexedBefore EndsLiteral t
 decimal_int t x v s none digits decimal =
@@ -251,7 +251,7 @@ int_lexed t x v s =
       ]
     ]
 
--- Lemmas about floats.
+-- Lemmas about float literals by Rust's grammar.
 float_from : (t x d : List ℕ) (v : Contents) (s : StrictFloat t v x) (f : LexedFraction) (e : LexedExponent)
     → IsDigits d → s.numeral ≡ d ++ (lexed_fraction_text f ++ lexed_exponent_text e)
     → first_passes (is_run_part is_ascii_digit) (lexed_fraction_text f ++ (lexed_exponent_text e ++ x)) ≡ false
@@ -284,7 +284,7 @@ dot_alone t x d v s digits numeral none =
     (ap (first_passes is_dot_or_start) none, refl, ap (first_passes (is_run_part is_ascii_digit)) none)
     (ap (first_passes is_letter) none)
 
--- The digits after a float's dot begin neither with a dot nor as an identifier.
+-- The digits after a float's dot begin neither with a dot nor with a character that may begin an identifier.
 digits_behind_dot : (f s : List ℕ) → IsDigits f → first_passes is_dot_or_start (f ++ s) ≡ false
 digits_behind_dot f s digits =
     let r = digit_row f digits in

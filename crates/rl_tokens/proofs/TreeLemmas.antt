@@ -9,7 +9,7 @@ use Rattle.rl_tokens.specs.declared.token.TokenStream.{TokenStream, fold-TokenSt
 use Rattle.rl_tokens.specs.Puncts.{Mark}
 use Rattle.rl_syntax.specs.Texts.{SpannedText}
 use Rattle.rl_tokens.specs.Trees.{Tree, GroupTree, PunctTree, LiteralTree, IdentTree, trees_of, MoreTrees, GroupParts, delimiter_of, stream_of, group_span, inside_of, tree_step, group_step, stream_step, tree_view, stream_view, respanned, all_respanned, relocated, all_relocated, group_tree}
-use Rattle.rl_syntax.specs.Spans.{looked_up}
+use Rattle.rl_syntax.specs.Spans.{mapped_by}
 
 abbrev stream_fold : {A : Type 0} → TokenStream A → List Tree
 stream_fold {A} = fold-TokenStream A Tree GroupParts (List Tree) tree_step group_step stream_step
@@ -17,7 +17,7 @@ stream_fold {A} = fold-TokenStream A Tree GroupParts (List Tree) tree_step group
 stream_fold-view : {A : Type 0} (s : TokenStream A) → stream_fold s ≡ stream_view s
 stream_fold-view {A} s = fold_out-TokenStream A Tree GroupParts (List Tree) tree_step group_step stream_step s
 
--- The plain data of a group, as a token tree, has the plain data of its parts.
+-- The plain data of a group consists of the plain data of the group's parts.
 pub tree_view-group : {A : Type 0} (g : Group A) → tree_view (tree.Group g)
     ≡ GroupTree (delimiter_of g) (inside_of (stream_view (stream_of g))) (group_span g)
 tree_view-group {A} g =
@@ -39,7 +39,8 @@ pub tree_view-ident : (A : Type 0) (i : SpannedText) → tree_view {A = A} (tree
 tree_view-ident A i = ap tree_view (sym (tree.rolls-Ident i))
     ∙ fold-roll-TokenTree A Tree GroupParts (List Tree) tree_step group_step stream_step (layer.Ident i)
 
--- If a token tree is appended to a stream, its plain data is appended to the plain data of the stream.
+-- If a token tree is appended to a stream, the plain data of the token tree is appended to the plain data of the
+-- stream.
 pub stream_view-append : {A : Type 0} (old new : TokenStream A) (x : TokenTree A) (t : Tree) → tree_view x ≡ t
     → trees_of new ≡ trees_of old ++ x ∷ [] → stream_view new ≡ stream_view old ++ t ∷ []
 stream_view-append old new x t is e = ap (map tree_view) e ∙ map-append tree_view (trees_of old) (x ∷ [])
@@ -76,7 +77,7 @@ relocated-inside table (t ∷ ts) = ap (MoreTrees (relocated table t)) (relocate
 -- If a group's span and the spans inside it are replaced by those that `table` gives for them, so are the spans in the
 -- group's plain data.
 pub relocated_parts : {A : Type 0} (table : List Span) (g h : Group A) → delimiter_of h ≡ delimiter_of g → group_span h
-    ≡ looked_up table (group_span g) → stream_view (stream_of h) ≡ map (relocated table) (stream_view (stream_of g))
+    ≡ mapped_by table (group_span g) → stream_view (stream_of h) ≡ map (relocated table) (stream_view (stream_of g))
     → group_tree h ≡ relocated table (group_tree g)
 relocated_parts table g h d s i =
     let f = relocated table in
@@ -84,13 +85,14 @@ relocated_parts table g h d s i =
     ap (λ x. GroupTree x (inside_of (stream_view (stream_of h))) (group_span h)) d
     ∙ ap (λ x. GroupTree (delimiter_of g) (inside_of x) (group_span h)) i
     ∙ ap (λ x. GroupTree (delimiter_of g) (inside_of (map f (stream_view (stream_of g)))) x) s
-    ∙ ap (λ x. GroupTree (delimiter_of g) x (looked_up table (group_span g))) (sym e)
+    ∙ ap (λ x. GroupTree (delimiter_of g) x (mapped_by table (group_span g))) (sym e)
 
 pub relocated_group : {A : Type 0} (table : List Span) (g h : Group A) → group_tree h ≡ relocated table (group_tree g)
     → tree_view (tree.Group h) ≡ relocated table (tree_view (tree.Group g))
 relocated_group table g h e = tree_view-group h ∙ e ∙ ap (relocated table) (sym (tree_view-group g))
 
--- If the first token tree of a list is consumed, the plain data of the list begins with its plain data.
+-- If the first token tree of a list is consumed, the plain data of the list begins with the plain data of that token
+-- tree.
 pub first_taken : {A : Type 0} (xs rest : List (TokenTree A)) (x : TokenTree A) (t : Tree) → xs ≡ x ∷ rest → tree_view x
     ≡ t → map tree_view xs ≡ t ∷ map tree_view rest
 first_taken xs rest x t e is = ap (map tree_view) e ∙ ap (λ z. z ∷ map tree_view rest) is

@@ -39,7 +39,8 @@ stays_rest between left a before b = rest_step before between left b a
 pub stays_tail : (between left : List Tree) (t : Tree) → between ≡ t ∷ left → StaysRest between left
 stays_tail between left t e = stays_rest between left (rest_one between left t e)
 
--- The meaning of a parser holds for a second list of token trees and a second scope if these equal the first ones.
+-- If the specification of a parser holds for a list of token trees and a scope, it also holds for an equal list and an
+-- equal scope.
 pub run_moved : {T E : Type 0} (runs : List Tree → Span → Result T E → List Tree → Type 0) (a b : List Tree)
     (s t : Span) (r : Result T E) (x y : List Tree) → a ≡ b → s ≡ t → x ≡ y → runs a s r x → runs b t r y
 run_moved runs a b s t r x y p q e ran = subst (λ z. runs z t r y) p

@@ -67,7 +67,7 @@ pub record IsRest (before left : List Tree) : Type 0 where
   pub taken : List Tree
   pub are : before ≡ taken ++ left
 
--- Each list of token trees that ends in `between` also ends in `left`. This holds if `between` ends in `left`.
+-- Each list of token trees that ends in `between` also ends in `left`. The condition holds if `between` ends in `left`.
 abbrev pub StaysRest : List Tree → List Tree → Type 0
 StaysRest between left = (before : List Tree) → IsRest before between → IsRest before left
 
@@ -85,8 +85,8 @@ MissesWord [] word (EndOfInput w) = w.now ≡ word
 MissesWord (t ∷ ts) word (Expected w) = w.now ≡ word
 MissesWord _ word _ = ⊥
 
--- The error of a parser that expected the token named `word` at the start of `trees`. Its span is that of the first
--- token tree, or the scope if `trees` is empty.
+-- The error of a parser that expected the token named `word` at the start of `trees`. The error's span is the span of
+-- the first token tree, or the scope if `trees` is empty.
 pub record IsRejection {A : Type 0} (trees : List Tree) (scope : Span) (word : List ℕ) (e : Error A)
     : Type 0 where
   pub span : e.span ≡ first_span trees scope

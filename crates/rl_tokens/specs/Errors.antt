@@ -1,4 +1,4 @@
--- The messages of errors, and two errors that contracts cite.
+-- The messages of errors, the error for an allocation failure, and the errors that the lexer's errors become.
 pub use Rattle.rl_syntax.specs.Spans.{nowhere}
 use Rattle.std.specs.Prelude.{ℕ, List, ◌++◌, codes, string_bytes}
 use Rattle.rl_syntax.specs.declared.span.Span.{Span}

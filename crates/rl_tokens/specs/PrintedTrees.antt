@@ -29,12 +29,12 @@ printed_trees file at (e ∷ es) =
 
 -- A theorem: a printed list of literals that Rust's grammar accepts is lexed into the token trees of the list's items
 -- and no others.
-abbrev pub PrintedLexes : Type 0
-PrintedLexes =
+abbrev pub PrintedLiteralsLexToTheirTrees : Type 0
+PrintedLiteralsLexToTheirTrees =
     (t : List ℕ) (entries : List Entry) (last : List ℕ) (file : ℕ) → Printed t entries last
     → Lexes t file (printed_trees file 0 entries)
 
--- The text is that of a literal token that the lexer finds in some text. The literal needn't be valid.
+-- The text is the text of a literal token that the lexer finds in some text. The literal needn't be valid.
 abbrev pub IsLexedLiteral : List ℕ → Type 0
 IsLexedLiteral text =
     (l : Lexeme) × (after : List ℕ) × IsLexeme l after × (form_of l ≡ LiteralForm)
@@ -56,7 +56,7 @@ pub record Reprinted (t : List ℕ) (entries : List Entry) (last : List ℕ) : T
 
 -- A theorem: a printed list of literals that were lexed from any text is lexed into the token trees of the list's items
 -- and no others.
-abbrev pub ReprintedLexes : Type 0
-ReprintedLexes =
+abbrev pub ReprintedLiteralsLexToThemselves : Type 0
+ReprintedLiteralsLexToThemselves =
     (t : List ℕ) (entries : List Entry) (last : List ℕ) (file : ℕ) → Reprinted t entries last
     → Lexes t file (printed_trees file 0 entries)

@@ -1,5 +1,5 @@
 -- The parts of token trees that contracts cite, token trees as plain data, and the flat form of token trees.
-pub use Rattle.rl_syntax.specs.Spans.{entry_at, looked_up}
+pub use Rattle.rl_syntax.specs.Spans.{entry_at, mapped_by}
 use Rattle.std.specs.Prelude.{◌+◌, ◌-◌, List, [], ◌∷◌, ◌++◌, map}
 use Rattle.rl_syntax.specs.declared.span.Span.{Span}
 use Rattle.rl_tokens.specs.declared.token.Delimiter.{Delimiter}
@@ -47,7 +47,7 @@ mutual
     NoTrees : Trees
     MoreTrees : (first : Tree) (rest : Trees) → Trees
 
--- A list of token trees, as the data type of the token trees inside a group.
+-- Converts a list of token trees to the data type of the token trees inside a group.
 abbrev pub inside_of : List Tree → Trees
 inside_of [] = NoTrees
 inside_of (t ∷ ts) = MoreTrees t (inside_of ts)
@@ -58,7 +58,7 @@ pub record GroupParts : Type 0 where
   pub inside : List Tree
   pub span : Span
 
--- One step of the conversion of a token tree, a group or a stream to plain data, given the plain data of its parts.
+-- Three functions that convert a token tree, a group and a stream to plain data. Their parts are converted already.
 abbrev pub tree_step : {A : Type 0} → TokenTree-F A Tree GroupParts (List Tree) → Tree
 tree_step (TokenTree-F.Group g) = GroupTree g.delimiter (inside_of g.inside) g.span
 tree_step (TokenTree-F.Ident i) = IdentTree i
@@ -102,20 +102,20 @@ abbrev mutual
 abbrev mutual
   pub relocated : List Span → Tree → Tree
   relocated table (GroupTree d inside span) =
-      GroupTree d (all_relocated table inside) (looked_up table span)
+      GroupTree d (all_relocated table inside) (mapped_by table span)
   relocated table (IdentTree i) =
-      IdentTree (record i { span = looked_up table i.span })
+      IdentTree (record i { span = mapped_by table i.span })
   relocated table (PunctTree p) =
-      PunctTree (record p { span = looked_up table p.span })
+      PunctTree (record p { span = mapped_by table p.span })
   relocated table (LiteralTree l) =
-      LiteralTree (record l { span = looked_up table l.span })
+      LiteralTree (record l { span = mapped_by table l.span })
 
   pub all_relocated : List Span → Trees → Trees
   all_relocated table NoTrees = NoTrees
   all_relocated table (MoreTrees t ts) =
       MoreTrees (relocated table t) (all_relocated table ts)
 
--- A group as plain data of a token tree.
+-- The plain data of the token tree that consists of a group.
 abbrev pub group_tree : {A : Type 0} → Group A → Tree
 group_tree g = GroupTree (delimiter_of g) (inside_of (stream_view (stream_of g))) (group_span g)
 

@@ -1,5 +1,5 @@
--- The meaning of parsing a whole text: the text is lexed into token trees, and a parser runs on these, with the text's
--- end as scope. A text is the list of its bytes here.
+-- The meaning of parsing a whole text: the text is lexed into token trees, and a parser runs on the token trees, with
+-- the text's end as scope. A text is the list of its bytes here.
 use Rattle.std.specs.Prelude.{◌≡◌, ◌≢◌, ◌⊎◌, ℕ, List, [], length, Result, Ok, Err}
 use Rattle.std.specs.Str.{chars}
 use Rattle.rl_syntax.specs.declared.span.Span.{Span}
@@ -16,16 +16,17 @@ use Rattle.rl_tokens.specs.Buffers.{first_span}
 abbrev pub place_at : ℕ → ℕ → Span
 place_at file at = record { file = file; lo = at; hi = at }
 
--- The error `e` is that of a text that can't be lexed: the text's first error, or an allocation failure at the start of
--- a token. The error's span is empty, at the error's byte offset. The text is the list of its characters here.
+-- The error `e` is the error for a text that can't be lexed: the text's first error, or an allocation failure at the
+-- start of a token. The error's span is empty, at the error's byte offset. The text is the list of its characters here.
 pub record RejectsLexing {A : Type 0} (text : List ℕ) (file : ℕ) (e : Error A) : Type 0 where
   pub kind : LexKind
   pub at : ℕ
   pub rejected : Rejects text kind at
   pub error : e ≡ lex_rejection kind (place_at file at)
 
--- The error `e` is that of token trees after a parsed value: the parser parses a value from the start of `trees`, and
--- `Unexpected` is reported at the first token tree that it leaves. `runs` is the parser's meaning.
+-- The error `e` is the error for token trees after a parsed value. The parser parses a value from the start of `trees`,
+-- and leaves token trees over. The error `Unexpected` is reported at the first of them. The relation `runs` specifies
+-- the parser.
 pub record LeavesTrees {T A : Type 0}
     (runs : List Tree → Span → Result T (Error A) → List Tree → Type 0) (trees : List Tree)
     (scope : Span) (e : Error A) : Type 0 where
@@ -35,8 +36,8 @@ pub record LeavesTrees {T A : Type 0}
   pub some : rest ≢ []
   pub error : e ≡ record { span = first_span rest scope; kind = Unexpected }
 
--- The error `e` is that of token trees that aren't exactly one value: the parser's own error, or `Unexpected` for a
--- token tree after the value.
+-- The error `e` is the error for token trees that aren't exactly one value: the parser's own error, or `Unexpected` for
+-- a token tree after the value.
 pub record RejectsParse {T A : Type 0}
     (runs : List Tree → Span → Result T (Error A) → List Tree → Type 0) (trees : List Tree)
     (scope : Span) (e : Error A) : Type 0 where
@@ -57,8 +58,8 @@ pub record RejectsLexed {T A : Type 0}
   pub lexes : Lexes (chars text) file trees
   pub rejected : RejectsParse runs trees (place_at file (length text)) e
 
--- The error of parsing a whole text: that of a text that can't be lexed, or of token trees that aren't exactly one
--- value.
+-- The error of parsing a whole text: the error for a text that can't be lexed, or the error for token trees that aren't
+-- exactly one value.
 abbrev pub RejectsAll : {T A : Type 0}
     → (List Tree → Span → Result T (Error A) → List Tree → Type 0) → List ℕ → ℕ → Error A → Type 0
 RejectsAll runs text file e = RejectsLexing (chars text) file e ⊎ RejectsLexed runs text file e

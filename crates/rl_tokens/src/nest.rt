@@ -22,7 +22,7 @@ pub(crate) struct GroupBuilder<A: Allocator> {
     delimiter: Delimiter,
     // The byte offset of the group's opening delimiter in the text.
     at: usize,
-    // The token trees that precede the group inside the group or text around it.
+    // The token trees before this group, in the group or the text that contains it.
     before: TokenStream<A>,
 }
 

@@ -14,11 +14,12 @@ use Rattle.rl_uses.specs.Configs.{IsPort, IsServerName}
 
 -- ---- lemmas about the port
 
--- The number type's `from_str` parses unsigned numbers of 16 bits.
+-- A condition on the specification of `from_str`: it parses unsigned numbers of 16 bits.
 abbrev Parses : {E : Type 0} → (List ℕ → Result ℕ E → Type 0) → Type 0
 Parses {E = E} gives = (digits : List ℕ) (r : Result ℕ E) → gives digits r → ParsesUnsigned 16 10 digits r
 
--- The result isn't an error, and gives the port `port`: the number that is set, or 80 if the result is `None`.
+-- The result for the setting of the port isn't an error, and gives the port `port`: the number that is set, or 80 if
+-- the result is `None`.
 abbrev IsPortAnswer : {E : Type 0} → ℕ → Result (Option ℕ) E → Type 0
 IsPortAnswer port (Ok o) = unwrap_or o 80 ≡ port
 IsPortAnswer port (Err e) = ⊥

@@ -10,7 +10,7 @@ use Rattle.std.specs.Option.{option_or}
 use Rattle.std.specs.Cmp.{IsEquivalence}
 use Rattle.rl_uses.specs.Counts.{some_times}
 
--- A count that is stored as `None` for zero has zero as its value.
+-- A count is stored as an option, in which `None` represents zero. The number in the option, or else 0, is the count.
 pub some_times_value : (n : ℕ) → unwrap_or (some_times n) 0 ≡ n
 some_times_value zero = refl
 some_times_value (suc n) = refl
@@ -52,7 +52,7 @@ none_counted : (n : ℕ) → None ≡ some_times n → n ≡ 0
 none_counted zero e = refl
 none_counted (suc n) e = absurd (cc)
 
--- In an empty map each key is the first of its equals in the empty list, since there are no keys.
+-- In an empty map, each key is the first of its equals in the empty list, since the map has no keys.
 pub firsts_none : {K S : Type 0} (eq : K → K → Bool) (m : HashMap K ℕ S) → IsEmpty m
     → All (λ k. find (eq k) [] ≡ Some k) (keys m)
 firsts_none eq m e = rw e (All-nil (λ k. find (eq k) [] ≡ Some k))

@@ -4,14 +4,14 @@ use Rattle.rust_literals.specs.declared.lit.Lit.{Lit}
 use Rattle.rl_uses.specs.declared.reasons.Reason.{Reason}
 use Rattle.rl_uses.specs.Reasons.{HasValue, IsReasonOf, AreReasons}
 
--- If one more literal has a value in Rust, the reasons stay the same.
+-- If one more literal has a value in Rust, the list of reasons is unchanged.
 pub reasons_same : {A : Type 0} (ls : List (Lit A)) (l : Lit A) (reasons : List Reason) → AreReasons ls reasons
     → HasValue l → AreReasons (ls ++ (l ∷ [])) reasons
 reasons_same [] l reasons e t = inl (t, e)
 reasons_same (x ∷ xs) l reasons (inl (u, h)) t = inl (u, reasons_same xs l reasons h t)
 reasons_same (x ∷ xs) l reasons (inr (first, rest, u, e, h)) t = inr (first, rest, u, e, reasons_same xs l rest h t)
 
--- If one more literal has no value in Rust, its reason is appended to the reasons.
+-- If one more literal has no value in Rust, the reason for it is appended to the list of reasons.
 pub reasons_more : {A : Type 0} (ls : List (Lit A)) (l : Lit A) (reasons : List Reason) (reason : Reason)
     → AreReasons ls reasons → IsReasonOf l reason → AreReasons (ls ++ (l ∷ [])) (reasons ++ (reason ∷ []))
 reasons_more [] l reasons reason e t = inr (reason, [], t, ap (λ z. z ++ (reason ∷ [])) e, refl)

@@ -9,8 +9,8 @@ use Rattle.rust_literals.specs.declared.lit.Lit.{Lit}
 use Rattle.rust_literals.specs.LitParts.{lit_span}
 use Rattle.rl_uses.specs.Shortage.{IsShortOf}
 
--- If a call for the literal at an index fails with `Memory` at that literal, and the error is returned, it is an
--- allocation failure at a literal of the list.
+-- If a call for one literal of a list fails with `Memory` at that literal, the returned error is an allocation failure
+-- at a literal of the list.
 pub short_at : {A B T : Type 0} (list : List (Lit A)) (i : ℕ) (literal : Lit A) (r : Result T (Error B)) (e : Error B)
     → i < length list → literal ≡ get_or list i literal → e ≡ memory_at (lit_span literal) → IsErrAnd r (λ y. y ≡ e)
     → IfErr r (IsShortOf list)

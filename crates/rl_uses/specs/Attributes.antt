@@ -18,20 +18,20 @@ pub record IsAttributeValue (trees : List Tree) (value : SpannedText) (rest : Li
   pub equals : IsAfterMark (code "=") trees following
   pub string : IsFrontOf Str following value rest
 
--- The error `e` is that of token trees that don't begin with `=`, where `=` is expected.
+-- The error `e` is the error for token trees that don't begin with `=`, where `=` is expected.
 pub record MissesValueEquals {A : Type 0} (trees : List Tree) (scope : Span) (e : Error A)
     : Type 0 where
   pub none : IsFalse (begins_mark (code "=") trees)
   pub rejection : IsRejection trees scope (codes "`=`") e
 
--- The error `e` is that of the parser of string literals, which rejects the token trees after `=`.
+-- The error `e` is the error of the parser of string literals, which rejects the token trees after `=`.
 pub record MissesString {A : Type 0} (trees : List Tree) (scope : Span) (e : Error A) : Type 0 where
   pub following : List Tree
   pub after : List Tree
   pub equals : IsAfterMark (code "=") trees following
   pub rejected : RunsAs Str (codes "string literal") following scope (Err e) after
 
--- The error `e` is that of token trees that don't begin with `=` and a string literal.
+-- The error `e` is the error for token trees that don't begin with `=` and a string literal.
 pub record RejectsValue {A : Type 0} (trees : List Tree) (scope : Span) (e : Error A) : Type 0 where
   pub why : MissesValueEquals trees scope e ⊎ MissesString trees scope e
 
@@ -42,7 +42,8 @@ pub record IsStringAttribute (trees : List Tree) (name value : SpannedText) (res
   pub named : trees ≡ IdentTree name ∷ following
   pub set : IsAttributeValue following value rest
 
--- The error `e` is that of token trees that don't begin with an identifier, where an attribute's name is expected.
+-- The error `e` is the error for token trees that don't begin with an identifier, where an attribute's name is
+-- expected.
 pub record MissesAttributeName {A : Type 0} (trees : List Tree) (scope : Span) (e : Error A)
     : Type 0 where
   pub none : IsFalse (begins_ident trees)
@@ -56,15 +57,15 @@ pub record LacksMemoryForIdentifier {A : Type 0} (trees : List Tree) (e : Error 
   pub named : trees ≡ IdentTree name ∷ following
   pub error : e ≡ memory_at name.span
 
--- The error `e` is that of an identifier without `=` and a string literal after it.
+-- The error `e` is the error for an identifier without `=` and a string literal after it.
 pub record MissesValue {A : Type 0} (trees : List Tree) (scope : Span) (e : Error A) : Type 0 where
   pub name : SpannedText
   pub following : List Tree
   pub named : trees ≡ IdentTree name ∷ following
   pub rejected : RejectsValue following scope e
 
--- The error `e` is that of token trees that don't begin with an attribute `name = "value"`: the error for the first
--- missing part, or an allocation failure.
+-- The error `e` is the error for token trees that don't begin with an attribute `name = "value"`: the error for the
+-- first missing part, or an allocation failure.
 pub record RejectsAttribute {A : Type 0} (trees : List Tree) (scope : Span) (e : Error A)
     : Type 0 where
   pub why : MissesAttributeName trees scope e ⊎ LacksMemoryForIdentifier trees e

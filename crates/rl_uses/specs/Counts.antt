@@ -8,7 +8,7 @@ use Rattle.rust_literals.specs.Copies.{is_equal}
 abbrev pub times : {A : Type 0} → Lit A → List (Lit A) → ℕ
 times literal list = count_by (is_equal literal) list
 
--- `Some` number, or `None` if the number is zero.
+-- Converts a number to an option: `None` represents zero, and `Some` any other number.
 abbrev pub some_times : ℕ → Option ℕ
 some_times zero = None
 some_times (suc n) = Some (suc n)

@@ -22,7 +22,7 @@ abbrev pub ReportsLintError : {A : Type 0} → Lit A → Bool → Type 0
 ReportsLintError (Str string) answer = ReportsControl string answer
 ReportsLintError other answer = answer ≡ false
 
--- The spans are those of the string literals of the list whose decoded value contains a control character, in order.
+-- The list of spans has the span of each string literal whose decoded value contains a control character, in order.
 abbrev pub AreErrors : {A : Type 0} → List (Lit A) → List Span → Type 0
 AreErrors [] spans = spans ≡ []
 AreErrors (l ∷ ls) spans =

@@ -23,7 +23,8 @@ pub record IsItem {A : Type 0} (trees : List Tree) (item : Item A) (rest : List 
   pub literal : IsItemLiteral trees item rest
   pub shorter : length rest < length trees
 
--- The error `e` is that of token trees that begin with neither an integer nor a string literal. Its message names both.
+-- The error `e` is the error for token trees that begin with neither an integer nor a string literal. The error's
+-- message names both kinds of literals.
 pub record MissesItem {A : Type 0} (trees : List Tree) (scope : Span) (e : Error A) : Type 0 where
   pub no_integer : HasFrontOf IntKind trees → ⊥
   pub no_string : HasFrontOf StrKind trees → ⊥
@@ -35,8 +36,8 @@ pub record LacksMemoryForItem {A : Type 0} (trees : List Tree) (scope : Span) (e
   pub some : HasFrontOf IntKind trees ⊎ HasFrontOf StrKind trees
   pub error : e ≡ memory_at (first_span trees scope)
 
--- The error `e` is that of token trees from which no item is parsed: they don't begin with one, or an allocation
--- failed.
+-- The error `e` is the error for token trees from which no item is parsed. The token trees don't begin with an item, or
+-- an allocation failed.
 pub record RejectsItem {A : Type 0} (trees : List Tree) (scope : Span) (e : Error A) : Type 0 where
   pub why : MissesItem trees scope e ⊎ LacksMemoryForItem trees scope e
 
@@ -53,7 +54,7 @@ pub record IsListed {A : Type 0} (trees : List Tree) (item : Item A) (rest : Lis
   pub is : IsItem trees item following
   pub comma : IsAfterMark (code ",") following rest ⊎ ((following ≡ []) × (rest ≡ []))
 
--- The error `e` is that of an item that is followed by something other than a comma.
+-- The error `e` is the error for an item that is followed by something other than a comma.
 pub record MissesItemComma {A : Type 0} (trees : List Tree) (scope : Span) (e : Error A)
     : Type 0 where
   pub item : Item A
@@ -63,7 +64,7 @@ pub record MissesItemComma {A : Type 0} (trees : List Tree) (scope : Span) (e : 
   pub none : IsFalse (begins_mark (code ",") following)
   pub rejection : IsRejection following scope (codes "`,`") e
 
--- The error `e` is that of token trees that don't begin with an item, followed by a comma or the end.
+-- The error `e` is the error for token trees that don't begin with an item, followed by a comma or the end.
 pub record RejectsListed {A : Type 0} (trees : List Tree) (scope : Span) (e : Error A)
     : Type 0 where
   pub why : RejectsItem trees scope e ⊎ MissesItemComma trees scope e
@@ -73,7 +74,7 @@ abbrev pub Lists : {A : Type 0} → List Tree → List (Item A) → List Tree �
 Lists trees [] rest = trees ≡ rest
 Lists trees (x ∷ xs) rest = (after : List Tree) × IsListed trees x after × Lists after xs rest
 
--- The error `e` is that of the first token tree that doesn't continue a list of items, after zero or more items.
+-- The error `e` is the error for the first token tree that doesn't continue a list of items, after zero or more items.
 pub record RejectsNextItem {A : Type 0} (trees : List Tree) (scope : Span) (e : Error A)
     : Type 0 where
   pub items : List (Item A)
@@ -82,8 +83,8 @@ pub record RejectsNextItem {A : Type 0} (trees : List Tree) (scope : Span) (e : 
   pub some : rest ≢ []
   pub rejected : RejectsListed rest scope e
 
--- The error `e` is an allocation failure for the list of parsed items. Its span is that of the item that couldn't be
--- stored.
+-- The error `e` is an allocation failure for the list of parsed items. The error's span is the span of the item that
+-- couldn't be stored.
 pub record LacksMemoryForPlace {A : Type 0} (trees : List Tree) (scope : Span) (e : Error A)
     : Type 0 where
   pub items : List (Item A)
@@ -94,7 +95,7 @@ pub record LacksMemoryForPlace {A : Type 0} (trees : List Tree) (scope : Span) (
   pub listed : IsListed rest item following
   pub error : e ≡ memory_at (first_span rest scope)
 
--- The error `e` is that of token trees that aren't items with commas between them, or an allocation failure.
+-- The error `e` is the error for token trees that aren't items with commas between them, or an allocation failure.
 pub record RejectsItems {A : Type 0} (trees : List Tree) (scope : Span) (e : Error A) : Type 0 where
   pub why : RejectsNextItem trees scope e ⊎ LacksMemoryForPlace trees scope e
 
@@ -113,13 +114,13 @@ pub record IsItemList {A : Type 0} (trees : List Tree) (items : List (Item A)) (
   pub group : trees ≡ GroupTree Bracket (inside_of inside) span ∷ rest
   pub lists : Lists inside items []
 
--- The error `e` is that of token trees that don't begin with a group in square brackets.
+-- The error `e` is the error for token trees that don't begin with a group in square brackets.
 pub record MissesList {A : Type 0} (trees : List Tree) (scope : Span) (e : Error A) : Type 0 where
   pub none : HasNoList trees
   pub rejection : IsRejection trees scope (codes "square brackets") e
 
--- The error `e` is that of a group in square brackets that isn't a list of items. An error at the end of the group is
--- at the closing delimiter.
+-- The error `e` is the error for a group in square brackets that isn't a list of items. An error at the end of the
+-- group is at the closing delimiter.
 pub record RejectsInsideList {A : Type 0} (trees : List Tree) (e : Error A) : Type 0 where
   pub inside : List Tree
   pub span : Span
@@ -127,7 +128,7 @@ pub record RejectsInsideList {A : Type 0} (trees : List Tree) (e : Error A) : Ty
   pub group : trees ≡ GroupTree Bracket (inside_of inside) span ∷ following
   pub rejected : RejectsItems inside (closer_span span) e
 
--- The error `e` is that of token trees that don't begin with a list of items in square brackets.
+-- The error `e` is the error for token trees that don't begin with a list of items in square brackets.
 abbrev pub RejectsList : {A : Type 0} → List Tree → Span → Error A → Type 0
 RejectsList trees scope e = MissesList trees scope e ⊎ RejectsInsideList trees e
 

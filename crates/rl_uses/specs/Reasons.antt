@@ -23,14 +23,14 @@ IsReasonOf literal reason =
       hi = place_in (lit_span literal) flaw.hi;
     })
 
--- The literal has a value in Rust: it is a literal of Rust, perhaps after a minus, and is parsed as one or is a float
--- by its suffix.
+-- The literal has a value in Rust. Its text is a literal of Rust, perhaps after a minus. The text also has a parse
+-- result, or is a float by its suffix.
 abbrev pub HasValue : {A : Type 0} → Lit A → Type 0
 HasValue literal =
     IsSignedToken (chars (token_of literal).text)
     × (HasReading (chars (token_of literal).text) ⊎ IsFloatBySuffix (chars (token_of literal).text))
 
--- The reasons are those of the literals of the list that have no value in Rust, in order.
+-- The list `reasons` has a reason for each literal of the list that has no value in Rust, in order.
 abbrev pub AreReasons : {A : Type 0} → List (Lit A) → List Reason → Type 0
 AreReasons [] reasons = reasons ≡ []
 AreReasons (l ∷ ls) reasons =

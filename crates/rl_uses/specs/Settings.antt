@@ -30,7 +30,8 @@ pub record RejectsDigits {N E A : Type 0} (gives : List ℕ → Result N E → T
   pub one : IsOneInt text file literal
   pub rejected : IsRejectedBy gives output (AreBase10Digits Int literal.text) literal.span e
 
--- The error `e` is that of a text that isn't one integer literal, or that of a number type that rejects its digits.
+-- The error `e` is the error for a text that isn't one integer literal, or the error of a number type that rejects the
+-- literal's digits.
 abbrev pub RejectsSetting : {N E A : Type 0} → (List ℕ → Result N E → Type 0)
     → (E → Option (List ℕ)) → List ℕ → ℕ → Error A → Type 0
 RejectsSetting gives output text file e =

@@ -7,7 +7,7 @@ use Rattle.rust_literals.specs.declared.lit.Lit.{Lit}
 use Rattle.rust_literals.specs.LitParts.{lit_span}
 use Rattle.rust_literals.specs.Parsing.{AreRead, RejectsText}
 
--- The error `e` is an allocation failure, and its span is that of one of the literals of `list`.
+-- The error `e` is an allocation failure, and its span is the span of one of the literals of `list`.
 abbrev pub IsShortOf : {A B : Type 0} → List (Lit A) → Error B → Type 0
 IsShortOf list e = Any (λ literal. e ≡ memory_at (lit_span literal)) list
 
@@ -18,7 +18,7 @@ pub record LacksMemoryForLiteral {A : Type 0} (text : List ℕ) (file : ℕ) (e 
   pub read : AreRead (chars text) file list
   pub short : IsShortOf list e
 
--- The error `e` is that of `read_all` for the text, or an allocation failure at one of the text's literals.
+-- The error `e` is the error of `read_all` for the text, or an allocation failure at one of the text's literals.
 abbrev pub RejectsTextOrMemory : {A : Type 0} → List ℕ → ℕ → Error A → Type 0
 RejectsTextOrMemory text file e =
     RejectsText (chars text) file (length text) e ⊎ LacksMemoryForLiteral text file e

@@ -1,4 +1,4 @@
-//! A server's settings with three names, each of which has a default.
+//! A server's settings: three names, each of which has a default.
 
 ghost use Rattle.std.specs.Prelude.{◌≡◌, ℕ, List, Bool, IfOk, Ok, string_bytes};
 ghost use Rattle.rl_attributes.specs.TextSettings.{IsStringOrMemory, list_of};
@@ -78,7 +78,7 @@ fn config_of<A: Allocator + Copy>(alloc: A, attrs: &Attrs<A>) -> Result<Config<A
         Err(error) => return Err(error),
         Ok(name) => name,
     };
-    match attrs.truth_or(VERBOSE, false) {
+    match attrs.bool_or(VERBOSE, false) {
         Err(error) => Err(error),
         Ok(verbose) => Ok(Config {
             port,

@@ -26,7 +26,7 @@ fn tally<A: Allocator + Copy>(alloc: A, literals: Vec<Lit<A>, A>) -> Result<Coun
         let before = counts.get(&literal).copied().unwrap_or(0);
         let span = literal.span();
         let Ok(_) = counts.insert(literal, before + 1) else {
-            return Err(Error::memory(span));
+            return Err(Error::out_of_memory(span));
         };
     }
     Ok(counts)
@@ -44,11 +44,11 @@ pub fn count_literals<A: Allocator + Copy>(
     text: &str,
     file: u32,
 ) -> Result<Counts<A>, Error<A>>
-    // On success the text consists of literals, and the map has exactly these, each with the number of times that it
-    // occurs.
+    // On success the text consists of literals, and the map has exactly the literals of the text, each with the number
+    // of times that it occurs.
     ensures counts { IfOk result (λ counts. (list : List (Lit A))
         × AreRead (chars text.now) file list × AreCounts list counts) }
-    // The returned error is that of `read_all`, or an allocation failure at one of the literals.
+    // The returned error is the error of `read_all` for the text, or an allocation failure at one of the literals.
     ensures rejected { IfErr result (RejectsTextOrMemory text.now file) }
 {
     let literals = read_all(alloc, text, file)?;

@@ -52,7 +52,7 @@ fn reasons_of<A: Allocator>(alloc: A, literals: &[Lit<A>]) -> Result<Vec<Reason,
     for literal in literals {
         if let Some(reason) = reason_of(literal) {
             if reasons.push(reason).is_err() {
-                return Err(Error::memory(literal.span()));
+                return Err(Error::out_of_memory(literal.span()));
             }
         }
     }
@@ -72,10 +72,11 @@ pub fn bad_literals<A: Allocator + Copy>(
     text: &str,
     file: u32,
 ) -> Result<Vec<Reason, A>, Error<A>>
-    // On success the text consists of literals, and the reasons are those of the literals without a value among them.
+    // On success the text consists of literals, and the reasons are the reasons for those literals of the text that
+    // have no value in Rust.
     ensures found { IfOk result (λ reasons. (list : List (Lit A))
         × AreRead (chars text.now) file list × AreReasons list reasons.items) }
-    // The returned error is that of `read_all`, or an allocation failure at one of the literals.
+    // The returned error is the error of `read_all` for the text, or an allocation failure at one of the literals.
     ensures rejected { IfErr result (RejectsTextOrMemory text.now file) }
 {
     let literals = read_all(alloc, text, file)?;

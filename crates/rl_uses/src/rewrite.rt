@@ -118,7 +118,7 @@ fn push_text<A: Allocator>(out: &mut String<A>, text: &str, span: Span) -> Resul
     ensures memory { IfErr result (λ e. e ≡ memory_at span) }
 {
     if out.push_str(text).is_err() || out.push('\n').is_err() {
-        return Err(Error::memory(span));
+        return Err(Error::out_of_memory(span));
     }
     Ok(())
 }
@@ -162,7 +162,7 @@ pub fn format<A: Allocator + Copy>(alloc: A, text: &str, file: u32) -> Result<St
     // On success the text consists of literals, and the result is the rewritten literals, each with LF after it.
     ensures printed { IfOk result (λ printed. (list : List (Lit A))
         × AreRead (chars text.now) file list × AreLines list (string_bytes printed)) }
-    // The returned error is that of `read_all`, or an allocation failure at one of the literals.
+    // The returned error is the error of `read_all` for the text, or an allocation failure at one of the literals.
     ensures rejected { IfErr result (RejectsTextOrMemory text.now file) }
 {
     let literals = read_all(alloc, text, file)?;

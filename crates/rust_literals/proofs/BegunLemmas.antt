@@ -12,8 +12,8 @@ use Rattle.rust_literals.specs.declared.lit.Lit.{Lit}
 use Rattle.rust_literals.specs.Parsing.{ReadsLiterals}
 use Rattle.rust_literals.specs.Flat.{IsNoGroup, AreBegun}
 
--- If the flat form of token trees begins with that of other token trees without groups, the token trees begin with
--- those.
+-- If the flat form of the token trees `trees` begins with the flat form of `front`, and `front` contains no group, the
+-- list `trees` begins with the list `front`.
 front_trees : (front trees : List Tree) (more : List FlatToken) → AllByRecursion IsNoGroup front → flat_trees trees
     ≡ flat_trees front ++ more → (following : List Tree) × (trees ≡ front ++ following)
 front_trees [] trees more h e = (trees, refl)
@@ -35,7 +35,8 @@ front_trees (LiteralTree i ∷ front) (LiteralTree j ∷ trees) more (_, h) e =
     (further.0, ap (λ x. LiteralTree x ∷ trees) same ∙ ap (λ xs. LiteralTree i ∷ xs) further.1)
 front_trees (tree ∷ front) trees more h e = absurd (cc)
 
--- If a text begins with the literals `list`, its token trees are those of these literals, followed by others.
+-- If a text begins with the literals `list`, its token trees are the token trees of these literals, followed by other
+-- token trees.
 pub goes_on : {A : Type 0} (text : List ℕ) (file : ℕ) (list : List (Lit A)) (trees : List Tree)
     → AreBegun text file list → Lexes text file trees → (following : List Tree) × ReadsLiterals trees list following
 goes_on text file list trees begun lexes =
@@ -46,7 +47,8 @@ goes_on text file list trees begun lexes =
     let (following, is) = front_trees read.trees trees (map (flat_token file) more) read.cuts.no_groups flat in
     (following, subst (λ (ts : List Tree). ReadsLiterals ts list following) (sym is) (read.leads following))
 
--- If a parser consumes one more of the literals at the start of a text, the next literal is the one after it in the list.
+-- The remaining token trees of a text begin with the literals of a list from the index `i` on. If a parser consumes one
+-- literal, the token trees after it begin with the literals from the index `i + 1` on.
 pub pass_one : {A : Type 0} {F : Type 0} (token_in : F → SpannedText) (old new : List Tree) (literals : List (Lit A))
     (i : ℕ) (rest : List Tree) (front : Option F) → i < length literals
     → IfSome front (λ f. IsFront old (token_in f) new) → IfNone front (HasNoFront old)

@@ -131,7 +131,8 @@ same_file file m l span e = e ∙ sym (ap (λ b. if b then record { file = file;
     same : (n : ℕ) → (n == n) ≡ true
     same n = grind (arith, nat_tests)
 
--- The span of a minus and a number in one file is from the first byte of both to the last byte of both.
+-- The span of a minus and its number in one file begins at the first byte of the two, and ends at the last byte of the
+-- two.
 pub joined_at : (file : ℕ) (m l : BorrowedLexeme) (a b span : Span) → a ≡ span_at file m → b ≡ span_at file l → span
     ≡ record { file = a.file; lo = min a.lo b.lo; hi = max a.hi b.hi } → span
     ≡ record { file = file; lo = min m.lo l.lo; hi = max m.hi l.hi }
@@ -147,8 +148,8 @@ pub read_negative : {A : Type 0} (file : ℕ) (old between new : CursorState) (m
 read_negative file old between new m l lit span t u m_is l_is span_is together read =
     negative_next file old between new m l lit span t u m_is l_is (same_file file m l span span_is) together read
 
--- If the next token isn't a literal token, or isn't a literal together with a minus, no number follows a minus before
--- that token.
+-- A minus precedes the next token. If the next token isn't a literal token, or isn't a literal together with the minus,
+-- the minus doesn't begin a number.
 pub none_number : (old new : CursorState) (l : BorrowedLexeme) → TakesNext old l new → (form_view l.form ≢ LiteralForm)
     ⊎ HasNoReading (45 ∷ chars l.text.now) → HasNoNumber old
 none_number old new l t h = inr (l, new, t, h)
@@ -160,7 +161,7 @@ none_word old between m t is differs =
     let h : HasNoTruth (chars m.text.now) = λ contents suffix r. differs r.truth r.text_is in
     inr (m, between, t, subst (λ (f : LexemeForm). BeginsNone f m.text.now between) (sym is) h)
 
--- If an option is `None`, a property of that case holds.
+-- If a property holds whenever an option is `None`, and the option is `None`, the property holds.
 pub no_some : {T P : Type 0} (o : Option T) → o ≡ None → IfNone o P → P
 no_some None e h = h
 no_some (Some x) e h = absurd (cc)
@@ -171,7 +172,7 @@ the_some {T} P o x e h = subst (λ (y : Option T). IfSome y P) e h
 pub when_some : {T P : Type 0} (o : Option T) (x : T) → o ≡ Some x → OnSome o P → P
 when_some {T} {P} o x e h = subst (λ (y : Option T). OnSome y P) e h
 
--- The invariant of the loop over literals holds before any literal is read.
+-- The invariant of the loop that reads the literals of a text holds before the first literal.
 pub read_none : {A : Type 0} (text : List ℕ) (file : ℕ) (rest : List ℕ) → LexesUpTo 0 text [] rest
     → AreReadUpTo {A = A} text file [] rest
 read_none text file rest skips = record {
@@ -186,7 +187,7 @@ read_start {A} text file rest list none skips =
     subst (λ (ls : List (Lit A)). AreReadUpTo (chars text) file ls (chars rest)) (sym none)
     (read_none (chars text) file (chars rest) skips)
 
--- The invariant of the loop over literals holds after one more literal.
+-- The invariant of the loop that reads the literals of a text holds again after one more literal.
 pub read_more : {A : Type 0} (text : List ℕ) (file : ℕ) (old new : CursorState) (list longer : List (Lit A)) → old.text
     ≡ text → AreReadUpTo (chars text) file list (chars old.rest) → AddsNext file old list new longer
     → AreReadUpTo (chars text) file longer (chars new.rest)
@@ -225,7 +226,7 @@ read_whole text file list rest ends read = record {
     nil_behind [] = refl
     nil_behind (t ∷ ts) = ap (λ z. t ∷ z) (nil_behind ts)
 
--- If a text consists of two lists of literals, the two lists are equal.
+-- If a text consists of the literals of one list, and also of the literals of another list, the two lists are equal.
 pub one_read : {A : Type 0} (text : List ℕ) (file : ℕ) (found list : List (Lit A)) → AreRead text file found
     → AreRead text file list → found ≡ list
 one_read text file found list r q =

@@ -25,7 +25,7 @@ IsOfKind Int text found = IsFound text found
 IsOfKind Float text found = IsFoundFloat text found
 IsOfKind _ text found = ⊥
 
--- A parse result of the kind of integers or floats is that of a number.
+-- A parse result whose kind is integers or floats is the parse result of a number.
 pub is_found_number : (kind : Kind) (text : List ℕ) (found : Found) → (kind ≡ Int) ⊎ (kind ≡ Float) → found.kind ≡ kind
     → IsFound text found → IsFoundNumber text found
 is_found_number kind text found (inl i) e h = inl (h, inl (e ∙ i))
@@ -70,7 +70,8 @@ found_digits Float text digits found e h d =
     (n, x, h.reads, d n x h.reads)
 found_digits kind text digits found e h d = absurd h
 
--- The digits and the byte offset of the suffix that a number stores are those of its text.
+-- The digits that a number stores are the digits of the number's text. The byte offset that it stores for the suffix is
+-- where the text's suffix begins.
 pub holds_number : (kind : Kind) (text digits : List ℕ) (found : Found) → IsUtf8 text → IsFoundNumber text found
     → found.kind ≡ kind → AreDigits found.kind (chars text) (chars digits)
     → HoldsNumber kind text digits found.body.suffix_at
@@ -94,7 +95,7 @@ body_is : (text : List ℕ) (found : Found) → text ≡ body_in text found.body
 body_is text found cut = append_cancel_right (body_in text found.body) (take found.body.suffix_at text)
     (suffix_in text found.body) (sym cut ∙ sym (take-append-drop found.body.suffix_at text))
 
--- If a number is plain, its digits are the text before its suffix.
+-- If the flag `plain` of a number's parse result is `true`, the digits of the number are the text before its suffix.
 pub holds_lent : (kind : Kind) (text : List ℕ) (found : Found) → IsUtf8 text → IsFoundNumber text found → found.kind
     ≡ kind → found.body.plain ≡ true → HoldsNumber kind text (take found.body.suffix_at text) found.body.suffix_at
 holds_lent kind text found utf8 h e plain =
@@ -112,13 +113,13 @@ found_number kind text found utf8 h e = go kind e (of_kind kind text found utf8 
     go Float e h = (chars (body_in text found.body), chars (suffix_in text found.body), h.reads)
     go kind e h = absurd h
 
--- `Memory` at a span is one of the errors for a text that is a number.
+-- If a text is a number, an allocation failure at a span is one of the errors that are allowed for the text.
 pub wants_memory : {A : Type 0} (kind : Kind) (text : List ℕ) (e : Error A) (span : Span) → e ≡ memory_at span
     → IsNumber kind text → (e.span ≡ span) × IsRejectedAs kind text e.kind
 wants_memory {A} kind text e span is number =
     let P : Error A → Type 0 = λ x. (x.span ≡ span) × IsRejectedAs kind text x.kind in subst P (sym is) (refl, number)
 
--- A text whose digits are the text before its suffix isn't rejected as a number.
+-- If a text is a number whose digits are the text before its suffix, the text isn't rejected as a number.
 pub no_number_plain : {A : Type 0} (kind : Kind) (text : List ℕ) (reason : ErrorKind A)
     → IsNoNumber kind (chars text) reason → IsPlain kind text → ⊥
 no_number_plain Int text NotInteger none p = none p.reads.sign p.reads.magnitude p.suffix p.reads.reads
@@ -151,7 +152,7 @@ no_number_plain Float text (Number w) none p = absurd none
 no_number_plain Float text Memory none p = absurd none
 no_number_plain kind text reason none p = absurd none
 
--- The reason why a text isn't a number is one of the errors for the text.
+-- The reason why a text isn't a number is one of the errors that are allowed for the text.
 pub no_number_rejected : {A : Type 0} (kind : Kind) (text : List ℕ) (reason : ErrorKind A) → IsNoNumber kind text reason
     → IsRejectedAs kind text reason
 no_number_rejected kind text (Expected w) none = none
@@ -167,7 +168,8 @@ no_number_rejected kind text (Number w) none = none
 no_number_rejected Int text Memory none = absurd none
 no_number_rejected kind text Memory none = absurd none
 
--- If the result for a number is an error with `Memory` at a span, it is one of the errors for the number's text.
+-- If the result for a number is an allocation failure at a span, it is one of the errors that are allowed for the
+-- number's text.
 pub memory_rejected : {T A : Type 0} (kind : Kind) (text : List ℕ) (span : Span) (r : Result T (Kept SpannedText A))
     → IfErr r (λ k. k.error ≡ memory_at span) → IsNumber kind text
     → IfErr r (λ k. (k.error.span ≡ span) × IsRejectedAs kind text k.error.kind)

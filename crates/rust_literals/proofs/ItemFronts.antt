@@ -26,7 +26,8 @@ word_bytes false = refl
 pub spells_words : (text : List ℕ) → chars (encode_utf8_all text) ≡ text → SpellsWords (encode_utf8_all text)
 spells_words text same b e = ap encode_utf8_all (sym same ∙ e) ∙ word_bytes b
 
--- The item's token trees are one literal: a minus and a text together are a literal, and any other item is one token.
+-- A condition on an item of a printed list: the item's token trees are one literal. If the item is a minus and a text,
+-- the two together must be a literal. Any other item is one token.
 abbrev pub IsFrontItem : Item → Type 0
 IsFrontItem (WordItem truth) = ⊤
 IsFrontItem (LiteralItem text) = ⊤

@@ -12,7 +12,8 @@ use Rattle.rust_literals.specs.Flat.{ReadsNext, AreReadUpTo, AreFirst}
 use Rattle.rust_literals.specs.Iterating.{GoesOnAfter, HasReturned, ReturnsNext, left_with, left_of}
 use Rattle.rust_literals.proofs.FlatLemmas.{read_more, read_whole}
 
--- If the fields of an iterator are those after the literals `taken`, the iterator has returned `taken`.
+-- If the fields of an iterator have the values that they have after the literals `taken`, the iterator has returned
+-- `taken`.
 placed : {A : Type 0} (text : List ℕ) (file : ℕ) (taken : List (Lit A)) (new : Literals A)
     (waiting : Option (IntoIter (Lit A) A)) → new.text.now ≡ text → new.file ≡ file → new.tokens.text ≡ text
     → new.waiting ≡ waiting → GoesOnAfter (chars text) file taken new.count (chars new.tokens.rest) waiting
@@ -99,7 +100,8 @@ lex_next text file taken old new lit ahead none h next t f s n w =
     placed text file (taken ++ lit ∷ []) new None (ap (λ x. x.now) t ∙ h.text_is) (f ∙ h.file_is)
     (ap (λ (x : CursorState). x.text) s ∙ next.same ∙ h.same) (w ∙ none) (upto, count)
 
--- The number that each returned literal lowers is lower after the iterator has lexed the whole text.
+-- Each literal that the iterator returns lowers a certain number. If the iterator lexes the whole text and then returns
+-- a literal, this number is lower than before.
 pub waiting_lower : {A : Type 0} (old : Literals A) (is : IntoIter (Lit A) A) (first : Option (Lit A)) → old.waiting
     ≡ None → into_iter_len is < 2 ^ 64 → OnSome first (into_iter_len is < left_of old)
 waiting_lower old is None none h = tt

@@ -9,7 +9,8 @@ use Rattle.rust_literals.specs.Literals.{IsReadFrom}
 use Rattle.rust_literals.specs.Parsing.{IsLitFront, ReadsLiterals}
 use Rattle.rust_literals.proofs.LitLemmas.{one_lit}
 
--- If token trees begin with two literals, the two are equal, and so are the token trees after them.
+-- If two literals are each parsed from the start of the same token trees, the two literals are equal, and so are the
+-- token trees after them.
 pub one_lit_front : {A : Type 0} (trees : List Tree) (a b : Lit A) (r s : List Tree) → IsLitFront trees a r
     → IsLitFront trees b s → (a ≡ b) × (r ≡ s)
 one_lit_front trees a b r s h k =
@@ -31,7 +32,8 @@ leads_step a (x ∷ ls) b l c (m, f, h) k = (m, f, leads_step m ls b l c h k)
 empty_front : {A : Type 0} (l : Lit A) (rest : List Tree) → IsLitFront [] l rest → ⊥
 empty_front l rest h = h.front
 
--- If all token trees are the literals of two lists, the two lists are equal.
+-- If token trees consist of the literals of one list, and also of the literals of another list, the two lists are
+-- equal.
 pub one_list_of : {A : Type 0} (trees : List Tree) (xs ys : List (Lit A)) → ReadsLiterals trees xs []
     → ReadsLiterals trees ys [] → xs ≡ ys
 one_list_of trees [] [] h k = refl

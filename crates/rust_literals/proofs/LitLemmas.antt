@@ -18,7 +18,7 @@ use Rattle.rl_syntax.specs.Reading.{IsReadAs}
 use Rattle.rust_literals.specs.Literals.{kind_of, token_of, IsReadFrom}
 use Rattle.rust_literals.specs.LitParts.{ReadsPlain}
 
--- ---- kind and token determine a literal
+-- ---- lemmas: the kind and the token of a literal determine the literal
 
 -- The value of the word `true` or `false`, by its first character.
 is_true_word : List ℕ → Truths
@@ -57,7 +57,7 @@ same_lit a b k t = lit_is a ∙ ap (λ o. lit_of o (token_of a)) k ∙ ap (λ x.
 
 -- ---- lemmas about the parse result of a token
 
--- If a text is parsed as two kinds, or as none and a kind, the two are equal.
+-- If a text is parsed as two kinds, each of which may be `None`, the two kinds are equal.
 pub one_kind : (text : List ℕ) (k l : Option Kind) → IsReadAs k text → IsReadAs l text → k ≡ l
 one_kind text None None n m = refl
 one_kind text None (Some l) n (w, y, s) = absurd (n l w y s)
@@ -68,8 +68,8 @@ one_kind text (Some k) (Some l) (v, x, r) (w, y, s) = ap Some (one_reading text 
 pub one_lit : {A : Type 0} (token : SpannedText) (a b : Lit A) → IsReadFrom token a → IsReadFrom token b → a ≡ b
 one_lit token a b (e, h) (f, k) = same_lit a b (one_kind (chars token.text) (kind_of a) (kind_of b) h k) (e ∙ sym f)
 
--- If the characters of the text are `true` or `false`, its bytes equal them. If a text with this property is parsed as a kind, a
--- `Lit` of that kind exists for it (`read_lit`).
+-- A condition on a text: if its characters are `true` or `false`, its bytes equal these characters. If a text that
+-- meets the condition is parsed as a kind, a `Lit` of that kind exists for the text (`read_lit`).
 abbrev pub SpellsWords : List ℕ → Type 0
 SpellsWords text = (b : Truths) → chars text ≡ truth_text b → text ≡ truth_text b
 

@@ -25,8 +25,8 @@ word_is_not_memory : {A : Type 0} (trees : List Tree) (word : List ℕ) (kind : 
 word_is_not_memory {A = A} trees word kind h e = never_memory A trees word
     (subst (λ (k : ErrorKind A). MissesWord trees word k) e h)
 
--- Lemmas about the parser of literals of one kind. If it returns an allocation failure, `peek` is `true`. If `peek` is
--- `true`, it returns a literal or an allocation failure.
+-- Lemmas about the parser of literals of one kind. If the parser returns an allocation failure, `peek` is `true`. If
+-- `peek` is `true`, the parser returns a literal or an allocation failure.
 typed_wants : {A : Type 0} (kind : Kind) (word : List ℕ) (trees : List Tree) (scope : Span) (e : Error A)
     (rest : List Tree) → RunsAs kind word trees scope (Err e) rest → e.kind ≡ Memory → HasFrontOf kind trees
 typed_wants kind word trees scope e rest (inl m) is = m.0
@@ -46,8 +46,8 @@ typed_tells kind word = record {
   wants = typed_wants kind word;
 }
 
--- Lemmas about the parser of `bool` literals. If `peek` is `true`, it returns a literal. If `peek` is `false`, its
--- error isn't an allocation failure.
+-- Lemmas about the parser of `bool` literals. If `peek` is `true`, the parser returns a literal. If `peek` is `false`,
+-- the parser's error isn't an allocation failure.
 truth_finds : {A : Type 0} (trees : List Tree) (scope : Span) (answer : Result LitBool (Error A)) (rest : List Tree)
     → RunsTruth trees scope answer rest → HasFrontOf BoolKind trees → SucceedsOrMemory answer
 truth_finds trees scope (Ok literal) rest runs has = tt
@@ -69,8 +69,8 @@ truth_tells = record {
   wants = truth_wants;
 }
 
--- Lemmas about the parser of literals of any kind. If `peek` is `true`, it returns a literal or an allocation failure.
--- If it returns an allocation failure, `peek` is `true`.
+-- Lemmas about the parser of literals of any kind. If `peek` is `true`, the parser returns a literal or an allocation
+-- failure. If the parser returns an allocation failure, `peek` is `true`.
 literal_finds : {A : Type 0} (trees : List Tree) (scope : Span) (answer : Result (Lit A) (Error A)) (rest : List Tree)
     → RunsLit trees scope answer rest → HasFront trees → SucceedsOrMemory answer
 literal_finds trees scope (Ok literal) rest runs has = tt

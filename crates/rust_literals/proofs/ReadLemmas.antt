@@ -39,7 +39,8 @@ lex_memory text file trees UnclosedGroup at e never lexes is r = absurd (never t
 lex_memory text file trees TooDeep at e never lexes is r = absurd (never text file trees TooDeep at lexes r)
 lex_memory text file trees Memory at e never lexes is r = ap (λ x. x.kind) is
 
--- The parser's error after the literals `list` at the start of all token trees is an error of all token trees.
+-- If token trees begin with the literals `list`, and the parser fails after these literals, its error is an error of
+-- the whole list of token trees.
 pub rejected_next : {A : Type 0} (all trees rest : List Tree) (scope : Span) (list : List (Lit A)) (e : Error A)
     → ReadsLiterals all list trees → trees ≢ [] → RunsLit trees scope (Err e) rest → RejectsNextLiteral all scope e
     ⊎ LacksMemory all scope e
@@ -48,7 +49,8 @@ rejected_next all trees rest scope list e leads some (inl (front, wants)) = inr
 rejected_next all trees rest scope list e leads some (inr none) = inl
     (record { list = list; rest = trees; leads = leads; some = some; none = none.none; rejection = none.rejection })
 
--- If the token trees of a text consist of the dropped literals `gone` and those of the result, so does the text.
+-- The token trees of a text are the literals `gone`, which are dropped, followed by the literals of the result. Then
+-- the text consists of these two lists of literals.
 pub text_read : {A B : Type 0} (text : List ℕ) (file : ℕ) (trees : List Tree) (gone : List (Lit A))
     (r : Result (Vec (Lit A) B) (Error A)) → Lexes text file trees
     → IfOk r (λ l. ReadsLiterals trees (gone ++ l.items) []) → IfOk r (λ l. AreRead text file (gone ++ l.items))

@@ -13,8 +13,8 @@ pub record AreBase10Digits (kind : Kind) (text digits : List ℕ) : Type 0 where
   pub digits_are : HasDigits kind (chars text) (chars digits)
   pub is_text : IsUtf8 digits
 
--- `number` is a value that the number type's `from_str` may return for the digits in base ten. `gives` is the meaning
--- of `from_str`.
+-- `number` is a value that the number type's `from_str` may return for the digits in base ten. The relation `gives`
+-- specifies `from_str`.
 pub record IsMadeOf {N E : Type 0} (gives : List ℕ → Result N E → Type 0) (AreOf : List ℕ → Type 0)
     (number : N) : Type 0 where
   pub digits : List ℕ
@@ -35,8 +35,8 @@ pub record IsReported {A : Type 0} (words : Option (List ℕ)) (span : Span) (e 
   pub span_is : e.span ≡ span
   pub kind_is : IsInWords words e.kind
 
--- The error `e` is that of a number type whose `from_str` rejects the digits in base ten. It has the span `span` and
--- the message of the number type's own error.
+-- The error `e` is the error of a number type whose `from_str` rejects the digits in base ten. The error has the span
+-- `span` and the message of the number type's own error.
 pub record IsRejectedBy {N E A : Type 0} (gives : List ℕ → Result N E → Type 0)
     (output : E → Option (List ℕ)) (AreOf : List ℕ → Type 0) (span : Span) (e : Error A)
     : Type 0 where

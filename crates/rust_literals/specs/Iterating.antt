@@ -37,8 +37,9 @@ pub record HasReturned {A : Type 0} (text : List ℕ) (file : ℕ) (taken : List
   pub same : literals.tokens.text ≡ text
   pub goes_on : GoesOnAfter (chars text) file taken literals.count (chars literals.tokens.rest) literals.waiting
 
--- The result of an iterator that has returned the literals `taken`: the next literal; or `None`, if the text consists
--- of `taken`; or the text's error. In the last two cases the iterator has still returned `taken` afterwards.
+-- The result of an iterator that has returned the literals `taken`. The result is the next literal, or `None` if the
+-- text consists of `taken`, or the text's error. If the result is `None` or an error, the literals that the iterator
+-- has returned are still `taken`.
 abbrev pub ReturnsNext : {A : Type 0} → List ℕ → ℕ → List (Lit A) → Result (Option (Lit A)) (Error A)
     → Literals A → Type 0
 ReturnsNext text file taken (Ok (Some lit)) new = HasReturned text file (taken ++ lit ∷ []) new

@@ -43,22 +43,22 @@ pub record IsSameAt {A B : Type 0} (lit : Lit A) (span : Span) (moved : Lit B) :
   pub kind : kind_of moved ≡ kind_of lit
   pub token : token_of moved ≡ record (token_of lit) { span = span }
 
--- If the text is a literal by Rust's grammar, and an integer is within 128 bits, the text is parsed as the kind, value
+-- If the text is a literal by Rust's grammar, and not an integer above 128 bits, the text is parsed as the kind, value
 -- and suffix that Rust's grammar gives it.
 abbrev pub KeepsStrict : List ℕ → Type 0
 KeepsStrict text =
     (kind : Kind) (contents : Contents) (suffix : List ℕ) → Strict text kind contents suffix
     → IsWithinLimit kind text → Reads text kind contents suffix
 
--- If the text is a number by Rust's grammar, and an integer is within 128 bits, a minus and the text are parsed as the
--- number's kind and suffix, with `-` before its digits.
+-- If the text is a number by Rust's grammar, and not an integer above 128 bits, a minus followed by the text is parsed
+-- as the number's kind and suffix, with `-` before the number's digits.
 abbrev pub KeepsStrictAfterMinus : List ℕ → Type 0
 KeepsStrictAfterMinus text =
     (kind : Kind) (digits suffix : List ℕ) → IsTrue (is_number kind)
     → Strict text kind (Digits digits) suffix → IsWithinLimit kind text
     → Reads (code "-" ∷ text) kind (Digits (code "-" ∷ digits)) suffix
 
--- If the text is a literal by Rust's grammar, and an integer is within 128 bits, the literal `lit` has the kind, value
+-- If the text is a literal by Rust's grammar, and not an integer above 128 bits, the literal `lit` has the kind, value
 -- and suffix that Rust's grammar gives the text.
 abbrev pub AgreesWithStrict : {A : Type 0} → List ℕ → Lit A → Type 0
 AgreesWithStrict text lit =

@@ -32,7 +32,7 @@ pub record IsTruthFront (trees : List Tree) (literal : LitBool) (rest : List Tre
   pub reads : Reads (chars token.text) BoolKind (Truth literal.value) []
   pub span : literal.span ≡ token.span
 
--- The error `e` is that of token trees that don't begin with a literal. The parser consumes none of them.
+-- The error `e` is the error for token trees that don't begin with a literal. The parser consumes none of them.
 pub record FindsNone {A : Type 0} (trees : List Tree) (scope : Span) (e : Error A)
     (rest : List Tree) : Type 0 where
   pub rejection : IsRejection trees scope (codes "literal") e
@@ -58,7 +58,7 @@ ReadsLiterals trees [] rest = trees ≡ rest
 ReadsLiterals trees (l ∷ ls) rest =
     (after : List Tree) × IsLitFront trees l after × ReadsLiterals after ls rest
 
--- The error `e` is that of the first token tree that isn't a literal, after zero or more literals.
+-- The error `e` is the error for the first token tree that isn't a literal, after zero or more literals.
 pub record RejectsNextLiteral {A : Type 0} (trees : List Tree) (scope : Span) (e : Error A)
     : Type 0 where
   pub list : List (Lit A)
@@ -83,8 +83,8 @@ pub record AreRead {A : Type 0} (text : List ℕ) (file : ℕ) (list : List (Lit
   pub lexes : Lexes text file trees
   pub leads : ReadsLiterals trees list []
 
--- The text is lexed into token trees, and the error `e` is that of the first token tree that isn't a literal, or an
--- allocation failure.
+-- The text is lexed into token trees, and the error `e` is the error for the first token tree that isn't a literal, or
+-- an allocation failure.
 pub record RejectsLiteralTrees {A : Type 0} (text : List ℕ) (file end : ℕ) (e : Error A)
     : Type 0 where
   pub trees : List Tree

@@ -11,8 +11,8 @@ SucceedsOrMemory (Ok value) = ⊤
 SucceedsOrMemory (Err e) = e.kind ≡ Memory
 
 -- `peek` is `true` exactly for the token trees from which the parser returns a value, provided that no allocation
--- fails. For other token trees the parser's error isn't an allocation failure. `peeks` is the meaning of `peek`, and
--- `runs` that of the parser.
+-- fails. For other token trees the parser's error isn't an allocation failure. The condition `peeks` specifies `peek`,
+-- and the relation `runs` specifies the parser.
 pub record PeekReports {T A : Type 0}
     (runs : List Tree → Span → Result T (Error A) → List Tree → Type 0) (peeks : List Tree → Type 0)
     : Type 0 where

@@ -15,8 +15,8 @@ IsNoNumber Int text TooLarge = IsPast text
 IsNoNumber Float text NotFloat = HasNoFloat text
 IsNoNumber _ text _ = ⊥
 
--- The kind of error for a text that can't be parsed as a number of the kind given. It is `Memory` if the text is one
--- and an allocation failed.
+-- The kind of error for a text that can't be parsed as a number of the kind given. The kind of error is `Memory` if the
+-- text is a number of that kind and an allocation failed.
 abbrev pub IsRejectedAs : {A : Type 0} → Kind → List ℕ → ErrorKind A → Type 0
 IsRejectedAs kind text Memory = IsNumber kind text
 IsRejectedAs kind text reason = IsNoNumber kind text reason

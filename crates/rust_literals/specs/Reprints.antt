@@ -40,7 +40,7 @@ pub record IsReprint {A : Type 0} (t : List ℕ) (spaced : List (Spaced A)) (las
   pub file : ℕ
   pub are_read : AreRead (chars source) file (lits_of spaced)
 
--- The literals of the second list are those of the first one by one, except for their spans.
+-- The literals of the second list equal the literals of the first list one by one, except for their spans.
 abbrev pub SameButSpans : {A : Type 0} → List (Lit A) → List (Lit A) → Type 0
 SameButSpans [] found = found ≡ []
 SameButSpans (l ∷ ls) [] = ⊥

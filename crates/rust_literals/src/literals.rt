@@ -110,8 +110,8 @@ impl<'t, A: Allocator + Copy> Literals<'t, A> {
     /// Returns the error of [`read_all`](crate::read_all) for the text, after all literals before the error. The next
     /// call returns the error again.
     pub fn next(&mut self) -> Result<Option<Lit<A>>, Error<A>>
-        // The result is the literal after those that the iterator has returned, or `None` if the text contains no more,
-        // or the text's error.
+        // The result is the literal after the returned literals, or `None` if the text contains no more literals, or
+        // the text's error.
         ensures returns { (text : List ℕ) (file : ℕ) (taken : List (Lit A)) → HasReturned text file taken self.old
             → ReturnsNext text file taken result self.new }
         // Each returned literal lowers the number `left_of`, so a loop over the literals ends.

@@ -50,14 +50,14 @@ fn read_on<A: Allocator + Copy>(
             // The literal is dropped by a function call, because dropping it in place would double the number of steps
             // to prove.
             drop(failed);
-            return Err(Error::memory(Span::call_site()));
+            return Err(Error::out_of_memory(Span::call_site()));
         }
     }
     Ok(list)
 }
 
-/// Returns `list` with the literals of `text` after its first `count` ones appended. The literals of `list` are the last of these
-/// `count`. Those before may have been dropped.
+/// Returns `list` with the literals of `text` after its first `count` literals appended. The literals of `list` are the
+/// last of the first `count` literals of `text`. The literals before those of `list` may have been dropped.
 fn read_from<A: Allocator + Copy>(
     alloc: A,
     text: &str,
@@ -85,7 +85,7 @@ pub(crate) fn read_after<A: Allocator + Copy>(
     file: u32,
     count: usize,
 ) -> Result<Vec<Lit<A>, A>, Error<A>>
-    // The text consists of its first literals and the returned ones.
+    // The text consists of its first `count` literals and the returned ones after them.
     ensures read { (first : List (Lit A)) → AreFirst (chars text.now) file count first
         → IfOk result (λ more. AreRead (chars text.now) file (first ++ more.items)) }
     ensures rejected { (first : List (Lit A)) → AreFirst (chars text.now) file count first
@@ -116,13 +116,13 @@ pub(crate) fn read_after<A: Allocator + Copy>(
 /// use rust_literals::read_all;
 /// use std::alloc::Global;
 ///
-/// pub fn first_flaw(alloc: Global, text: &str) -> Option<(&'static str, usize)> {
+/// pub fn first_value_flaw(alloc: Global, text: &str) -> Option<(&'static str, usize)> {
 ///     let literals = read_all(alloc, text, 0).ok()?;
 ///     let literal = literals.as_slice().first()?;
 ///     let flaw = explain_value(literal.text(), LineEnds::Text, true)?;
 ///     Some((flaw.kind.message(), flaw.in_span(literal.span()).lo))
 /// }
-/// // first_flaw(alloc, "\"a\\q\" 1") == Some(("unknown escape", 3))
+/// // first_value_flaw(alloc, "\"a\\q\" 1") == Some(("unknown escape", 3))
 /// ```
 pub fn read_all<A: Allocator + Copy>(
     alloc: A,

@@ -15,7 +15,7 @@ use Rattle.rl_strict.specs.declared.read_numbers.Number.{Number}
 use Rattle.rl_strict.specs.declared.read_numbers.Number.TheVariants.{Integer, Float}
 use Rattle.rl_strict.specs.declared.read_numbers.Stop.{Stop}
 
--- The result of parsing a suffix: the suffix, or a flaw's kind and the text that begins at the flaw.
+-- The result of parsing a suffix: no flaw and the suffix, or a flaw's kind and the text that begins at the flaw.
 abbrev pub Ending : Type 0
 Ending = Option FlawKind × List ℕ
 
@@ -25,7 +25,8 @@ ended x = (None, x)
 abbrev pub stopped : FlawKind → List ℕ → Ending
 stopped k rest = (Some k, rest)
 
--- The mirror's form of a function's result. `of` returns the text that a successful result has.
+-- Converts the result of a function of the code to the result of the mirror. The argument `of` returns the rest of the text
+-- for a value of type `X`.
 abbrev pub outcome : {X : Type 0} → (X → List ℕ) → Result X Stop → Ending
 outcome of (Ok x) = ended (of x)
 outcome of (Err s) = stopped s.kind (chars s.rest.now)
@@ -51,8 +52,8 @@ fraction_end_at [] = ended []
 fraction_end_at (c ∷ cs) =
     if is_ascii_digit c then digits_end_at (after_digits 10 (c ∷ cs)) else stopped NoFractionDigit (c ∷ cs)
 
--- The result of parsing a number: a flaw's kind, or an integer's magnitude within 128 bits, or a float; and the rest of the
--- text.
+-- The result of parsing a number: a flaw's kind, an integer's magnitude within 128 bits, or a float. The last part is the
+-- suffix, or the text that begins at the flaw.
 abbrev pub NumberRead : Type 0
 NumberRead = Option FlawKind × Option (Option ℕ) × List ℕ
 

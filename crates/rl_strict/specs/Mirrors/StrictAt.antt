@@ -21,7 +21,8 @@ is_strict_suffix (c ∷ cs) =
 abbrev pub is_number_suffix : List ℕ → Bool
 is_number_suffix x = not (first_passes is_underscore x) && is_strict_suffix x
 
--- The text after an escape. It begins after the escape's backslash, and the escape may be an escaped line end.
+-- The text after an escape, or `None` if the escape is invalid. The argument begins after the escape's backslash. The escape
+-- may be an escaped line end.
 abbrev pub escape_rest : Kind → List ℕ → Option (List ℕ)
 escape_rest kind [] = None
 escape_rest kind (c ∷ cs) =
@@ -29,7 +30,7 @@ escape_rest kind (c ∷ cs) =
     else (if c == code "\r" then None
     else option_map (λ p. p.1) (unit_at kind (code "\\" ∷ c ∷ cs)))
 
--- The text after the character or escape at its beginning.
+-- The text after the character or escape at the beginning of the text, or `None` if the text begins with no valid one.
 unfoldable pub unit_rest : Kind → List ℕ → Option (List ℕ)
 unit_rest kind [] = None
 unit_rest kind (c ∷ cs) =
@@ -48,11 +49,11 @@ is_raw_character ByteStr c = nat_lt c 128 && not (c == code "\r")
 is_raw_character CStr c = not (c == 0) && not (c == code "\r")
 is_raw_character _ c = false
 
--- Whether a raw string of the kind may contain the character, and it isn't a quote.
+-- Whether a raw string of the kind may contain the character, and the character isn't a quote.
 abbrev pub is_inside : Kind → ℕ → Bool
 is_inside kind c = not (c == code "\"") && is_raw_character kind c
 
--- The text is a raw string's content, its closing delimiter with these hashes, and a suffix.
+-- The text is the content of a raw string, its closing delimiter with the hashes `hashes`, and a suffix.
 unfoldable pub ends_raw : Kind → List ℕ → List ℕ → Bool
 ends_raw kind hashes [] = false
 ends_raw kind hashes (c ∷ cs) =

@@ -13,7 +13,7 @@ use Rattle.rl_strict.specs.StrictFlawKinds.{form_quote, is_raw_form}
 use Rattle.rl_strict.specs.Mirrors.StrictAt.{is_raw_character}
 use Rattle.rl_strict.specs.Mirrors.UnitFlawAt.{FoundFlaw, character_flaw_of, escape_flaw_at, found_flaw, spoiled_flaw_of}
 
--- The text after the identifier at its beginning.
+-- The text after the identifier at the beginning of the text, or the whole text if it begins with no identifier.
 unfoldable pub suffix_rest : List ℕ → List ℕ
 suffix_rest [] = []
 suffix_rest (c ∷ cs) = if is_start c then after_run is_continue cs else (c ∷ cs)
@@ -32,7 +32,7 @@ strict_unit_flaw_at kind (c ∷ cs) =
     else (if c == code "\r" && is_string kind then found_flaw CarriageReturn (c ∷ cs)
     else found_flaw (character_flaw_of c) (c ∷ cs))
 
--- The flaw after the suffix of a quoted literal.
+-- The flaw after the suffix of a quoted literal, by the text after the suffix's identifier.
 abbrev pub suffix_end_flaw_at : QuotedForm → List ℕ → FoundFlaw
 suffix_end_flaw_at form [] = found_flaw UnderscoreSuffix []
 suffix_end_flaw_at form (c ∷ cs) =

@@ -17,7 +17,8 @@ abbrev pub is_lone_underscore : List ℕ → Bool
 is_lone_underscore [] = false
 is_lone_underscore (c ∷ cs) = if is_some_text cs then false else c == code "_"
 
--- The flaw of a suffix `t`, where the last argument is the text after the suffix's identifier.
+-- The flaw of the text `t` after a closing delimiter, or `None` if `t` is a suffix. The last argument is the text after the
+-- identifier at the beginning of `t`.
 abbrev pub suffix_end_read : QuotedForm → List ℕ → List ℕ → Option FoundFlaw
 suffix_end_read form t [] = if is_lone_underscore t then Some (found_flaw UnderscoreSuffix []) else None
 suffix_end_read form t (c ∷ cs) = Some (suffix_end_flaw_at form (c ∷ cs))

@@ -6,7 +6,7 @@ use Rattle.std.proofs.Math.Utf8.{scalar}
 use Prim.Native.Char.{code}
 use Rattle.rl_syntax.specs.declared.kind.Kind.{Kind}
 use Rattle.rl_syntax.specs.declared.kind.Kind.TheVariants.{CStr}
-use Rattle.rl_syntax.specs.Quoted.{allows_code, allows_unicode_escapes, holds_characters}
+use Rattle.rl_syntax.specs.Quoted.{allows_code, allows_unicode_escapes, decodes_to_chars}
 use Rattle.rl_lenient.specs.Mirrors.UnitAt.{CodeDigits, code_digits_at}
 use Rattle.rl_strict.specs.declared.flaws.FlawKind.{FlawKind}
 use Rattle.rl_strict.specs.declared.flaws.FlawKind.TheVariants.{Unclosed, UnknownEscape, NoUnicode, NoHexDigit, NoBrace, EmptyBraces, TooManyDigits, HexEscapeOutOfRange, UnicodeEscapeOutOfRange, Surrogate, Nul, NotAscii, MustEscape, NoCharacter}
@@ -17,18 +17,18 @@ FoundFlaw = FlawKind × List ℕ
 abbrev pub found_flaw : FlawKind → List ℕ → FoundFlaw
 found_flaw kind rest = (kind, rest)
 
--- The flaw of the second digit of a `\x` escape.
+-- The flaw of an invalid `\x` escape, by the text that begins at its second digit.
 abbrev pub low_digit_flaw_at : List ℕ → FoundFlaw
 low_digit_flaw_at [] = found_flaw Unclosed []
 low_digit_flaw_at (c ∷ cs) =
     if nat_lt (digit_value c) 16 then found_flaw Nul (c ∷ cs) else found_flaw NoHexDigit (c ∷ cs)
 
--- The flaw of the two digits of a `\x` escape.
+-- The flaw of an invalid `\x` escape, by the text after the `x`.
 unfoldable pub hex_flaw_at : Kind → List ℕ → FoundFlaw
 hex_flaw_at kind [] = found_flaw Unclosed []
 hex_flaw_at kind (c ∷ cs) =
     if nat_lt (digit_value c) 16 then
-    (if holds_characters kind && nat_lt 7 (digit_value c) then found_flaw HexEscapeOutOfRange (c ∷ cs)
+    (if decodes_to_chars kind && nat_lt 7 (digit_value c) then found_flaw HexEscapeOutOfRange (c ∷ cs)
     else low_digit_flaw_at cs)
     else found_flaw NoHexDigit (c ∷ cs)
 
@@ -36,7 +36,7 @@ hex_flaw_at kind (c ∷ cs) =
 abbrev pub is_code : Kind → ℕ → Bool
 is_code kind v = scalar v && allows_code kind v
 
--- The reason why a literal can't contain the character with the number `v`.
+-- The reason why a literal can't contain the character with the number `v`, which is above 10FFFF, 0, or a surrogate.
 abbrev pub code_flaw_of : ℕ → FlawKind
 code_flaw_of v = if nat_lt 0x10FFFF v then UnicodeEscapeOutOfRange else (if v == 0 then Nul else Surrogate)
 
@@ -48,13 +48,13 @@ unclosed_flaw_at v (c ∷ cs) =
     else (if nat_lt (digit_value c) 16 then found_flaw TooManyDigits (c ∷ cs)
     else found_flaw NoHexDigit (c ∷ cs))
 
--- The flaw of the digits of a `\u{..}` escape, and of the text after them.
+-- The flaw of an invalid `\u{..}` escape, by its digits and the text after them.
 abbrev pub code_flaw_at : Kind → CodeDigits → FoundFlaw
 code_flaw_at kind (v, n, last, rest) =
     if n == 6 && not (is_code kind v) then found_flaw (code_flaw_of v) last
     else unclosed_flaw_at v rest
 
--- The flaw of the text after `\u{`.
+-- The flaw of an invalid escape, by the text after `\u{`.
 unfoldable pub first_digit_flaw_at : Kind → List ℕ → FoundFlaw
 first_digit_flaw_at kind [] = found_flaw Unclosed []
 first_digit_flaw_at kind (c ∷ cs) =
@@ -63,13 +63,13 @@ first_digit_flaw_at kind (c ∷ cs) =
     else (if c == code "}" then found_flaw EmptyBraces (c ∷ cs)
     else found_flaw NoHexDigit (c ∷ cs))
 
--- The flaw of the text after `\u`.
+-- The flaw of an invalid escape, by the text after `\u`.
 unfoldable pub unicode_flaw_at : Kind → List ℕ → FoundFlaw
 unicode_flaw_at kind [] = found_flaw Unclosed []
 unicode_flaw_at kind (c ∷ cs) =
     if c == code "{" then first_digit_flaw_at kind cs else found_flaw NoBrace (c ∷ cs)
 
--- The flaw of the text after a backslash.
+-- The flaw of an invalid escape, by the text after the backslash.
 unfoldable pub escape_flaw_at : Kind → List ℕ → FoundFlaw
 escape_flaw_at kind [] = found_flaw Unclosed []
 escape_flaw_at kind (c ∷ cs) =
@@ -78,7 +78,7 @@ escape_flaw_at kind (c ∷ cs) =
     (if allows_unicode_escapes kind then unicode_flaw_at kind cs else found_flaw NoUnicode (c ∷ cs))
     else (if c == code "0" then found_flaw Nul (c ∷ cs) else found_flaw UnknownEscape (c ∷ cs)))
 
--- The reason why a character isn't allowed unescaped.
+-- The reason why a quoted literal can't contain the character unescaped.
 abbrev pub character_flaw_of : ℕ → FlawKind
 character_flaw_of c =
     if c == 0 then Nul

@@ -7,12 +7,12 @@ use Rattle.rl_strict.specs.declared.flaws.FlawKind.{FlawKind}
 use Rattle.rl_strict.specs.declared.flaws.FlawKind.TheVariants.{Empty, UnexpectedEnd, NotALiteral}
 use Rattle.rl_strict.specs.Mirrors.UnitFlawAt.{FoundFlaw, found_flaw}
 
--- The flaw is of the first kind at the text's end, and of the second kind before a character.
+-- The flaw at the beginning of a text. Its kind is `at_end` if the text is empty, and `before` otherwise.
 abbrev pub end_flaw_at : FlawKind → FlawKind → List ℕ → FoundFlaw
 end_flaw_at at_end before [] = found_flaw at_end []
 end_flaw_at at_end before (c ∷ cs) = found_flaw before (c ∷ cs)
 
--- The text without the letters at its beginning that the word begins with.
+-- The text after the longest common prefix of the word and the text. The word is the first argument.
 abbrev pub after_letters : List ℕ → List ℕ → List ℕ
 after_letters [] t = t
 after_letters (w ∷ ws) [] = []

@@ -84,15 +84,15 @@ RejectsCloser groups delimiter UnmatchedClose = closes groups (closer_of delimit
 RejectsCloser groups delimiter Memory = ⊤
 RejectsCloser groups delimiter _ = ⊥
 
--- The error `e` is that of a text that ends inside a group: `UnclosedGroup` at the opening delimiter of the innermost
--- open group.
+-- The error `e` is the error for a text that ends inside a group: `UnclosedGroup` at the opening delimiter of the
+-- innermost open group.
 pub record EndsInGroup (groups : List OpenGroup) (e : LexError) : Type 0 where
   pub kind : e.kind ≡ UnclosedGroup
   pub some_open : groups ≢ []
   pub place : (at : ℕ) → e.at ≡ innermost groups at
 
--- The token's text and byte range fit the token's form: an identifier's text is an identifier, a delimiter is one byte
--- long, and a punctuation character is one.
+-- The text and the byte range of a token fit the token's form: the text of an identifier token is an identifier, a
+-- delimiter is one byte long, and the character of a punctuation token is a punctuation character.
 abbrev pub IsFitting : LexemeForm → List ℕ → ℕ → ℕ → Type 0
 IsFitting LiteralForm text lo hi = ⊤
 IsFitting IdentifierForm text lo hi = IsTrue (xid_ok (chars text))

@@ -192,7 +192,7 @@ fn errors_by_name() {
     );
     assert_eq!(
         error!(name = "a", size = 256),
-        ("number that u8 doesn't hold", "256", "256")
+        ("number out of range for u8", "256", "256")
     );
     assert_eq!(
         error!(name = "a", size = -1),
@@ -261,7 +261,7 @@ fn a_missing_name_is_reported_at_its_attribute() {
 #[test]
 fn errors_of_the_package_become_errors_of_macros() {
     let errors: Errors = converted!(300 here);
-    let message = "number that u8 doesn't hold";
+    let message = "number out of range for u8";
     assert_eq!(errors[0].0, message);
     assert!(errors[0].1.starts_with("converted!"), "{}", errors[0].1);
     assert_eq!(errors[1], (message, "here", "here"));

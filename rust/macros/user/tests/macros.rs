@@ -263,7 +263,7 @@ fn the_only_literal_has_a_span() {
 #[test]
 fn errors_of_values_move_to_a_literal() {
     assert_eq!((small!(0x1F), small!(7u8)), (31, 7));
-    let message = "number that u8 doesn't hold";
+    let message = "number out of range for u8";
     assert_eq!(small!(256), [(message, "256", "256")]);
     // The span is that of the number, without the minus.
     let message = "minus before a number of u8";
@@ -408,7 +408,7 @@ fn settings_by_name() {
     assert_eq!(named!(name = r"a"), ("a", 1));
     let message = "size: expected an integer from 0 to 255: minus before a number of u8";
     assert_eq!(named!(name = "a", size = -1), (message, "-", "1"));
-    let message = "size: expected an integer from 0 to 255: number that u8 doesn't hold";
+    let message = "size: expected an integer from 0 to 255: number out of range for u8";
     assert_eq!(named!(size = 256, name = "a"), (message, "256", "256"));
     assert_eq!(named!(nme = "a"), ("unknown name `nme`", "nme", "nme"));
     assert_eq!(

@@ -17,7 +17,7 @@ pub fn oversized_suffix_at(reading: Reading) -> Option<usize> {
 /// Returns `true` if Rust reads the text as a float because of its suffix: decimal digits, optionally after a minus, and `f32`
 /// or `f64`.
 ///
-/// Such a float may be above 128 bits, as in rustc: `340282366920938463463374607431768211456f64` is valid.
+/// A float because of its suffix may be above 128 bits, as in rustc: `340282366920938463463374607431768211456f64` is valid.
 pub fn is_float_by_suffix(text: &str) -> bool {
     let number = after_minus(text);
     if begins_digit(number) {
@@ -36,7 +36,7 @@ pub fn limit_flaw(text: &str, suffix_at: usize) -> Flaw {
 
 /// Returns the flaw of `text` if `reading`, its parse result, is an integer above 128 bits that its suffix doesn't make a
 /// float.
-pub fn limit_of(text: &str, reading: Reading) -> Option<Flaw> {
+pub fn limit_flaw_of_reading(text: &str, reading: Reading) -> Option<Flaw> {
     match oversized_suffix_at(reading) {
         Some(suffix_at) => {
             if is_float_by_suffix(text) {

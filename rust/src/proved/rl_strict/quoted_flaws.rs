@@ -2,11 +2,12 @@
 //! The flaws of invalid escapes and invalid characters in quoted literals.
 
 use crate::rl_strict::flaws::{FlawAt, FlawKind, make_flaw};
-use crate::rl_lenient::units::{CodeDigits, allows_code, allows_unicode_escapes, code_digits};
+use crate::rl_lenient::units::{CodeDigits, allows_code, allows_unicode_escapes, parse_code_digits};
 use crate::rl_syntax::Kind;
 use crate::rl_syntax::text::split_char;
 
-/// Returns the flaw after the first digit of a `\x` escape. If the second digit exists, the escape is `\x00` in a C string.
+/// Returns the flaw of an invalid `\x` escape after its first digit. `text` begins at the second digit. If the second digit is
+/// valid, the flaw is a NUL, which is `\x00` in a C string.
 fn low_digit_flaw(text: &str) -> FlawAt<'_> {
     match split_char(text) {
         None => make_flaw(FlawKind::Unclosed, text),
@@ -21,7 +22,7 @@ fn hex_flaw(kind: Kind, text: &str) -> FlawAt<'_> {
         return make_flaw(FlawKind::Unclosed, text);
     };
     match first.to_digit(16) {
-        Some(high) if kind.holds_characters() && high > 7 => make_flaw(
+        Some(high) if kind.decodes_to_chars() && high > 7 => make_flaw(
             FlawKind::HexEscapeOutOfRange,
             text,
         ),
@@ -62,7 +63,7 @@ fn digits_flaw(kind: Kind, text: &str, digits: CodeDigits) -> FlawAt<'_> {
 
 /// Returns the first flaw after `\u{`.
 fn first_digit_flaw(kind: Kind, text: &str) -> FlawAt<'_> {
-    if let Some(digits) = code_digits(text, 0) {
+    if let Some(digits) = parse_code_digits(text, 0) {
         return digits_flaw(kind, text, digits);
     }
     match split_char(text) {

@@ -3,7 +3,8 @@ use Rattle.rl_restyle.specs.Edits.{edit_in}
 use Rattle.rl_restyle.specs.Mirrors.{IsDraft}
 use Rattle.rl_restyle.proofs.whole.rewrite_source.Given as goal
 
--- The loop's invariant: the draft contains the new text of each literal that was returned so far.
+-- The invariant of the loop over the literals of a source: the draft contains the new text of each literal that was
+-- returned so far.
 abbrev pub invariant-loop-literal : goal.invariant-loop-literal
 invariant-loop-literal g l = IsDraft l.style l.macros (chars l.text) l.literals l.draft.at
     (chars (string_bytes l.draft.text)) (map edit_in l.draft.edits.items)

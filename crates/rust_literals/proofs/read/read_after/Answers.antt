@@ -5,7 +5,8 @@ use Rattle.rust_literals.specs.Flat.{AreFirst}
 use Rattle.rust_literals.proofs.read.read_after.Given as given
 use Rattle.rust_literals.proofs.read.read_after.Goals as goal
 
--- The empty list, which `read_after` passes on, adds nothing to the first literals of the text.
+-- The function `read_after` passes an empty list on. If this empty list is appended to the first literals of a text,
+-- the result is the first literals of the text.
 none_more : (g : given.Over) (c : goal.After-read_from g) (first : List (Lit g.row.A.Denot))
     → AreFirst (chars c.args.text.now) c.args.file c.args.count first
     → AreFirst (chars c.args.text.now) c.args.file c.args.count (first ++ c.new.result.items)

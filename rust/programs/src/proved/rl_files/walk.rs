@@ -3,7 +3,7 @@
 
 use crate::rattle_std::prelude::{String, Vec};
 use crate::rl_files::glob::is_excluded;
-use crate::rl_files::path_texts::escaped_path;
+use crate::rl_files::path_texts::escaped_non_utf8_path;
 use crate::rl_files::tree::{PathError, Tree};
 use crate::rattle_std::alloc::{AllocError, Allocator, Global};
 use crate::rattle_std::fmt;
@@ -24,8 +24,8 @@ pub struct Selection<'a> {
 
 /// An entry that a walk still has to visit.
 pub enum WalkEntry<A: Allocator = Global> {
-    /// A path that may be a directory. The number is the length of its start that is the directory passed by the user, with a
-    /// slash. Without the number, the path itself was passed, and may also be a file.
+    /// A path that may be a directory. The number is the length, with a slash, of the start of the path that is the
+    /// directory passed by the user. Without the number, the user passed the path itself, which may also be a file.
     Directory(Option<usize>, String<A>),
     /// A file in a directory.
     File(String<A>),
@@ -63,7 +63,7 @@ impl fmt::Display for WalkError {
 
 /// A walk through directories, which returns their files one by one.
 pub struct Walk<A: Allocator = Global> {
-    // the entries to visit, in reverse order
+    // The entries that the walk still has to visit, in reverse order.
     pending: Vec<WalkEntry<A>, A>,
 }
 
@@ -125,7 +125,7 @@ fn path_in<A: Allocator>(alloc: A, directory: &str, name: &str) -> Result<String
     Ok(path)
 }
 
-/// Whether a path is one that the user passed, and not the path of a directory below it: `from` is `None`.
+/// Whether a path is one that the user passed, so that `from` is `None`, and not the path of a directory below it.
 fn is_given(from: Option<usize>) -> bool {
     from.is_none()
 }
@@ -173,7 +173,7 @@ fn pending_of<A: Allocator>(
 
 /// Returns the entry to visit for a path that the user passed.
 fn entry_given<A: Allocator>(alloc: A, path: String<A>) -> Result<WalkEntry<A>, AllocError> {
-    if let Some(shown) = escaped_path(path.as_str()) {
+    if let Some(shown) = escaped_non_utf8_path(path.as_str()) {
         return Ok(WalkEntry::BadPath(String::from_str(alloc, shown)?));
     }
     Ok(WalkEntry::Directory(None, path))

@@ -105,8 +105,9 @@ pub fn push_line_of_kind<A: Allocator>(
     push_line(out, word(kind), shown, suffix)
 }
 
-/// Returns the value of a string literal that can be copied from `text`: two quotes, only printable ASCII without quotes and
-/// backslashes between them, and no suffix. Returns `None` for any other text.
+/// Returns the value of the string literal `text` if the value can be copied from the text. The text must be two quotes
+/// with only printable ASCII between them, without quotes and backslashes, and must have no suffix. Returns `None` for
+/// any other text.
 #[inline(always)]
 pub fn unescaped_value(text: &str) -> Option<&str> {
     let value = strip_byte(text, b'"')?.strip_suffix("\"")?;
@@ -117,7 +118,7 @@ pub fn unescaped_value(text: &str) -> Option<&str> {
     }
 }
 
-/// The start of a string literal's output line. `END` is the line's end if the literal has no suffix.
+/// The start of the output line of a string literal. `END` is the end of that line if the literal has no suffix.
 const FRONT: &str = "Str \"";
 
 const END: &str = "\" -\n";

@@ -88,11 +88,12 @@ pub fn write_bytes<W: Write>(out: &mut W, bytes: &[u8]) -> Result<(), WriteError
     Ok(())
 }
 
-/// Writes all bytes to `out`. An error is the `ProgramError` `Write`.
+/// Writes all bytes to `out`. On a failure the error is the variant `Write` of `ProgramError`.
 ///
 /// # Errors
 ///
-/// Returns `Write` if a call of the writer fails or writes no byte. A beginning of the bytes may have been written then.
+/// Returns `Write` if a call of the writer fails or writes no byte. A beginning of the bytes may have been written
+/// then.
 pub fn write_whole<A: Allocator, W: Write>(out: &mut W, bytes: &[u8]) -> Result<(), ProgramError<A>> {
     match write_bytes(out, bytes) {
         Ok(()) => Ok(()),

@@ -7,7 +7,7 @@ use crate::rl_restyle::slices::between;
 use crate::rl_style::{Restylable, Style, rewrite_into};
 use crate::rattle_std::alloc::{AllocError, Allocator};
 
-/// Returns the size of the buffer that [`rewrite_into`] needs for a literal with this text, in bytes.
+/// Returns the size in bytes of the buffer that [`rewrite_into`] needs for a literal with the text `text`.
 fn buffer_len(text: &str) -> Result<usize, AllocError> {
     let Some(most) = text.len().checked_mul(4) else {
         return Err(AllocError);

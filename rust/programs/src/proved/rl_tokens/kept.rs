@@ -15,7 +15,7 @@ pub struct Kept<T, A: Allocator = Global> {
     pub error: Error<A>,
 }
 
-/// Converts a [`Kept`] to its error, and drops the value that it returned.
+/// Converts a [`Kept`] to its error, and drops the value in it.
 impl<T: Drop, A: Allocator> From<Kept<T, A>> for Error<A> {
     fn from(kept: Kept<T, A>) -> Error<A> {
         kept.error

@@ -27,14 +27,14 @@ fn read_on<A: Allocator + Copy>(
             // The literal is dropped by a function call, because dropping it in place would double the number of steps
             // to prove.
             drop(failed);
-            return Err(Error::memory(Span::call_site()));
+            return Err(Error::out_of_memory(Span::call_site()));
         }
     }
     Ok(list)
 }
 
-/// Returns `list` with the literals of `text` after its first `count` ones appended. The literals of `list` are the last of these
-/// `count`. Those before may have been dropped.
+/// Returns `list` with the literals of `text` after its first `count` literals appended. The literals of `list` are the
+/// last of the first `count` literals of `text`. The literals before those of `list` may have been dropped.
 fn read_from<A: Allocator + Copy>(
     alloc: A,
     text: &str,
