@@ -104,8 +104,8 @@ first_wishes has_colors = record {
 
 -- If no path is passed, `.` is read in place of standard input: input is a terminal, or an option selects the files of directories.
 abbrev pub reads_current_directory : Bool → Wishes → Bool
-reads_current_directory is_terminal w =
-    is_terminal || w.all_directories || not (length w.extensions == 0) || not (length w.excludes == 0)
+reads_current_directory lacks_input w =
+    lacks_input || w.all_directories || not (length w.extensions == 0) || not (length w.excludes == 0)
 
 -- The file with the rules of a style, if one is passed.
 abbrev pub style_of : Option (Bor (List ℕ)) → Option (List ℕ)

@@ -115,7 +115,7 @@ pub struct Command<'a> {
 #[derive(Clone, Copy)]
 pub struct Console {
     /// Whether standard input is a terminal. If it is, and no path is passed, `.` is read.
-    pub input_is_terminal: bool,
+    pub lacks_input: bool,
     /// Whether standard output accepts colours. If it does, lines have colours by default.
     pub has_colors: bool,
 }

@@ -39,22 +39,22 @@ keeps_same None = tt
 keeps_same (Some xs) = refl
 
 -- If the help is requested, the result of writing it is the result of the call. `ends_version` is the lemma for the version.
-pub ends_help : {B : Type 0} (wishes : Wishes) (is_terminal : Bool) (holds : Option World) (o0 o1 e : Option (List ℕ))
+pub ends_help : {B : Type 0} (wishes : Wishes) (lacks_input : Bool) (holds : Option World) (o0 o1 e : Option (List ℕ))
     (h : Option (List Replacement)) (text : List ℕ) (ending : Ending (CallError B)) → wishes.action ≡ Help
-    → EndsText text o0 o1 ending → EndsAsked wishes is_terminal holds (written_on o0 o1 e e h h) ending
-ends_help wishes is_terminal holds o0 o1 e h text ending is ends = rw is (text, ends, keeps_same e, refl)
+    → EndsText text o0 o1 ending → EndsAsked wishes lacks_input holds (written_on o0 o1 e e h h) ending
+ends_help wishes lacks_input holds o0 o1 e h text ending is ends = rw is (text, ends, keeps_same e, refl)
 
-pub ends_version : {B : Type 0} (wishes : Wishes) (is_terminal : Bool) (holds : Option World)
+pub ends_version : {B : Type 0} (wishes : Wishes) (lacks_input : Bool) (holds : Option World)
     (o0 o1 e : Option (List ℕ)) (h : Option (List Replacement)) (text : List ℕ) (ending : Ending (CallError B))
     → wishes.action ≡ Version → EndsText text o0 o1 ending
-    → EndsAsked wishes is_terminal holds (written_on o0 o1 e e h h) ending
-ends_version wishes is_terminal holds o0 o1 e h text ending is ends = rw is (text, ends, keeps_same e, refl)
+    → EndsAsked wishes lacks_input holds (written_on o0 o1 e e h h) ending
+ends_version wishes lacks_input holds o0 o1 e h text ending is ends = rw is (text, ends, keeps_same e, refl)
 
-pub ends_rules : {B : Type 0} (wishes : Wishes) (is_terminal : Bool) (holds : Option World) (o0 o1 e : Option (List ℕ))
+pub ends_rules : {B : Type 0} (wishes : Wishes) (lacks_input : Bool) (holds : Option World) (o0 o1 e : Option (List ℕ))
     (h : Option (List Replacement)) (text : List ℕ) (ending : Ending (CallError B)) → wishes.action ≡ Rules
     → text ≡ rules_page → EndsText text o0 o1 ending
-    → EndsAsked wishes is_terminal holds (written_on o0 o1 e e h h) ending
-ends_rules wishes is_terminal holds o0 o1 e h text ending is page ends =
+    → EndsAsked wishes lacks_input holds (written_on o0 o1 e e h h) ending
+ends_rules wishes lacks_input holds o0 o1 e h text ending is page ends =
     rw is (subst (λ (t : List ℕ). EndsText t o0 o1 ending) page ends, keeps_same e, refl)
 
 -- Before a run, a beginning of its output is written: nothing.
@@ -80,29 +80,29 @@ command_for command selecting style finds extensions excludes lists settings pat
 
 -- Without lists of paths, the result of the run over the passed paths is that of the call. `ends_listed` is the lemma for lists
 -- of paths.
-pub ends_named : {B : Type 0} (files : List (Bor (List ℕ))) (command : Command) (is_terminal : Bool)
+pub ends_named : {B : Type 0} (files : List (Bor (List ℕ))) (command : Command) (lacks_input : Bool)
     (holds : Option World) (paths : List (List ℕ)) (streams : Streams) (ending : Ending (CallError B))
-    → (length files == 0) ≡ true → EndsPaths command holds (paths_read is_terminal paths) streams ending
-    → EndsFrom (borrowed_texts files) command is_terminal holds paths streams ending
-ends_named [] command is_terminal holds paths streams ending none ends = ends
-ends_named (file ∷ files) command is_terminal holds paths streams ending none ends =
+    → (length files == 0) ≡ true → EndsPaths command holds (paths_read lacks_input paths) streams ending
+    → EndsFrom (borrowed_texts files) command lacks_input holds paths streams ending
+ends_named [] command lacks_input holds paths streams ending none ends = ends
+ends_named (file ∷ files) command lacks_input holds paths streams ending none ends =
     absurd (false≢true (sym (ap not none) ∙ not_empty (length files)))
 
-pub ends_listed : {B : Type 0} (files : List (Bor (List ℕ))) (command : Command) (is_terminal : Bool)
+pub ends_listed : {B : Type 0} (files : List (Bor (List ℕ))) (command : Command) (lacks_input : Bool)
     (holds : Option World) (paths : List (List ℕ)) (streams : Streams) (ending : Ending (CallError B))
     → (length files == 0) ≡ false → EndsListed command (borrowed_texts files) holds paths streams ending
-    → EndsFrom (borrowed_texts files) command is_terminal holds paths streams ending
-ends_listed [] command is_terminal holds paths streams ending some ends = absurd (false≢true (sym some))
-ends_listed (file ∷ files) command is_terminal holds paths streams ending some ends = ends
+    → EndsFrom (borrowed_texts files) command lacks_input holds paths streams ending
+ends_listed [] command lacks_input holds paths streams ending some ends = absurd (false≢true (sym some))
+ends_listed (file ∷ files) command lacks_input holds paths streams ending some ends = ends
 
 pub scan_ends : {B : Type 0} (command selecting : Command) (style : Style)
-    (finds extensions excludes lists settings paths : List (List ℕ)) (is_terminal is_here : Bool) (holds : Option World)
+    (finds extensions excludes lists settings paths : List (List ℕ)) (lacks_input is_here : Bool) (holds : Option World)
     (streams : Streams) (ending : Ending (CallError B))
     → IsSelecting command style finds extensions excludes lists selecting
-    → is_here ≡ reads_current_directory is_terminal (wishes_of command finds extensions excludes lists settings paths)
+    → is_here ≡ reads_current_directory lacks_input (wishes_of command finds extensions excludes lists settings paths)
     → EndsFrom (borrowed_texts selecting.files_from.now) selecting is_here holds paths streams ending
-    → EndsScan (wishes_of command finds extensions excludes lists settings paths) style is_terminal holds streams ending
-scan_ends command selecting style finds extensions excludes lists settings paths is_terminal is_here holds streams ending is here
+    → EndsScan (wishes_of command finds extensions excludes lists settings paths) style lacks_input holds streams ending
+scan_ends command selecting style finds extensions excludes lists settings paths lacks_input is_here holds streams ending is here
     ends = (
       selecting,
       command_for command selecting style finds extensions excludes lists settings paths is,
@@ -113,129 +113,129 @@ scan_ends command selecting style finds extensions excludes lists settings paths
 
 -- Without values of `--rule`, the result of the call with the default style is that of the call. `ends_some_ruled` is the lemma for
 -- one value or more.
-pub ends_unruled : {B : Type 0} (settings : List (Bor (List ℕ))) (wishes : Wishes) (is_terminal : Bool)
+pub ends_unruled : {B : Type 0} (settings : List (Bor (List ℕ))) (wishes : Wishes) (lacks_input : Bool)
     (holds : Option World) (streams : Streams) (ending : Ending (CallError B)) → (length settings == 0) ≡ true
-    → EndsScan wishes default_settings is_terminal holds streams ending
-    → EndsRuled (borrowed_texts settings) wishes is_terminal holds streams ending
-ends_unruled [] wishes is_terminal holds streams ending none ends = ends
-ends_unruled (setting ∷ settings) wishes is_terminal holds streams ending none ends =
+    → EndsScan wishes default_settings lacks_input holds streams ending
+    → EndsRuled (borrowed_texts settings) wishes lacks_input holds streams ending
+ends_unruled [] wishes lacks_input holds streams ending none ends = ends
+ends_unruled (setting ∷ settings) wishes lacks_input holds streams ending none ends =
     absurd (false≢true (sym (ap not none) ∙ not_empty (length settings)))
 
-pub ends_some_ruled : {B : Type 0} (settings : List (Bor (List ℕ))) (wishes : Wishes) (is_terminal : Bool)
+pub ends_some_ruled : {B : Type 0} (settings : List (Bor (List ℕ))) (wishes : Wishes) (lacks_input : Bool)
     (holds : Option World) (streams : Streams) (ending : Ending (CallError B)) → (length settings == 0) ≡ false
     → ((WritesNothing streams × ((error : RulesError B) × IsNoStyle (settings_text (borrowed_texts settings)) error
     × IsRulesError (codes "--rule") error ending))
     ⊎ ((style : Style) × SaysStyle (settings_text (borrowed_texts settings)) style
-    × EndsScan wishes style is_terminal holds streams ending))
-    → EndsRuled (borrowed_texts settings) wishes is_terminal holds streams ending
-ends_some_ruled [] wishes is_terminal holds streams ending some ends = absurd (false≢true (sym some))
-ends_some_ruled (setting ∷ settings) wishes is_terminal holds streams ending some ends = ends
+    × EndsScan wishes style lacks_input holds streams ending))
+    → EndsRuled (borrowed_texts settings) wishes lacks_input holds streams ending
+ends_some_ruled [] wishes lacks_input holds streams ending some ends = absurd (false≢true (sym some))
+ends_some_ruled (setting ∷ settings) wishes lacks_input holds streams ending some ends = ends
 
 -- If the option `--style` names a file, the result of the call with the rules in this file is that of the call.
 pub ends_styled : {B : Type 0} (said : Option (Bor (List ℕ))) (file : Bor (List ℕ)) (wishes : Wishes)
-    (is_terminal : Bool) (holds : Option World) (streams : Streams) (ending : Ending (CallError B)) → said ≡ Some file
-    → EndsStyled (Some file.now) wishes is_terminal holds streams ending
-    → EndsStyled (style_of said) wishes is_terminal holds streams ending
-ends_styled said file wishes is_terminal holds streams ending is ends = rw is ends
+    (lacks_input : Bool) (holds : Option World) (streams : Streams) (ending : Ending (CallError B)) → said ≡ Some file
+    → EndsStyled (Some file.now) wishes lacks_input holds streams ending
+    → EndsStyled (style_of said) wishes lacks_input holds streams ending
+ends_styled said file wishes lacks_input holds streams ending is ends = rw is ends
 
 -- A call that scans files doesn't end with the error for unreadable arguments.
-scan_arguments : (B : Type 0) (wishes : Wishes) (style : Style) (is_terminal : Bool) (holds : Option World)
+scan_arguments : (B : Type 0) (wishes : Wishes) (style : Style) (lacks_input : Bool) (holds : Option World)
     (streams : Streams)
-    → EndsScan {B = B} wishes style is_terminal holds streams (Failed NoArguments) → ⊥
-scan_arguments B wishes style is_terminal holds streams (command, is, ends) = go wishes.files_from ends
+    → EndsScan {B = B} wishes style lacks_input holds streams (Failed NoArguments) → ⊥
+scan_arguments B wishes style lacks_input holds streams (command, is, ends) = go wishes.files_from ends
   where
     go : (from : List (List ℕ))
-        → EndsFrom {B = B} from command (reads_current_directory is_terminal wishes) holds wishes.paths streams (Failed NoArguments)
+        → EndsFrom {B = B} from command (reads_current_directory lacks_input wishes) holds wishes.paths streams (Failed NoArguments)
         → ⊥
     go [] never = never
     go (file ∷ files) (inl (_, (unread, why, read, never))) = never
     go (file ∷ files) (inr (all, are, never)) = never
 
-scan_word : {B : Type 0} (error : ArgumentError B) (wishes : Wishes) (style : Style) (is_terminal : Bool)
+scan_word : {B : Type 0} (error : ArgumentError B) (wishes : Wishes) (style : Style) (lacks_input : Bool)
     (holds : Option World)
-    (streams : Streams) → EndsScan {B = B} wishes style is_terminal holds streams (Failed (Word error)) → ⊥
-scan_word {B} error wishes style is_terminal holds streams (command, is, ends) = go wishes.files_from ends
+    (streams : Streams) → EndsScan {B = B} wishes style lacks_input holds streams (Failed (Word error)) → ⊥
+scan_word {B} error wishes style lacks_input holds streams (command, is, ends) = go wishes.files_from ends
   where
     go : (from : List (List ℕ))
-        → EndsFrom {B = B} from command (reads_current_directory is_terminal wishes) holds wishes.paths streams (Failed (Word error))
+        → EndsFrom {B = B} from command (reads_current_directory lacks_input wishes) holds wishes.paths streams (Failed (Word error))
         → ⊥
     go [] never = never
     go (file ∷ files) (inl (_, (unread, why, read, never))) = never
     go (file ∷ files) (inr (all, are, never)) = never
 
-ruled_arguments : (B : Type 0) (settings : List (List ℕ)) (wishes : Wishes) (is_terminal : Bool)
+ruled_arguments : (B : Type 0) (settings : List (List ℕ)) (wishes : Wishes) (lacks_input : Bool)
     (holds : Option World) (streams : Streams)
-    → EndsRuled {B = B} settings wishes is_terminal holds streams (Failed NoArguments) → ⊥
-ruled_arguments B [] wishes is_terminal holds streams ends =
-    scan_arguments B wishes default_settings is_terminal holds streams ends
-ruled_arguments B (setting ∷ settings) wishes is_terminal holds streams (inl (_, (rules.Unread why, has, never))) = never
-ruled_arguments B (setting ∷ settings) wishes is_terminal holds streams (inl (_, (rules.Style error, has, never))) = never
-ruled_arguments B (setting ∷ settings) wishes is_terminal holds streams (inr (style, has, ends)) =
-    scan_arguments B wishes style is_terminal holds streams ends
+    → EndsRuled {B = B} settings wishes lacks_input holds streams (Failed NoArguments) → ⊥
+ruled_arguments B [] wishes lacks_input holds streams ends =
+    scan_arguments B wishes default_settings lacks_input holds streams ends
+ruled_arguments B (setting ∷ settings) wishes lacks_input holds streams (inl (_, (rules.Unread why, has, never))) = never
+ruled_arguments B (setting ∷ settings) wishes lacks_input holds streams (inl (_, (rules.Style error, has, never))) = never
+ruled_arguments B (setting ∷ settings) wishes lacks_input holds streams (inr (style, has, ends)) =
+    scan_arguments B wishes style lacks_input holds streams ends
 
-ruled_word : {B : Type 0} (error : ArgumentError B) (settings : List (List ℕ)) (wishes : Wishes) (is_terminal : Bool)
+ruled_word : {B : Type 0} (error : ArgumentError B) (settings : List (List ℕ)) (wishes : Wishes) (lacks_input : Bool)
     (holds : Option World) (streams : Streams)
-    → EndsRuled {B = B} settings wishes is_terminal holds streams (Failed (Word error)) → ⊥
-ruled_word error [] wishes is_terminal holds streams ends =
-    scan_word error wishes default_settings is_terminal holds streams ends
-ruled_word error (setting ∷ settings) wishes is_terminal holds streams (inl (_, (rules.Unread why, has, never))) = never
-ruled_word error (setting ∷ settings) wishes is_terminal holds streams (inl (_, (rules.Style wrong, has, never))) = never
-ruled_word error (setting ∷ settings) wishes is_terminal holds streams (inr (style, has, ends)) =
-    scan_word error wishes style is_terminal holds streams ends
+    → EndsRuled {B = B} settings wishes lacks_input holds streams (Failed (Word error)) → ⊥
+ruled_word error [] wishes lacks_input holds streams ends =
+    scan_word error wishes default_settings lacks_input holds streams ends
+ruled_word error (setting ∷ settings) wishes lacks_input holds streams (inl (_, (rules.Unread why, has, never))) = never
+ruled_word error (setting ∷ settings) wishes lacks_input holds streams (inl (_, (rules.Style wrong, has, never))) = never
+ruled_word error (setting ∷ settings) wishes lacks_input holds streams (inr (style, has, ends)) =
+    scan_word error wishes style lacks_input holds streams ends
 
-styled_arguments : (B : Type 0) (file : Option (List ℕ)) (wishes : Wishes) (is_terminal : Bool)
+styled_arguments : (B : Type 0) (file : Option (List ℕ)) (wishes : Wishes) (lacks_input : Bool)
     (holds : Option World) (streams : Streams)
-    → EndsStyled {B = B} file wishes is_terminal holds streams (Failed NoArguments) → ⊥
-styled_arguments B None wishes is_terminal holds streams ends =
-    ruled_arguments B wishes.settings wishes is_terminal holds streams ends
-styled_arguments B (Some file) wishes is_terminal holds streams (inl (_, (rules.Unread why, has, never))) = never
-styled_arguments B (Some file) wishes is_terminal holds streams (inl (_, (rules.Style error, has, never))) = never
-styled_arguments B (Some file) wishes is_terminal holds streams (inr (style, has, ends)) =
-    scan_arguments B wishes style is_terminal holds streams ends
+    → EndsStyled {B = B} file wishes lacks_input holds streams (Failed NoArguments) → ⊥
+styled_arguments B None wishes lacks_input holds streams ends =
+    ruled_arguments B wishes.settings wishes lacks_input holds streams ends
+styled_arguments B (Some file) wishes lacks_input holds streams (inl (_, (rules.Unread why, has, never))) = never
+styled_arguments B (Some file) wishes lacks_input holds streams (inl (_, (rules.Style error, has, never))) = never
+styled_arguments B (Some file) wishes lacks_input holds streams (inr (style, has, ends)) =
+    scan_arguments B wishes style lacks_input holds streams ends
 
-styled_word : {B : Type 0} (error : ArgumentError B) (file : Option (List ℕ)) (wishes : Wishes) (is_terminal : Bool)
+styled_word : {B : Type 0} (error : ArgumentError B) (file : Option (List ℕ)) (wishes : Wishes) (lacks_input : Bool)
     (holds : Option World) (streams : Streams)
-    → EndsStyled {B = B} file wishes is_terminal holds streams (Failed (Word error)) → ⊥
-styled_word error None wishes is_terminal holds streams ends =
-    ruled_word error wishes.settings wishes is_terminal holds streams ends
-styled_word error (Some file) wishes is_terminal holds streams (inl (_, (rules.Unread why, has, never))) = never
-styled_word error (Some file) wishes is_terminal holds streams (inl (_, (rules.Style wrong, has, never))) = never
-styled_word error (Some file) wishes is_terminal holds streams (inr (style, has, ends)) =
-    scan_word error wishes style is_terminal holds streams ends
+    → EndsStyled {B = B} file wishes lacks_input holds streams (Failed (Word error)) → ⊥
+styled_word error None wishes lacks_input holds streams ends =
+    ruled_word error wishes.settings wishes lacks_input holds streams ends
+styled_word error (Some file) wishes lacks_input holds streams (inl (_, (rules.Unread why, has, never))) = never
+styled_word error (Some file) wishes lacks_input holds streams (inl (_, (rules.Style wrong, has, never))) = never
+styled_word error (Some file) wishes lacks_input holds streams (inr (style, has, ends)) =
+    scan_word error wishes style lacks_input holds streams ends
 
-no_arguments : (B : Type 0) (action : Action) (wishes : Wishes) (is_terminal : Bool) (holds : Option World)
-    (streams : Streams) → EndsWish {B = B} action wishes is_terminal holds streams (Failed NoArguments) → ⊥
-no_arguments B Scan wishes is_terminal holds streams ends =
-    styled_arguments B wishes.style wishes is_terminal holds streams ends
-no_arguments B Files wishes is_terminal holds streams ends =
-    styled_arguments B wishes.style wishes is_terminal holds streams ends
-no_arguments B Help wishes is_terminal holds streams (text, (never, begun), kept, same) = never
-no_arguments B Version wishes is_terminal holds streams (text, (never, begun), kept, same) = never
-no_arguments B Rules wishes is_terminal holds streams ((never, begun), kept, same) = never
+no_arguments : (B : Type 0) (action : Action) (wishes : Wishes) (lacks_input : Bool) (holds : Option World)
+    (streams : Streams) → EndsWish {B = B} action wishes lacks_input holds streams (Failed NoArguments) → ⊥
+no_arguments B Scan wishes lacks_input holds streams ends =
+    styled_arguments B wishes.style wishes lacks_input holds streams ends
+no_arguments B Files wishes lacks_input holds streams ends =
+    styled_arguments B wishes.style wishes lacks_input holds streams ends
+no_arguments B Help wishes lacks_input holds streams (text, (never, begun), kept, same) = never
+no_arguments B Version wishes lacks_input holds streams (text, (never, begun), kept, same) = never
+no_arguments B Rules wishes lacks_input holds streams ((never, begun), kept, same) = never
 
-no_word : {B : Type 0} (error : ArgumentError B) (action : Action) (wishes : Wishes) (is_terminal : Bool) (holds : Option World)
-    (streams : Streams) → EndsWish {B = B} action wishes is_terminal holds streams (Failed (Word error)) → ⊥
-no_word error Scan wishes is_terminal holds streams ends =
-    styled_word error wishes.style wishes is_terminal holds streams ends
-no_word error Files wishes is_terminal holds streams ends =
-    styled_word error wishes.style wishes is_terminal holds streams ends
-no_word error Help wishes is_terminal holds streams (text, (never, begun), kept, same) = never
-no_word error Version wishes is_terminal holds streams (text, (never, begun), kept, same) = never
-no_word error Rules wishes is_terminal holds streams ((never, begun), kept, same) = never
+no_word : {B : Type 0} (error : ArgumentError B) (action : Action) (wishes : Wishes) (lacks_input : Bool) (holds : Option World)
+    (streams : Streams) → EndsWish {B = B} action wishes lacks_input holds streams (Failed (Word error)) → ⊥
+no_word error Scan wishes lacks_input holds streams ends =
+    styled_word error wishes.style wishes lacks_input holds streams ends
+no_word error Files wishes lacks_input holds streams ends =
+    styled_word error wishes.style wishes lacks_input holds streams ends
+no_word error Help wishes lacks_input holds streams (text, (never, begun), kept, same) = never
+no_word error Version wishes lacks_input holds streams (text, (never, begun), kept, same) = never
+no_word error Rules wishes lacks_input holds streams ((never, begun), kept, same) = never
 
 pub call_asked : {A B : Type 0} (args : List (String A)) (console : Console) (holds : Option World) (streams : Streams)
     (ending : Ending (CallError B)) (wishes : Wishes) → AskForWishes console.has_colors args wishes
     → only_paths (words_after_name args) wishes.paths ≡ true
-    → EndsAsked wishes console.input_is_terminal holds streams ending → EndsAsScan args console holds streams ending
+    → EndsAsked wishes console.lacks_input holds streams ending → EndsAsScan args console holds streams ending
 call_asked args console holds streams Done wishes asks paths ends = (wishes, asks, paths, ends)
 call_asked args console holds streams FoundBad wishes asks paths ends = (wishes, asks, paths, ends)
 call_asked args console holds streams Reported wishes asks paths ends = (wishes, asks, paths, ends)
 call_asked args console holds streams Closed wishes asks paths ends = (wishes, asks, paths, ends)
 call_asked args console holds streams (Usage line) wishes asks paths ends = (wishes, asks, paths, ends)
 call_asked {A} {B} args console holds streams (Failed NoArguments) wishes asks paths ends = absurd
-    (no_arguments B wishes.action wishes console.input_is_terminal holds streams ends)
+    (no_arguments B wishes.action wishes console.lacks_input holds streams ends)
 call_asked args console holds streams (Failed (Word error)) wishes asks paths ends = absurd
-    (no_word error wishes.action wishes console.input_is_terminal holds streams ends)
+    (no_word error wishes.action wishes console.lacks_input holds streams ends)
 call_asked args console holds streams (Failed (Walk error)) wishes asks paths ends = (wishes, asks, paths, ends)
 call_asked args console holds streams (Failed (NoList file why)) wishes asks paths ends = (wishes, asks, paths, ends)
 call_asked args console holds streams (Failed (NoStyle file error)) wishes asks paths ends = (wishes, asks, paths, ends)

@@ -179,9 +179,9 @@ pub record IsCommandFor (wishes : Wishes) (rules : Style) (command : Command) : 
 
 -- The result of a call that scans files, with the style `rules` if literals are rewritten.
 abbrev pub EndsScan : {B : Type 0} → Wishes → Style → Bool → Option World → Streams → Ending (CallError B) → Type 0
-EndsScan wishes rules is_terminal holds streams ending =
+EndsScan wishes rules lacks_input holds streams ending =
     (command : Command) × IsCommandFor wishes rules command
-    × EndsFrom wishes.files_from command (reads_current_directory is_terminal wishes) holds wishes.paths streams ending
+    × EndsFrom wishes.files_from command (reads_current_directory lacks_input wishes) holds wishes.paths streams ending
 
 -- The result of a call if the file with the rules of a style has the error `error`, or if an allocation fails for the report.
 abbrev pub IsStyleError : {B : Type 0} → List ℕ → LineError B → Ending (CallError B) → Type 0
@@ -197,25 +197,25 @@ IsRulesError file (rules.Style error) ending = IsStyleError file error ending
 -- The result of a call that scans files, with the default style, or with the style of the values of `--rule`. If these values have
 -- an error, nothing is written.
 abbrev pub EndsRuled : {B : Type 0} → List (List ℕ) → Wishes → Bool → Option World → Streams → Ending (CallError B) → Type 0
-EndsRuled {B} [] wishes is_terminal holds streams ending =
-    EndsScan wishes default_settings is_terminal holds streams ending
-EndsRuled {B} (setting ∷ settings) wishes is_terminal holds streams ending =
+EndsRuled {B} [] wishes lacks_input holds streams ending =
+    EndsScan wishes default_settings lacks_input holds streams ending
+EndsRuled {B} (setting ∷ settings) wishes lacks_input holds streams ending =
     (WritesNothing streams × ((error : RulesError B) × IsNoStyle (settings_text (setting ∷ settings)) error
     × IsRulesError (codes "--rule") error ending))
     ⊎ ((style : Style) × SaysStyle (settings_text (setting ∷ settings)) style
-    × EndsScan wishes style is_terminal holds streams ending)
+    × EndsScan wishes style lacks_input holds streams ending)
 
 -- The result of a call that scans files, with the rules in a file, or else with those of `--rule` or with the default style. If the
 -- file has no valid rules, nothing is written.
 abbrev pub EndsStyled : {B : Type 0} → Option (List ℕ) → Wishes → Bool → Option World → Streams → Ending (CallError B)
     → Type 0
-EndsStyled {B} None wishes is_terminal holds streams ending =
-    EndsRuled wishes.settings wishes is_terminal holds streams ending
-EndsStyled {B} (Some file) wishes is_terminal holds streams ending =
+EndsStyled {B} None wishes lacks_input holds streams ending =
+    EndsRuled wishes.settings wishes lacks_input holds streams ending
+EndsStyled {B} (Some file) wishes lacks_input holds streams ending =
     (WritesNothing streams × ((error : RulesError B) × IfSome holds (λ w. HasNoRules w file error)
     × IsRulesError file error ending))
     ⊎ ((style : Style) × IfSome holds (λ w. HasRules w file style)
-    × EndsScan wishes style is_terminal holds streams ending)
+    × EndsScan wishes style lacks_input holds streams ending)
 
 -- The result of a call that only writes a text to standard output.
 abbrev pub EndsWriting : {B : Type 0} → List ℕ → Streams → Ending (CallError B) → Type 0
@@ -225,15 +225,15 @@ EndsWriting text streams ending =
 
 -- The result of a call for an action: a run over files, or writing the help, the version or the rules of a style.
 abbrev pub EndsWish : {B : Type 0} → Action → Wishes → Bool → Option World → Streams → Ending (CallError B) → Type 0
-EndsWish Scan wishes is_terminal holds streams ending = EndsStyled wishes.style wishes is_terminal holds streams ending
-EndsWish Files wishes is_terminal holds streams ending = EndsStyled wishes.style wishes is_terminal holds streams ending
-EndsWish Help wishes is_terminal holds streams ending = (text : List ℕ) × EndsWriting text streams ending
-EndsWish Version wishes is_terminal holds streams ending = (text : List ℕ) × EndsWriting text streams ending
-EndsWish Rules wishes is_terminal holds streams ending = EndsWriting rules_page streams ending
+EndsWish Scan wishes lacks_input holds streams ending = EndsStyled wishes.style wishes lacks_input holds streams ending
+EndsWish Files wishes lacks_input holds streams ending = EndsStyled wishes.style wishes lacks_input holds streams ending
+EndsWish Help wishes lacks_input holds streams ending = (text : List ℕ) × EndsWriting text streams ending
+EndsWish Version wishes lacks_input holds streams ending = (text : List ℕ) × EndsWriting text streams ending
+EndsWish Rules wishes lacks_input holds streams ending = EndsWriting rules_page streams ending
 
 abbrev pub EndsAsked : {B : Type 0} → Wishes → Bool → Option World → Streams → Ending (CallError B) → Type 0
-EndsAsked wishes is_terminal holds streams ending =
-    EndsWish wishes.action wishes is_terminal holds streams ending
+EndsAsked wishes lacks_input holds streams ending =
+    EndsWish wishes.action wishes lacks_input holds streams ending
 
 -- The number of texts that represent a path that isn't UTF-8.
 abbrev pub marked_count : List (List ℕ) → ℕ
@@ -262,4 +262,4 @@ EndsAsScan args console holds streams (Failed (Word error)) =
     CannotAsk console.has_colors args error × WritesNothing streams
 EndsAsScan args console holds streams ending =
     (wishes : Wishes) × AskForWishes console.has_colors args wishes × (only_paths (words_after_name args) wishes.paths ≡ true)
-    × EndsAsked wishes console.input_is_terminal holds streams ending
+    × EndsAsked wishes console.lacks_input holds streams ending

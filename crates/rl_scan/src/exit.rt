@@ -109,10 +109,10 @@ fn write_text<A: Allocator, W: Write>(out: &mut W, text: &str) -> Ending<CallErr
 
 /// Whether `.` is read, and not standard input, if no path is passed. This is the case if standard input is a terminal, or if an
 /// option selects files in directories.
-fn reads_current_directory<A: Allocator>(is_terminal: bool, asked: &ParsedArguments<'_, A>) -> bool
-    ensures { result ≡ is_read_here is_terminal (wishes_in asked.now) }
+fn reads_current_directory<A: Allocator>(lacks_input: bool, asked: &ParsedArguments<'_, A>) -> bool
+    ensures { result ≡ is_read_here lacks_input (wishes_in asked.now) }
 {
-    is_terminal
+    lacks_input
         || asked.command.selection.all
         || !asked.extensions.is_empty()
         || !asked.excludes.is_empty()
@@ -336,19 +336,19 @@ fn selecting<'a>(
     }
 }
 
-/// Scans the files that the parsed arguments select. If literals are rewritten, `rules` is their style. `is_terminal` tells whether
+/// Scans the files that the parsed arguments select. If literals are rewritten, `rules` is their style. `lacks_input` tells whether
 /// standard input is a terminal.
 fn scan_requested<A: Allocator + Copy, T: Tree, W: Write, E: Write, F: Replace>(
     alloc: A,
     asked: ParsedArguments<'_, A>,
     rules: Style,
-    is_terminal: bool,
+    lacks_input: bool,
     tree: &T,
     out: &mut W,
     err: &mut E,
     files: &mut F,
 ) -> Ending<CallError<A>>
-    ensures { EndsScan (wishes_in asked.entry) rules is_terminal (T.holds tree.now) (record {
+    ensures { EndsScan (wishes_in asked.entry) rules lacks_input (T.holds tree.now) (record {
       out_old = W.contents out.old;
       out_new = W.contents out.new;
       err_old = E.contents err.old;
@@ -357,7 +357,7 @@ fn scan_requested<A: Allocator + Copy, T: Tree, W: Write, E: Write, F: Replace>(
       handed_new = F.handed files.new;
     }) result }
 {
-    let is_here = reads_current_directory(is_terminal, &asked);
+    let is_here = reads_current_directory(lacks_input, &asked);
     let ParsedArguments {
         command,
         mut paths,
@@ -412,17 +412,17 @@ fn rules_error<A: Allocator + Copy>(
 }
 
 /// Scans the files that the parsed arguments select, with the style of the values of `--rule`, or without `--rule` with the default
-/// style. `is_terminal` tells whether standard input is a terminal.
+/// style. `lacks_input` tells whether standard input is a terminal.
 fn scan_ruled<A: Allocator + Copy, T: Tree, W: Write, E: Write, F: Replace>(
     alloc: A,
     asked: ParsedArguments<'_, A>,
-    is_terminal: bool,
+    lacks_input: bool,
     tree: &T,
     out: &mut W,
     err: &mut E,
     files: &mut F,
 ) -> Ending<CallError<A>>
-    ensures { EndsRuled (borrowed_texts asked.entry.settings.items) (wishes_in asked.entry) is_terminal (T.holds tree.now) (record {
+    ensures { EndsRuled (borrowed_texts asked.entry.settings.items) (wishes_in asked.entry) lacks_input (T.holds tree.now) (record {
       out_old = W.contents out.old;
       out_new = W.contents out.new;
       err_old = E.contents err.old;
@@ -436,7 +436,7 @@ fn scan_ruled<A: Allocator + Copy, T: Tree, W: Write, E: Write, F: Replace>(
             alloc,
             asked,
             default_style(),
-            is_terminal,
+            lacks_input,
             tree,
             out,
             err,
@@ -444,23 +444,23 @@ fn scan_ruled<A: Allocator + Copy, T: Tree, W: Write, E: Write, F: Replace>(
         );
     }
     match style_of_settings(alloc, asked.settings.as_slice()) {
-        Ok(rules) => scan_requested(alloc, asked, rules, is_terminal, tree, out, err, files),
+        Ok(rules) => scan_requested(alloc, asked, rules, lacks_input, tree, out, err, files),
         Err(error) => rules_error(alloc, "--rule", error),
     }
 }
 
 /// Scans the files that the parsed arguments select, with the style from the file of `--style`, or else with the style of `--rule` or
-/// the default style. `is_terminal` tells whether standard input is a terminal.
+/// the default style. `lacks_input` tells whether standard input is a terminal.
 fn scan_styled<A: Allocator + Copy, T: Tree, W: Write, E: Write, F: Replace>(
     alloc: A,
     asked: ParsedArguments<'_, A>,
-    is_terminal: bool,
+    lacks_input: bool,
     tree: &T,
     out: &mut W,
     err: &mut E,
     files: &mut F,
 ) -> Ending<CallError<A>>
-    ensures { EndsStyled (style_of asked.entry.command.style) (wishes_in asked.entry) is_terminal (T.holds tree.now) (record {
+    ensures { EndsStyled (style_of asked.entry.command.style) (wishes_in asked.entry) lacks_input (T.holds tree.now) (record {
       out_old = W.contents out.old;
       out_new = W.contents out.new;
       err_old = E.contents err.old;
@@ -470,10 +470,10 @@ fn scan_styled<A: Allocator + Copy, T: Tree, W: Write, E: Write, F: Replace>(
     }) result }
 {
     let Some(file) = asked.command.style else {
-        return scan_ruled(alloc, asked, is_terminal, tree, out, err, files);
+        return scan_ruled(alloc, asked, lacks_input, tree, out, err, files);
     };
     match read_rules_file(alloc, tree, file) {
-        Ok(rules) => scan_requested(alloc, asked, rules, is_terminal, tree, out, err, files),
+        Ok(rules) => scan_requested(alloc, asked, rules, lacks_input, tree, out, err, files),
         Err(error) => rules_error(alloc, file, error),
     }
 }
@@ -482,13 +482,13 @@ fn scan_styled<A: Allocator + Copy, T: Tree, W: Write, E: Write, F: Replace>(
 fn answer<A: Allocator + Copy, T: Tree, W: Write, E: Write, F: Replace>(
     alloc: A,
     asked: ParsedArguments<'_, A>,
-    is_terminal: bool,
+    lacks_input: bool,
     tree: &T,
     out: &mut W,
     err: &mut E,
     files: &mut F,
 ) -> Ending<CallError<A>>
-    ensures { EndsAsked (wishes_in asked.entry) is_terminal (T.holds tree.now) (record {
+    ensures { EndsAsked (wishes_in asked.entry) lacks_input (T.holds tree.now) (record {
       out_old = W.contents out.old;
       out_new = W.contents out.new;
       err_old = E.contents err.old;
@@ -504,7 +504,7 @@ fn answer<A: Allocator + Copy, T: Tree, W: Write, E: Write, F: Replace>(
         Action::Scan | Action::Files => scan_styled(
             alloc,
             asked,
-            is_terminal,
+            lacks_input,
             tree,
             out,
             err,
@@ -577,7 +577,7 @@ pub fn run_with_arguments<A: Allocator + Copy, T: Tree, W: Write, E: Write, F: R
             answer(
                 alloc,
                 asked,
-                console.input_is_terminal,
+                console.lacks_input,
                 tree,
                 out,
                 err,

@@ -6,7 +6,7 @@ use Rattle.rl_scan.proofs.Handing.{written_on}
 use Rattle.rl_scan.proofs.exit.scan_ruled.Goals as goal
 
 pub returns-then-is_empty : goal.returns-then-is_empty
-returns-then-is_empty g c = ends_unruled c.args.asked.settings.items (wishes_in c.args.asked) c.args.is_terminal
+returns-then-is_empty g c = ends_unruled c.args.asked.settings.items (wishes_in c.args.asked) c.args.lacks_input
     (g.T.Tree.holds c.args.tree.now) (written_on (g.W.Write.contents c.args.out.now)
     (g.W.Write.contents c.scan_requested.new.out) (g.E.Write.contents c.args.err.now)
     (g.E.Write.contents c.scan_requested.new.err) (g.F.Replace.handed c.args.files.now)
@@ -14,7 +14,7 @@ returns-then-is_empty g c = ends_unruled c.args.asked.settings.items (wishes_in 
     (rw c.default_style.ensures at c.scan_requested.ensures)
 
 pub returns-in-Ok : goal.returns-in-Ok
-returns-in-Ok g c = ends_some_ruled c.args.asked.settings.items (wishes_in c.args.asked) c.args.is_terminal
+returns-in-Ok g c = ends_some_ruled c.args.asked.settings.items (wishes_in c.args.asked) c.args.lacks_input
     (g.T.Tree.holds c.args.tree.now) (written_on (g.W.Write.contents c.args.out.now)
     (g.W.Write.contents c.scan_requested-in-Ok.new.out) (g.E.Write.contents c.args.err.now)
     (g.E.Write.contents c.scan_requested-in-Ok.new.err) (g.F.Replace.handed c.args.files.now)
@@ -23,7 +23,7 @@ returns-in-Ok g c = ends_some_ruled c.args.asked.settings.items (wishes_in c.arg
     (inr (c.in-Ok.rules, rw c.as_slice.ensures.value at c.in-Ok.ensures.rules, c.scan_requested-in-Ok.ensures))
 
 pub returns-in-Err : goal.returns-in-Err
-returns-in-Err g c = ends_some_ruled c.args.asked.settings.items (wishes_in c.args.asked) c.args.is_terminal
+returns-in-Err g c = ends_some_ruled c.args.asked.settings.items (wishes_in c.args.asked) c.args.lacks_input
     (g.T.Tree.holds c.args.tree.now) (written_on (g.W.Write.contents c.args.out.now)
     (g.W.Write.contents c.args.out.now) (g.E.Write.contents c.args.err.now) (g.E.Write.contents c.args.err.now)
     (g.F.Replace.handed c.args.files.now) (g.F.Replace.handed c.args.files.now)) c.rules_error.result

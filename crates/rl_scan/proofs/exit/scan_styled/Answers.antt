@@ -5,7 +5,7 @@ use Rattle.rl_scan.proofs.Handing.{written_on}
 use Rattle.rl_scan.proofs.exit.scan_styled.Goals as goal
 
 pub returns-in-Ok : goal.returns-in-Ok
-returns-in-Ok g c = ends_styled c.args.asked.command.style c.in-Some.file (wishes_in c.args.asked) c.args.is_terminal
+returns-in-Ok g c = ends_styled c.args.asked.command.style c.in-Some.file (wishes_in c.args.asked) c.args.lacks_input
     (g.T.Tree.holds c.args.tree.now) (written_on (g.W.Write.contents c.args.out.now)
     (g.W.Write.contents c.scan_requested-in-Ok.new.out) (g.E.Write.contents c.args.err.now)
     (g.E.Write.contents c.scan_requested-in-Ok.new.err) (g.F.Replace.handed c.args.files.now)
@@ -13,7 +13,7 @@ returns-in-Ok g c = ends_styled c.args.asked.command.style c.in-Some.file (wishe
     (inr (c.in-Ok.rules, c.in-Ok.ensures.rules, c.scan_requested-in-Ok.ensures))
 
 pub returns-in-Err : goal.returns-in-Err
-returns-in-Err g c = ends_styled c.args.asked.command.style c.in-Some.file (wishes_in c.args.asked) c.args.is_terminal
+returns-in-Err g c = ends_styled c.args.asked.command.style c.in-Some.file (wishes_in c.args.asked) c.args.lacks_input
     (g.T.Tree.holds c.args.tree.now) (written_on (g.W.Write.contents c.args.out.now)
     (g.W.Write.contents c.args.out.now) (g.E.Write.contents c.args.err.now) (g.E.Write.contents c.args.err.now)
     (g.F.Replace.handed c.args.files.now) (g.F.Replace.handed c.args.files.now)) c.rules_error.result c.in-Some.is
