@@ -247,6 +247,26 @@ def check_options(tell):
         tell('docs/PROGRAMS.md: the options and their modes differ from table.rt')
 
 
+# The values that a rule may have, as the output of --rules shows them.
+RULE_VALUES = {'Truth': 'true or false', 'Case': '"lower" or "upper"', 'Separator': '"" or "_"', 'Size': 'NUM'}
+
+
+def check_rules(tell):
+    """Checks that the output of rl_scan --rules has the rules of a style with their values, in their order, and the manual too."""
+    code = read('crates/rl_restyle/src/rule.rt')
+    kinds = {rule: kind for rules, kind in re.findall(r'((?:\|?\s*Rule::\w+\s*)+)=> Expected::(\w+)', code)
+             for rule in re.findall(r'Rule::(\w+)', rules)}
+    table = [(name, RULE_VALUES[kinds.get(rule, 'Truth')]) for name, rule in re.findall(r'"(\w+)" => Some\(Rule::(\w+)\)', code)]
+    shown = re.findall(r'(?m)^(\w+) = (.*)$', read('crates/rl_options/src/help.rt'))
+    for name, values in sorted(set(table) ^ set(shown)):
+        tell(f'crates/rl_options/src/help.rt: {name} = {values} differs from rule.rt')
+    if not table or [name for name, _ in table] != [name for name, _ in shown]:
+        tell('crates/rl_options/src/help.rt: the rules have another order than rule.rt')
+    listed = set(re.findall(r'(?m)^\| `(\w+) = ', read('docs/PROGRAMS.md')))
+    for name in sorted(listed ^ {name for name, _ in table}):
+        tell(f'docs/PROGRAMS.md: {name} is a rule in only one of the manual and rule.rt')
+
+
 # Files of the repository that the package has a copy of, since Cargo packs no file from outside its folder.
 COPIES = {'rust/' + name: name for name in ('CHANGELOG.md', 'LICENSE-APACHE', 'LICENSE-MIT')}
 
@@ -276,4 +296,4 @@ def check_diagrams(tell):
 
 OF_PAGES = (
     check_core, check_paths, check_snippets, check_definitions, check_names, check_words, check_owners,
-    check_errors, check_diagrams, check_copies, check_limits, check_options, check_habits, check_public_names)
+    check_errors, check_diagrams, check_copies, check_limits, check_options, check_rules, check_habits, check_public_names)

@@ -6,3 +6,4 @@ pub mod ListedLemmas
 pub mod RulesLemmas
 pub mod ClashLemmas
 pub mod OptionLemmas
+pub mod SettingLemmas

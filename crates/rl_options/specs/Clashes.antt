@@ -10,7 +10,7 @@ use Rattle.rl_options.specs.declared.command.Output.TheVariants as output
 use Rattle.rl_options.specs.declared.modes.Modes.{Modes}
 use Rattle.rl_output.specs.Forms.{has_extents}
 use Rattle.rl_options.specs.declared.argument_error.ArgumentError.{ArgumentError}
-use Rattle.rl_options.specs.declared.argument_error.ArgumentError.TheVariants.{InputTwice, NoEffect, ObjectsOfPaths, StatsOfPaths, TextlessKinds}
+use Rattle.rl_options.specs.declared.argument_error.ArgumentError.TheVariants.{InputTwice, NoEffect, ObjectsOfPaths, StatsOfPaths, TextlessKinds, TwoStyles}
 use Rattle.rl_output.specs.Choices.{Names, words_of}
 use Rattle.rl_options.specs.Modes.{lists_files, mode_of, mode_words, modes_hint, option_without_effect}
 use Rattle.rl_options.specs.Wishes.{AllWanted, BadWanted, HiddenWanted, OnlyWanted, Wanted, Wishes}
@@ -100,13 +100,20 @@ is_input_among paths lists =
 abbrev pub is_input_read_twice : Wishes → Bool
 is_input_read_twice w = is_input_style w.style && is_input_read w.paths w.files_from
 
--- No options contradict each other: none contradicts the requested output, each has an effect in the mode of the command, and
--- standard input is read only once.
+-- The command has both `--rule` and `--style`.
+abbrev pub has_two_styles : Wishes → Bool
+has_two_styles w = w.sets_rules && is_some w.style
+
+-- No options contradict each other: none contradicts the requested output, each has an effect in the mode of the command,
+-- standard input is read only once, and the command doesn't have both `--rule` and `--style`.
 abbrev pub GoTogether : Wishes → Type 0
-GoTogether w = PrintTogether w × (option_without_effect w ≡ None) × (is_input_read_twice w ≡ false)
+GoTogether w =
+    PrintTogether w × (option_without_effect w ≡ None) × (is_input_read_twice w ≡ false) × (has_two_styles w ≡ false)
 
 -- The first error of options that contradict each other, in the order of the conditions of `GoTogether`.
 abbrev pub IsFirstClash : {A : Type 0} → Wishes → ArgumentError A → Type 0
 IsFirstClash w error =
     IsFirstOf w printing_clashes error ⊎ (PrintTogether w × IsWithoutEffect w error)
     ⊎ (PrintTogether w × (option_without_effect w ≡ None) × (is_input_read_twice w ≡ true) × (error ≡ InputTwice))
+    ⊎ (PrintTogether w × (option_without_effect w ≡ None) × (is_input_read_twice w ≡ false) × (has_two_styles w ≡ true)
+    × (error ≡ TwoStyles))

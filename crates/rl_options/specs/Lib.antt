@@ -9,3 +9,5 @@ pub mod Clashes
 pub mod Words
 pub mod Listed
 pub mod Rules
+pub mod RulesPage
+pub mod Settings

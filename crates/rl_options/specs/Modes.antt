@@ -41,10 +41,11 @@ rewriting_mode (Some restyling.Fix) printing = mode.Fix
 rewriting_mode (Some restyling.Check) printing = mode.Check
 rewriting_mode (Some restyling.Diff) printing = mode.Diff
 
--- The mode of a command that prints the help or the version, or else the mode `other`.
+-- The mode of a command that prints the help, the version or the rules of a style, or else the mode `other`.
 abbrev pub acting_mode : Action → Mode → Mode
 acting_mode action.Help other = mode.Help
 acting_mode action.Version other = mode.Help
+acting_mode action.Rules other = mode.Help
 acting_mode action.Scan other = other
 acting_mode action.Files other = other
 
@@ -100,7 +101,8 @@ abbrev pub is_help_mode : Mode → Bool
 is_help_mode mode.Help = true
 is_help_mode _ = false
 
--- An option of these modes may be used in the mode. Beside `--help` and `--version`, any option may be used.
+-- An option of these modes may be used in the mode. Beside `--help`, `--version` and `--rules`, any option may
+-- be used.
 abbrev pub goes_with : Modes → Mode → Bool
 goes_with among m = is_help_mode m || is_in m among
 
@@ -173,6 +175,7 @@ has_operand takes.Around w = is_some w.around
 has_operand takes.Before w = is_some w.before
 has_operand takes.After w = is_some w.after
 has_operand takes.Style w = is_some w.style
+has_operand takes.Rule w = w.sets_rules
 has_operand takes.Macros w = is_some w.macros
 has_operand _ w = false
 
@@ -193,7 +196,7 @@ option_without_effect w =
 
 -- The words for a mode in a message.
 abbrev pub mode_words : Mode → List ℕ
-mode_words mode.Help = codes "with --help or --version"
+mode_words mode.Help = codes "with --help, --version or --rules"
 mode_words mode.Unselected = codes "without a mode"
 mode_words mode.Only = codes "with --only"
 mode_words mode.Find = codes "with --find"

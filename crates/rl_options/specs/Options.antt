@@ -6,7 +6,7 @@ use Rattle.std.specs.Option.{option_map}
 use Rattle.std.specs.Str.{bytes_eq}
 use Rattle.rl_options.specs.declared.flags.Effect.{Effect}
 use Rattle.rl_options.specs.declared.flags.Effect.TheVariants.{Sets, Takes, EndsOptions}
-use Rattle.rl_options.specs.declared.flags.Flag.TheVariants.{Bad, Hidden, IgnoreCase, WholeWords, Text, Json, Bytes, Lines, NoStray, AnySuffix, AllDirectories, NoMessages, Count, FilesWithMatches, Nul, Quiet, Files, Stats, Fix, Check, Diff, Help, Version}
+use Rattle.rl_options.specs.declared.flags.Flag.TheVariants.{Bad, Hidden, IgnoreCase, WholeWords, Text, Json, Bytes, Lines, NoStray, AnySuffix, AllDirectories, NoMessages, Count, FilesWithMatches, Nul, Quiet, Files, Stats, Fix, Check, Diff, Help, Version, Rules}
 use Rattle.rl_options.specs.declared.flags.Operand.{Operand}
 use Rattle.rl_options.specs.declared.flags.Operand.TheVariants as takes
 use Rattle.rl_options.specs.declared.modes.Modes.{Modes}
@@ -59,7 +59,9 @@ options =
     option_entry (codes "--check") None (Sets Check) modes.All ∷
     option_entry (codes "--diff") None (Sets Diff) modes.All ∷
     option_entry (codes "--style") None (Takes takes.Style) modes.Rewriting ∷
+    option_entry (codes "--rule") None (Takes takes.Rule) modes.Rewriting ∷
     option_entry (codes "--macros") None (Takes takes.Macros) modes.BadOrRewriting ∷
+    option_entry (codes "--rules") None (Sets Rules) modes.All ∷
     option_entry (codes "--help") (Some (code "h")) (Sets Help) modes.All ∷
     option_entry (codes "--version") (Some (code "V")) (Sets Version) modes.All ∷
     option_entry (codes "--") None EndsOptions modes.All ∷

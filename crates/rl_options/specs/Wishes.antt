@@ -60,6 +60,8 @@ pub record Wishes : Type 0 where
   pub prints_stats : Bool
   pub restyle : Option Restyling
   pub style : Option (List ℕ)
+  pub sets_rules : Bool
+  pub settings : List (List ℕ)
   pub macros : Option AnyMacros
   pub extensions : List (List ℕ)
   pub excludes : List (List ℕ)
@@ -91,6 +93,8 @@ first_wishes has_colors = record {
   prints_stats = false;
   restyle = None;
   style = None;
+  sets_rules = false;
+  settings = [];
   macros = None;
   extensions = [];
   excludes = [];
@@ -110,8 +114,9 @@ style_of None = None
 style_of (Some file) = Some file.now
 
 -- The command, from the values in the program.
-abbrev pub wishes_of : Command → List (List ℕ) → List (List ℕ) → List (List ℕ) → List (List ℕ) → List (List ℕ) → Wishes
-wishes_of command finds extensions excludes lists paths = record {
+abbrev pub wishes_of : Command → List (List ℕ) → List (List ℕ) → List (List ℕ) → List (List ℕ) → List (List ℕ)
+    → List (List ℕ) → Wishes
+wishes_of command finds extensions excludes lists settings paths = record {
   action = command.action;
   wanted = wanted_of command.shown;
   searches = command.searches;
@@ -134,6 +139,8 @@ wishes_of command finds extensions excludes lists paths = record {
   prints_stats = command.prints_stats;
   restyle = command.restyle;
   style = style_of command.style;
+  sets_rules = command.sets_rules;
+  settings = settings;
   macros = command.macros;
   extensions = extensions;
   excludes = excludes;
@@ -143,4 +150,5 @@ wishes_of command finds extensions excludes lists paths = record {
 
 abbrev pub wishes_in : {A : Type 0} → ParsedArguments A → Wishes
 wishes_in asked = wishes_of asked.command (borrowed_texts asked.finds.items) (borrowed_texts asked.extensions.items)
-    (borrowed_texts asked.excludes.items) (borrowed_texts asked.lists.items) (string_texts asked.paths.items)
+    (borrowed_texts asked.excludes.items) (borrowed_texts asked.lists.items) (borrowed_texts asked.settings.items)
+    (string_texts asked.paths.items)

@@ -11,7 +11,7 @@ use Rattle.rl_restyle.specs.declared.edit.Macros.{Macros as AnyMacros}
 use Rattle.rl_output.specs.declared.form.Form.TheVariants as written
 use Rattle.rl_output.specs.declared.choice.Spelling.TheVariants.{Source}
 use Rattle.rl_options.specs.declared.flags.Flag.{Flag}
-use Rattle.rl_options.specs.declared.flags.Flag.TheVariants.{Bad, Hidden, IgnoreCase, WholeWords, Text, Json, Bytes, Lines, NoStray, AnySuffix, AllDirectories, NoMessages, Count, FilesWithMatches, Nul, Quiet, Files, Stats, Fix, Check, Diff, Help, Version}
+use Rattle.rl_options.specs.declared.flags.Flag.TheVariants.{Bad, Hidden, IgnoreCase, WholeWords, Text, Json, Bytes, Lines, NoStray, AnySuffix, AllDirectories, NoMessages, Count, FilesWithMatches, Nul, Quiet, Files, Stats, Fix, Check, Diff, Help, Version, Rules}
 use Rattle.rl_options.specs.declared.flags.Effect.{Effect}
 use Rattle.rl_options.specs.declared.flags.Effect.TheVariants.{Sets, Takes, EndsOptions}
 use Rattle.rl_options.specs.Options.{IsJoinedWord, IsLetter, IsMeant, IsOptionWord, effect_lettered, effect_named}
@@ -23,7 +23,7 @@ use Rattle.rl_options.specs.declared.flags.Next.{Next}
 use Rattle.rl_options.specs.declared.flags.Next.TheVariants as next
 use Rattle.rl_options.specs.declared.flags.When.{When}
 use Rattle.rl_options.specs.declared.argument_error.ArgumentError.{ArgumentError}
-use Rattle.rl_options.specs.declared.argument_error.ArgumentError.TheVariants.{Memory, UnknownOption, UnknownLetter, NoValue, UnknownKind, NoKinds, TwoChoices, NoText, EmptyText, BadAndFind, TextlessKinds, ObjectsOfPaths, StatsOfPaths, TwoRestylings, NoEffect, InputTwice, NoStyle, NoMacros, UnknownMacros, NoColor, UnknownColor, NoExtension, NoPattern, EmptyPattern, OtherPattern, UselessPattern, UnknownExtension, NoList, NoEdition, UnknownEdition, NoFormat, UnknownFormat, NoCount, UnknownCount}
+use Rattle.rl_options.specs.declared.argument_error.ArgumentError.TheVariants.{Memory, UnknownOption, UnknownLetter, NoValue, UnknownKind, NoKinds, TwoChoices, NoText, EmptyText, BadAndFind, TextlessKinds, ObjectsOfPaths, StatsOfPaths, TwoRestylings, NoEffect, InputTwice, TwoStyles, NoStyle, NoRule, NoMacros, UnknownMacros, NoColor, UnknownColor, NoExtension, NoPattern, EmptyPattern, OtherPattern, UselessPattern, UnknownExtension, NoList, NoEdition, UnknownEdition, NoFormat, UnknownFormat, NoCount, UnknownCount}
 use Rattle.rl_options.specs.Meant.{option_part}
 use Rattle.rl_options.specs.Flags.{AreKindWords, IsCountWord, IsSide, IsUnknownKind, color_word, colored_form, edition_word, format_word, formatted, has_other_mark, is_more_than_extension, matches_nothing, is_path_word, macros_word, recolored}
 use Rattle.rl_options.specs.Wishes.{AllWanted, BadWanted, HiddenWanted, OnlyWanted, Wishes, first_wishes}
@@ -78,6 +78,7 @@ with_flag Check w = record w { restyle = Some restyling.Check }
 with_flag Diff w = record w { restyle = Some restyling.Diff }
 with_flag Help w = record w { action = action.Help }
 with_flag Version w = record w { action = action.Version }
+with_flag Rules w = record w { action = action.Rules }
 
 -- The command with an option added, without the option's value.
 abbrev pub with_effect : Effect → Wishes → Wishes
@@ -108,6 +109,9 @@ with_pattern pattern w = record w { excludes = w.excludes ++ pattern ∷ [] }
 
 abbrev pub with_list : List ℕ → Wishes → Wishes
 with_list file w = record w { files_from = w.files_from ++ file ∷ [] }
+
+abbrev pub with_setting : List ℕ → Wishes → Wishes
+with_setting setting w = record w { sets_rules = true; settings = w.settings ++ setting ∷ [] }
 
 -- The file extension without the dot at its start, if there is one.
 abbrev pub IsWithoutDot : List ℕ → List ℕ → Type 0
@@ -145,6 +149,7 @@ IsTaken has_colors takes.Before old word new =
 IsTaken has_colors takes.After old word new =
     (count : ℕ) × IsCountWord word count × (new ≡ record old { after = Some count })
 IsTaken has_colors takes.Style old file new = new ≡ record old { style = Some file }
+IsTaken has_colors takes.Rule old setting new = new ≡ with_setting setting old
 IsTaken has_colors takes.Macros old word new =
     (macros : AnyMacros) × (word ≡ macros_word macros) × (new ≡ record old { macros = Some macros })
 
@@ -222,7 +227,9 @@ word_message TwoRestylings = codes "--fix, --check and --diff can't be combined 
 word_message (NoEffect option mode hint) =
     option.now ++ (codes " has no effect " ++ (mode.now ++ (codes ": " ++ hint.now)))
 word_message InputTwice = codes "--style - reads standard input, so pass a PATH or --files-from FILE other than -"
+word_message TwoStyles = codes "--rule can't be used with --style"
 word_message NoStyle = codes "--style needs a value, such as --style style.txt"
+word_message NoRule = codes "--rule needs a value, such as --rule fewest_hashes: rl_scan --rules lists all rules"
 word_message NoMacros = codes "--macros needs a value: skip or all"
 word_message (UnknownMacros word) = codes "unknown value '" ++ (string_bytes word ++ codes "' of --macros: expected skip or all")
 word_message NoColor = codes "--color needs a value: auto, always or never"
@@ -366,6 +373,7 @@ IsMissing takes.Around error = error ≡ NoCount
 IsMissing takes.Before error = error ≡ NoCount
 IsMissing takes.After error = error ≡ NoCount
 IsMissing takes.Style error = error ≡ NoStyle
+IsMissing takes.Rule error = error ≡ NoRule
 IsMissing takes.Macros error = error ≡ NoMacros
 
 -- The error in the command-line arguments: an argument is invalid, an option's value is missing at the end, or options contradict

@@ -39,8 +39,12 @@ pub enum ArgumentError<A: Allocator = Global> {
     NoEffect(&'static str, &'static str, &'static str),
     /// The value of `--style` is `-`, and sources or a list of paths are read from standard input too.
     InputTwice,
+    /// `--rule` is combined with `--style`.
+    TwoStyles,
     /// `--style` is the last argument, without its value.
     NoStyle,
+    /// `--rule` is the last argument, without its value.
+    NoRule,
     /// `--macros` is the last argument, without its value.
     NoMacros,
     /// The value of `--macros` is unknown.
@@ -152,7 +156,12 @@ impl<A: Allocator> fmt::Display for ArgumentError<A> {
                 f,
                 "--style - reads standard input, so pass a PATH or --files-from FILE other than -"
             ),
+            ArgumentError::TwoStyles => write!(f, "--rule can't be used with --style"),
             ArgumentError::NoStyle => write!(f, "--style needs a value, such as --style style.txt"),
+            ArgumentError::NoRule => write!(
+                f,
+                "--rule needs a value, such as --rule fewest_hashes: rl_scan --rules lists all rules"
+            ),
             ArgumentError::NoMacros => write!(f, "--macros needs a value: skip or all"),
             ArgumentError::UnknownMacros(word) => {
                 write!(

@@ -9,7 +9,7 @@ ghost use Rattle.rl_options.specs.declared.flags.Operand.TheVariants as takes;
 ghost use Rattle.rl_options.specs.declared.argument_error.ArgumentError.TheVariants.{Memory};
 ghost use Rattle.rl_options.specs.Flags.{IsKindWord, AreKindWords, IsUnknownKind, is_path_word};
 ghost use Rattle.rl_options.specs.Wishes.{first_wishes, wishes_of, wishes_in};
-ghost use Rattle.rl_options.specs.Words.{NamesLetter, NamesUnknown, AreLetters, AreRejectedLetters, GoesWithOptions, with_kinds, with_path, with_text, with_pattern, with_list, IsWithoutDot, IsAdded, IsTaken, IsStep, Asks, IsRejectedEffect, IsRejectedText, IsRejectedJoined, IsRejectedWord, IsMissing, AreRejected};
+ghost use Rattle.rl_options.specs.Words.{NamesLetter, NamesUnknown, AreLetters, AreRejectedLetters, GoesWithOptions, with_kinds, with_path, with_text, with_pattern, with_list, with_setting, IsWithoutDot, IsAdded, IsTaken, IsStep, Asks, IsRejectedEffect, IsRejectedText, IsRejectedJoined, IsRejectedWord, IsMissing, AreRejected};
 
 use crate::argument_error::ArgumentError;
 use crate::command::{Action, Command, Output, PlaceForm};
@@ -58,6 +58,8 @@ pub struct ParsedArguments<'a, A: Allocator = Global> {
     pub excludes: Vec<&'a str, A>,
     /// The files of `--files-from`, which list the paths to read.
     pub lists: Vec<&'a str, A>,
+    /// The values of `--rule`: rules of a style, each with or without its value.
+    pub settings: Vec<&'a str, A>,
     next: Next,
 }
 
@@ -83,6 +85,7 @@ fn missing<A: Allocator>(operand: Operand) -> ArgumentError<A>
         Operand::Format => ArgumentError::NoFormat,
         Operand::Around | Operand::Before | Operand::After => ArgumentError::NoCount,
         Operand::Style => ArgumentError::NoStyle,
+        Operand::Rule => ArgumentError::NoRule,
         Operand::Macros => ArgumentError::NoMacros,
     }
 }
@@ -304,6 +307,19 @@ impl<'a, A: Allocator + Copy> ParsedArguments<'a, A> {
         Ok(())
     }
 
+    /// Adds a rule of a style, from the value of `--rule`.
+    fn take_setting(&mut self, setting: &'a str) -> Result<(), ArgumentError<A>>
+        ensures wishes { OnOk result (wishes_in self.new ≡ with_setting setting.now (wishes_in self.old)) }
+        ensures next { OnOk result (self.new.next ≡ self.old.next) }
+        ensures rejected { IfErr result (IsRejectedText takes.Rule setting.now) }
+    {
+        self.command.sets_rules = true;
+        match self.settings.push(setting) {
+            Ok(()) => Ok(()),
+            Err(_) => Err(ArgumentError::Memory),
+        }
+    }
+
     /// Sets whether literals in macro code are treated as all others, from the value of `--macros`.
     fn take_macros(&mut self, alloc: A, word: &str) -> Result<(), ArgumentError<A>>
         ensures taken { OnOk result
@@ -396,6 +412,7 @@ impl<'a, A: Allocator + Copy> ParsedArguments<'a, A> {
             Operand::Before => self.take_before(alloc, text),
             Operand::After => self.take_after(alloc, text),
             Operand::Style => self.take_style(text),
+            Operand::Rule => self.take_setting(text),
             Operand::Macros => self.take_macros(alloc, text),
         }
     }
@@ -515,7 +532,7 @@ impl<'a, A: Allocator + Copy> ParsedArguments<'a, A> {
 
 /// Returns the command without any arguments. `has_colors` is true if the output accepts colours.
 fn first_command<'a>(has_colors: bool) -> Command<'a>
-    ensures { wishes_of result [] [] [] [] [] ≡ first_wishes has_colors }
+    ensures { wishes_of result [] [] [] [] [] [] ≡ first_wishes has_colors }
 {
     Command {
         action: Action::Scan,
@@ -547,6 +564,7 @@ fn first_command<'a>(has_colors: bool) -> Command<'a>
         prints_stats: false,
         restyle: None,
         style: None,
+        sets_rules: false,
         rules: default_style(),
         macros: None,
     }
@@ -560,7 +578,7 @@ fn first_command<'a>(has_colors: bool) -> Command<'a>
 ///
 /// Returns the error of the first invalid argument. After the last argument, it returns an error if that argument is an option
 /// without its value, as `NoKinds`. Then it returns an error if options contradict each other: `TextlessKinds`, `ObjectsOfPaths`,
-/// `StatsOfPaths`, `NoEffect` or `InputTwice`.
+/// `StatsOfPaths`, `NoEffect`, `InputTwice` or `TwoStyles`.
 pub fn parse_arguments<A: Allocator + Copy>(
     alloc: A,
     has_colors: bool,
@@ -576,6 +594,7 @@ pub fn parse_arguments<A: Allocator + Copy>(
         extensions: Vec::new(alloc),
         excludes: Vec::new(alloc),
         lists: Vec::new(alloc),
+        settings: Vec::new(alloc),
         next: Next::Any,
     };
     for word in words {

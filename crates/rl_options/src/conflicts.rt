@@ -1,9 +1,9 @@
 //! Finds options of a command line that contradict each other.
 
-ghost use Rattle.std.specs.Prelude.{◌≡◌, ◌↔◌, ℕ, List, None, string_bytes, IfNone, IfSome, IsTrue};
+ghost use Rattle.std.specs.Prelude.{◌≡◌, ◌↔◌, ℕ, List, [], None, string_bytes, IfNone, IfSome, IsTrue};
 ghost use Rattle.std.specs.List.{list_any};
 ghost use Rattle.rl_options.specs.Wishes.{style_of, wanted_of, wishes_in, wishes_of};
-ghost use Rattle.rl_options.specs.Clashes.{GoTogether, HasTextKind, IsFirstClash, IsFirstOf, IsWithoutEffect, is_input_among, is_input_name as names_input, is_input_read_twice, is_input_style, MayHold, PrintTogether, asks_context as asks, prints_no_objects as no_objects, sums_lines as sums, printing_clashes};
+ghost use Rattle.rl_options.specs.Clashes.{GoTogether, HasTextKind, has_two_styles as two_styles, IsFirstClash, IsFirstOf, IsWithoutEffect, is_input_among, is_input_name as names_input, is_input_read_twice, is_input_style, MayHold, PrintTogether, asks_context as asks, prints_no_objects as no_objects, sums_lines as sums, printing_clashes};
 ghost use Rattle.rl_options.specs.Modes.{lists_files as lists, option_without_effect};
 
 use crate::argument_error::ArgumentError;
@@ -64,10 +64,10 @@ fn prints_no_objects(command: Command<'_>) -> bool
 
 /// Returns the first error of options that contradict the requested output, or `None`.
 fn printing_clash<A: Allocator>(command: Command<'_>) -> Option<ArgumentError<A>>
-    ensures some { IfSome result (λ error. (finds extensions excludes lists paths : List (List ℕ))
-        → IsFirstOf (wishes_of command.entry finds extensions excludes lists paths) printing_clashes error) }
-    ensures none { IfNone result ((finds extensions excludes lists paths : List (List ℕ))
-        → PrintTogether (wishes_of command.entry finds extensions excludes lists paths)) }
+    ensures some { IfSome result (λ error. (finds extensions excludes lists settings paths : List (List ℕ))
+        → IsFirstOf (wishes_of command.entry finds extensions excludes lists settings paths) printing_clashes error) }
+    ensures none { IfNone result ((finds extensions excludes lists settings paths : List (List ℕ))
+        → PrintTogether (wishes_of command.entry finds extensions excludes lists settings paths)) }
 {
     if command.searches && !may_hold(command.shown) {
         return Some(ArgumentError::TextlessKinds);
@@ -83,10 +83,10 @@ fn printing_clash<A: Allocator>(command: Command<'_>) -> Option<ArgumentError<A>
 
 /// Returns the error of the first option that has no effect in the command's mode, or `None`.
 fn mode_clash<A: Allocator>(command: Command<'_>) -> Option<ArgumentError<A>>
-    ensures some { IfSome result (λ error. (finds extensions excludes lists paths : List (List ℕ))
-        → IsWithoutEffect (wishes_of command.entry finds extensions excludes lists paths) error) }
-    ensures none { IfNone result ((finds extensions excludes lists paths : List (List ℕ))
-        → option_without_effect (wishes_of command.entry finds extensions excludes lists paths) ≡ None) }
+    ensures some { IfSome result (λ error. (finds extensions excludes lists settings paths : List (List ℕ))
+        → IsWithoutEffect (wishes_of command.entry finds extensions excludes lists settings paths) error) }
+    ensures none { IfNone result ((finds extensions excludes lists settings paths : List (List ℕ))
+        → option_without_effect (wishes_of command.entry finds extensions excludes lists settings paths) ≡ None) }
 {
     match without_effect(command) {
         Some((name, modes)) => {
@@ -143,6 +143,13 @@ fn reads_input_twice<A: Allocator>(asked: &ParsedArguments<'_, A>) -> bool
         && reads_input(asked.paths.as_slice(), asked.lists.as_slice())
 }
 
+/// Whether the command has both `--rule` and `--style`.
+fn has_two_styles(command: Command<'_>) -> bool
+    ensures { result ≡ two_styles (wishes_of command.entry [] [] [] [] [] []) }
+{
+    command.sets_rules && command.style.is_some()
+}
+
 /// Returns the first error of options that contradict each other, or `None`.
 pub(crate) fn clash_of<A: Allocator>(asked: &ParsedArguments<'_, A>) -> Option<ArgumentError<A>>
     ensures some { IfSome result (IsFirstClash (wishes_in asked.now)) }
@@ -156,6 +163,9 @@ pub(crate) fn clash_of<A: Allocator>(asked: &ParsedArguments<'_, A>) -> Option<A
     }
     if reads_input_twice(asked) {
         return Some(ArgumentError::InputTwice);
+    }
+    if has_two_styles(asked.command) {
+        return Some(ArgumentError::TwoStyles);
     }
     None
 }

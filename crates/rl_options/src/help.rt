@@ -1,4 +1,7 @@
-//! The output of `--help` and `--version`.
+//! The output of `--help`, `--version` and `--rules`.
+
+ghost use Rattle.std.specs.Prelude.{◌≡◌};
+ghost use Rattle.rl_options.specs.RulesPage.{rules_page as page};
 
 /// The output of `rl_scan --help`.
 pub const HELP: &str = "usage: rl_scan [OPTIONS] [PATH..]
@@ -37,6 +40,8 @@ Options of these modes:
       --style FILE     for --fix: rewrite by the rules in FILE; without it, drop
                        needless escapes of quotes and needless hashes, and write
                        1e5 for 1E5
+      --rule RULE      for --fix: rewrite by this rule of --rules; RULE is
+                       NAME=VALUE, or NAME for NAME=true; may be repeated
       --macros WHICH   skip or all: whether --fix rewrites, and --bad checks the
                        suffixes and ranges of, literals in macro calls,
                        macro_rules! and attributes; skip by default
@@ -76,6 +81,7 @@ Output:
       --stats          print totals at the end: files read, files with findings,
                        findings, and files with an error
       --               every argument that follows is a PATH
+      --rules          print the rules of a style, with values and examples
   -h, --help           print this help
   -V, --version        print the version
 
@@ -103,3 +109,101 @@ Examples:
 
 /// The output of `rl_scan --version`.
 pub const VERSION: &str = "rl_scan 0.2.0\n";
+
+/// The rules of a style, each with its values, its meaning and an example.
+const RULES_PAGE: &str =
+    r###"The rules of a style, for lines NAME = VALUE of the file of --style, and for
+--rule NAME=VALUE. A rule that isn't set is off. Without --style and --rule,
+three rules are on: exponent_letter = "lower", drop_quote_escapes and
+fewest_hashes. Below each rule is an example.
+
+hex_digits = "lower" or "upper"
+    Write the digits of hexadecimal integers in this case.
+    hex_digits = "lower": 0xFF -> 0xff
+
+drop_underscores = true or false
+    Drop the underscores in numbers.
+    drop_underscores = true: 1_000 -> 1000
+
+drop_leading_zeros = true or false
+    Drop the leading zeros of decimal integers, except of those that may be
+    meant as octal, such as 0123.
+    drop_leading_zeros = true: 089 -> 89
+
+suffix_separator = "" or "_"
+    Write nothing, or an underscore, between a number and its suffix.
+    suffix_separator = "_": 1u8 -> 1_u8
+
+binary_groups = NUM
+    Divide the digits of binary integers into groups of NUM digits.
+    binary_groups = 8: 0b1111111100000000 -> 0b11111111_00000000
+
+octal_groups = NUM
+    Divide the digits of octal integers into groups of NUM digits.
+    octal_groups = 3: 0o777777 -> 0o777_777
+
+decimal_groups = NUM
+    Divide the digits of decimal integers and floats into groups of NUM digits.
+    decimal_groups = 3: 1000000 -> 1_000_000
+
+hexadecimal_groups = NUM
+    Divide the digits of hexadecimal integers into groups of NUM digits.
+    hexadecimal_groups = 4: 0xdeadbeef -> 0xdead_beef
+
+min_digits = NUM
+    Divide only numbers of NUM digits or more into groups.
+    min_digits = 5, decimal_groups = 3: 1_000 -> 1000
+
+float_zero = true or false
+    Write a zero after a dot at the end of a float.
+    float_zero = true: 1. -> 1.0
+
+exponent_letter = "lower" or "upper"
+    Write the letter before the exponent of a float in this case.
+    exponent_letter = "lower": 1E5 -> 1e5
+
+drop_exponent_plus = true or false
+    Drop the plus of the exponent of a float.
+    drop_exponent_plus = true: 1e+5 -> 1e5
+
+escape_digits = "lower" or "upper"
+    Write the hexadecimal digits of escapes in this case.
+    escape_digits = "lower": b"\xE9" -> b"\xe9"
+
+fewest_escape_digits = true or false
+    Drop the leading zeros and the underscores in \u{..} escapes.
+    fewest_escape_digits = true: "\u{00e9}" -> "\u{e9}"
+
+drop_ascii_escapes = true or false
+    Write visible ASCII characters in place of their numeric escapes.
+    drop_ascii_escapes = true: "\x41" -> "A"
+
+named_escapes = true or false
+    Write \n, \r, \t and \0 in place of the numeric escapes of LF, CR, tab
+    and NUL.
+    named_escapes = true: "\x0a" -> "\n"
+
+drop_quote_escapes = true or false
+    Drop the backslash before a quote that doesn't close the literal.
+    drop_quote_escapes = true: "it\'s" -> "it's"
+
+fewest_hashes = true or false
+    Write raw strings with the fewest hashes.
+    fewest_hashes = true: r##"b"## -> r"b"
+
+drop_raw = true or false
+    Write raw strings without a backslash and a quote as other strings.
+    drop_raw = true: r"a" -> "a"
+
+escape_invisible = true or false
+    Write escapes in place of invisible and bidirectional characters.
+    escape_invisible = true: "<U+200B>" -> "\u{200b}"
+"###;
+
+/// Returns the output of `rl_scan --rules`: the rules of a style, each with its values, its meaning and an example.
+#[tactic(auto, unfolding(crate::specs::RulesPage::rules_page))]
+pub fn rules_page() -> &'static str
+    ensures { result.now ≡ page }
+{
+    RULES_PAGE
+}

@@ -11,7 +11,7 @@ use rl_output::{Form, Shown, Spelling};
 /// The mode of a command: what is printed or rewritten.
 #[derive(Clone, Copy)]
 pub(crate) enum Mode {
-    /// The help or the version is printed.
+    /// The help, the version or the rules of a style are printed.
     Help,
     /// No option selects a mode: all literals are printed.
     Unselected,
@@ -63,10 +63,10 @@ fn printing_mode(shown: Shown<'_>, searches: bool) -> Mode
 
 /// Returns the mode of a command.
 pub(crate) fn mode_of(command: Command<'_>) -> Mode
-    ensures { result ≡ selected (wishes_of command.entry [] [] [] [] []) }
+    ensures { result ≡ selected (wishes_of command.entry [] [] [] [] [] []) }
 {
     match (command.action, command.restyle) {
-        (Action::Help | Action::Version, _) => Mode::Help,
+        (Action::Help | Action::Version | Action::Rules, _) => Mode::Help,
         (Action::Scan | Action::Files, Some(Restyling::Fix)) => Mode::Fix,
         (Action::Scan | Action::Files, Some(Restyling::Check)) => Mode::Check,
         (Action::Scan | Action::Files, Some(Restyling::Diff)) => Mode::Diff,
@@ -105,7 +105,7 @@ fn is_in(mode: Mode, modes: Modes) -> bool
     }
 }
 
-/// Whether an option may be used in a mode. Beside `--help` and `--version`, any option may be used.
+/// Whether an option may be used in a mode. Beside `--help`, `--version` and `--rules`, any option may be used.
 pub(crate) fn goes_with(modes: Modes, mode: Mode) -> bool
     ensures { result ≡ fits modes mode }
 {
@@ -114,7 +114,7 @@ pub(crate) fn goes_with(modes: Modes, mode: Mode) -> bool
 
 /// Whether the command has an option without a value, if the option has no effect in some mode.
 fn has_flag(command: Command<'_>, flag: Flag) -> bool
-    ensures { result ≡ flag_is_set flag (wishes_of command.entry [] [] [] [] []) }
+    ensures { result ≡ flag_is_set flag (wishes_of command.entry [] [] [] [] [] []) }
 {
     match flag {
         Flag::Bad => matches!(command.shown, Shown::Bad),
@@ -137,7 +137,7 @@ fn has_flag(command: Command<'_>, flag: Flag) -> bool
 
 /// Whether the command has an option with a value, if the option has no effect in some mode.
 fn has_operand(command: Command<'_>, operand: Operand) -> bool
-    ensures { result ≡ operand_is_set operand (wishes_of command.entry [] [] [] [] []) }
+    ensures { result ≡ operand_is_set operand (wishes_of command.entry [] [] [] [] [] []) }
 {
     match operand {
         Operand::Kinds => matches!(command.shown, Shown::Only(_)),
@@ -148,6 +148,7 @@ fn has_operand(command: Command<'_>, operand: Operand) -> bool
         Operand::Before => command.before.is_some(),
         Operand::After => command.after.is_some(),
         Operand::Style => command.style.is_some(),
+        Operand::Rule => command.sets_rules,
         Operand::Macros => command.macros.is_some(),
         _ => false,
     }
@@ -155,7 +156,7 @@ fn has_operand(command: Command<'_>, operand: Operand) -> bool
 
 /// Whether the command has an option, if the option has no effect in some mode. For other options the result is `false`.
 pub(crate) fn has_option(command: Command<'_>, effect: Effect) -> bool
-    ensures { result ≡ option_is_set effect (wishes_of command.entry [] [] [] [] []) }
+    ensures { result ≡ option_is_set effect (wishes_of command.entry [] [] [] [] [] []) }
 {
     match effect {
         Effect::Sets(flag) => has_flag(command, flag),
@@ -169,7 +170,7 @@ pub(crate) fn mode_words(mode: Mode) -> &'static str
     ensures { result.now ≡ words_for mode }
 {
     match mode {
-        Mode::Help => "with --help or --version",
+        Mode::Help => "with --help, --version or --rules",
         Mode::Unselected => "without a mode",
         Mode::Only => "with --only",
         Mode::Find => "with --find",

@@ -1,9 +1,12 @@
-//! Reads the rules of a style from a file. Literals are rewritten by a style.
+//! Reads the rules of a style from a file, or from the values of `--rule`. Literals are rewritten by a style.
 
 ghost use Rattle.std.specs.Prelude.{◌≡◌, IfErr, IfOk, IfSome};
+ghost use Rattle.rl_files.specs.Globs.{borrowed_texts};
 ghost use Rattle.rl_restyle.specs.Styles.{RejectsStyle, SaysStyle};
 ghost use Rattle.rl_options.specs.Rules.{HasNoRules, HasRules, IsNearName, IsNoStyle, IsRuleMeant, IsShownName, IsLineError, line_of};
+ghost use Rattle.rl_options.specs.Settings.{settings_text as text_for};
 
+use crate::settings::settings_text;
 use crate::suggestion::near_rule;
 use crate::visible::visible_text;
 use rl_files::{PathError, Tree};
@@ -122,6 +125,25 @@ fn rules_of<A: Allocator>(alloc: A, text: &str) -> Result<Style, RulesError<A>>
             Ok(error) => Err(RulesError::Style(error)),
             Err(_) => Err(RulesError::Unread(PathError::OutOfMemory)),
         },
+    }
+}
+
+/// Parses the values of `--rule` as a style file that has a line for each value. The value `NAME` represents the line
+/// `NAME = true`, and the value `NAME=VALUE` represents the line `NAME = VALUE`. The content of a string needs no quotes.
+///
+/// # Errors
+///
+/// Returns `Style` with the first error of this style file, and `Unread` if an allocation fails.
+pub fn style_of_settings<A: Allocator + Copy>(
+    alloc: A,
+    settings: &[&str],
+) -> Result<Style, RulesError<A>>
+    ensures rules { IfOk result (SaysStyle (text_for (borrowed_texts settings.now))) }
+    ensures error { IfErr result (IsNoStyle (text_for (borrowed_texts settings.now))) }
+{
+    match settings_text(alloc, settings) {
+        Ok(text) => rules_of(alloc, text.as_str()),
+        Err(_) => Err(RulesError::Unread(PathError::OutOfMemory)),
     }
 }
 

@@ -13,7 +13,7 @@ use Rattle.rl_program.specs.Streams.{AppendsBeginning}
 use Rattle.rl_program.specs.declared.exit.Ending.{Ending}
 use Rattle.rl_program.specs.declared.exit.Ending.TheVariants.{Done, FoundBad, Reported, Closed, Usage, Failed}
 use Rattle.rl_options.specs.declared.command.Action.{Action}
-use Rattle.rl_options.specs.declared.command.Action.TheVariants.{Scan, Help, Version, Files}
+use Rattle.rl_options.specs.declared.command.Action.TheVariants.{Scan, Help, Version, Rules, Files}
 use Rattle.rl_options.specs.declared.command.Command.{Command}
 use Rattle.rl_options.specs.declared.command.Console.{Console}
 use Rattle.rl_options.specs.declared.command.Restyling.{Restyling}
@@ -22,11 +22,13 @@ use Rattle.rl_scan.specs.declared.runs.Tally.{Tally}
 use Rattle.rl_scan.specs.declared.exit.CallError.{CallError}
 use Rattle.rl_scan.specs.declared.exit.CallError.TheVariants.{NoArguments, Word, Walk, List as NoList, Style as NoStyle, NoFile, Write}
 use Rattle.rl_style.specs.declared.style.Style.{Style}
-use Rattle.rl_restyle.specs.Styles.{default_settings}
+use Rattle.rl_restyle.specs.Styles.{SaysStyle, default_settings}
 use Rattle.rl_options.specs.declared.rules.LineError.{LineError}
 use Rattle.rl_options.specs.declared.rules.RulesError.{RulesError}
 use Rattle.rl_options.specs.declared.rules.RulesError.TheVariants as rules
-use Rattle.rl_options.specs.Rules.{HasNoRules, HasRules, line_error_words}
+use Rattle.rl_options.specs.Rules.{HasNoRules, HasRules, IsNoStyle, line_error_words}
+use Rattle.rl_options.specs.RulesPage.{rules_page}
+use Rattle.rl_options.specs.Settings.{settings_text}
 use Rattle.rl_options.specs.Listed.{AreWithAllListed, IsFirstUnread}
 use Rattle.rl_scan.specs.Runs.{Streams, WritesWalk, WritesFront, asked_status}
 use Rattle.rl_options.specs.Wishes.{Wishes, reads_current_directory, wishes_of}
@@ -156,8 +158,9 @@ extensions_read (extension ∷ extensions) = extension ∷ extensions
 -- the lists of paths, and the rules of the style.
 pub record IsSelecting (command : Command) (rules : Style) (finds extensions excludes lists : List (List ℕ))
     (selecting : Command) : Type 0 where
-  pub same : (texts endings patterns files paths : List (List ℕ))
-      → wishes_of selecting texts endings patterns files paths ≡ wishes_of command texts endings patterns files paths
+  pub same : (texts endings patterns files settings paths : List (List ℕ))
+      → wishes_of selecting texts endings patterns files settings paths
+      ≡ wishes_of command texts endings patterns files settings paths
   pub finds_are : borrowed_texts selecting.finds.now ≡ finds
   pub extensions_are : borrowed_texts selecting.selection.extensions.now ≡ extensions_read extensions
   pub excludes_are : borrowed_texts selecting.selection.excludes.now ≡ excludes
@@ -166,7 +169,8 @@ pub record IsSelecting (command : Command) (rules : Style) (finds extensions exc
 
 -- The command is that of the parsed arguments. If literals are rewritten, `rules` is their style.
 pub record IsCommandFor (wishes : Wishes) (rules : Style) (command : Command) : Type 0 where
-  pub asked : wishes_of command wishes.finds wishes.extensions wishes.excludes wishes.files_from wishes.paths ≡ wishes
+  pub asked : wishes_of command wishes.finds wishes.extensions wishes.excludes wishes.files_from wishes.settings wishes.paths
+      ≡ wishes
   pub finds_are : borrowed_texts command.finds.now ≡ wishes.finds
   pub extensions_are : borrowed_texts command.selection.extensions.now ≡ extensions_read wishes.extensions
   pub excludes_are : borrowed_texts command.selection.excludes.now ≡ wishes.excludes
@@ -190,30 +194,42 @@ abbrev pub IsRulesError : {B : Type 0} → List ℕ → RulesError B → Ending 
 IsRulesError file (rules.Unread why) ending = IsListError file why ending
 IsRulesError file (rules.Style error) ending = IsStyleError file error ending
 
--- The result of a call that scans files, with the default style or with the rules in a file. If the file has no valid rules,
--- nothing is written.
+-- The result of a call that scans files, with the default style, or with the style of the values of `--rule`. If these values have
+-- an error, nothing is written.
+abbrev pub EndsRuled : {B : Type 0} → List (List ℕ) → Wishes → Bool → Option World → Streams → Ending (CallError B) → Type 0
+EndsRuled {B} [] wishes lacks_input holds streams ending =
+    EndsScan wishes default_settings lacks_input holds streams ending
+EndsRuled {B} (setting ∷ settings) wishes lacks_input holds streams ending =
+    (WritesNothing streams × ((error : RulesError B) × IsNoStyle (settings_text (setting ∷ settings)) error
+    × IsRulesError (codes "--rule") error ending))
+    ⊎ ((style : Style) × SaysStyle (settings_text (setting ∷ settings)) style
+    × EndsScan wishes style lacks_input holds streams ending)
+
+-- The result of a call that scans files, with the rules in a file, or else with those of `--rule` or with the default style. If the
+-- file has no valid rules, nothing is written.
 abbrev pub EndsStyled : {B : Type 0} → Option (List ℕ) → Wishes → Bool → Option World → Streams → Ending (CallError B)
     → Type 0
 EndsStyled {B} None wishes lacks_input holds streams ending =
-    EndsScan wishes default_settings lacks_input holds streams ending
+    EndsRuled wishes.settings wishes lacks_input holds streams ending
 EndsStyled {B} (Some file) wishes lacks_input holds streams ending =
     (WritesNothing streams × ((error : RulesError B) × IfSome holds (λ w. HasNoRules w file error)
     × IsRulesError file error ending))
     ⊎ ((style : Style) × IfSome holds (λ w. HasRules w file style)
     × EndsScan wishes style lacks_input holds streams ending)
 
--- The result of a call that only writes some text to standard output.
-abbrev pub EndsWriting : {B : Type 0} → Streams → Ending (CallError B) → Type 0
-EndsWriting streams ending =
-    (text : List ℕ) × EndsText text streams.out_old streams.out_new ending
-    × Keeps streams.err_old streams.err_new × (streams.handed_new ≡ streams.handed_old)
+-- The result of a call that only writes a text to standard output.
+abbrev pub EndsWriting : {B : Type 0} → List ℕ → Streams → Ending (CallError B) → Type 0
+EndsWriting text streams ending =
+    EndsText text streams.out_old streams.out_new ending × Keeps streams.err_old streams.err_new
+    × (streams.handed_new ≡ streams.handed_old)
 
--- The result of a call for an action: a run over files, or writing the help or the version.
+-- The result of a call for an action: a run over files, or writing the help, the version or the rules of a style.
 abbrev pub EndsWish : {B : Type 0} → Action → Wishes → Bool → Option World → Streams → Ending (CallError B) → Type 0
 EndsWish Scan wishes lacks_input holds streams ending = EndsStyled wishes.style wishes lacks_input holds streams ending
 EndsWish Files wishes lacks_input holds streams ending = EndsStyled wishes.style wishes lacks_input holds streams ending
-EndsWish Help wishes lacks_input holds streams ending = EndsWriting streams ending
-EndsWish Version wishes lacks_input holds streams ending = EndsWriting streams ending
+EndsWish Help wishes lacks_input holds streams ending = (text : List ℕ) × EndsWriting text streams ending
+EndsWish Version wishes lacks_input holds streams ending = (text : List ℕ) × EndsWriting text streams ending
+EndsWish Rules wishes lacks_input holds streams ending = EndsWriting rules_page streams ending
 
 abbrev pub EndsAsked : {B : Type 0} → Wishes → Bool → Option World → Streams → Ending (CallError B) → Type 0
 EndsAsked wishes lacks_input holds streams ending =

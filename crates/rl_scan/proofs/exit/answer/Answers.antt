@@ -1,5 +1,5 @@
 use Rattle.rl_options.specs.Wishes.{wishes_in}
-use Rattle.rl_scan.proofs.EndingLemmas.{ends_help, ends_version}
+use Rattle.rl_scan.proofs.EndingLemmas.{ends_help, ends_rules, ends_version}
 use Rattle.rl_scan.proofs.exit.answer.Goals as goal
 
 pub returns-in-Help : goal.returns-in-Help
@@ -9,3 +9,7 @@ returns-in-Help g c = ends_help (wishes_in c.args.asked) c.args.lacks_input (g.T
 pub returns-in-Version : goal.returns-in-Version
 returns-in-Version g c = ends_version (wishes_in c.args.asked) c.args.lacks_input (g.T.Tree.holds c.args.tree.now) _ _
     _ _ _ c.write_text-in-Version.result c.in-Version.is c.write_text-in-Version.ensures
+
+pub returns-in-Rules : goal.returns-in-Rules
+returns-in-Rules g c = ends_rules (wishes_in c.args.asked) c.args.lacks_input (g.T.Tree.holds c.args.tree.now) _ _
+    _ _ _ c.write_text-in-Rules.result c.in-Rules.is c.rules_page.ensures c.write_text-in-Rules.ensures

@@ -44,6 +44,8 @@ pub struct ParsedArguments<'a, A: Allocator = Global> {
     pub excludes: Vec<&'a str, A>,
     /// The files of `--files-from`, which list the paths to read.
     pub lists: Vec<&'a str, A>,
+    /// The values of `--rule`: rules of a style, each with or without its value.
+    pub settings: Vec<&'a str, A>,
     next: Next,
 }
 
@@ -65,6 +67,7 @@ fn missing<A: Allocator>(operand: Operand) -> ArgumentError<A> {
         Operand::Format => ArgumentError::NoFormat,
         Operand::Around | Operand::Before | Operand::After => ArgumentError::NoCount,
         Operand::Style => ArgumentError::NoStyle,
+        Operand::Rule => ArgumentError::NoRule,
         Operand::Macros => ArgumentError::NoMacros,
     }
 }
@@ -224,6 +227,15 @@ impl<'a, A: Allocator + Copy> ParsedArguments<'a, A> {
         Ok(())
     }
 
+    /// Adds a rule of a style, from the value of `--rule`.
+    fn take_setting(&mut self, setting: &'a str) -> Result<(), ArgumentError<A>> {
+        self.command.sets_rules = true;
+        match self.settings.push(setting) {
+            Ok(()) => Ok(()),
+            Err(_) => Err(ArgumentError::Memory),
+        }
+    }
+
     /// Sets whether literals in macro code are treated as all others, from the value of `--macros`.
     fn take_macros(&mut self, alloc: A, word: &str) -> Result<(), ArgumentError<A>> {
         let Some(macros) = macros_of(word) else {
@@ -292,6 +304,7 @@ impl<'a, A: Allocator + Copy> ParsedArguments<'a, A> {
             Operand::Before => self.take_before(alloc, text),
             Operand::After => self.take_after(alloc, text),
             Operand::Style => self.take_style(text),
+            Operand::Rule => self.take_setting(text),
             Operand::Macros => self.take_macros(alloc, text),
         }
     }
@@ -415,6 +428,7 @@ fn first_command<'a>(has_colors: bool) -> Command<'a> {
         prints_stats: false,
         restyle: None,
         style: None,
+        sets_rules: false,
         rules: default_style(),
         macros: None,
     }
@@ -428,7 +442,7 @@ fn first_command<'a>(has_colors: bool) -> Command<'a> {
 ///
 /// Returns the error of the first invalid argument. After the last argument, it returns an error if that argument is an option
 /// without its value, as `NoKinds`. Then it returns an error if options contradict each other: `TextlessKinds`, `ObjectsOfPaths`,
-/// `StatsOfPaths`, `NoEffect` or `InputTwice`.
+/// `StatsOfPaths`, `NoEffect`, `InputTwice` or `TwoStyles`.
 pub fn parse_arguments<A: Allocator + Copy>(
     alloc: A,
     has_colors: bool,
@@ -441,6 +455,7 @@ pub fn parse_arguments<A: Allocator + Copy>(
         extensions: Vec::new(alloc),
         excludes: Vec::new(alloc),
         lists: Vec::new(alloc),
+        settings: Vec::new(alloc),
         next: Next::Any,
     };
     for word in words {

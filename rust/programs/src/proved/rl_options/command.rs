@@ -16,6 +16,8 @@ pub enum Action {
     Help,
     /// Print the version.
     Version,
+    /// Print the rules of a style.
+    Rules,
     /// Print the files that would be read.
     Files,
 }
@@ -102,6 +104,8 @@ pub struct Command<'a> {
     pub restyle: Option<Restyling>,
     /// The file with the rules of the style, if `--style` is passed.
     pub style: Option<&'a str>,
+    /// Whether `--rule` is passed.
+    pub sets_rules: bool,
     /// The rules of the style, by which literals are rewritten.
     pub rules: Style,
     /// Whether literals in macro code are treated as all others, if `--macros` is passed.

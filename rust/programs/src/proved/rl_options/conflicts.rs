@@ -105,6 +105,11 @@ fn reads_input_twice<A: Allocator>(asked: &ParsedArguments<'_, A>) -> bool {
         && reads_input(asked.paths.as_slice(), asked.lists.as_slice())
 }
 
+/// Whether the command has both `--rule` and `--style`.
+fn has_two_styles(command: Command<'_>) -> bool {
+    command.sets_rules && command.style.is_some()
+}
+
 /// Returns the first error of options that contradict each other, or `None`.
 pub(crate) fn clash_of<A: Allocator>(asked: &ParsedArguments<'_, A>) -> Option<ArgumentError<A>> {
     if let Some(error) = printing_clash(asked.command) {
@@ -115,6 +120,9 @@ pub(crate) fn clash_of<A: Allocator>(asked: &ParsedArguments<'_, A>) -> Option<A
     }
     if reads_input_twice(asked) {
         return Some(ArgumentError::InputTwice);
+    }
+    if has_two_styles(asked.command) {
+        return Some(ArgumentError::TwoStyles);
     }
     None
 }

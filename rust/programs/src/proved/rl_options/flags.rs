@@ -33,6 +33,7 @@ pub(crate) enum Flag {
     Diff,
     Help,
     Version,
+    Rules,
 }
 
 /// The kind of value that an option has. The value is the next argument, or is in the option's own argument after `=`.
@@ -62,6 +63,8 @@ pub(crate) enum Operand {
     After,
     /// A file with the rules of a style.
     Style,
+    /// A rule of a style, with or without its value.
+    Rule,
     /// A word that determines whether literals in macro code are treated as all others.
     Macros,
 }
@@ -149,6 +152,7 @@ fn set_flag(command: &mut Command<'_>, flag: Flag) {
         Flag::Files => command.action = Action::Files,
         Flag::Help => command.action = Action::Help,
         Flag::Version => command.action = Action::Version,
+        Flag::Rules => command.action = Action::Rules,
     }
 }
 

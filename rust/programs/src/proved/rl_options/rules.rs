@@ -1,7 +1,8 @@
 // Rendered from crates/rl_options/src/rules.rt by tools/render, which erases contracts: change that file, and render again.
-//! Reads the rules of a style from a file. Literals are rewritten by a style.
+//! Reads the rules of a style from a file, or from the values of `--rule`. Literals are rewritten by a style.
 
 use crate::rattle_std::prelude::{String};
+use crate::rl_options::settings::settings_text;
 use crate::rl_options::suggestion::near_rule;
 use crate::rl_options::visible::visible_text;
 use crate::rl_files::{PathError, Tree};
@@ -99,6 +100,22 @@ fn rules_of<A: Allocator>(alloc: A, text: &str) -> Result<Style, RulesError<A>> 
             Ok(error) => Err(RulesError::Style(error)),
             Err(_) => Err(RulesError::Unread(PathError::OutOfMemory)),
         },
+    }
+}
+
+/// Parses the values of `--rule` as a style file that has a line for each value. The value `NAME` represents the line
+/// `NAME = true`, and the value `NAME=VALUE` represents the line `NAME = VALUE`. The content of a string needs no quotes.
+///
+/// # Errors
+///
+/// Returns `Style` with the first error of this style file, and `Unread` if an allocation fails.
+pub fn style_of_settings<A: Allocator + Copy>(
+    alloc: A,
+    settings: &[&str],
+) -> Result<Style, RulesError<A>> {
+    match settings_text(alloc, settings) {
+        Ok(text) => rules_of(alloc, text.as_str()),
+        Err(_) => Err(RulesError::Unread(PathError::OutOfMemory)),
     }
 }
 

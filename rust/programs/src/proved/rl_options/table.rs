@@ -20,7 +20,7 @@ pub(crate) struct OptionRow {
 }
 
 /// The options of `rl_scan`. If an unknown option is similar to several names, the first one is suggested.
-const OPTIONS: [OptionRow; 37] = [
+const OPTIONS: [OptionRow; 39] = [
     OptionRow {
         name: "--bad",
         letter: None,
@@ -220,10 +220,22 @@ const OPTIONS: [OptionRow; 37] = [
         modes: Modes::Rewriting,
     },
     OptionRow {
+        name: "--rule",
+        letter: None,
+        effect: Effect::Takes(Operand::Rule),
+        modes: Modes::Rewriting,
+    },
+    OptionRow {
         name: "--macros",
         letter: None,
         effect: Effect::Takes(Operand::Macros),
         modes: Modes::BadOrRewriting,
+    },
+    OptionRow {
+        name: "--rules",
+        letter: None,
+        effect: Effect::Sets(Flag::Rules),
+        modes: Modes::All,
     },
     OptionRow {
         name: "--help",

@@ -7,7 +7,7 @@ use crate::rl_files::{PathError, Replace, Selection, Tree, Walk, WalkError, esca
 use crate::rl_options::{
     Action, ArgumentError, Command, Console, HELP, LineError, ParsedArguments, Restyling,
     RulesError, VERSION, lists_files, parse_arguments, push_listed_paths, read_rules_file,
-    visible_text,
+    rules_page, style_of_settings, visible_text,
 };
 use crate::rl_program::{Ending, RunError, WriteError, write_bytes};
 use crate::rl_restyle::default_style;
@@ -27,7 +27,8 @@ pub enum CallError<A: Allocator = Global> {
     Walk(WalkError),
     /// A list of paths, or a file with the rules of a style, can't be read. The fields are the file's path and the reason.
     List(String<A>, PathError),
-    /// A file with the rules of a style has an error. The fields are the file's path and the error.
+    /// A file with the rules of a style has an error. The fields are the file's path and the error. For an error in the values of
+    /// `--rule`, the path is `--rule`.
     Style(String<A>, LineError<A>),
     /// Paths were passed, but there is no file at them or in their directories.
     NoFile,
@@ -55,7 +56,7 @@ impl<A: Allocator> fmt::Display for CallError<A> {
     }
 }
 
-/// Returns the result of a call after a failed write of the help or the version.
+/// Returns the result of a call after a failed write of the help, the version or the rules of a style.
 fn unwritten<A: Allocator>(error: WriteError) -> Ending<CallError<A>> {
     match error {
         WriteError::Closed => Ending::Closed,
@@ -256,6 +257,7 @@ fn selecting<'a>(
         prints_stats: command.prints_stats,
         restyle: command.restyle,
         style: command.style,
+        sets_rules: command.sets_rules,
         rules,
         macros: command.macros,
     }
@@ -311,7 +313,7 @@ fn style_error<A: Allocator + Copy>(
     }
 }
 
-/// Returns the result of a call if the rules of a style can't be read or parsed. `file` is their path.
+/// Returns the result of a call if the rules of a style can't be read or parsed. `file` is their path, or `--rule`.
 fn rules_error<A: Allocator + Copy>(
     alloc: A,
     file: &str,
@@ -323,9 +325,9 @@ fn rules_error<A: Allocator + Copy>(
     }
 }
 
-/// Scans the files that the parsed arguments select, with the style from the file of `--style`, or with the default style.
-/// If `lacks_input` is true, standard input isn't a file, a pipe or a socket.
-fn scan_styled<A: Allocator + Copy, T: Tree, W: Write, E: Write, F: Replace>(
+/// Scans the files that the parsed arguments select, with the style of the values of `--rule`, or without `--rule` with the default
+/// style. If `lacks_input` is true, standard input isn't a file, a pipe or a socket.
+fn scan_ruled<A: Allocator + Copy, T: Tree, W: Write, E: Write, F: Replace>(
     alloc: A,
     asked: ParsedArguments<'_, A>,
     lacks_input: bool,
@@ -334,7 +336,7 @@ fn scan_styled<A: Allocator + Copy, T: Tree, W: Write, E: Write, F: Replace>(
     err: &mut E,
     files: &mut F,
 ) -> Ending<CallError<A>> {
-    let Some(file) = asked.command.style else {
+    if asked.settings.is_empty() {
         return scan_requested(
             alloc,
             asked,
@@ -345,6 +347,26 @@ fn scan_styled<A: Allocator + Copy, T: Tree, W: Write, E: Write, F: Replace>(
             err,
             files,
         );
+    }
+    match style_of_settings(alloc, asked.settings.as_slice()) {
+        Ok(rules) => scan_requested(alloc, asked, rules, lacks_input, tree, out, err, files),
+        Err(error) => rules_error(alloc, "--rule", error),
+    }
+}
+
+/// Scans the files that the parsed arguments select, with the style from the file of `--style`, or else with the style of `--rule` or
+/// the default style. If `lacks_input` is true, standard input isn't a file, a pipe or a socket.
+fn scan_styled<A: Allocator + Copy, T: Tree, W: Write, E: Write, F: Replace>(
+    alloc: A,
+    asked: ParsedArguments<'_, A>,
+    lacks_input: bool,
+    tree: &T,
+    out: &mut W,
+    err: &mut E,
+    files: &mut F,
+) -> Ending<CallError<A>> {
+    let Some(file) = asked.command.style else {
+        return scan_ruled(alloc, asked, lacks_input, tree, out, err, files);
     };
     match read_rules_file(alloc, tree, file) {
         Ok(rules) => scan_requested(alloc, asked, rules, lacks_input, tree, out, err, files),
@@ -352,7 +374,7 @@ fn scan_styled<A: Allocator + Copy, T: Tree, W: Write, E: Write, F: Replace>(
     }
 }
 
-/// Runs the command of the parsed arguments: scans files, or prints the help or the version.
+/// Runs the command of the parsed arguments: scans files, or prints the help, the version or the rules of a style.
 fn answer<A: Allocator + Copy, T: Tree, W: Write, E: Write, F: Replace>(
     alloc: A,
     asked: ParsedArguments<'_, A>,
@@ -365,6 +387,7 @@ fn answer<A: Allocator + Copy, T: Tree, W: Write, E: Write, F: Replace>(
     match asked.command.action {
         Action::Help => write_text(out, HELP),
         Action::Version => write_text(out, VERSION),
+        Action::Rules => write_text(out, rules_page()),
         Action::Scan | Action::Files => scan_styled(
             alloc,
             asked,
