@@ -33,7 +33,7 @@ fn run(words: &[&str], text: &str) -> (String, u8) {
         .map(|word| Line::from_str(Global, word).expect("memory"))
         .collect();
     let console = Console {
-        input_is_terminal: false,
+        lacks_input: false,
         has_colors: false,
     };
     let mut out: List<u8> = List::new(Global);
