@@ -36,7 +36,7 @@ use Rattle.rl_sources.specs.Scans.{IsPicked, IsPlacedLine, AreReasonLines, IsHel
 use Rattle.rl_sources.specs.Steps.{LooksForFlaws}
 use Rattle.rl_sources.specs.Options.{options_at}
 use Rattle.rl_style.specs.Calls.{CallState, is_in_call}
-use Rattle.rl_sources.specs.Findings.{FindsFlaw, FindsNoFlaw, HasFoundError, HasFoundType, IsBad, IsFoundIn, IsRight, IsRightText, IsWrong}
+use Rattle.rl_sources.specs.Findings.{FindsFlaw, FindsNoFlaw, HasFoundError, HasFoundType, IsBad, IsFoundIn, IsRight, IsRightText, IsWrong, IsWrongText}
 use Rattle.rl_output.specs.Spots.{bytes_before}
 use Rattle.rl_flaws.specs.Before.{may_negate, reserved}
 use Rattle.rl_flaws.specs.TypeErrors.{HasType, HasTypeError}
@@ -203,6 +203,13 @@ not_bad options before text found (wrong.Type error) right is = elim right.2 [
   | inl t ↦ false≢true (sym is.2 ∙ t)
   | inr has ↦ no_error_found before text found error has is.3
 ]
+
+-- If `find_wrong` returns an error, the literal has an error.
+pub wrong_text : (options : Options) (before text : List ℕ) (found : Option Found) (wrongs : Option Wrong) (none : Bool)
+    → IsFoundIn text found → IfSome wrongs (IsWrong options before text found) → is_some wrongs ≡ not none → IsFalse none
+    → IsWrongText options before text
+wrong_text options before text found None none read is some lacks = absurd (false≢true (some ∙ ap not lacks))
+wrong_text options before text found (Some why) none read is some lacks = (found, read, (why, is))
 
 -- The result of the check for errors tells whether the options select the literal.
 pub picks_found : (options : Options) (before text : List ℕ) (found : Option Found) (label : List ℕ)

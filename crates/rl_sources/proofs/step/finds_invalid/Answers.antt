@@ -25,7 +25,7 @@ loop-token-preserved c =
     let nothing = right_nothing c.args.options.now (chars c.args.places.now) c.in-Some.token (
       c.requires.bad,
       found.is_literal,
-      rw c.before.ensures at (c.if-not-is_right.ensures.right refl (inr c.requires.bad)),
+      rw c.before-in-Some.ensures at (c.is_right.ensures.right c.if-not-is_right.false (inr c.requires.bad)),
     ) in
     record {
       passes = passes_literal c.args.options.now c.args.tokens.now c.loop-token.tokens c.in-Some.token

@@ -4,7 +4,7 @@ use Rattle.rl_sources.specs.Steps.{PassesUnshown}
 use Rattle.rl_sources.proofs.step.finds_invalid.Given as goal
 
 abbrev pub invariant-loop-token : goal.invariant-loop-token
-invariant-loop-token l = record { passes : PassesUnshown l.options.now l.initial.tokens l.tokens }
+invariant-loop-token l = record { passes : PassesUnshown l.options l.initial.tokens l.tokens }
 
 abbrev pub decreases-loop-token : goal.decreases-loop-token
 decreases-loop-token l = length l.tokens.rest

@@ -5,5 +5,5 @@ pub returns-in-Bad : goal.returns-in-Bad
 returns-in-Bad c right = (
   c.in-Bad.is,
   c.is_literal.ensures.0 c.if-is_literal.true,
-  rw c.before.ensures at (c.is_right.ensures.right right (inr c.in-Bad.is)),
+  rw c.before-in-Bad.ensures at (c.is_right.ensures.right right (inr c.in-Bad.is)),
 )
