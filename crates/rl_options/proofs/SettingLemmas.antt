@@ -1,6 +1,6 @@
 -- Lemmas about the values of `--rule`.
 use Rattle.std.proofs.Common.{lit<}
-use Rattle.rl_syntax.proofs.Common.{Bool, Bor, List, None, Option, Some, [], ap, arith, cond, false, length, option_map, refl, sym, true, ℕ, ◌<◌, ◌==◌, ◌∙◌, ◌∷◌, ◌+◌, ◌≡◌}
+use Rattle.rl_syntax.proofs.Common.{Bool, Bor, List, None, Option, Some, [], ap, arith, cond, drop, false, length, not, option_map, suc, refl, sym, true, ℕ, ◌<◌, ◌==◌, ◌∙◌, ◌∷◌, ◌+◌, ◌≡◌}
 use Prim.Native.Char.{code}
 use Rattle.std.specs.Prelude.{MatchOption}
 use Rattle.std.specs.List.{after_first, before_first, position_or_len}
@@ -12,21 +12,26 @@ is_sign b = b == code "="
 
 no_value : (text : List ℕ) → position_or_len is_sign text ≡ length text → value_part text ≡ None
 no_value [] none = refl
-no_value (b ∷ text) none = go (is_sign b) none
+no_value (b ∷ text) none = go (is_sign b) none (λ is. no_value text is)
   where
-    go : (is : Bool) → cond is 0 (1 + position_or_len is_sign text) ≡ length (b ∷ text)
+    go : (is : Bool) → cond (not is) (1 + position_or_len is_sign text) 0 ≡ length (b ∷ text)
+        → (position_or_len is_sign text ≡ length text → value_part text ≡ None)
         → cond is (Some text) (value_part text) ≡ None
-    go true none = absurd (omega (arith, none))
-    go false none = no_value text (omega (arith, none))
+    go true none others = absurd (omega (arith, none))
+    go false none others = others (omega (arith, none))
 
 some_value : (text : List ℕ) → position_or_len is_sign text < length text → value_part text ≡ Some (after_first is_sign text)
 some_value [] some = absurd (omega (arith, some))
-some_value (b ∷ text) some = go (is_sign b) some
+some_value (b ∷ text) some = go (is_sign b) some (λ is. some_value text is)
   where
-    go : (is : Bool) → cond is 0 (1 + position_or_len is_sign text) < length (b ∷ text)
-        → cond is (Some text) (value_part text) ≡ Some (cond is text (after_first is_sign text))
-    go true some = refl
-    go false some = some_value text (omega (arith, some))
+    go : (is : Bool) → cond (not is) (1 + position_or_len is_sign text) 0 < length (b ∷ text)
+        → (position_or_len is_sign text < length text → value_part text ≡ Some (after_first is_sign text))
+        → cond is (Some text) (value_part text)
+        ≡ Some (drop (cond (not is) (1 + position_or_len is_sign text) 0 + 1) (b ∷ text))
+    go true some others = refl
+    go false some others =
+        let further : suc (position_or_len is_sign text + 1) ≡ 1 + position_or_len is_sign text + 1 = omega arith in
+        others (omega (arith, some)) ∙ ap (λ k. Some (drop k (b ∷ text))) further
 
 -- The second part of a text that is split at its first `=` is the text after the `=`.
 pub value_is : (text : List ℕ) (r : Option (Bor (List ℕ) × Bor (List ℕ))) → IsSplitOnceResult (code "=") text r

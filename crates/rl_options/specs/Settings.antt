@@ -6,7 +6,7 @@ use Rattle.std.specs.Str.{bytes_eq}
 use Rattle.rl_options.specs.Meant.{option_part}
 
 -- The text after the first `=`, or `None` for a text without `=`.
-pub value_part : List ℕ → Option (List ℕ)
+abbrev pub value_part : List ℕ → Option (List ℕ)
 value_part [] = None
 value_part (b ∷ text) = cond (b == code "=") (Some text) (value_part text)
 

@@ -8,7 +8,6 @@ use crate::suggestion::option_part;
 use std::alloc::{AllocError, Allocator};
 
 /// Returns the text after the first `=`, or `None` for a text without `=`.
-#[tactic(auto, using(crate::proofs::SettingLemmas::value_is))]
 fn value_part(text: &str) -> Option<&str>
     ensures { option_map (λ value. value.now) result ≡ part_after text.now }
 {
