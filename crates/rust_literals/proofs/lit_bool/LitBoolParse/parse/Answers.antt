@@ -11,20 +11,20 @@ returns-in_default-clause-runs g c =
     (scope_of c.args.input.now) c.error.result
     c.fork-ahead.ensures.trees c.in_default.ensures.none c.error.ensures
 
-pub returns-in_default-truth-clause-runs : goal.returns-in_default-truth-clause-runs
-returns-in_default-truth-clause-runs g c =
+pub returns-in_default-bool_value-clause-runs : goal.returns-in_default-bool_value-clause-runs
+returns-in_default-bool_value-clause-runs g c =
     other_passed BoolKind (codes "boolean literal") (trees_in c.args.input.now) (trees_in c.fork-ahead.result)
     (trees_in c.take.new.input) (front_token c.in-Some.front) (scope_of c.args.input.now) c.error-error.result
-    c.fork-ahead.ensures.trees c.in-Some.ensures.taken c.in_default-truth.ensures.none c.error-error.ensures
+    c.fork-ahead.ensures.trees c.in-Some.ensures.taken c.in_default-bool_value.ensures.none c.error-error.ensures
 
 pub returns-clause-runs : goal.returns-clause-runs
 returns-clause-runs g c =
     truth_front (trees_in c.args.input.now) (trees_in c.fork-ahead.result) (trees_in c.take.new.input)
-    (front_token c.in-Some.front) c.new.result c.in-Some-truth.value c.span.result
-    c.fork-ahead.ensures.trees c.in-Some.ensures.taken c.in-Some-truth.ensures.some c.new.ensures c.span.ensures
+    (front_token c.in-Some.front) c.new.result c.in-Some-bool_value.value c.span.result
+    c.fork-ahead.ensures.trees c.in-Some.ensures.taken c.in-Some-bool_value.ensures.some c.new.ensures c.span.ensures
 
-pub returns-in_default-truth-clause-rest : goal.returns-in_default-truth-clause-rest
-returns-in_default-truth-clause-rest g c = subst (λ ts. IsRest ts (trees_in c.take.new.input))
+pub returns-in_default-bool_value-clause-rest : goal.returns-in_default-bool_value-clause-rest
+returns-in_default-bool_value-clause-rest g c = subst (λ ts. IsRest ts (trees_in c.take.new.input))
     c.fork-ahead.ensures.trees c.take.ensures.rest
 
 pub returns-clause-rest : goal.returns-clause-rest
