@@ -23,7 +23,6 @@ START = '[A-Z_a-z%s]' % character_class(str.isidentifier)
 CONTINUE = '[0-9A-Z_a-z%s]' % character_class(lambda c: ('a' + c).isidentifier())
 WORD = START + CONTINUE + '*+'
 SUFFIX = '(?:%s)?+' % WORD
-START_FORM = re.compile(START)
 
 
 def compiled(form):
